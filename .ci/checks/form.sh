@@ -24,6 +24,7 @@ mistake() {
 mistake 'crates/fm_words/specs: are_same is defined at ' crates/fm_words/specs/Word.antt 'pub are_same : ℕ'
 mistake 'Masks.antt:[0-9]*: word_bits is defined at crates/fm_words/specs/Word.antt:[0-9]* too' crates/fm_words/specs/Word.antt 'pub word_bits : ℕ'
 mistake 'same_names.txt: never_there has one meaning now' .ci/tools/same_names.txt '== no reason' never_there
+mistake 'Laws.antt:[0-9]*: 163 characters; break the line, at most 160' crates/fm_words/proofs/WordLaws.antt "-- $(printf %0160d 0)"
 mistake 'crates/fm_words/specs: Word and Words differ by an ending' crates/fm_words/specs/Words.antt 'pub nothing_at_all : ℕ'
 mkdir crates/stack_text/specs/Alone
 mistake 'crates/stack_text/specs/Alone: a folder of one page' crates/stack_text/specs/Alone/Only.antt 'pub only_one : ℕ'

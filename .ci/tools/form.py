@@ -16,6 +16,7 @@ from arguments import parser_of  # noqa: E402
 from believe import Walk  # noqa: E402
 
 SPEC_WIDTH = 140
+PROOF_WIDTH = 160
 CLAUSE_WIDTH = 120
 DEFINITION = re.compile(r"^\s*(?:abbrev |unfoldable )?pub (?:record |data |abbrev )?([^\s:({]+)")
 CITATION = re.compile(r"(?:Rattle\.\w+|crate)(?:\.|::)proofs(?:\.|::)([A-Z]\w*)")
@@ -185,6 +186,13 @@ def check_groups(lib):
     for page in sorted(lib.parent.glob("*/*.antt")):
         if len(list(page.parent.glob("*.antt"))) == 1:
             say(page.parent, f"a folder of one page; move it to {lib.parent}")
+
+
+def check_proofs():
+    for path in tracked("crates/*/proofs/*.antt"):
+        for number, line in enumerate(path.read_text().splitlines(), 1):
+            if len(line) > PROOF_WIDTH:
+                say(f"{path}:{number}", f"{len(line)} characters; break the line, at most {PROOF_WIDTH}")
 
 
 def check_clauses():
@@ -401,6 +409,7 @@ def main():
     check_specs()
     check_same_names()
     check_folders()
+    check_proofs()
     check_clauses()
     check_documents()
     check_listings()

@@ -32,16 +32,19 @@ use Rattle.stack_build.specs.ComesTo.{ComesTo}
 use Rattle.stack_build.specs.Moments.{ArrivesAt}
 use Rattle.stack_build.specs.Build.{BuildsText}
 use Rattle.stack_build.specs.Joined.{BuiltImplements}
-use Rattle.board_images.specs.OnBoard.{StandsAfter, ComesOnBoard, ArrivesOnBoard, RunsOnBoard, KeepsMomentsOnBoard, StaysUnfinishedOnBoard, SpelledOnBoard, BuiltRunsOnBoard, cycles_to}
+use Rattle.board_images.specs.OnBoard.{StandsAfter, ComesOnBoard, ArrivesOnBoard, RunsOnBoard, KeepsMomentsOnBoard, StaysUnfinishedOnBoard, SpelledOnBoard}
+use Rattle.board_images.specs.OnBoard.{BuiltRunsOnBoard, cycles_to}
 use Rattle.board_images.proofs.LoadedLaws.{loaded_words}
 
 -- a meaning that is done has a count
-finishes : (source : SourceOf) (sizes : StackSizes) (values finals : List ValueOf) (way : CurrentCondition) (bound : ℕ) → meaning (program_of source) sizes values bound ≡ Done finals way
+finishes : (source : SourceOf) (sizes : StackSizes) (values finals : List ValueOf) (way : CurrentCondition) (bound : ℕ)
+    → meaning (program_of source) sizes values bound ≡ Done finals way
     → (count : ℕ) × Finishes source sizes values finals way count
 finishes source sizes values finals way bound done =
     by_counted (counted_meaning (program_of source) sizes values bound) refl (meaning-uncounted (program_of source) sizes values bound ∙ done)
   where
-    by_counted : (o : CountedOutcome) → counted_meaning (program_of source) sizes values bound ≡ o → uncounted o ≡ Done finals way → (count : ℕ) × Finishes source sizes values finals way count
+    by_counted : (o : CountedOutcome) → counted_meaning (program_of source) sizes values bound ≡ o → uncounted o ≡ Done finals way → (count : ℕ)
+        × Finishes source sizes values finals way count
     by_counted (CountedDone x c t) is same = (
       t.count,
       record { bound = bound; done = done; counted = ap (λ (o : CountedOutcome). option_map (λ (t : Tally). t.count) (tally_of o)) is },
@@ -61,7 +64,8 @@ unfolding fm_run run_cycles
 takes zero s t e = omega arith
 takes (suc k) s t e = by_step (λ u g. takes k u t g) (fm_step s) refl e
   where
-    by_step : ((u : Fm) → fm_run k u ≡ Ok t → k ≤ run_cycles k u) → (r : Result Fm Outside) → fm_step s ≡ r → then_on r (fm_run k) ≡ Ok t → suc k ≤ run_cycles (suc k) s
+    by_step : ((u : Fm) → fm_run k u ≡ Ok t → k ≤ run_cycles k u) → (r : Result Fm Outside) → fm_step s ≡ r → then_on r (fm_run k) ≡ Ok t
+        → suc k ≤ run_cycles (suc k) s
     by_step again (Ok u) h g =
         let n : run_cycles (suc k) s ≡ step_cycles s + run_cycles k u = ap (λ r. step_cycles s + if_ok r (run_cycles k)) h in
         let some = takes_some s in
@@ -69,9 +73,11 @@ takes (suc k) s t e = by_step (λ u g. takes k u t g) (fm_step s) refl e
         omega (arith, n, some, rest)
     by_step again (Err f) h g = absurd (let no : Err f ≡ Ok t = g in cc)
 
-module _ (bytes : List ℕ) (image : ImageOf) (source : SourceOf) (spells : Spelled bytes image) (values : List ValueOf) (fits : FitsFormals source values) (b : Board) (stands : StandsFor b (loaded image values)) where
+module _ (bytes : List ℕ) (image : ImageOf) (source : SourceOf) (spells : Spelled bytes image) (values : List ValueOf)
+    (fits : FitsFormals source values) (b : Board) (stands : StandsFor b (loaded image values)) where
   -- a run that keeps off the final program counter
-  stands_after : (count : ℕ) (state : Fm) → fm_run count (loaded image values) ≡ Ok state → Avoids (loaded image values) image.final_pc count → StandsAfter b image values count state
+  stands_after : (count : ℕ) (state : Fm) → fm_run count (loaded image values) ≡ Ok state → Avoids (loaded image values) image.final_pc count
+      → StandsAfter b image values count state
   stands_after count state reached avoids =
       let words = loaded_words image source values spells.registers spells.words fits in
       let made = runs b (loaded image values) count state stands words reached in
@@ -104,16 +110,20 @@ module _ (bytes : List ℕ) (image : ImageOf) (source : SourceOf) (spells : Spel
   never_at_end unfinished j is =
       let o : RunOutcome = outcome (suc j) image.final_pc (loaded image values) in
       let spent : IsOutcome (loaded image values) image.final_pc (suc j) run.Spent o.state =
-      subst (λ (r : Run). IsOutcome (loaded image values) image.final_pc (suc j) r o.state) (unfinished (suc j)) (outcome_is (loaded image values) image.final_pc (suc j)) in
+      subst (λ (r : Run). IsOutcome (loaded image values) image.final_pc (suc j) r o.state) (unfinished (suc j))
+      (outcome_is (loaded image values) image.final_pc (suc j)) in
       let after = stands_after (suc j) o.state spent.0 (λ i u below. spent.1 i u (omega arith)) in
       after.before j (omega (arith, takes (suc j) (loaded image values) o.state spent.0)) is
 
 pub spelled_on_board : SpelledOnBoard
 spelled_on_board bytes image source sizes spells =
     record {
-      runs = λ implements values finals way count b fits done stands. comes_on_board bytes image source spells values fits b stands count _ (implements values finals way count fits done);
-      moments = λ keeps values k b fits stands. arrives_on_board bytes image source spells values fits b stands sizes (moment_from (program_of source) sizes values k) (keeps values k fits);
-      unfinished = λ stays values b j fits never stands. never_at_end bytes image source spells values fits b stands (λ budget. stays values budget fits never) j;
+      runs = λ implements values finals way count b fits done stands. comes_on_board bytes image source spells values fits b stands count
+          _ (implements values finals way count fits done);
+      moments = λ keeps values k b fits stands. arrives_on_board bytes image source spells values fits b stands sizes
+          (moment_from (program_of source) sizes values k) (keeps values k fits);
+      unfinished =
+          λ stays values b j fits never stands. never_at_end bytes image source spells values fits b stands (λ budget. stays values budget fits never) j;
       carries = λ implements program means values finals way bound b fits done stands.
           let counted = finishes source sizes values finals way bound (means sizes values bound fits ∙ done) in
           (counted.0, comes_on_board bytes image source spells values fits b stands counted.0 _ (implements values finals way counted.0 fits counted.1));
@@ -124,4 +134,6 @@ built_on_board implements text ctrl temp base source made long high is e =
     let builds : BuildsText text ctrl temp made = subst (λ r. IfOk r (BuildsText text ctrl temp)) e (implements text ctrl temp base long high) in
     let same : builds.source ≡ source = cc (builds.read, is) in
     let laws = spelled_on_board made.bytes made.image builds.source (stack_sizes ctrl temp) builds.builds.spells in
-    subst (λ s. RunsOnBoard made.image s (stack_sizes ctrl temp) × KeepsMomentsOnBoard made.image s (stack_sizes ctrl temp) × StaysUnfinishedOnBoard made.image s (stack_sizes ctrl temp)) same (laws.runs builds.builds.implements, laws.moments builds.builds.moments, laws.unfinished builds.builds.unfinished)
+    subst (λ s. RunsOnBoard made.image s (stack_sizes ctrl temp) × KeepsMomentsOnBoard made.image s (stack_sizes ctrl temp)
+    × StaysUnfinishedOnBoard made.image s (stack_sizes ctrl temp)) same
+    (laws.runs builds.builds.implements, laws.moments builds.builds.moments, laws.unfinished builds.builds.unfinished)

@@ -42,7 +42,8 @@ with_items_are base address (z ∷ items) m h good =
     let parts = and_parts (is_int z) (list_all is_int items) h in
     with_items_are base (address - 1) items _ parts.1 (words_with base m address (word_of_int z) good (word_of_int_below z parts.0))
 
-with_values_are : (base : ℕ) (slots : List Slot) (shapes : List Shape) (values : List ValueOf) (m : List ℕ) → VarsFit shapes values → AreWords m → AreWords (with_values base slots values m)
+with_values_are : (base : ℕ) (slots : List Slot) (shapes : List Shape) (values : List ValueOf) (m : List ℕ) → VarsFit shapes values → AreWords m
+    → AreWords (with_values base slots values m)
 with_values_are base [] shapes values m fits good = good
 with_values_are base (slot ∷ slots) shapes [] m fits good = good
 with_values_are base (slot ∷ slots) [] (v ∷ values) m fits good = absurd fits
@@ -50,9 +51,11 @@ with_values_are base (slot ∷ slots) (s ∷ shapes) (v ∷ values) m fits good 
     with_values_are base slots shapes values _ fits.2 (with_items_are base slot.address v.items m (items_fit v.shape.kind v.items fits.1.items).1 good)
 
 -- the loaded machine
-pub loaded_words : (image : ImageOf) (source : SourceOf) (values : List ValueOf) → are_words image.registers ≡ true → are_words image.words ≡ true → FitsFormals source values → HasWords (loaded image values)
+pub loaded_words : (image : ImageOf) (source : SourceOf) (values : List ValueOf) → are_words image.registers ≡ true → are_words image.words ≡ true
+    → FitsFormals source values → HasWords (loaded image values)
 loaded_words image source values r w fits =
     record {
       registers = words_from image.registers r;
-      memory = with_values_are image.base image.slots (proc_at (program_of source) (program_of source).main).formals values _ fits (with_words_are image.base image.base image.words _ w (zeros image.size));
+      memory = with_values_are image.base image.slots (proc_at (program_of source) (program_of source).main).formals values _ fits
+          (with_words_are image.base image.base image.words _ w (zeros image.size));
     }

@@ -1,5 +1,6 @@
 -- `asm` after `unasm`, `cert` after `need`, and `check` beside `build`.
-use Rattle.std.proofs.Common.{◌≡◌, ◌≢◌, ◌≤◌, ◌∷◌, [], ℕ, List, Bool, true, false, if◌then◌else◌, Option, Some, None, Result, Ok, Err, length, append-nil, refl, sym, ap, ◌∙◌, subst, arith}
+use Rattle.std.proofs.Common.{◌≡◌, ◌≢◌, ◌≤◌, ◌∷◌, [], ℕ, List, Bool, true, false, if◌then◌else◌, Option, Some, None, Result, Ok, Err, length, append-nil, refl}
+use Rattle.std.proofs.Common.{sym, ap, ◌∙◌, subst, arith}
 use Rattle.std.specs.Prelude.{codes, nat_lt}
 use Rattle.std.specs.Result.{MatchResult}
 use Rattle.stack_text.specs.Results.{◌>>=◌}
@@ -81,7 +82,8 @@ module _ (image assembly again : List ℕ) (watches : List Watching) (files : Fi
   unfolding asm_on output_of stored_by
   assembled text made is = ap (λ r. set_file (Some (Image, again)) (assembled_stored r)) is
 
-  unasm_by : (first : Fetched) → text_or_end (Image, image) (fetched files image (limit_of Image)) ≡ first → (bytes : List ℕ) → file_at files image ≡ Some bytes → (unasm_on first).status ≡ Done → (asm_after (unasm_on first)).output ≡ Some (again, bytes)
+  unasm_by : (first : Fetched) → text_or_end (Image, image) (fetched files image (limit_of Image)) ≡ first → (bytes : List ℕ)
+      → file_at files image ≡ Some bytes → (unasm_on first).status ≡ Done → (asm_after (unasm_on first)).output ≡ Some (again, bytes)
   unfolding unasm_on asm_after output_of stored_by reply_by
   unasm_by (Err e) got bytes there done = absurd (early_done e done)
   unasm_by (Ok own) got bytes there done = by_reading (read_of own) refl done
@@ -90,14 +92,17 @@ module _ (image assembly again : List ℕ) (watches : List Watching) (files : Fi
       was = was_short files (Image, image) own got
 
       by_plain : (read : ImageOf) → read_of own ≡ Ok read → (b : Bool) → is_plain read ≡ b → status_of (printed_reply assembly (Ok read)).verdict ≡ Done
-          → (asm_after (answer_with (set_file (Some (Assembly, assembly)) (printed_stored (Ok read))) (printed_reply assembly (Ok read)))).output ≡ Some (again, bytes)
+          → (asm_after (answer_with (set_file (Some (Assembly, assembly)) (printed_stored (Ok read))) (printed_reply assembly (Ok read)))).output
+          ≡ Some (again, bytes)
       by_plain read is false plain done = absurd cc
       by_plain read is true plain done =
           let text : List ℕ = assembly_text read in
           let spelled = spells_again own read is plain (all own was.0) in
           let left : Files = put_file files assembly text in
-          let fetches : fetch_assembly left ≡ Ok text = is_there left (Assembly, assembly) text (record { there = put_there files assembly text; short = spelled.short }) in
-          let back : assembly_of text ≡ Ok read = printed_is_assembled read plain spelled.spells.limits (first_below read.registers 15 spelled.spells.registers) spelled.spells.words in
+          let fetches : fetch_assembly left ≡ Ok text =
+          is_there left (Assembly, assembly) text (record { there = put_there files assembly text; short = spelled.short }) in
+          let back : assembly_of text ≡ Ok read =
+          printed_is_assembled read plain spelled.spells.limits (first_below read.registers 15 spelled.spells.registers) spelled.spells.words in
           let one : Some own ≡ Some bytes = sym was.0 ∙ there in
           let same : own ≡ bytes = cc in
           let stores : printed_stored (Ok read) ≡ Some text = ap (λ b. if b then Some (assembly_text read) else None) plain in
@@ -125,7 +130,8 @@ module _ (source image : List ℕ) (control temporary : ℕ) (watches : List Wat
   build_on first = answer_on (command.Build source control temporary image) watches (first >>= λ t. Ok ((Source, t) ∷ []))
 
   -- a source that was read is refused for its sizes alone
-  not_refused : (made : Result SystemOf GenFault) (s : SourceOf) → status_of (build_reply (generated_by made >>= linked_of s (stack_sizes control temporary) 0)).verdict ≡ Refused → ⊥
+  not_refused : (made : Result SystemOf GenFault) (s : SourceOf) → status_of
+      (build_reply (generated_by made >>= linked_of s (stack_sizes control temporary) 0)).verdict ≡ Refused → ⊥
   unfolding linked_of
   not_refused (Err gen.Size) s h = cc
   not_refused (Err (gen.Control need)) s h = cc
@@ -134,7 +140,9 @@ module _ (source image : List ℕ) (control temporary : ℕ) (watches : List Wat
   not_refused (Err gen.Memory) s h = cc
   not_refused (Ok system) s h = by_size (nat_lt most_window (placed_size s (stack_sizes control temporary) 0)) h
     where
-      by_size : (b : Bool) → status_of (build_reply (if b then Err (fault.Words (placed_size s (stack_sizes control temporary) 0)) else Ok (built_with s (stack_sizes control temporary) 0 system))).verdict ≡ Refused → ⊥
+      by_size : (b : Bool) → status_of (build_reply
+          (if b then Err (fault.Words (placed_size s (stack_sizes control temporary) 0))
+          else Ok (built_with s (stack_sizes control temporary) 0 system))).verdict ≡ Refused → ⊥
       by_size true h = cc
       by_size false h = cc
 
@@ -145,7 +153,9 @@ module _ (source image : List ℕ) (control temporary : ℕ) (watches : List Wat
     where
       by_source : (found : Result SourceOf BuildFault) →
           ChecksAsBuild (answer_with None (judgement_reply (unless_refused found)))
-          (answer_with (set_file (Some (Image, image)) (image_stored (found >>= λ s. generated_by (generation s (stack_sizes control temporary) 0) >>= linked_of s (stack_sizes control temporary) 0)))
+          (answer_with (set_file (Some (Image, image))
+          (image_stored (found >>= λ s. generated_by (generation s (stack_sizes control temporary) 0)
+          >>= linked_of s (stack_sizes control temporary) 0)))
           (build_reply (found >>= λ s. generated_by (generation s (stack_sizes control temporary) 0) >>= linked_of s (stack_sizes control temporary) 0)))
       by_source (Err f) = record { goes = λ done. absurd (build_done f done); stops = λ other. refl }
       by_source (Ok s) = record { goes = λ done. not_refused (generation s (stack_sizes control temporary) 0) s; stops = λ other. absurd (other refl) }
@@ -180,7 +190,8 @@ module _ (source certificate : List ℕ) (watches : List Watching) (files : File
     told : need.text ≡ sizes_text sizes
     yes : (larger : StackSizes) → IsAtMost sizes larger → (cert_after larger need).text ≡ line (codes "yes")
 
-  says_yes : (text written : List ℕ) (s : SourceOf) (bounds : Bounds) (sizes : StackSizes) → accepted_source text ≡ Ok s → bounds_in (procedure_names s) written ≡ Ok bounds → is_covered (program_of s) bounds sizes ≡ true
+  says_yes : (text written : List ℕ) (s : SourceOf) (bounds : Bounds) (sizes : StackSizes) → accepted_source text ≡ Ok s
+      → bounds_in (procedure_names s) written ≡ Ok bounds → is_covered (program_of s) bounds sizes ≡ true
       → (cert_on sizes (Ok text) (Ok written)).text ≡ line (codes "yes")
   unfolding cert_on output_of stored_by reply_by accepted_in certificate_reply
   says_yes text written s bounds sizes read reads covered =
@@ -196,7 +207,8 @@ module _ (source certificate : List ℕ) (watches : List Watching) (files : File
       was : (file_at files source ≡ Some text) × (length text ≤ limit_of Source)
       was = was_short files (Source, source) text got
 
-      by_bounds : (s : SourceOf) → accepted_source text ≡ Ok s → (found : Result Bounds ℕ) → certified (program_of s) ≡ found → status_of (bounds_reply s found).verdict ≡ Done
+      by_bounds : (s : SourceOf) → accepted_source text ≡ Ok s → (found : Result Bounds ℕ) → certified (program_of s) ≡ found
+          → status_of (bounds_reply s found).verdict ≡ Done
           → Certified (answer_with (set_file (Some (Certificate, certificate)) (bounds_stored s found)) (bounds_reply s found))
       by_bounds s read (Err p) is done = absurd cc
       by_bounds s read (Ok bounds) is done =
@@ -207,8 +219,10 @@ module _ (source certificate : List ℕ) (watches : List Watching) (files : File
           let reads = again s bounds accepted is in
           let written : List ℕ = certificate_text (procedure_names s) bounds in
           let left : Files = put_file files certificate written in
-          let there : fetch_certificate left ≡ Ok written = is_there left (Certificate, certificate) written (record { there = put_there files certificate written; short = omega (arith, reads.short) }) in
-          let kept : fetch_source left ≡ Ok text = ap (λ (o : Option (List ℕ)). text_or_end (Source, source) (within (limit_of Source) o)) (put_other files certificate written source differ) ∙ got in
+          let there : fetch_certificate left ≡ Ok written = is_there left (Certificate, certificate) written
+          (record { there = put_there files certificate written; short = omega (arith, reads.short) }) in
+          let kept : fetch_source left ≡ Ok text = ap (λ (o : Option (List ℕ)). text_or_end (Source, source) (within (limit_of Source) o))
+          (put_other files certificate written source differ) ∙ got in
           record {
             sizes = sizes_for q bounds;
             told = append-nil _;
@@ -220,7 +234,11 @@ module _ (source certificate : List ℕ) (watches : List Watching) (files : File
           }
         where
           more : {q : Program} {bs : Bounds} {s t : StackSizes} → Covers q bs s → IsAtMost s t → Covers q bs t
-          more c m = record { certificate = c.certificate; within = record { temp = omega (arith, c.within.temp, m.temp); ctrl = omega (arith, c.within.ctrl, m.ctrl) } }
+          more c m = record {
+            certificate = c.certificate;
+            within =
+                record { temp = omega (arith, c.within.temp, m.temp); ctrl = omega (arith, c.within.ctrl, m.ctrl) };
+          }
 
       by_source : (found : Result SourceOf BuildFault) → accepted_source text ≡ found → status_of (need_reply_by (unless_refused found)).verdict ≡ Done
           → Certified (answer_with (set_file (Some (Certificate, certificate)) (need_stored_by (unless_refused found))) (need_reply_by (unless_refused found)))

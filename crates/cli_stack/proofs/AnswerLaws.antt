@@ -44,6 +44,7 @@ answers_mean implement take meant placed moments ends up words arrivals steps st
   stores = stores_of implement c;
 }
 
-pub answers_tell : BuiltImplements → BuiltTakesValues → (o : Option Command) (watches : List Watching) (files : Files) → IfSome o (λ command. TellsMeanings command files (answer_to command watches files))
+pub answers_tell : BuiltImplements → BuiltTakesValues → (o : Option Command) (watches : List Watching) (files : Files)
+    → IfSome o (λ command. TellsMeanings command files (answer_to command watches files))
 answers_tell implement take None watches files = tt
 answers_tell implement take (Some c) watches files = tells implement take c watches files

@@ -113,9 +113,11 @@ module _ (budget more : ℕ) (le : budget ≤ more) where
     where
       by_end : (r : Run) (t : Fm) → IsOutcome (loaded image values) image.final_pc budget r t → status_of (end_reply image budget r t).verdict ≢ Unfinished
           → outcome_reply image more (outcome more image.final_pc (loaded image values)) ≡ end_reply image budget r t
-      by_end (run.Ended k) t is ended = ap (outcome_reply image more) (outcome_only (loaded image values) image.final_pc more (run.Ended k) t (omega (arith, is.0, le), is.1))
+      by_end (run.Ended k) t is ended =
+          ap (outcome_reply image more) (outcome_only (loaded image values) image.final_pc more (run.Ended k) t (omega (arith, is.0, le), is.1))
       by_end run.Spent t is ended = absurd (ended refl)
-      by_end (run.Outside a k) t is ended = ap (outcome_reply image more) (outcome_only (loaded image values) image.final_pc more (run.Outside a k) t (omega (arith, is.0, le), is.1, is.2, is.3))
+      by_end (run.Outside a k) t is ended = ap (outcome_reply image more)
+          (outcome_only (loaded image values) image.final_pc more (run.Outside a k) t (omega (arith, is.0, le), is.1, is.2, is.3))
 
   values_settle : (image : ImageOf) (found : Result (List ValueOf) (ℕ × ℕ)) → Settles (values_reply image budget found) (values_reply image more found)
   values_settle image (Err f) ended = refl
@@ -133,25 +135,30 @@ module _ (budget more : ℕ) (le : budget ≤ more) where
   unfolding mean_run_reply
   steps_settle source from ended = by_end (meaning_run budget from).run refl ended
     where
-      by_end : (a : MeanRun) → (meaning_run budget from).run ≡ a → status_of (mean_end_reply source budget a (meaning_run budget from).seen).verdict ≢ Unfinished
+      by_end : (a : MeanRun) → (meaning_run budget from).run ≡ a → status_of (mean_end_reply source budget a (meaning_run budget from).seen).verdict
+          ≢ Unfinished
           → mean_ran_reply source more (meaning_run more from) ≡ mean_end_reply source budget a (meaning_run budget from).seen
       by_end mean_run.Ended is ended =
           let same = meaning_settles budget more from le (λ spent. let e : mean_run.Ended ≡ mean_run.Spent = sym is ∙ spent in cc) in
           ap (mean_ran_reply source more) same ∙ ap (λ (a : MeanRun). mean_end_reply source more a (meaning_run budget from).seen) is
       by_end mean_run.Spent is ended = absurd (ended refl)
 
-  started_settles : (source : SourceOf) (found : Result Seen StartFault) → Settles (mean_started_reply source budget found) (mean_started_reply source more found)
+  started_settles : (source : SourceOf) (found : Result Seen StartFault) → Settles (mean_started_reply source budget found)
+      (mean_started_reply source more found)
   started_settles source (Err f) ended = refl
   started_settles source (Ok from) ended = steps_settle source from ended
 
-  accepted_settles : (found : Result SourceOf Verdict) (sizes : StackSizes) (values : List ℕ) → Settles (mean_accepted_reply found sizes values budget) (mean_accepted_reply found sizes values more)
+  accepted_settles : (found : Result SourceOf Verdict) (sizes : StackSizes) (values : List ℕ)
+      → Settles (mean_accepted_reply found sizes values budget) (mean_accepted_reply found sizes values more)
   accepted_settles (Err v) sizes values ended = refl
   accepted_settles (Ok source) sizes values ended = started_settles source (gypsy_start source sizes values) ended
 
-  piton_settles : (system : SystemOf) (s : SystemView) (from : piton.Seen) → Settles (ran_reply system budget (state_run s budget from)) (ran_reply system more (state_run s more from))
+  piton_settles : (system : SystemOf) (s : SystemView) (from : piton.Seen) → Settles (ran_reply system budget (state_run s budget from))
+      (ran_reply system more (state_run s more from))
   piton_settles system s from ended = by_end (state_run s budget from).run refl ended
     where
-      by_end : (a : PitonRun) → (state_run s budget from).run ≡ a → status_of (run_end_reply system budget a (state_run s budget from).seen).verdict ≢ Unfinished
+      by_end : (a : PitonRun) → (state_run s budget from).run ≡ a → status_of (run_end_reply system budget a (state_run s budget from).seen).verdict
+          ≢ Unfinished
           → ran_reply system more (state_run s more from) ≡ run_end_reply system budget a (state_run s budget from).seen
       by_end piton_run.Halted is ended =
           let same = state_settles s budget more from le (λ spent. let e : piton_run.Halted ≡ piton_run.Spent = sym is ∙ spent in cc) in
@@ -170,15 +177,19 @@ module _ (budget more : ℕ) (le : budget ≤ more) where
   task_settles : (turn i : ℕ) (task : NewTask) → is_end (whole_run budget task).run ≡ true
       → (task_text turn more i task ≡ task_text turn budget i task) × (is_end (whole_run more task).run ≡ true)
   unfolding run_reply
-  task_settles turn i task ends = by_end (whole_run budget task).run (whole_run budget task).state (outcome_is (loaded task.image task.values) task.image.final_pc budget) refl ends
+  task_settles turn i task ends =
+      by_end (whole_run budget task).run (whole_run budget task).state (outcome_is (loaded task.image task.values) task.image.final_pc budget) refl ends
     where
       by_end : (r : Run) (t : Fm) → IsOutcome (loaded task.image task.values) task.image.final_pc budget r t → (whole_run budget task).run ≡ r → is_end r ≡ true
           → (task_text turn more i task ≡ task_text turn budget i task) × (is_end (whole_run more task).run ≡ true)
       by_end (run.Ended k) t is soon ends =
           let late : (whole_run more task).run ≡ run.Ended k =
-          ap (λ (o : RunOutcome). o.run) (outcome_only (loaded task.image task.values) task.image.final_pc more (run.Ended k) t (omega (arith, is.0, le), is.1)) in
-          let rounds : last_round turn more (whole_run more task).run ≡ last_round turn budget (whole_run budget task).run = ap (last_round turn more) late ∙ sym (ap (last_round turn budget) soon) in
-          let done : status_of (run_reply task.image task.values budget).verdict ≡ Done = ap (λ (r : Run). status_of (end_reply task.image budget r (whole_run budget task).state).verdict) soon in
+          ap (λ (o : RunOutcome). o.run) (outcome_only (loaded task.image task.values) task.image.final_pc more (run.Ended k) t
+          (omega (arith, is.0, le), is.1)) in
+          let rounds : last_round turn more (whole_run more task).run ≡ last_round turn budget (whole_run budget task).run =
+          ap (last_round turn more) late ∙ sym (ap (last_round turn budget) soon) in
+          let done : status_of (run_reply task.image task.values budget).verdict ≡ Done =
+          ap (λ (r : Run). status_of (end_reply task.image budget r (whole_run budget task).state).verdict) soon in
           let replies : run_reply task.image task.values more ≡ run_reply task.image task.values budget =
           run_settles task.image task.values (λ unfinished. let e : Done ≡ Unfinished = sym done ∙ unfinished in cc) in
           ((λ j. round_line i (rounds j) ++ reply_text (replies j)), ap is_end late)
@@ -236,7 +247,8 @@ module _ (budget more : ℕ) (le : budget ≤ more) where
   Fetched = Result (List ℕ) EarlyEnd
 
   run_on : (image values : List ℕ) (watches : List Watching) (first second : Fetched) →
-      (answer_on (command.Run image values budget) watches (first >>= λ t. (second >>= λ o. Ok ((Values, o) ∷ [])) >>= λ texts. Ok ((Image, t) ∷ texts))).status ≢ Unfinished →
+      (answer_on (command.Run image values budget) watches
+      (first >>= λ t. (second >>= λ o. Ok ((Values, o) ∷ [])) >>= λ texts. Ok ((Image, t) ∷ texts))).status ≢ Unfinished →
       answer_on (command.Run image values more) watches (first >>= λ t. (second >>= λ o. Ok ((Values, o) ∷ [])) >>= λ texts. Ok ((Image, t) ∷ texts))
       ≡ answer_on (command.Run image values budget) watches (first >>= λ t. (second >>= λ o. Ok ((Values, o) ∷ [])) >>= λ texts. Ok ((Image, t) ∷ texts))
   unfolding output_of stored_by reply_by
@@ -245,9 +257,12 @@ module _ (budget more : ℕ) (le : budget ≤ more) where
   run_on image values watches (Ok bytes) (Ok other) ended = ap (answer_with _) (image_settles other (read_of bytes) ended)
 
   go_on : (source values image : List ℕ) (control temporary : ℕ) (watches : List Watching) (first second : Fetched) →
-      (answer_on (command.Go source values control temporary budget image) watches (first >>= λ t. (second >>= λ o. Ok ((Values, o) ∷ [])) >>= λ texts. Ok ((Source, t) ∷ texts))).status ≢ Unfinished →
-      answer_on (command.Go source values control temporary more image) watches (first >>= λ t. (second >>= λ o. Ok ((Values, o) ∷ [])) >>= λ texts. Ok ((Source, t) ∷ texts))
-      ≡ answer_on (command.Go source values control temporary budget image) watches (first >>= λ t. (second >>= λ o. Ok ((Values, o) ∷ [])) >>= λ texts. Ok ((Source, t) ∷ texts))
+      (answer_on (command.Go source values control temporary budget image) watches
+      (first >>= λ t. (second >>= λ o. Ok ((Values, o) ∷ [])) >>= λ texts. Ok ((Source, t) ∷ texts))).status ≢ Unfinished →
+      answer_on (command.Go source values control temporary more image) watches
+      (first >>= λ t. (second >>= λ o. Ok ((Values, o) ∷ [])) >>= λ texts. Ok ((Source, t) ∷ texts))
+      ≡ answer_on (command.Go source values control temporary budget image) watches
+      (first >>= λ t. (second >>= λ o. Ok ((Values, o) ∷ [])) >>= λ texts. Ok ((Source, t) ∷ texts))
   unfolding output_of stored_by reply_by
   go_on source values image control temporary watches (Err e) second ended = refl
   go_on source values image control temporary watches (Ok text) (Err e) ended = refl
@@ -258,7 +273,9 @@ unfolding inputs_of
 budgets_settle = record {
   run = λ image values budget more watches files le ended. run_on budget more le image values watches _ _ ended;
   go = λ source values image control temporary budget more watches files le ended. go_on budget more le source values image control temporary watches _ _ ended;
-  mean = λ source values control temporary budget more watches files le ended. mean_on budget more le source values control temporary watches (gathered files ((Source, source) ∷ (Values, values) ∷ [])) ended;
+  mean = λ source values control temporary budget more watches files le ended. mean_on budget more le source values control temporary watches
+      (gathered files ((Source, source) ∷ (Values, values) ∷ [])) ended;
   prun = λ name budget more watches files le ended. prun_on budget more le name watches (gathered files ((Piton, name) ∷ [])) ended;
-  turns = λ turn control temporary tasks budget more watches files le ended. turns_on budget more le turn control temporary tasks watches (gathered files (task_inputs tasks)) ended;
+  turns = λ turn control temporary tasks budget more watches files le ended. turns_on budget more le turn control temporary tasks watches
+      (gathered files (task_inputs tasks)) ended;
 }

@@ -1,5 +1,6 @@
 -- What is told of sources whose images take turns is what each of them means.
-use Rattle.std.proofs.Common.{◌≡◌, ◌≤◌, inl, inr, ⊎_elim, ◌+◌, ◌*◌, ◌++◌, ℕ, Bool, suc, eqb, ltb, List, [], ◌∷◌, length, map, append-nil, true, false, Option, None, Result, Ok, refl, sym, ap, subst, ◌∙◌, arith, append_assoc, length-append}
+use Rattle.std.proofs.Common.{◌≡◌, ◌≤◌, inl, inr, ⊎_elim, ◌+◌, ◌*◌, ◌++◌, ℕ, Bool, suc, eqb, ltb, List, [], ◌∷◌, length, map, append-nil, true, false, Option}
+use Rattle.std.proofs.Common.{None, Result, Ok, refl, sym, ap, subst, ◌∙◌, arith, append_assoc, length-append}
 use Rattle.std.specs.Prelude.{All, ◌^◌, slice_index_or}
 use Rattle.std.specs.List.{list_all}
 use Rattle.std.proofs.lemmas.Bool.{and_from, and_parts, le-ltb, ne_eqb}
@@ -45,7 +46,8 @@ use Rattle.cli_stack.specs.Answer.{answer_with, answer_on, answer_to}
 use Rattle.cli_stack.specs.Turns.{TaskOf, IsTask, AreTasks, TellsTask, TellsInTurn, IsDoneWithin, TellsTasks, TellsEach}
 use Rattle.cli_stack.proofs.DecidesLaws.{done, spent_told}
 use Rattle.cli_stack.proofs.TaskCountLaws.{HasFew}
-use Rattle.stack_commands.specs.Commands.Turns.{few_enough, image_or_fault, images_from, word_count, small_enough, values_or_fault, tasks_from, tasks_of, last_round, round_line, task_text, tasks_text, is_end, tasks_verdict, tasks_reply, turns_by, turns_reply}
+use Rattle.stack_commands.specs.Commands.Turns.{few_enough, image_or_fault, images_from, word_count, small_enough, values_or_fault, tasks_from, tasks_of}
+use Rattle.stack_commands.specs.Commands.Turns.{last_round, round_line, task_text, tasks_text, is_end, tasks_verdict, tasks_reply, turns_by, turns_reply}
 use Rattle.cli_stack.proofs.TasksReadyLaws.{tasks_ready, text_behind}
 use Rattle.cli_stack.proofs.TellsLaws.{is_there}
 
@@ -82,8 +84,10 @@ module _ (implement : BuiltImplements) (take : BuiltTakesValues) (meant : KeptMe
       let same : builds.source ≡ t.source = cc in
       let found : values_in h.found.image.slots h.values_text ≡ Ok t.values = ap (λ (image : ImageOf). values_in image.slots h.values_text) h.same ∙ h.gives in
       record {
-        implements = subst (λ (image : ImageOf). Implements image t.source sizes) h.same (subst (λ (s : SourceOf). Implements h.found.image s sizes) same builds.builds.implements);
-        moments = subst (λ (image : ImageOf). KeepsMoments image t.source sizes) h.same (subst (λ (s : SourceOf). KeepsMoments h.found.image s sizes) same builds.builds.moments);
+        implements = subst (λ (image : ImageOf). Implements image t.source sizes) h.same
+            (subst (λ (s : SourceOf). Implements h.found.image s sizes) same builds.builds.implements);
+        moments = subst (λ (image : ImageOf). KeepsMoments image t.source sizes) h.same
+            (subst (λ (s : SourceOf). KeepsMoments h.found.image s sizes) same builds.builds.moments);
         fits = take h.text sizes.ctrl sizes.temp base t.source h.found h.values_text t.values short low h.read h.made found;
         few = subst (λ (image : ImageOf). image.size ≤ 2 ^ 20) h.same (sized h.found.image builds.builds.spells.limits).few;
       }
@@ -124,10 +128,12 @@ module _ (implement : BuiltImplements) (take : BuiltTakesValues) (meant : KeptMe
     task_ends : IsDoneWithin sizes budget t → is_end (whole_run budget (new_task t.image t.values)).run ≡ true
     task_ends w =
         let end = is.implements t.values w.finals w.way w.count is.fits w.meant in
-        ap (λ (o : RunOutcome). is_end o.run) (outcome_only (loaded t.image t.values) t.image.final_pc budget (run.Ended w.count) end.state (w.within, end.first))
+        ap (λ (o : RunOutcome). is_end o.run) (outcome_only (loaded t.image t.values) t.image.final_pc budget (run.Ended w.count) end.state
+        (w.within, end.first))
 
   -- task by task
-  comes : (i base : ℕ) (names : List TaskFiles) (tasks : List TaskOf) → base + length names * 2 ^ 20 ≤ 2 ^ 31 → AreTasks files sizes base names tasks → ComesTo files sizes turn budget i base names tasks
+  comes : (i base : ℕ) (names : List TaskFiles) (tasks : List TaskOf) → base + length names * 2 ^ 20 ≤ 2 ^ 31 → AreTasks files sizes base names tasks
+      → ComesTo files sizes turn budget i base names tasks
   comes i base [] [] low h = record {
     sources = [];
     values = [];
@@ -151,12 +157,18 @@ module _ (implement : BuiltImplements) (take : BuiltTakesValues) (meant : KeptMe
       let few = is.few in
       let rest = comes (i + 1) (base + t.image.size) ns ts (omega arith) h.1 in
       let images : List ImageOf = map (λ t. t.image) ts in
-      let built_on : ImageOf → Result (List ImageOf) TasksFault = λ image. images_from sizes (i + 1) (base + image.size) rest.sources >>= λ others. Ok (image ∷ others) in
+      let built_on : ImageOf → Result (List ImageOf) TasksFault =
+      λ image. images_from sizes (i + 1) (base + image.size) rest.sources >>= λ others. Ok (image ∷ others) in
       record {
         sources = here.text ∷ rest.sources;
         values = here.values_text ∷ rest.values;
         both = (TaskSource, here.text) ∷ (TaskValues, here.values_text) ∷ rest.both;
-        there = rw (is_there files (TaskSource, n.source) here.text here.there, is_there files (TaskValues, n.values) here.values_text here.values_there, rest.there) refl;
+        there = rw (
+          is_there files (TaskSource, n.source) here.text here.there,
+          is_there files (TaskValues, n.values) here.values_text
+              here.values_there,
+          rest.there,
+        ) refl;
         sources_are = ap (λ (ts : List (List ℕ)). here.text ∷ ts) rest.sources_are;
         values_are = ap (λ (ts : List (List ℕ)). here.values_text ∷ ts) rest.values_are;
         count = ap suc rest.count;
@@ -165,16 +177,20 @@ module _ (implement : BuiltImplements) (take : BuiltTakesValues) (meant : KeptMe
         new = new_task t.image t.values ∷ rest.new;
         new_are = λ front long.
             let all : List (List ℕ) = front ++ here.values_text ∷ rest.values in
-            let own : slice_index_or all i [] ≡ here.values_text = ap (λ k. slice_index_or all k []) (sym long) ∙ text_behind front here.values_text rest.values in
+            let own : slice_index_or all i [] ≡ here.values_text =
+            ap (λ k. slice_index_or all k []) (sym long) ∙ text_behind front here.values_text rest.values in
             let gives : values_in t.image.slots (slice_index_or all i []) ≡ Ok t.values = ap (values_in t.image.slots) own ∙ here.gives in
             let longer : length (front ++ here.values_text ∷ []) ≡ i + 1 = length-append front (here.values_text ∷ []) ∙ ap (λ k. k + 1) long in
             let further : tasks_from all (i + 1) images ≡ Ok rest.new =
-            ap (λ (ts : List (List ℕ)). tasks_from ts (i + 1) images) (sym (append_assoc front (here.values_text ∷ []) rest.values)) ∙ rest.new_are (front ++ here.values_text ∷ []) longer in
-            ap (λ (r : Result (List ValueOf) (ℕ × ℕ)). values_or_fault i r >>= λ values. tasks_from all (i + 1) images >>= λ others. Ok (new_task t.image values ∷ others)) gives
+            ap (λ (ts : List (List ℕ)). tasks_from ts (i + 1) images) (sym (append_assoc front (here.values_text ∷ []) rest.values))
+            ∙ rest.new_are (front ++ here.values_text ∷ []) longer in
+            ap (λ (r : Result (List ValueOf) (ℕ × ℕ)). values_or_fault i r >>= λ values. tasks_from all (i + 1) images
+            >>= λ others. Ok (new_task t.image values ∷ others)) gives
             ∙ ap (λ (r : Result (List NewTask) TasksFault). r >>= λ others. Ok (new_task t.image t.values ∷ others)) further;
         text = (task_text turn budget i (new_task t.image t.values), tasks_text turn budget (i + 1) rest.new, refl, task_told t is i, rest.text);
         done = λ e.
-            let both = and_parts (is_end (whole_run budget (new_task t.image t.values)).run) (list_all (λ task. is_end (whole_run budget task).run) rest.new) e in
+            let both = and_parts (is_end (whole_run budget (new_task t.image t.values)).run)
+            (list_all (λ task. is_end (whole_run budget task).run) rest.new) e in
             All-cons (IsDoneWithin sizes budget) t ts (task_done t is both.0) (rest.done both.1);
         all = λ a. and_from (is_end (whole_run budget (new_task t.image t.values)).run) (list_all (λ task. is_end (whole_run budget task).run) rest.new)
             (task_ends t is (All-head (IsDoneWithin sizes budget) t ts a)) (rest.all (All-tail (IsDoneWithin sizes budget) t ts a));
@@ -192,13 +208,16 @@ module _ (implement : BuiltImplements) (take : BuiltTakesValues) (meant : KeptMe
       let fits : ltb 1048576 (word_count images) ≡ false = le-ltb 1048576 (word_count images) small in
       let enough : few_enough c.sources ≡ Ok c.sources = rw (none, many) refl in
       let within : small_enough images ≡ Ok images = rw fits refl in
-      ap (λ (r : Result (List (List ℕ)) TasksFault). turns_by turn budget (r >>= λ few. images_from sizes 0 0 few >>= λ images. small_enough images >>= λ small. tasks_from c.values 0 small)) enough
-      ∙ ap (λ (r : Result (List ImageOf) TasksFault). turns_by turn budget (r >>= λ images. small_enough images >>= λ small. tasks_from c.values 0 small)) c.images
+      ap (λ (r : Result (List (List ℕ)) TasksFault). turns_by turn budget
+      (r >>= λ few. images_from sizes 0 0 few >>= λ images. small_enough images >>= λ small. tasks_from c.values 0 small)) enough
+      ∙ ap (λ (r : Result (List ImageOf) TasksFault). turns_by turn budget
+      (r >>= λ images. small_enough images >>= λ small. tasks_from c.values 0 small)) c.images
       ∙ ap (λ (r : Result (List ImageOf) TasksFault). turns_by turn budget (r >>= λ small. tasks_from c.values 0 small)) within
       ∙ ap (turns_by turn budget) (c.new_are [] refl)
 
   -- so the answer tells them
-  answers : (names : List TaskFiles) (tasks : List TaskOf) (c : ComesTo files sizes turn budget 0 0 names tasks) (output : Option (List ℕ × List ℕ)) (reply : ReplyOf)
+  answers : (names : List TaskFiles) (tasks : List TaskOf) (c : ComesTo files sizes turn budget 0 0 names tasks) (output : Option (List ℕ × List ℕ))
+      (reply : ReplyOf)
       → reply ≡ tasks_reply turn budget c.new → TellsTasks sizes turn budget tasks (answer_with output reply)
   unfolding tasks_reply
   answers names tasks c output reply is = by_all (list_all (λ task. is_end (whole_run budget task).run) c.new) refl
@@ -206,7 +225,8 @@ module _ (implement : BuiltImplements) (take : BuiltTakesValues) (meant : KeptMe
       by_all : (b : Bool) → list_all (λ task. is_end (whole_run budget task).run) c.new ≡ b → TellsTasks sizes turn budget tasks (answer_with output reply)
       by_all true e =
           let verdict : reply.verdict ≡ Done = ap (λ (r : ReplyOf). r.verdict) is ∙ ap tasks_verdict e in
-          let text : (answer_with output reply).text ≡ tasks_text turn budget 0 c.new = ap (λ (v : Verdict). reply.said ++ verdict_line v) verdict ∙ append-nil reply.said ∙ ap (λ (r : ReplyOf). r.said) is in
+          let text : (answer_with output reply).text ≡ tasks_text turn budget 0 c.new =
+          ap (λ (v : Verdict). reply.said ++ verdict_line v) verdict ∙ append-nil reply.said ∙ ap (λ (r : ReplyOf). r.said) is in
           record {
             text = subst (TellsInTurn sizes turn budget 0 tasks) (sym text) c.text;
             ends = inl (ap status_of verdict);
@@ -215,7 +235,8 @@ module _ (implement : BuiltImplements) (take : BuiltTakesValues) (meant : KeptMe
           }
       by_all false e =
           let verdict : reply.verdict ≡ SomeUnfinished = ap (λ (r : ReplyOf). r.verdict) is ∙ ap tasks_verdict e in
-          let text : (answer_with output reply).text ≡ tasks_text turn budget 0 c.new = ap (λ (v : Verdict). reply.said ++ verdict_line v) verdict ∙ append-nil reply.said ∙ ap (λ (r : ReplyOf). r.said) is in
+          let text : (answer_with output reply).text ≡ tasks_text turn budget 0 c.new =
+          ap (λ (v : Verdict). reply.said ++ verdict_line v) verdict ∙ append-nil reply.said ∙ ap (λ (r : ReplyOf). r.said) is in
           record {
             text = subst (TellsInTurn sizes turn budget 0 tasks) (sym text) c.text;
             ends = inr (ap status_of verdict);
@@ -223,7 +244,8 @@ module _ (implement : BuiltImplements) (take : BuiltTakesValues) (meant : KeptMe
             all = λ a. absurd (let none : true ≡ false = sym (c.all a) ∙ e in cc);
           }
 
-each_told : BuiltImplements → BuiltTakesValues → KeptMeansOnly → (turn budget control temporary : ℕ) (names : List TaskFiles) (watches : List Watching) (files : Files) (tasks : List TaskOf) → 1 ≤ length names → length names ≤ 8
+each_told : BuiltImplements → BuiltTakesValues → KeptMeansOnly → (turn budget control temporary : ℕ) (names : List TaskFiles) (watches : List Watching)
+    (files : Files) (tasks : List TaskOf) → 1 ≤ length names → length names ≤ 8
     → AreTasks files (stack_sizes control temporary) 0 names tasks → word_count (map (λ t. t.image) tasks) ≤ 2 ^ 20
     → TellsTasks (stack_sizes control temporary) turn budget tasks (answer_to (command.Turns turn budget control temporary names) watches files)
 unfolding inputs_of reply_by
@@ -231,13 +253,17 @@ each_told implement take meant turn budget control temporary names watches files
     let sizes = stack_sizes control temporary in
     let c = comes implement take meant files sizes turn budget 0 0 names tasks (omega arith) are in
     let same : turns_reply turn budget sizes (texts_of TaskSource c.both) (texts_of TaskValues c.both) ≡ turns_reply turn budget sizes c.sources c.values =
-    ap (λ (ss : List (List ℕ)). turns_reply turn budget sizes ss (texts_of TaskValues c.both)) c.sources_are ∙ ap (turns_reply turn budget sizes c.sources) c.values_are in
-    subst (λ (r : Result Texts EarlyEnd). TellsTasks sizes turn budget tasks (answer_on (command.Turns turn budget control temporary names) watches r)) (sym c.there)
-    (answers implement take meant files sizes turn budget names tasks c _ (turns_reply turn budget sizes (texts_of TaskSource c.both) (texts_of TaskValues c.both))
+    ap (λ (ss : List (List ℕ)). turns_reply turn budget sizes ss (texts_of TaskValues c.both)) c.sources_are
+    ∙ ap (turns_reply turn budget sizes c.sources) c.values_are in
+    subst (λ (r : Result Texts EarlyEnd). TellsTasks sizes turn budget tasks (answer_on (command.Turns turn budget control temporary names) watches r))
+    (sym c.there)
+    (answers implement take meant files sizes turn budget names tasks c _
+    (turns_reply turn budget sizes (texts_of TaskSource c.both) (texts_of TaskValues c.both))
     (same ∙ replies implement take meant files sizes turn budget names tasks c some few small))
 
 -- of a command that words ask for
-pub each_task_is_told : BuiltImplements → BuiltTakesValues → KeptMeansOnly → (c : Command) → HasFew c → (watches : List Watching) (files : Files) → TellsEach c files (answer_to c watches files)
+pub each_task_is_told : BuiltImplements → BuiltTakesValues → KeptMeansOnly → (c : Command) → HasFew c → (watches : List Watching) (files : Files)
+    → TellsEach c files (answer_to c watches files)
 each_task_is_told implement take meant (command.Turns turn budget control temporary names) few watches files =
     record {
       ready = λ ends. tasks_ready implement turn budget control temporary names watches files few.1 ends;

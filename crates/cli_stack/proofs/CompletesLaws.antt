@@ -79,7 +79,8 @@ parts_of source sizes = built_with source sizes 0 (generated source sizes 0)
 is_generated : (source : SourceOf) (sizes : StackSizes) → LimitsFit (program_of source) sizes 0 → generation source sizes 0 ≡ Ok (generated source sizes 0)
 is_generated source sizes limits =
     let q = program_of source in
-    let none : size_fault q sizes ≡ None = sym (no_fault q sizes (total_words q) (sizes_are q sizes limits) limits.sizes_fit.suffice.ctrl limits.sizes_fit.suffice.temp refl limits.few_words) in
+    let none : size_fault q sizes ≡ None = sym
+    (no_fault q sizes (total_words q) (sizes_are q sizes limits) limits.sizes_fit.suffice.ctrl limits.sizes_fit.suffice.temp refl limits.few_words) in
     ap (λ (o : Option GenFault). unless_fault o (generated source sizes 0)) none
 
 is_built : (files : Files) (name : List ℕ) (control temporary : ℕ) (source : SourceOf) (has : HasSource files name (stack_sizes control temporary) source)
@@ -91,9 +92,11 @@ is_built files name control temporary source has =
 
 -- 2. What is stored.
 
-module _ (watches : List Watching) (files : Files) (source_name values_name name : List ℕ) (control temporary budget : ℕ) (source : SourceOf) (values_text : List ℕ)
+module _ (watches : List Watching) (files : Files) (source_name values_name name : List ℕ) (control temporary budget : ℕ) (source : SourceOf)
+    (values_text : List ℕ)
     (has : HasSource files source_name (stack_sizes control temporary) source) (there : IsReadable files Values values_name values_text) where
-  is_stored : (answer_to (command.Go source_name values_name control temporary budget name) watches files).output ≡ Some (name, spelling (image_of source (stack_sizes control temporary) 0))
+  is_stored : (answer_to (command.Go source_name values_name control temporary budget name) watches files).output
+      ≡ Some (name, spelling (image_of source (stack_sizes control temporary) 0))
   unfolding inputs_of output_of stored_by
   is_stored =
       ap (λ (r : Result Texts EarlyEnd). (answer_on (command.Go source_name values_name control temporary budget name) watches r).output)
@@ -112,19 +115,23 @@ module _ (watches : List Watching) (files : Files) (source_name values_name name
     same = refl;
   }
 
-  is_told : TellsMeanings (command.Go source_name values_name control temporary budget name) files (answer_to (command.Go source_name values_name control temporary budget name) watches files)
+  is_told : TellsMeanings (command.Go source_name values_name control temporary budget name) files
+      (answer_to (command.Go source_name values_name control temporary budget name) watches files)
       → (values finals : List ValueOf) (way : CurrentCondition) (count : ℕ) → values_in (formal_slots source) values_text ≡ Ok values
       → Finishes source (stack_sizes control temporary) values finals way count → count ≤ budget
-      → TellsReport source (image_of source (stack_sizes control temporary) 0) finals way count (answer_to (command.Go source_name values_name control temporary budget name) watches files)
+      → TellsReport source (image_of source (stack_sizes control temporary) 0) finals way count
+      (answer_to (command.Go source_name values_name control temporary budget name) watches files)
   unfolding inputs_of output_of
   is_told tells values finals way count gives done enough =
       let run = tells values_name (1, omega arith, refl) (inr (name, refl)) in
-      run.1 (stack_sizes control temporary) source (image_of source (stack_sizes control temporary) 0) values_text values finals way count (refl, made) there (image_takes source (stack_sizes control temporary) 0 values_text ∙ gives) done enough
+      run.1 (stack_sizes control temporary) source (image_of source (stack_sizes control temporary) 0) values_text values finals way count (refl, made)
+      there (image_takes source (stack_sizes control temporary) 0 values_text ∙ gives) done enough
 
   -- the command comes to its answer
   module _ (before after : World) (status : Status) where
     agreeing : Agrees (answer_to (command.Go source_name values_name control temporary budget name) watches files) files before after status
-        → TellsMeanings (command.Go source_name values_name control temporary budget name) files (answer_to (command.Go source_name values_name control temporary budget name) watches files)
+        → TellsMeanings (command.Go source_name values_name control temporary budget name) files
+        (answer_to (command.Go source_name values_name control temporary budget name) watches files)
         → Completed files name source (stack_sizes control temporary) values_text budget before after status
     agreeing agrees tells = record {
       stored = agrees.files_left ∙ ap (λ (o : Option (List ℕ × List ℕ)). Some (files_after o files)) is_stored;
@@ -148,26 +155,41 @@ memory_or_not status = inr (λ e. cc)
 module _ (watches : List Watching) (before after : World) (status : Status) where
   -- `go`, of its own files
   completes_go : (source_name values_name name : List ℕ) (control temporary budget : ℕ) (files : Files)
-      → (status ≢ ShelfFault → status ≢ SinkFault → status ≢ OutOfMemory → Agrees (answer_to (command.Go source_name values_name control temporary budget name) watches files) files before after status)
-      → (status ≡ ShelfFault → RoseAt (λ c. c.faults) (file_names (Some (command.Go source_name values_name control temporary budget name))) before.shelf after.shelf (λ n. after.out.taken ≡ appended before.out.taken (end_line (early.ShelfFault n))))
+      → (status ≢ ShelfFault → status ≢ SinkFault → status ≢ OutOfMemory → Agrees
+      (answer_to (command.Go source_name values_name control temporary budget name) watches files) files before after status)
+      → (status ≡ ShelfFault → RoseAt (λ c. c.faults) (file_names (Some (command.Go source_name values_name control temporary budget name)))
+      before.shelf after.shelf (λ n. after.out.taken ≡ appended before.out.taken (end_line (early.ShelfFault n))))
       → (status ≡ SinkFault → Rose before.out.faults after.out.faults)
-      → TellsMeanings (command.Go source_name values_name control temporary budget name) files (answer_to (command.Go source_name values_name control temporary budget name) watches files)
-      → CompletesRun (command.Go source_name values_name control temporary budget name) files source_name values_name name (stack_sizes control temporary) budget before after status
+      → TellsMeanings (command.Go source_name values_name control temporary budget name) files
+      (answer_to (command.Go source_name values_name control temporary budget name) watches files)
+      → CompletesRun (command.Go source_name values_name control temporary budget name) files source_name values_name name
+      (stack_sizes control temporary) budget before after status
   completes_go source_name values_name name control temporary budget files answers shelf_fault sink_fault tells source values_text has there none =
-      ⊎_elim (λ memory. inl memory) (λ lasts. inr (agreeing watches files source_name values_name name control temporary budget source values_text has there before after status
+      ⊎_elim (λ memory. inl memory) (λ lasts. inr
+      (agreeing watches files source_name values_name name control temporary budget source values_text has there before after status
       (answers (λ e. let failed = shelf_fault e in none.shelf failed.0 failed.1 failed.2) (λ e. none.sink (sink_fault e)) lasts) tells)) (memory_or_not status)
 
-  completes_on : (c : Command) (files : Files) → (status ≢ ShelfFault → status ≢ SinkFault → status ≢ OutOfMemory → Agrees (answer_to c watches files) files before after status)
-      → (status ≡ ShelfFault → RoseAt (λ c. c.faults) (file_names (Some c)) before.shelf after.shelf (λ name. after.out.taken ≡ appended before.out.taken (end_line (early.ShelfFault name)))) → (status ≡ SinkFault → Rose before.out.faults after.out.faults)
+  completes_on : (c : Command) (files : Files)
+      → (status ≢ ShelfFault → status ≢ SinkFault → status ≢ OutOfMemory → Agrees (answer_to c watches files) files before after status)
+      → (status ≡ ShelfFault → RoseAt (λ c. c.faults) (file_names (Some c)) before.shelf after.shelf
+      (λ name. after.out.taken ≡ appended before.out.taken (end_line (early.ShelfFault name))))
+      → (status ≡ SinkFault → Rose before.out.faults after.out.faults)
       → TellsMeanings c files (answer_to c watches files) → CompletesCommand c files before after status
   unfolding inputs_of output_of
-  completes_on (command.Check source_name) files answers shelf_fault sink_fault tells = λ source values image reads writes. absurd (let e : None ≡ Some (Image, image) = writes in cc)
-  completes_on (command.Mean source_name values_name control temporary limit) files answers shelf_fault sink_fault tells = λ source values image reads writes. absurd (let e : None ≡ Some (Image, image) = writes in cc)
-  completes_on (command.Pit source_name control temporary piton) files answers shelf_fault sink_fault tells = λ source values image reads writes. absurd (let e : [] ≡ (Values, values) ∷ [] = ap others reads in cc)
-  completes_on (command.Build source_name control temporary name) files answers shelf_fault sink_fault tells = λ source values image reads writes. absurd (let e : [] ≡ (Values, values) ∷ [] = ap others reads in cc)
-  completes_on (command.Pbuild piton name) files answers shelf_fault sink_fault tells = λ source values image reads writes. absurd (let e : [] ≡ (Values, values) ∷ [] = ap others reads in cc)
-  completes_on (command.Run image_name values_name budget) files answers shelf_fault sink_fault tells = λ source values image reads writes. absurd (let e : None ≡ Some (Image, image) = writes in cc)
-  completes_on (command.Go source_name values_name control temporary budget name) files answers shelf_fault sink_fault tells = λ source values image reads writes.
+  completes_on (command.Check source_name) files answers shelf_fault sink_fault tells =
+      λ source values image reads writes. absurd (let e : None ≡ Some (Image, image) = writes in cc)
+  completes_on (command.Mean source_name values_name control temporary limit) files answers shelf_fault sink_fault tells =
+      λ source values image reads writes. absurd (let e : None ≡ Some (Image, image) = writes in cc)
+  completes_on (command.Pit source_name control temporary piton) files answers shelf_fault sink_fault tells =
+      λ source values image reads writes. absurd (let e : [] ≡ (Values, values) ∷ [] = ap others reads in cc)
+  completes_on (command.Build source_name control temporary name) files answers shelf_fault sink_fault tells =
+      λ source values image reads writes. absurd (let e : [] ≡ (Values, values) ∷ [] = ap others reads in cc)
+  completes_on (command.Pbuild piton name) files answers shelf_fault sink_fault tells =
+      λ source values image reads writes. absurd (let e : [] ≡ (Values, values) ∷ [] = ap others reads in cc)
+  completes_on (command.Run image_name values_name budget) files answers shelf_fault sink_fault tells =
+      λ source values image reads writes. absurd (let e : None ≡ Some (Image, image) = writes in cc)
+  completes_on (command.Go source_name values_name control temporary budget name) files answers shelf_fault sink_fault tells =
+      λ source values image reads writes.
       let first : source_name ≡ source = ap first_name reads in
       let second : values_name ≡ values = ap (λ (fs : List (Role × List ℕ)). first_name (others fs)) reads in
       let written : name ≡ image = ap written_name writes in
@@ -177,16 +199,25 @@ module _ (watches : List Watching) (before after : World) (status : Status) wher
       (subst (λ (n : List ℕ). CompletesRun go files source_name n image sizes budget before after status) second
       (subst (λ (n : List ℕ). CompletesRun go files source_name values_name n sizes budget before after status) written
       (completes_go source_name values_name name control temporary budget files answers shelf_fault sink_fault tells)))
-  completes_on (command.Show image_name) files answers shelf_fault sink_fault tells = λ source values image reads writes. absurd (let e : None ≡ Some (Image, image) = writes in cc)
-  completes_on (command.Migrate image_name name) files answers shelf_fault sink_fault tells = λ source values image reads writes. absurd (let e : [] ≡ (Values, values) ∷ [] = ap others reads in cc)
-  completes_on (command.Asm assembly name) files answers shelf_fault sink_fault tells = λ source values image reads writes. absurd (let e : [] ≡ (Values, values) ∷ [] = ap others reads in cc)
-  completes_on (command.Unasm name assembly) files answers shelf_fault sink_fault tells = λ source values image reads writes. absurd (let e : [] ≡ (Values, values) ∷ [] = ap others reads in cc)
-  completes_on (command.Need source_name certificate) files answers shelf_fault sink_fault tells = λ source values image reads writes. absurd (let e : [] ≡ (Values, values) ∷ [] = ap others reads in cc)
-  completes_on (command.Mini program name) files answers shelf_fault sink_fault tells = λ source values image reads writes. absurd (let e : [] ≡ (Values, values) ∷ [] = ap others reads in cc)
+  completes_on (command.Show image_name) files answers shelf_fault sink_fault tells =
+      λ source values image reads writes. absurd (let e : None ≡ Some (Image, image) = writes in cc)
+  completes_on (command.Migrate image_name name) files answers shelf_fault sink_fault tells =
+      λ source values image reads writes. absurd (let e : [] ≡ (Values, values) ∷ [] = ap others reads in cc)
+  completes_on (command.Asm assembly name) files answers shelf_fault sink_fault tells =
+      λ source values image reads writes. absurd (let e : [] ≡ (Values, values) ∷ [] = ap others reads in cc)
+  completes_on (command.Unasm name assembly) files answers shelf_fault sink_fault tells =
+      λ source values image reads writes. absurd (let e : [] ≡ (Values, values) ∷ [] = ap others reads in cc)
+  completes_on (command.Need source_name certificate) files answers shelf_fault sink_fault tells =
+      λ source values image reads writes. absurd (let e : [] ≡ (Values, values) ∷ [] = ap others reads in cc)
+  completes_on (command.Mini program name) files answers shelf_fault sink_fault tells =
+      λ source values image reads writes. absurd (let e : [] ≡ (Values, values) ∷ [] = ap others reads in cc)
   completes_on c files answers shelf_fault sink_fault tells = λ source values image reads writes. absurd (let e : None ≡ Some (Image, image) = writes in cc)
 
-  pub completes : (command : Option Command) (files : Files) → (status ≢ ShelfFault → status ≢ SinkFault → status ≢ OutOfMemory → Agrees (answer_by command watches files) files before after status)
-      → (status ≡ ShelfFault → RoseAt (λ c. c.faults) (file_names command) before.shelf after.shelf (λ name. after.out.taken ≡ appended before.out.taken (end_line (early.ShelfFault name)))) → (status ≡ SinkFault → Rose before.out.faults after.out.faults)
+  pub completes : (command : Option Command) (files : Files)
+      → (status ≢ ShelfFault → status ≢ SinkFault → status ≢ OutOfMemory → Agrees (answer_by command watches files) files before after status)
+      → (status ≡ ShelfFault → RoseAt (λ c. c.faults) (file_names command) before.shelf after.shelf
+      (λ name. after.out.taken ≡ appended before.out.taken (end_line (early.ShelfFault name))))
+      → (status ≡ SinkFault → Rose before.out.faults after.out.faults)
       → IfSome command (λ c. TellsMeanings c files (answer_to c watches files)) → IfSome command (λ c. CompletesCommand c files before after status)
   completes None files answers shelf_fault sink_fault tells = tt
   completes (Some c) files answers shelf_fault sink_fault tells = completes_on c files answers shelf_fault sink_fault tells

@@ -49,9 +49,12 @@ use Rattle.cli_stack.proofs.TellsLaws.{both_there, reply_tells}
 
 -- 1. A run of an image that keeps to a source.
 
-module _ (meant : KeptMeansOnly) (image : ImageOf) (source : SourceOf) (sizes : StackSizes) (does : Implements image source sizes) (keeps : KeepsMoments image source sizes)
-    (values : List ValueOf) (fits : FitsFormals source values) (budget : ℕ) (output : Option (List ℕ × List ℕ)) (reply : ReplyOf) (is : reply ≡ run_reply image values budget) where
-  pub done : (count : ℕ) → count ≤ budget → (outcome budget image.final_pc (loaded image values)).run ≡ run.Ended count → (d : IsDone source sizes image values budget (answer_with output reply)) × (d.count ≡ count)
+module _ (meant : KeptMeansOnly) (image : ImageOf) (source : SourceOf) (sizes : StackSizes) (does : Implements image source sizes)
+    (keeps : KeepsMoments image source sizes)
+    (values : List ValueOf) (fits : FitsFormals source values) (budget : ℕ) (output : Option (List ℕ × List ℕ)) (reply : ReplyOf)
+    (is : reply ≡ run_reply image values budget) where
+  pub done : (count : ℕ) → count ≤ budget → (outcome budget image.final_pc (loaded image values)).run ≡ run.Ended count
+      → (d : IsDone source sizes image values budget (answer_with output reply)) × (d.count ≡ count)
   done count within ended =
       let o : RunOutcome = outcome budget image.final_pc (loaded image values) in
       let first : IsOutcome (loaded image values) image.final_pc budget (run.Ended count) o.state =
@@ -72,13 +75,16 @@ module _ (meant : KeptMeansOnly) (image : ImageOf) (source : SourceOf) (sizes : 
   unfolding run_reply
   spent_told spent =
       let o : RunOutcome = outcome budget image.final_pc (loaded image values) in
-      let verdict : reply.verdict ≡ verdict.Unfinished budget = ap (λ (r : ReplyOf). r.verdict) is ∙ ap (λ (r : Run). (end_reply image budget r o.state).verdict) spent in
+      let verdict : reply.verdict ≡ verdict.Unfinished budget =
+      ap (λ (r : ReplyOf). r.verdict) is ∙ ap (λ (r : Run). (end_reply image budget r o.state).verdict) spent in
       let said : reply.said ≡ [] = ap (λ (r : ReplyOf). r.said) is ∙ ap (λ (r : Run). (end_reply image budget r o.state).said) spent in
       record { status = ap status_of verdict; text = λ i. said i ++ verdict_line (verdict i) }
 
   pub reply_decided : Decided source sizes image values budget (answer_with output reply)
   reply_decided = record {
-    either = ⊎_elim (λ ended. inl (done ended.0 ended.1 ended.2).0) (λ spent. inr (record { beyond = not_within image source sizes does values fits budget spent; tells = spent_told spent })) ((meant image source sizes keeps).inside values budget fits);
+    either = ⊎_elim (λ ended. inl (done ended.0 ended.1 ended.2).0)
+        (λ spent. inr (record { beyond = not_within image source sizes does values fits budget spent; tells = spent_told spent }))
+        ((meant image source sizes keeps).inside values budget fits);
     endless = λ never. spent_told ((meant image source sizes keeps).endless values budget fits never);
   }
 
@@ -103,39 +109,50 @@ module _ (implement : BuiltImplements) (take : BuiltTakesValues) (files : Files)
       let builds : BuildsText here.text control temporary here.found = rw made at (implement here.text control temporary 0 short (omega arith)) in
       let read : Ok builds.source ≡ Ok is.source = sym builds.read ∙ here.read in
       let same : builds.source ≡ is.source = cc in
-      let gives : values_in here.found.image.slots is.values_text ≡ Ok is.values = ap (λ (i : ImageOf). values_in i.slots is.values_text) here.same ∙ is.gives in
+      let gives : values_in here.found.image.slots is.values_text ≡ Ok is.values =
+      ap (λ (i : ImageOf). values_in i.slots is.values_text) here.same ∙ is.gives in
       record {
-        implements = subst (λ (i : ImageOf). Implements i is.source sizes) here.same (subst (λ (s : SourceOf). Implements here.found.image s sizes) same builds.builds.implements);
-        moments = subst (λ (i : ImageOf). KeepsMoments i is.source sizes) here.same (subst (λ (s : SourceOf). KeepsMoments here.found.image s sizes) same builds.builds.moments);
+        implements = subst (λ (i : ImageOf). Implements i is.source sizes) here.same
+            (subst (λ (s : SourceOf). Implements here.found.image s sizes) same builds.builds.implements);
+        moments = subst (λ (i : ImageOf). KeepsMoments i is.source sizes) here.same
+            (subst (λ (s : SourceOf). KeepsMoments here.found.image s sizes) same builds.builds.moments);
         fits = take here.text control temporary 0 is.source here.found is.values_text is.values short (omega arith) here.read made gives;
         built_is = made;
         gives = gives;
       }
 
   -- the reply is that of the run
-  pub ready_replies : (source_name values_name : List ℕ) (control temporary budget : ℕ) (is : IsReadyToRun files source_name values_name (stack_sizes control temporary))
+  pub ready_replies : (source_name values_name : List ℕ) (control temporary budget : ℕ)
+      (is : IsReadyToRun files source_name values_name (stack_sizes control temporary))
       → go_reply (built is.built.text control temporary 0) is.values_text budget ≡ run_reply is.image is.values budget
   ready_replies source_name values_name control temporary budget is =
       let r = ready_runs source_name values_name control temporary is in
       rw (r.built_is, r.gives) (ap (λ (i : ImageOf). run_reply i is.values budget) is.built.same)
 
-  go_decided : KeptMeansOnly → (watches : List Watching) (source_name values_name image_name : List ℕ) (control temporary budget : ℕ) (is : IsReadyToRun files source_name values_name (stack_sizes control temporary))
-      → Decided is.source (stack_sizes control temporary) is.image is.values budget (answer_to (command.Go source_name values_name control temporary budget image_name) watches files)
+  go_decided : KeptMeansOnly → (watches : List Watching) (source_name values_name image_name : List ℕ) (control temporary budget : ℕ)
+      (is : IsReadyToRun files source_name values_name (stack_sizes control temporary))
+      → Decided is.source (stack_sizes control temporary) is.image is.values budget
+      (answer_to (command.Go source_name values_name control temporary budget image_name) watches files)
   unfolding inputs_of reply_by
   go_decided meant watches source_name values_name image_name control temporary budget is =
       let sizes = stack_sizes control temporary in
       let r = ready_runs source_name values_name control temporary is in
-      subst (λ (t : Result Texts EarlyEnd). Decided is.source sizes is.image is.values budget (answer_on (command.Go source_name values_name control temporary budget image_name) watches t))
+      subst (λ (t : Result Texts EarlyEnd). Decided is.source sizes is.image is.values budget
+      (answer_on (command.Go source_name values_name control temporary budget image_name) watches t))
       (sym (both_there files (Source, source_name) (Values, values_name) is.built.text is.values_text is.built.readable is.there))
-      (reply_decided meant is.image is.source sizes r.implements r.moments is.values r.fits budget _ (go_reply (built is.built.text control temporary 0) is.values_text budget)
+      (reply_decided meant is.image is.source sizes r.implements r.moments is.values r.fits budget
+      _ (go_reply (built is.built.text control temporary 0) is.values_text budget)
       (ready_replies source_name values_name control temporary budget is))
 
-run_decided : KeptMeansOnly → (files : Files) (watches : List Watching) (image_name values_name : List ℕ) (budget : ℕ) (sizes : StackSizes) (source : SourceOf) (image : ImageOf) (values_text : List ℕ) (values : List ValueOf)
-    → IsRead files image_name sizes source image values → KeepsMoments image source sizes → IsReadable files Values values_name values_text → values_in image.slots values_text ≡ Ok values
+run_decided : KeptMeansOnly → (files : Files) (watches : List Watching) (image_name values_name : List ℕ) (budget : ℕ) (sizes : StackSizes)
+    (source : SourceOf) (image : ImageOf) (values_text : List ℕ) (values : List ValueOf)
+    → IsRead files image_name sizes source image values → KeepsMoments image source sizes → IsReadable files Values values_name values_text
+    → values_in image.slots values_text ≡ Ok values
     → Decided source sizes image values budget (answer_to (command.Run image_name values_name budget) watches files)
 unfolding inputs_of reply_by
 run_decided meant files watches image_name values_name budget sizes source image values_text values found keeps there gives =
-    let replies : image_file_reply found.bytes values_text budget ≡ run_reply image values budget = rw (spelled_reads found.bytes image found.spells, gives) refl in
+    let replies : image_file_reply found.bytes values_text budget ≡ run_reply image values budget =
+    rw (spelled_reads found.bytes image found.spells, gives) refl in
     subst (λ (r : Result Texts EarlyEnd). Decided source sizes image values budget (answer_on (command.Run image_name values_name budget) watches r))
     (sym (both_there files (Image, image_name) (Values, values_name) found.bytes values_text found.readable there))
     (reply_decided meant image source sizes found.implements keeps values found.fit budget _ (image_file_reply found.bytes values_text budget) replies)
@@ -158,14 +175,17 @@ build_no_run (fault.Temporary need) h = h
 build_no_run (fault.Words count) h = h
 build_no_run fault.Memory h = h
 
-module _ (implement : BuiltImplements) (watches : List Watching) (files : Files) (source_name values_name image_name : List ℕ) (control temporary budget : ℕ) where
+module _ (implement : BuiltImplements) (watches : List Watching) (files : Files) (source_name values_name image_name : List ℕ)
+    (control temporary budget : ℕ) where
   ready_from : (text other : List ℕ) → IsReadable files Source source_name text → IsReadable files Values values_name other
-      → (found : Result BuiltOf BuildFault) → built text control temporary 0 ≡ found → IfOk found (BuildsText text control temporary) → IsRunEnd (status_of (go_reply found other budget).verdict)
+      → (found : Result BuiltOf BuildFault) → built text control temporary 0 ≡ found → IfOk found (BuildsText text control temporary)
+      → IsRunEnd (status_of (go_reply found other budget).verdict)
       → IsReadyToRun files source_name values_name (stack_sizes control temporary)
   ready_from text other there there' (Err f) is builds ends = absurd (build_no_run f ends)
   ready_from text other there there' (Ok b) is builds ends = by_values (values_in b.image.slots other) refl ends
     where
-      by_values : (found : Result (List ValueOf) (ℕ × ℕ)) → values_in b.image.slots other ≡ found → IsRunEnd (status_of (values_reply b.image budget found).verdict) → IsReadyToRun files source_name values_name (stack_sizes control temporary)
+      by_values : (found : Result (List ValueOf) (ℕ × ℕ)) → values_in b.image.slots other ≡ found
+          → IsRunEnd (status_of (values_reply b.image budget found).verdict) → IsReadyToRun files source_name values_name (stack_sizes control temporary)
       by_values (Err f) gives ends = absurd ends
       by_values (Ok values) gives ends = record {
         source = builds.source;
@@ -177,8 +197,10 @@ module _ (implement : BuiltImplements) (watches : List Watching) (files : Files)
         gives = gives;
       }
 
-  go_ready : (first second : Result (List ℕ) EarlyEnd) → text_or_end (Source, source_name) (fetched files source_name (limit_of Source)) ≡ first → text_or_end (Values, values_name) (fetched files values_name (limit_of Values)) ≡ second
-      → IsRunEnd (answer_on (command.Go source_name values_name control temporary budget image_name) watches (first >>= λ text. (second >>= λ other. Ok ((Values, other) ∷ [])) >>= λ texts. Ok ((Source, text) ∷ texts))).status
+  go_ready : (first second : Result (List ℕ) EarlyEnd) → text_or_end (Source, source_name) (fetched files source_name (limit_of Source)) ≡ first
+      → text_or_end (Values, values_name) (fetched files values_name (limit_of Values)) ≡ second
+      → IsRunEnd (answer_on (command.Go source_name values_name control temporary budget image_name) watches
+      (first >>= λ text. (second >>= λ other. Ok ((Values, other) ∷ [])) >>= λ texts. Ok ((Source, text) ∷ texts))).status
       → IsReadyToRun files source_name values_name (stack_sizes control temporary)
   unfolding reply_by
   go_ready (Err e) second got got' ends = absurd (early_no_run e ends)
@@ -187,16 +209,19 @@ module _ (implement : BuiltImplements) (watches : List Watching) (files : Files)
       let file = was_short files (Source, source_name) text got in
       let values = was_short files (Values, values_name) other got' in
       let short : length text ≤ 2 ^ 31 = omega (arith, file.1) in
-      ready_from text other (record { there = file.0; short = file.1 }) (record { there = values.0; short = values.1 }) (built text control temporary 0) refl (implement text control temporary 0 short (omega arith)) ends
+      ready_from text other (record { there = file.0; short = file.1 }) (record { there = values.0; short = values.1 }) (built text control temporary 0)
+      refl (implement text control temporary 0 short (omega arith)) ends
 
 -- 4. All commands.
 
-pub decides : KeptMeansOnly → BuiltImplements → BuiltTakesValues → (c : Command) (watches : List Watching) (files : Files) → Decides c files (answer_to c watches files)
+pub decides : KeptMeansOnly → BuiltImplements → BuiltTakesValues → (c : Command) (watches : List Watching) (files : Files)
+    → Decides c files (answer_to c watches files)
 unfolding inputs_of
 decides meant implement take (command.Go source_name values_name control temporary budget image_name) watches files = record {
   ready = λ ends. go_ready implement watches files source_name values_name image_name control temporary budget _ _ refl refl ends;
   decided = λ is. go_decided implement take files meant watches source_name values_name image_name control temporary budget is;
 }
 decides meant implement take (command.Run image_name values_name budget) watches files =
-    λ sizes source image values_text values found keeps there gives. run_decided meant files watches image_name values_name budget sizes source image values_text values found keeps there gives
+    λ sizes source image values_text values found keeps there gives. run_decided meant files watches image_name values_name budget sizes source image
+    values_text values found keeps there gives
 decides meant implement take c watches files = tt

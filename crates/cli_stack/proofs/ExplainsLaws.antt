@@ -1,5 +1,6 @@
 -- What a session says where the source's step machine has come to a state, and to `words` and `until`.
-use Rattle.std.proofs.Common.{◌≡◌, ◌≤◌, ℕ, zero, suc, List, [], ◌∷◌, ◌++◌, Option, Some, None, Result, Ok, Err, length, refl, sym, ap, ◌∙◌, subst, arith, append_assoc}
+use Rattle.std.proofs.Common.{◌≡◌, ◌≤◌, ℕ, zero, suc, List, [], ◌∷◌, ◌++◌, Option, Some, None, Result, Ok, Err, length, refl, sym, ap, ◌∙◌, subst, arith}
+use Rattle.std.proofs.Common.{append_assoc}
 use Rattle.std.proofs.Common.{inl, inr}
 use Rattle.std.specs.Prelude.{Bool, true, if◌then◌else◌, ◌^◌, IsTrue}
 use Rattle.std.proofs.lemmas.Bool.{eq-eqb}
@@ -90,7 +91,8 @@ unfolding built
 of_source text ctrl temp source found read is =
     sym (ap (λ (r : Result SourceOf BuildFault). r >>= λ s. source_built s (stack_sizes ctrl temp) 0) read) ∙ is
 
-module _ (source : SourceOf) (sizes : StackSizes) (found : BuiltOf) (values_text : List ℕ) (values : List ValueOf) (made : source_built source sizes 0 ≡ Ok found) (gives : values_in found.image.slots values_text ≡ Ok values) where
+module _ (source : SourceOf) (sizes : StackSizes) (found : BuiltOf) (values_text : List ℕ) (values : List ValueOf)
+    (made : source_built source sizes 0 ≡ Ok found) (gives : values_in found.image.slots values_text ≡ Ok values) where
   piton_run : run_at Piton source sizes values_text ≡ Ok (system_run source found.piton found.image values)
   unfolding system_start built_start
   piton_run = rw (made, gives) refl
@@ -99,7 +101,8 @@ module _ (source : SourceOf) (sizes : StackSizes) (found : BuiltOf) (values_text
   unfolding image_start built_start
   machine_run = rw (made, gives) refl
 
-run_found : (level : Level) (text : List ℕ) (source : SourceOf) (sizes : StackSizes) (values_text : List ℕ) (run : LevelOf) → accepted_source text ≡ Ok source → run_at level source sizes values_text ≡ Ok run
+run_found : (level : Level) (text : List ℕ) (source : SourceOf) (sizes : StackSizes) (values_text : List ℕ) (run : LevelOf)
+    → accepted_source text ≡ Ok source → run_at level source sizes values_text ≡ Ok run
     → run_in level text sizes values_text ≡ Ok run
 unfolding run_in accepted_in
 run_found level text source sizes values_text run read is = rw (read, is) refl
@@ -167,7 +170,8 @@ module _ (run : FmLevelOf) (there : pc_of run.state ≡ run.image.final_pc) wher
 
   said_there : up_text (Fm run) ≡ lines_of_reading run.image (reading run.image run.state)
   said_there =
-      ap (λ (b : Bool). if b then lines_of_reading run.image (reading run.image run.state) else mark_text (reading_at run.image run.state)) (eq-eqb (pc_of run.state) run.image.final_pc there)
+      ap (λ (b : Bool). if b then lines_of_reading run.image (reading run.image run.state) else mark_text (reading_at run.image run.state))
+      (eq-eqb (pc_of run.state) run.image.final_pc there)
 
 -- a walk of so many steps stands where the processor stands after as many instructions
 walk_stands : MachinesWalk → (image : ImageOf) (values : List ValueOf) (n : ℕ) (state : fm.Fm) → StandsAfter n (loaded image values) image.final_pc state
@@ -216,7 +220,8 @@ source_begins : (text : List ℕ) (sizes : StackSizes) (values_text : List ℕ) 
 unfolding run_in
 source_begins text sizes values_text run begins = by_source (accepted_in text) begins
   where
-    by_start : (source : SourceOf) (start : Result Seen StartFault) → or_verdict (start >>= λ seen. Ok (levels.Gypsy (record { source = source; seen = seen }))) ≡ Ok run → IsOfSource run
+    by_start : (source : SourceOf) (start : Result Seen StartFault) → or_verdict
+        (start >>= λ seen. Ok (levels.Gypsy (record { source = source; seen = seen }))) ≡ Ok run → IsOfSource run
     by_start source (Err fault) begins = absurd cc
     by_start source (Ok seen) begins =
         let both : Ok (levels.Gypsy (record { source = source; seen = seen })) ≡ Ok run = begins in
@@ -227,14 +232,16 @@ source_begins text sizes values_text run begins = by_source (accepted_in text) b
     by_source (Err refusal) begins = absurd cc
     by_source (Ok source) begins = by_start source (gypsy_start source sizes values_text) begins
 
-top_says : (level : Level) → level ≡ Gypsy → (text : List ℕ) (sizes : StackSizes) (values_text : List ℕ) (run : LevelOf) (n : ℕ) → run_in level text sizes values_text ≡ Ok run → up_text (walk n run).level ≡ gypsy_up
+top_says : (level : Level) → level ≡ Gypsy → (text : List ℕ) (sizes : StackSizes) (values_text : List ℕ) (run : LevelOf) (n : ℕ)
+    → run_in level text sizes values_text ≡ Ok run → up_text (walk n run).level ≡ gypsy_up
 top_says Gypsy at text sizes values_text run n begins = of_source_says n run (source_begins text sizes values_text run begins)
 top_says Piton at text sizes values_text run n begins = absurd cc
 top_says Fm9001 at text sizes values_text run n begins = absurd cc
 
 -- 5. The command.
 
-three_there : (files : Files) (first second third : Role × List ℕ) (text other last : List ℕ) → IsReadable files first.0 first.1 text → IsReadable files second.0 second.1 other → IsReadable files third.0 third.1 last
+three_there : (files : Files) (first second third : Role × List ℕ) (text other last : List ℕ) → IsReadable files first.0 first.1 text
+    → IsReadable files second.0 second.1 other → IsReadable files third.0 third.1 last
     → gathered files (first ∷ second ∷ third ∷ []) ≡ Ok ((first.0, text) ∷ (second.0, other) ∷ (third.0, last) ∷ [])
 three_there files first second third text other last there there' there'' =
     rw (is_there files first text there, is_there files second other there', is_there files third last there'') refl
@@ -248,8 +255,10 @@ record Begins (level : Level) (source : SourceOf) (sizes : StackSizes) (values_t
 some_same : (m n : ℕ) → Some m ≡ Some n → m ≡ n
 some_same m n e = cc
 
-begins : (level : Level) (source : SourceOf) (sizes : StackSizes) (found : BuiltOf) (values_text : List ℕ) (values : List ValueOf) (g : State) (n : ℕ) → source_built source sizes 0 ≡ Ok found
-    → values_in found.image.slots values_text ≡ Ok values → BothSay source found values g → steps_to level g ≡ Some n → Begins level source sizes values_text n (state_text source g)
+begins : (level : Level) (source : SourceOf) (sizes : StackSizes) (found : BuiltOf) (values_text : List ℕ) (values : List ValueOf) (g : State) (n : ℕ)
+    → source_built source sizes 0 ≡ Ok found
+    → values_in found.image.slots values_text ≡ Ok values → BothSay source found values g → steps_to level g ≡ Some n
+    → Begins level source sizes values_text n (state_text source g)
 begins Gypsy source sizes found values_text values g n made gives both is = absurd cc
 begins Piton source sizes found values_text values g n made gives both is = record {
   run = system_run source found.piton found.image values;
@@ -263,7 +272,8 @@ begins Fm9001 source sizes found values_text values g n made gives both is = rec
 }
 
 -- what a run says at its end
-module _ (implement : BuiltImplements) (take : BuiltTakesValues) (ends : BuiltSaysEnds) (walks : MachinesWalk) (source_name values_name : List ℕ) (control temporary : ℕ) (files : Files)
+module _ (implement : BuiltImplements) (take : BuiltTakesValues) (ends : BuiltSaysEnds) (walks : MachinesWalk) (source_name values_name : List ℕ)
+    (control temporary : ℕ) (files : Files)
     (is : IsReadyToRun files source_name values_name (stack_sizes control temporary)) where
   -- the run of the processor that a session has
   machine_begins : (run : LevelOf) → run_in Fm9001 is.built.text (stack_sizes control temporary) is.values_text ≡ Ok run → run ≡ image_run is.image is.values
@@ -281,13 +291,15 @@ module _ (implement : BuiltImplements) (take : BuiltTakesValues) (ends : BuiltSa
       let same : run ≡ level = cc in
       same ∙ ap (λ (i : ImageOf). image_run i is.values) is.built.same
 
-  ended_text : (level : Level) (j n : ℕ) (finals : List ValueOf) (way : CurrentCondition) (spent : Tally) (run : LevelOf) → run_in level is.built.text (stack_sizes control temporary) is.values_text ≡ Ok run
+  ended_text : (level : Level) (j n : ℕ) (finals : List ValueOf) (way : CurrentCondition) (spent : Tally) (run : LevelOf)
+      → run_in level is.built.text (stack_sizes control temporary) is.values_text ≡ Ok run
       → moment_from (program_of is.source) (stack_sizes control temporary) is.values j ≡ Ended finals way spent → LeadsToEnd level spent n
       → up_text (walk n run).level ≡ lines_of_reading is.image (meaning_shown is.source finals way)
   ended_text Fm9001 j n finals way spent run begins stands enough =
       let sizes : StackSizes = stack_sizes control temporary in
       let ready = ready_runs implement take files source_name values_name control temporary is in
-      let arrives : ArrivesAtEnd is.source is.image is.values finals way spent.count = subst (λ (m : Move). ArrivesAt is.source sizes is.image is.values m) stands (ready.moments is.values j ready.fits) in
+      let arrives : ArrivesAtEnd is.source is.image is.values finals way spent.count =
+      subst (λ (m : Move). ArrivesAt is.source sizes is.image is.values m) stands (ready.moments is.values j ready.fits) in
       ap (λ (l : LevelOf). up_text (walk n l).level) (machine_begins run begins)
       ∙ end_said walks is.image is.values spent.count n (meaning_shown is.source finals way) arrives.comes enough
   ended_text Piton j n finals way spent run begins stands enough =
@@ -295,10 +307,12 @@ module _ (implement : BuiltImplements) (take : BuiltTakesValues) (ends : BuiltSa
       let ready = ready_runs implement take files source_name values_name control temporary is in
       let short : length is.built.text ≤ 2 ^ 31 = omega (arith, is.built.readable.short) in
       let accepted : IsAccepted is.source = source_is_accepted is.built.text short is.source is.built.read in
-      let own : source_built is.source sizes 0 ≡ Ok is.built.found = of_source is.built.text control temporary is.source is.built.found is.built.read is.built.made in
+      let own : source_built is.source sizes 0 ≡ Ok is.built.found =
+      of_source is.built.text control temporary is.source is.built.found is.built.read is.built.made in
       let level : LevelOf = system_run is.source is.built.found.piton is.built.found.image is.values in
       let first : run_at Piton is.source sizes is.values_text ≡ Ok level = piton_run is.source sizes is.built.found is.values_text is.values own ready.gives in
-      let found : run_in Piton is.built.text sizes is.values_text ≡ Ok level = run_found Piton is.built.text is.source sizes is.values_text level is.built.read first in
+      let found : run_in Piton is.built.text sizes is.values_text ≡ Ok level =
+      run_found Piton is.built.text is.source sizes is.values_text level is.built.read first in
       let both : Ok run ≡ Ok level = sym begins ∙ found in
       let same : run ≡ level = cc in
       ap (λ (l : LevelOf). up_text (walk n l).level) same
@@ -316,7 +330,8 @@ module _ (implement : BuiltImplements) (take : BuiltTakesValues) (moments : Buil
 
   -- the run that the session begins with, and what it says where the step machine is in a state
   begun : (j n : ℕ) (g : State) → moment_from (program_of is.source) (stack_sizes control temporary) is.values j ≡ Next g → steps_to level g ≡ Some n
-      → (b : Begins level is.source (stack_sizes control temporary) is.values_text n (state_text is.source g)) × (run_in level is.built.text (stack_sizes control temporary) is.values_text ≡ Ok b.run)
+      → (b : Begins level is.source (stack_sizes control temporary) is.values_text n (state_text is.source g))
+      × (run_in level is.built.text (stack_sizes control temporary) is.values_text ≡ Ok b.run)
   begun j n g stands steps =
       let here = is.built in
       let sizes : StackSizes = stack_sizes control temporary in
@@ -343,7 +358,8 @@ module _ (implement : BuiltImplements) (take : BuiltTakesValues) (moments : Buil
   unfolding inputs_of reply_by
   answer_says before line after said told left asks to tells =
       subst (λ (r : Result Texts EarlyEnd). BeginsWith (answer_on debug watches r).text (said ++ told))
-      (sym (three_there files (Source, source_name) (Values, values_name) (Script, script_name) is.built.text is.values_text asks.script is.built.readable is.there asks.there))
+      (sym (three_there files (Source, source_name) (Values, values_name) (Script, script_name) is.built.text is.values_text asks.script
+      is.built.readable is.there asks.there))
       (subst (λ (r : Result LevelOf Verdict). BeginsWith (reply_text (session_reply r watches asks.script)) (said ++ told)) (sym to.begins)
       (reply_says stays to.run watches asks.script before line after said told left to.says asks.lines tells))
 
@@ -407,7 +423,8 @@ module _ (implement : BuiltImplements) (take : BuiltTakesValues) (moments : Buil
       until_says before after said number limit k (place.Number address) (Fm here) asks to (stands_there at before said state to stands) refl
       (arrive address k here there first apart) within
 
-  run_same : (a b : LevelOf) → run_in level is.built.text (stack_sizes control temporary) is.values_text ≡ Ok a → run_in level is.built.text (stack_sizes control temporary) is.values_text ≡ Ok b → a ≡ b
+  run_same : (a b : LevelOf) → run_in level is.built.text (stack_sizes control temporary) is.values_text ≡ Ok a
+      → run_in level is.built.text (stack_sizes control temporary) is.values_text ≡ Ok b → a ≡ b
   run_same a b first second = let same : Ok a ≡ Ok b = sym first ∙ second in cc
 
   debug_explains : ExplainsRun level files script_name source_name values_name (stack_sizes control temporary) is watches (answer_to debug watches files)

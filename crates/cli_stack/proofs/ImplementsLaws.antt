@@ -31,7 +31,8 @@ is_readable : (text : List ℕ) → length text ≤ 1048576 → length text ≤ 
 is_readable text short = omega (arith, short)
 
 -- what is stored of what was built
-built_is : (text : List ℕ) (control temporary : ℕ) (bytes : List ℕ) → length text ≤ 1048576 → (found : Result BuiltOf BuildFault) → IfOk found (BuildsText text control temporary) → image_stored found ≡ Some bytes
+built_is : (text : List ℕ) (control temporary : ℕ) (bytes : List ℕ) → length text ≤ 1048576 → (found : Result BuiltOf BuildFault)
+    → IfOk found (BuildsText text control temporary) → image_stored found ≡ Some bytes
     → IsImplementation text (stack_sizes control temporary) bytes
 built_is text control temporary bytes few (Err fault) builds is = absurd (let e : None ≡ Some bytes = is in cc)
 built_is text control temporary bytes few (Ok found) builds is =
@@ -48,8 +49,10 @@ built_is text control temporary bytes few (Ok found) builds is =
       unfinished = builds.builds.unfinished;
     })
 
-module _ (files : Files) (source text : List ℕ) (control temporary : ℕ) (stored bytes : List ℕ) (there : file_at files source ≡ Some text) (few : length text ≤ 1048576) where
-  built_holds : (found : Result BuiltOf BuildFault) → IfOk found (BuildsText text control temporary) → (image : Role × List ℕ) → set_file (Some image) (image_stored found) ≡ Some (stored, bytes) → HoldsImplementation files source (stack_sizes control temporary) bytes
+module _ (files : Files) (source text : List ℕ) (control temporary : ℕ) (stored bytes : List ℕ) (there : file_at files source ≡ Some text)
+    (few : length text ≤ 1048576) where
+  built_holds : (found : Result BuiltOf BuildFault) → IfOk found (BuildsText text control temporary) → (image : Role × List ℕ)
+      → set_file (Some image) (image_stored found) ≡ Some (stored, bytes) → HoldsImplementation files source (stack_sizes control temporary) bytes
   built_holds (Err fault) builds image sets = absurd (let e : None ≡ Some (stored, bytes) = sets in cc)
   built_holds (Ok found) builds image sets =
       let same : found.bytes ≡ bytes = ap set_bytes sets in
@@ -59,18 +62,24 @@ module _ (files : Files) (source text : List ℕ) (control temporary : ℕ) (sto
         is = built_is text control temporary found.bytes few (Ok found) builds refl;
       })
 
-go_holds : BuiltImplements → (watches : List Watching) (files : Files) (source values image : List ℕ) (control temporary budget : ℕ) (first second : Result (List ℕ) EarlyEnd) (stored bytes : List ℕ)
+go_holds : BuiltImplements → (watches : List Watching) (files : Files) (source values image : List ℕ) (control temporary budget : ℕ)
+    (first second : Result (List ℕ) EarlyEnd) (stored bytes : List ℕ)
     → text_or_end (Source, source) (fetched files source (limit_of Source)) ≡ first
-    → (answer_on (command.Go source values control temporary budget image) watches (first >>= λ text. (second >>= λ other. Ok ((Values, other) ∷ [])) >>= λ texts. Ok ((Source, text) ∷ texts))).output ≡ Some (stored, bytes)
+    → (answer_on (command.Go source values control temporary budget image) watches
+    (first >>= λ text. (second >>= λ other. Ok ((Values, other) ∷ [])) >>= λ texts. Ok ((Source, text) ∷ texts))).output ≡ Some (stored, bytes)
     → HoldsImplementation files source (stack_sizes control temporary) bytes
 unfolding output_of stored_by
-go_holds laws watches files source values image control temporary budget (Err early) second stored bytes got sets = absurd (let e : None ≡ Some (stored, bytes) = sets in cc)
-go_holds laws watches files source values image control temporary budget (Ok text) (Err early) stored bytes got sets = absurd (let e : None ≡ Some (stored, bytes) = sets in cc)
+go_holds laws watches files source values image control temporary budget (Err early) second stored bytes got sets =
+    absurd (let e : None ≡ Some (stored, bytes) = sets in cc)
+go_holds laws watches files source values image control temporary budget (Ok text) (Err early) stored bytes got sets =
+    absurd (let e : None ≡ Some (stored, bytes) = sets in cc)
 go_holds laws watches files source values image control temporary budget (Ok text) (Ok other) stored bytes got sets =
     let file = was_short files (Source, source) text got in
-    built_holds files source text control temporary stored bytes file.0 file.1 (built text control temporary 0) (laws text control temporary 0 (is_readable text file.1) (omega arith)) (Image, image) sets
+    built_holds files source text control temporary stored bytes file.0 file.1 (built text control temporary 0)
+    (laws text control temporary 0 (is_readable text file.1) (omega arith)) (Image, image) sets
 
-build_holds : BuiltImplements → (watches : List Watching) (files : Files) (source image : List ℕ) (control temporary : ℕ) (first : Result (List ℕ) EarlyEnd) (stored bytes : List ℕ)
+build_holds : BuiltImplements → (watches : List Watching) (files : Files) (source image : List ℕ) (control temporary : ℕ)
+    (first : Result (List ℕ) EarlyEnd) (stored bytes : List ℕ)
     → text_or_end (Source, source) (fetched files source (limit_of Source)) ≡ first
     → (answer_on (command.Build source control temporary image) watches (first >>= λ text. Ok ((Source, text) ∷ []))).output ≡ Some (stored, bytes)
     → HoldsImplementation files source (stack_sizes control temporary) bytes
@@ -78,7 +87,8 @@ unfolding output_of stored_by
 build_holds laws watches files source image control temporary (Err early) stored bytes got sets = absurd (let e : None ≡ Some (stored, bytes) = sets in cc)
 build_holds laws watches files source image control temporary (Ok text) stored bytes got sets =
     let file = was_short files (Source, source) text got in
-    built_holds files source text control temporary stored bytes file.0 file.1 (built text control temporary 0) (laws text control temporary 0 (is_readable text file.1) (omega arith)) (Image, image) sets
+    built_holds files source text control temporary stored bytes file.0 file.1 (built text control temporary 0)
+    (laws text control temporary 0 (is_readable text file.1) (omega arith)) (Image, image) sets
 
 -- a name that `go` reads as a source is its source
 go_source : (source values name : List ℕ) → Contains {X = Role × List ℕ} ((Source, source) ∷ (Values, values) ∷ []) (Source, name) → source ≡ name
@@ -98,12 +108,14 @@ stores laws (command.Go source values control temporary budget image) watches fi
     subst (λ (n : List ℕ). HoldsImplementation files n (stack_sizes control temporary) bytes) (go_source source values name reads)
     (go_holds laws watches files source values image control temporary budget _ _ stored bytes refl sets)
 stores laws (command.Migrate image output) watches files = λ name own stored bytes reads writes sets. absurd (only_role Source Image image name (λ e. cc) reads)
-stores laws (command.Asm assembly image) watches files = λ name own stored bytes reads writes sets. absurd (only_role Source Assembly assembly name (λ e. cc) reads)
+stores laws (command.Asm assembly image) watches files =
+    λ name own stored bytes reads writes sets. absurd (only_role Source Assembly assembly name (λ e. cc) reads)
 stores laws (command.Unasm image assembly) watches files = λ name own stored bytes reads writes sets.
     absurd (let e : Assembly ≡ Image = ap written_role writes in cc)
 stores laws (command.Need source certificate) watches files = λ name own stored bytes reads writes sets.
     absurd (let e : Certificate ≡ Image = ap written_role writes in cc)
-stores laws (command.Mini program source) watches files = λ name own stored bytes reads writes sets. absurd (let e : Source ≡ Image = ap written_role writes in cc)
+stores laws (command.Mini program source) watches files =
+    λ name own stored bytes reads writes sets. absurd (let e : Source ≡ Image = ap written_role writes in cc)
 stores laws c watches files = λ name own stored bytes reads writes sets. absurd (let e : None ≡ Some (Image, own) = writes in cc)
 
 -- The texts of its files, as any shelf gives them.
@@ -122,7 +134,8 @@ source_short ((role, text) ∷ texts) roles e short =
 
 -- what was built of the source's text is stored
 of_text : BuiltImplements → (texts : Texts) (roles : List Role) (control temporary : ℕ) (bytes : List ℕ) → roles_of texts ≡ Source ∷ roles → AreShort texts
-    → image_stored (built (text_of Source texts) control temporary 0) ≡ Some bytes → IsImplementation (text_of Source texts) (stack_sizes control temporary) bytes
+    → image_stored (built (text_of Source texts) control temporary 0) ≡ Some bytes
+    → IsImplementation (text_of Source texts) (stack_sizes control temporary) bytes
 of_text laws texts roles control temporary bytes e short is =
     let text : List ℕ = text_of Source texts in
     let few : length text ≤ 1048576 = source_short texts roles e short in
@@ -130,13 +143,17 @@ of_text laws texts roles control temporary bytes e short is =
 
 pub stores_of : BuiltImplements → (c : Command) (texts : Texts) → AreTexts c texts → StoresImplementationOf c texts
 unfolding inputs_of output_of stored_by
-stores_of laws (command.Pit source control temporary piton) texts are = λ name own bytes reads writes is. absurd (let e : Piton ≡ Image = ap written_role writes in cc)
-stores_of laws (command.Build source control temporary image) texts are = λ name own bytes reads writes is. of_text laws texts [] control temporary bytes are.roles are.short is
+stores_of laws (command.Pit source control temporary piton) texts are =
+    λ name own bytes reads writes is. absurd (let e : Piton ≡ Image = ap written_role writes in cc)
+stores_of laws (command.Build source control temporary image) texts are =
+    λ name own bytes reads writes is. of_text laws texts [] control temporary bytes are.roles are.short is
 stores_of laws (command.Pbuild piton image) texts are = λ name own bytes reads writes is. absurd (only_role Source Piton piton name (λ e. cc) reads)
-stores_of laws (command.Go source values control temporary budget image) texts are = λ name own bytes reads writes is. of_text laws texts (Values ∷ []) control temporary bytes are.roles are.short is
+stores_of laws (command.Go source values control temporary budget image) texts are =
+    λ name own bytes reads writes is. of_text laws texts (Values ∷ []) control temporary bytes are.roles are.short is
 stores_of laws (command.Migrate image output) texts are = λ name own bytes reads writes is. absurd (only_role Source Image image name (λ e. cc) reads)
 stores_of laws (command.Asm assembly image) texts are = λ name own bytes reads writes is. absurd (only_role Source Assembly assembly name (λ e. cc) reads)
 stores_of laws (command.Unasm image assembly) texts are = λ name own bytes reads writes is. absurd (let e : Assembly ≡ Image = ap written_role writes in cc)
-stores_of laws (command.Need source certificate) texts are = λ name own bytes reads writes is. absurd (let e : Certificate ≡ Image = ap written_role writes in cc)
+stores_of laws (command.Need source certificate) texts are =
+    λ name own bytes reads writes is. absurd (let e : Certificate ≡ Image = ap written_role writes in cc)
 stores_of laws (command.Mini program source) texts are = λ name own bytes reads writes is. absurd (let e : Source ≡ Image = ap written_role writes in cc)
 stores_of laws c texts are = λ name own bytes reads writes is. absurd (let e : None ≡ Some (Image, own) = writes in cc)

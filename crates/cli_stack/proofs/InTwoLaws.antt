@@ -28,7 +28,8 @@ use Rattle.cli_stack.proofs.GoLaws.{early_done, build_done}
 use Rattle.cli_stack.proofs.PutLaws.{put_there, put_other}
 use Rattle.cli_stack.proofs.TellsLaws.{is_there}
 
-module _ (implement : BuiltImplements) (source values image : List ℕ) (control temporary budget : ℕ) (watches : List Watching) (files : Files) (differ : image ≢ values) where
+module _ (implement : BuiltImplements) (source values image : List ℕ) (control temporary budget : ℕ) (watches : List Watching) (files : Files)
+    (differ : image ≢ values) where
   abbrev Fetched : Type 0
   Fetched = Result (List ℕ) EarlyEnd
 
@@ -74,14 +75,18 @@ module _ (implement : BuiltImplements) (source values image : List ℕ) (control
     runs_alike text is (Ok other) =
         let goes : go_reply (built text control temporary 0) other budget ≡ image_file_reply b.bytes other budget =
         ap (λ (r : Result BuiltOf BuildFault). go_reply r other budget) is ∙ sym (ap (image_reply other budget) reads) in
-        let answers : (output : Option (List ℕ × List ℕ)) → EndsAlike (answer_with output (go_reply (built text control temporary 0) other budget)) (answer_with None (image_file_reply b.bytes other budget)) =
-        λ output. subst (λ (r : ReplyOf). EndsAlike (answer_with output (go_reply (built text control temporary 0) other budget)) (answer_with None r)) goes (record { status = refl; text = refl; machine = refl }) in
+        let answers : (output : Option (List ℕ × List ℕ)) → EndsAlike (answer_with output (go_reply (built text control temporary 0) other budget))
+        (answer_with None (image_file_reply b.bytes other budget)) =
+        λ output. subst (λ (r : ReplyOf). EndsAlike (answer_with output (go_reply (built text control temporary 0) other budget)) (answer_with None r))
+        goes (record { status = refl; text = refl; machine = refl }) in
         answers _
 
-    runs : (text : List ℕ) → built text control temporary 0 ≡ Ok b → EndsAlike (go_on (Ok text) (fetch_values files)) (run_on (fetch_image left) (fetch_values left))
+    runs : (text : List ℕ) → built text control temporary 0 ≡ Ok b → EndsAlike (go_on (Ok text) (fetch_values files))
+        (run_on (fetch_image left) (fetch_values left))
     runs text is =
         subst (λ (first : Fetched). EndsAlike (go_on (Ok text) (fetch_values files)) (run_on first (fetch_values left))) (sym image_there)
-        (subst (λ (second : Fetched). EndsAlike (go_on (Ok text) (fetch_values files)) (run_on (Ok b.bytes) second)) (sym values_same) (runs_alike text is (fetch_values files)))
+        (subst (λ (second : Fetched). EndsAlike (go_on (Ok text) (fetch_values files)) (run_on (Ok b.bytes) second)) (sym values_same)
+        (runs_alike text is (fetch_values files)))
 
   -- over what `build` left
   run_after : Answer → Answer
@@ -139,7 +144,8 @@ module _ (implement : BuiltImplements) (source values image : List ℕ) (control
             stops = λ values_text there differs. same;
           }
 
-      by_image : (b : BuiltOf) → built text control temporary 0 ≡ Ok b → EndsAlike (go_on (Ok text) (fetch_values files)) (run_after (build_on (Ok text))) → (second : Fetched) → fetch_values files ≡ second
+      by_image : (b : BuiltOf) → built text control temporary 0 ≡ Ok b → EndsAlike (go_on (Ok text) (fetch_values files))
+          (run_after (build_on (Ok text))) → (second : Fetched) → fetch_values files ≡ second
           → IsInTwo files values (go_on (Ok text) (fetch_values files)) (build_on (Ok text)) (run_after (build_on (Ok text)))
       by_image b is ran (Err e) gets = record {
         runs = λ done. ran;
@@ -148,20 +154,24 @@ module _ (implement : BuiltImplements) (source values image : List ℕ) (control
       }
       by_image b is ran (Ok other) gets = record {
         runs = λ done. ran;
-        stores = λ values_text there. ap (λ (a : Answer). a.output) (ap (go_on (Ok text)) gets ∙ go_is text other (Ok b) is) ∙ sym (ap (λ (a : Answer). a.output) (build_is text (Ok b) is));
+        stores = λ values_text there. ap (λ (a : Answer). a.output) (ap (go_on (Ok text)) gets ∙ go_is text other (Ok b) is)
+            ∙ sym (ap (λ (a : Answer). a.output) (build_is text (Ok b) is));
         stops = λ values_text there differs. absurd (differs (ap (λ (a : Answer). a.status) (build_is text (Ok b) is)));
       }
 
-      by_built : (found : Result BuiltOf BuildFault) → built text control temporary 0 ≡ found → IfOk found (BuildsText text control temporary) → InTwo (Ok text) (fetch_values files)
+      by_built : (found : Result BuiltOf BuildFault) → built text control temporary 0 ≡ found → IfOk found (BuildsText text control temporary)
+          → InTwo (Ok text) (fetch_values files)
       by_built (Err f) is builds = by_fault f is (fetch_values files) refl
       by_built (Ok b) is builds =
           let few = builds.short was.1 in
           let short : length b.bytes ≤ limit_of Image = omega (arith, few) in
           let reads : read_of b.bytes ≡ Ok b.image = spelled_reads b.bytes b.image builds.builds.spells in
           let ran : EndsAlike (go_on (Ok text) (fetch_values files)) (run_after (build_on (Ok text))) =
-          subst (λ (a : Answer). EndsAlike (go_on (Ok text) (fetch_values files)) (run_after a)) (sym (build_is text (Ok b) is)) (runs_after b short reads text is) in
+          subst (λ (a : Answer). EndsAlike (go_on (Ok text) (fetch_values files)) (run_after a)) (sym (build_is text (Ok b) is))
+          (runs_after b short reads text is) in
           by_image b is ran (fetch_values files) refl
 
 pub in_two : BuiltImplements → GoIsBuildAndRun
 unfolding inputs_of InTwo run_after go_on build_on run_on
-in_two implement source values image control temporary budget watches files differ = by_source implement source values image control temporary budget watches files differ _ refl
+in_two implement source values image control temporary budget watches files differ =
+    by_source implement source values image control temporary budget watches files differ _ refl

@@ -20,7 +20,8 @@ pub text_is_checked : (text : List ℕ) → length text ≤ 2 ^ 31 → (c : Chec
 unfolding checked_in
 text_is_checked text short c is = by_reading (piton_in text) refl is
   where
-    by_breach : (system : SystemOf) → KeepsForm system → (breach : Option Breach) → least (violations system) ≡ breach → checked_unless system breach ≡ Ok c → IsChecked c
+    by_breach : (system : SystemOf) → KeepsForm system → (breach : Option Breach) → least (violations system) ≡ breach
+        → checked_unless system breach ≡ Ok c → IsChecked c
     by_breach system form None none h =
         let same : record { system = system; resolved = resolved system } ≡ c = cc in
         subst IsChecked same (checked_from system (resolved system) form (none_least (violations system) none) refl)

@@ -1,5 +1,6 @@
 -- What is stored of a Piton text does what its system does.
-use Rattle.std.proofs.Common.{◌≡◌, ◌≤◌, ℕ, Bool, true, false, List, [], ◌∷◌, ◌++◌, Some, None, Result, Ok, Err, length, refl, sym, ap, ◌∙◌, subst, append-nil, arith}
+use Rattle.std.proofs.Common.{◌≡◌, ◌≤◌, ℕ, Bool, true, false, List, [], ◌∷◌, ◌++◌, Some, None, Result, Ok, Err, length, refl, sym, ap, ◌∙◌, subst, append-nil}
+use Rattle.std.proofs.Common.{arith}
 use Rattle.std.specs.Prelude.{◌^◌, if◌then◌else◌, codes}
 use Rattle.std.specs.Fmt.{decimal}
 use Rattle.std.proofs.lemmas.Bool.{ltb-false}
@@ -53,8 +54,10 @@ use Rattle.cli_stack.proofs.TellsLaws.{both_there}
 -- 1. The image of a checked system.
 
 -- the answer of `run`, where a file spells the image and another gives no values
-run_tells : (image : ImageOf) (bytes values_text : List ℕ) (files : Files) (image_name values_name : List ℕ) (budget count : ℕ) (watches : List Watching) → Spelled bytes image → values_in image.slots values_text ≡ Ok []
-    → IsReadable files Image image_name bytes → IsReadable files Values values_name values_text → (run_reply image [] budget).verdict ≡ Done → (run_reply image [] budget).said ≡ line (codes "finished " ++ decimal count)
+run_tells : (image : ImageOf) (bytes values_text : List ℕ) (files : Files) (image_name values_name : List ℕ) (budget count : ℕ)
+    (watches : List Watching) → Spelled bytes image → values_in image.slots values_text ≡ Ok []
+    → IsReadable files Image image_name bytes → IsReadable files Values values_name values_text → (run_reply image [] budget).verdict ≡ Done
+    → (run_reply image [] budget).said ≡ line (codes "finished " ++ decimal count)
     → TellsCost count (answer_to (command.Run image_name values_name budget) watches files)
 unfolding inputs_of reply_by
 run_tells image bytes values_text files image_name values_name budget count watches spells gives there there' ends says =
@@ -70,7 +73,8 @@ module _ (c : CheckedOf) (is : IsChecked c) (small : (placed (system_in c)).size
   image_runs : FollowsSystem (linked_image (system_in c)) (system_in c)
   image_runs j state comes =
       let initial : IsInitialStack (system_in c) (system_in c).stack = record { as_long = refl; words = is.sound.stack } in
-      subst (λ (m : Fm). ComesToStand (system_in c) m (cost_of (system_in c) j) state) (sym (image_loaded c is)) (checked_runs c is small (system_in c).stack j state initial comes)
+      subst (λ (m : Fm). ComesToStand (system_in c) m (cost_of (system_in c) j) state) (sym (image_loaded c is))
+      (checked_runs c is small (system_in c).stack j state initial comes)
 
   image_tells : (bytes : List ℕ) → Spelled bytes (linked_image (system_in c)) → TellsCosts bytes (system_in c)
   unfolding run_reply shaped
@@ -79,25 +83,30 @@ module _ (c : CheckedOf) (is : IsChecked c) (small : (placed (system_in c)).size
       let end = image_runs j state comes in
       let count : ℕ = cost_of (system_in c) j in
       let ends : outcome budget image.final_pc (loader.loaded image []) ≡ record { run = Ended count; state = end.state } =
-      outcome_only (loader.loaded image []) image.final_pc budget (Ended count) end.state (enough, record { reached = end.runs; there = end.halted.0 halts; before = end.before }) in
+      outcome_only (loader.loaded image []) image.final_pc budget (Ended count) end.state
+      (enough, record { reached = end.runs; there = end.halted.0 halts; before = end.before }) in
       run_tells image bytes values_text files image_name values_name budget count watches spells gives there there'
       (ap (λ (o : RunOutcome). (outcome_reply image budget o).verdict) ends)
       (ap (λ (o : RunOutcome). (outcome_reply image budget o).said) ends ∙ append-nil (line (codes "finished " ++ decimal count)))
 
 -- 2. The text in a file.
 
-module _ (words : PlacedAreWords) (files : Files) (piton text stored bytes : List ℕ) (there : file_at files piton ≡ Some text) (short : length text ≤ 2 ^ 31) where
-  linked_holds : (image : Role × List ℕ) (found : Result CheckedOf Verdict) → checked_in text ≡ found → set_file (Some image) (checked_stored found) ≡ Some (stored, bytes) → HoldsLinked files piton bytes
+module _ (words : PlacedAreWords) (files : Files) (piton text stored bytes : List ℕ) (there : file_at files piton ≡ Some text)
+    (short : length text ≤ 2 ^ 31) where
+  linked_holds : (image : Role × List ℕ) (found : Result CheckedOf Verdict) → checked_in text ≡ found
+      → set_file (Some image) (checked_stored found) ≡ Some (stored, bytes) → HoldsLinked files piton bytes
   linked_holds image (Err verdict) is sets = absurd (let e : None ≡ Some (stored, bytes) = sets in cc)
   linked_holds image (Ok c) is sets = by_size (is_large (system_in c)) refl sets
     where
-      by_size : (large : Bool) → is_large (system_in c) ≡ large → set_file (Some image) (if large then None else Some (spelling (linked_image (system_in c)))) ≡ Some (stored, bytes) → HoldsLinked files piton bytes
+      by_size : (large : Bool) → is_large (system_in c) ≡ large → set_file (Some image)
+          (if large then None else Some (spelling (linked_image (system_in c)))) ≡ Some (stored, bytes) → HoldsLinked files piton bytes
       by_size true large sets = absurd (let e : None ≡ Some (stored, bytes) = sets in cc)
       by_size false fits sets =
           let known = text_is_checked text short c is in
           let small : (placed (system_in c)).size ≤ 2 ^ 20 = ltb-false (2 ^ 20) (placed (system_in c)).size fits in
           let same : spelling (linked_image (system_in c)) ≡ bytes = ap set_bytes sets in
-          let spells : Spelled bytes (linked_image (system_in c)) = subst (λ (b : List ℕ). Spelled b (linked_image (system_in c))) same (image_spelled words c known small) in
+          let spells : Spelled bytes (linked_image (system_in c)) =
+          subst (λ (b : List ℕ). Spelled b (linked_image (system_in c))) same (image_spelled words c known small) in
           record {
             text = text;
             there = there;
@@ -125,14 +134,20 @@ pbuild_holds words watches files piton image (Ok text) stored bytes got sets =
 
 pub links : PlacedAreWords → (c : Command) (watches : List Watching) (files : Files) → StoresLinked c files (answer_to c watches files).output
 unfolding inputs_of output_of
-links words (command.Pit source control temporary piton) watches files = λ name own stored bytes reads writes sets. absurd (only_role Piton Source source name (λ e. cc) reads)
-links words (command.Build source control temporary image) watches files = λ name own stored bytes reads writes sets. absurd (only_role Piton Source source name (λ e. cc) reads)
+links words (command.Pit source control temporary piton) watches files =
+    λ name own stored bytes reads writes sets. absurd (only_role Piton Source source name (λ e. cc) reads)
+links words (command.Build source control temporary image) watches files =
+    λ name own stored bytes reads writes sets. absurd (only_role Piton Source source name (λ e. cc) reads)
 links words (command.Pbuild piton image) watches files = λ name own stored bytes reads writes sets.
     subst (λ (n : List ℕ). HoldsLinked files n bytes) (only_file Piton piton name reads) (pbuild_holds words watches files piton image _ stored bytes refl sets)
-links words (command.Go source values control temporary budget image) watches files = λ name own stored bytes reads writes sets. absurd (both_roles Piton Source Values source values name (λ e. cc) (λ e. cc) reads)
+links words (command.Go source values control temporary budget image) watches files =
+    λ name own stored bytes reads writes sets. absurd (both_roles Piton Source Values source values name (λ e. cc) (λ e. cc) reads)
 links words (command.Migrate image output) watches files = λ name own stored bytes reads writes sets. absurd (only_role Piton Image image name (λ e. cc) reads)
-links words (command.Asm assembly image) watches files = λ name own stored bytes reads writes sets. absurd (only_role Piton Assembly assembly name (λ e. cc) reads)
+links words (command.Asm assembly image) watches files =
+    λ name own stored bytes reads writes sets. absurd (only_role Piton Assembly assembly name (λ e. cc) reads)
 links words (command.Unasm image assembly) watches files = λ name own stored bytes reads writes sets. absurd (only_role Piton Image image name (λ e. cc) reads)
-links words (command.Need source certificate) watches files = λ name own stored bytes reads writes sets. absurd (only_role Piton Source source name (λ e. cc) reads)
-links words (command.Mini program source) watches files = λ name own stored bytes reads writes sets. absurd (let e : Source ≡ Image = ap written_role writes in cc)
+links words (command.Need source certificate) watches files =
+    λ name own stored bytes reads writes sets. absurd (only_role Piton Source source name (λ e. cc) reads)
+links words (command.Mini program source) watches files =
+    λ name own stored bytes reads writes sets. absurd (let e : Source ≡ Image = ap written_role writes in cc)
 links words c watches files = λ name own stored bytes reads writes sets. absurd (let e : None ≡ Some (Image, own) = writes in cc)

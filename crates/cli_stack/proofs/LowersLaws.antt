@@ -54,7 +54,8 @@ use Rattle.cli_stack.specs.Implements.{HoldsImplementation, StoresImplementation
 use Rattle.cli_stack.specs.FilesAndSizes.{IsReadable, sizes_of}
 use Rattle.cli_stack.specs.Decides.{IsReadyToRun, IsDone, IsNotDone, Decided}
 use Rattle.cli_stack.specs.Tells.{TellsReport}
-use Rattle.cli_stack.specs.Lowers.{formal_type, declared_type, MeansProgram, TellsMini, RunEnds, CarriesRuns, HoldsRuns, StoresRuns, TellsFrom, TellsRuns, TellsOwn, LowersPrograms}
+use Rattle.cli_stack.specs.Lowers.{formal_type, declared_type, MeansProgram, TellsMini, RunEnds, CarriesRuns, HoldsRuns, StoresRuns, TellsFrom, TellsRuns}
+use Rattle.cli_stack.specs.Lowers.{TellsOwn, LowersPrograms}
 use Rattle.cli_stack.proofs.DecidesLaws.{decides, ready_runs}
 use Rattle.cli_stack.proofs.GoLaws.{first_once, early_done}
 use Rattle.cli_stack.proofs.ImplementsLaws.{stores}
@@ -77,7 +78,8 @@ formals_lowered ds body = map_over formal_type (λ (d : Declared). decl_of d.nam
 stored_formals : (source : SourceOf) (program : InfixProgram) → without_places source ≡ without_places (source_for program)
     → map formal_type (shown_formals source) ≡ map declared_type (declared_of program)
 stored_formals source program same =
-    sym (formals_bare source) ∙ ap (λ (s : SourceOf). map formal_type (shown_formals s)) same ∙ formals_bare (source_for program) ∙ formals_lowered (declared_of program) (body_of program)
+    sym (formals_bare source) ∙ ap (λ (s : SourceOf). map formal_type (shown_formals s)) same ∙ formals_bare (source_for program)
+    ∙ formals_lowered (declared_of program) (body_of program)
 
 -- what is stored of a program means what the program does
 stored_means : (text : List ℕ) (program : InfixProgram) → length text ≤ 2 ^ 20 → IsFaultless text program → MeansProgram (stored_text program) program
@@ -98,7 +100,8 @@ early_refused (early.TooLong limit) h = cc
 early_refused (early.ShelfFault name) h = cc
 early_refused early.OutOfMemory h = cc
 
-mini_tells : (watches : List Watching) (files : Files) (program source : List ℕ) (first : Result (List ℕ) EarlyEnd) → text_or_end (Infix, program) (fetched files program (limit_of Infix)) ≡ first
+mini_tells : (watches : List Watching) (files : Files) (program source : List ℕ) (first : Result (List ℕ) EarlyEnd)
+    → text_or_end (Infix, program) (fetched files program (limit_of Infix)) ≡ first
     → TellsMini files program source (answer_on (command.Mini program source) watches (first >>= λ text. Ok ((Infix, text) ∷ [])))
 unfolding output_of stored_by reply_by lowering_of
 mini_tells watches files program source (Err e) got = record { done = λ h. absurd (early_done e h); refused = λ h. absurd (early_refused e h) }
@@ -110,7 +113,8 @@ mini_tells watches files program source (Ok text) got = by_reading (read text)
     few : length text ≤ 2 ^ 20
     few = let short : length text ≤ limit_of Infix = file.short in omega (arith, short)
 
-    by_reading : (found : TextReading text) → TellsMini files program source (answer_with (set_file (Some (Source, source)) (lowered_stored (lowering_by found))) (lowered_reply source (lowering_by found)))
+    by_reading : (found : TextReading text) → TellsMini files program source
+        (answer_with (set_file (Some (Source, source)) (lowered_stored (lowering_by found))) (lowered_reply source (lowering_by found)))
     by_reading (faultless p is) = record {
       done = λ h. record {
         text = text;
@@ -132,7 +136,8 @@ mini_tells watches files program source (Ok text) got = by_reading (read text)
 -- 3. The images of a source that means what a program does.
 
 -- a run of the program that is done is one of the source, and has a count
-finishes : (text : List ℕ) (program : InfixProgram) (means : MeansProgram text program) (sizes : StackSizes) (values finals : List ValueOf) (way : CurrentCondition) → FitsFormals means.source values → RunEnds program values finals way
+finishes : (text : List ℕ) (program : InfixProgram) (means : MeansProgram text program) (sizes : StackSizes) (values finals : List ValueOf)
+    (way : CurrentCondition) → FitsFormals means.source values → RunEnds program values finals way
     → (count : ℕ) × Finishes means.source sizes values finals way count
 finishes text program means sizes values finals way fits ends =
     by_counted (counted_meaning (program_of means.source) sizes values ends.0) refl (meaning-uncounted (program_of means.source) sizes values ends.0 ∙ done)
@@ -140,20 +145,23 @@ finishes text program means sizes values finals way fits ends =
     done : meaning (program_of means.source) sizes values ends.0 ≡ RunDone finals way
     done = means.means sizes values ends.0 fits ∙ ends.1
 
-    by_counted : (o : CountedOutcome) → counted_meaning (program_of means.source) sizes values ends.0 ≡ o → uncounted o ≡ RunDone finals way → (count : ℕ) × Finishes means.source sizes values finals way count
+    by_counted : (o : CountedOutcome) → counted_meaning (program_of means.source) sizes values ends.0 ≡ o → uncounted o ≡ RunDone finals way
+        → (count : ℕ) × Finishes means.source sizes values finals way count
     by_counted (CountedDone x c t) is same = (
       t.count,
       record { bound = ends.0; done = done; counted = ap (λ (o : CountedOutcome). option_map (λ (t : Tally). t.count) (tally_of o)) is },
     )
     by_counted CountedUnfinished is same = absurd cc
 
-carries : (text : List ℕ) (program : InfixProgram) (means : MeansProgram text program) (image : ImageOf) (sizes : StackSizes) → Implements image means.source sizes → CarriesRuns image means.source program
+carries : (text : List ℕ) (program : InfixProgram) (means : MeansProgram text program) (image : ImageOf) (sizes : StackSizes)
+    → Implements image means.source sizes → CarriesRuns image means.source program
 carries text program means image sizes does values finals way fits ends =
     let fin = finishes text program means sizes values finals way fits ends in
     (fin.0, does values finals way fin.0 fits fin.1)
 
 images : (c : Command) (files : Files) (output : Option (List ℕ × List ℕ)) → StoresImplementation c files output → StoresRuns c files output
-images c files output holds source image stored bytes text program reads writes sets there means = by_sizes (sizes_of c) (holds source image stored bytes reads writes sets)
+images c files output holds source image stored bytes text program reads writes sets there means =
+    by_sizes (sizes_of c) (holds source image stored bytes reads writes sets)
   where
     by_sizes : (o : Option StackSizes) → IsSomeAnd o (λ sizes. HoldsImplementation files source sizes bytes) → HoldsRuns bytes means.source program
     by_sizes None none = absurd none
@@ -171,26 +179,37 @@ images c files output holds source image stored bytes text program reads writes 
 -- 4. `go`.
 
 -- a meaning is done with one count
-counts_once : (image : ImageOf) (source : SourceOf) (sizes : StackSizes) (values x y : List ValueOf) (c d : CurrentCondition) (k j : ℕ) → Implements image source sizes → FitsFormals source values
+counts_once : (image : ImageOf) (source : SourceOf) (sizes : StackSizes) (values x y : List ValueOf) (c d : CurrentCondition) (k j : ℕ)
+    → Implements image source sizes → FitsFormals source values
     → Finishes source sizes values x c k → Finishes source sizes values y d j → k ≡ j
 counts_once image source sizes values x y c d k j does fits first second =
     let one = does values x c k fits first in
     let two = does values y d j fits second in
     (first_once (loaded image values) image.final_pc k j one.state two.state one.first two.first).0
 
-module _ (implement : BuiltImplements) (take : BuiltTakesValues) (meant : KeptMeansOnly) (watches : List Watching) (files : Files) (source values image : List ℕ) (control temporary budget : ℕ)
+module _ (implement : BuiltImplements) (take : BuiltTakesValues) (meant : KeptMeansOnly) (watches : List Watching) (files : Files)
+    (source values image : List ℕ) (control temporary budget : ℕ)
     (is : IsReadyToRun files source values (stack_sizes control temporary)) (program : InfixProgram) (means : MeansProgram is.built.text program) where
-  go_tells : TellsRuns program is.source (stack_sizes control temporary) is.image is.values budget (answer_to (command.Go source values control temporary budget image) watches files)
+  go_tells : TellsRuns program is.source (stack_sizes control temporary) is.image is.values budget
+      (answer_to (command.Go source values control temporary budget image) watches files)
   go_tells =
       let sizes : StackSizes = stack_sizes control temporary in
       let go : Answer = answer_to (command.Go source values control temporary budget image) watches files in
       let run = ready_runs implement take files source values control temporary is in
-      let decided : Decided is.source sizes is.image is.values budget go = (decides meant implement take (command.Go source values control temporary budget image) watches files).decided is in
+      let decided : Decided is.source sizes is.image is.values budget go =
+      (decides meant implement take (command.Go source values control temporary budget image) watches files).decided is in
       let read : Ok means.source ≡ Ok is.source = sym means.read ∙ is.built.read in
       let same : means.source ≡ is.source = cc in
-      let always : MeansAlways (program_of is.source) (body_of program) = subst (λ (s : SourceOf). MeansAlways (program_of s) (body_of program)) same means.means in
+      let always : MeansAlways (program_of is.source) (body_of program) =
+      subst (λ (s : SourceOf). MeansAlways (program_of s) (body_of program)) same means.means in
       let own : MeansProgram is.built.text program =
-      record { source = is.source; read = is.built.read; variables = subst (λ (s : SourceOf). map formal_type (shown_formals s) ≡ map declared_type (declared_of program)) same means.variables; means = always } in
+      record {
+        source = is.source;
+        read = is.built.read;
+        variables = subst
+            (λ (s : SourceOf). map formal_type (shown_formals s) ≡ map declared_type (declared_of program)) same means.variables;
+        means = always;
+      } in
       record {
         ends = λ finals way ends.
             let fin = finishes is.built.text program own sizes is.values finals way run.fits ends in
@@ -198,12 +217,16 @@ module _ (implement : BuiltImplements) (take : BuiltTakesValues) (meant : KeptMe
         endless = λ never. decided.endless (λ n. always sizes is.values n run.fits ∙ never n);
       }
     where
-      from_count : (sizes : StackSizes) (go : Answer) → Implements is.image is.source sizes → FitsFormals is.source is.values → Decided is.source sizes is.image is.values budget go
-          → (finals : List ValueOf) (way : CurrentCondition) (count : ℕ) → Finishes is.source sizes is.values finals way count → TellsFrom is.source sizes is.image is.values finals way budget go
+      from_count : (sizes : StackSizes) (go : Answer) → Implements is.image is.source sizes → FitsFormals is.source is.values
+          → Decided is.source sizes is.image is.values budget go
+          → (finals : List ValueOf) (way : CurrentCondition) (count : ℕ) → Finishes is.source sizes is.values finals way count
+          → TellsFrom is.source sizes is.image is.values finals way budget go
       from_count sizes go does fits decided finals way count fin = record {
         count = count;
         meant = fin;
-        within = λ enough. ⊎_elim (λ (d : IsDone is.source sizes is.image is.values budget go). told d) (λ (n : IsNotDone is.source sizes is.values budget go). absurd (let beyond : budget < count = n.beyond finals way count fin in omega (arith, beyond, enough))) decided.either;
+        within = λ enough. ⊎_elim (λ (d : IsDone is.source sizes is.image is.values budget go). told d)
+            (λ (n : IsNotDone is.source sizes is.values budget go). absurd
+            (let beyond : budget < count = n.beyond finals way count fin in omega (arith, beyond, enough))) decided.either;
         beyond = λ few. ⊎_elim (λ (d : IsDone is.source sizes is.image is.values budget go). absurd (
             let once : d.count ≡ count = counts_once is.image is.source sizes is.values d.finals finals d.way way d.count count does fits d.meant fin in
             let within : d.count ≤ budget = d.within in
@@ -215,7 +238,8 @@ module _ (implement : BuiltImplements) (take : BuiltTakesValues) (meant : KeptMe
               let one = does is.values d.finals d.way d.count fits d.meant in
               let two = does is.values finals way count fits fin in
               let once = first_once (loaded is.image is.values) is.image.final_pc d.count count one.state two.state one.first two.first in
-              let shown : meaning_shown is.source d.finals d.way ≡ meaning_shown is.source finals way = sym one.reads ∙ ap (reading is.image) once.1 ∙ two.reads in
+              let shown : meaning_shown is.source d.finals d.way ≡ meaning_shown is.source finals way =
+              sym one.reads ∙ ap (reading is.image) once.1 ∙ two.reads in
               record {
                 status = d.tells.status;
                 text = d.tells.text ∙ ap (λ r. report_text is.image r d.count) shown ∙ ap (report_text is.image (meaning_shown is.source finals way)) once.0;
@@ -223,14 +247,16 @@ module _ (implement : BuiltImplements) (take : BuiltTakesValues) (meant : KeptMe
 
 -- 5. All commands.
 
-own_by : BuiltImplements → BuiltTakesValues → KeptMeansOnly → (c : Command) (watches : List Watching) (files : Files) → TellsOwn c files (answer_to c watches files)
+own_by : BuiltImplements → BuiltTakesValues → KeptMeansOnly → (c : Command) (watches : List Watching) (files : Files)
+    → TellsOwn c files (answer_to c watches files)
 unfolding inputs_of
 own_by implement take meant (command.Go source values control temporary budget image) watches files =
     λ is program means. go_tells implement take meant watches files source values image control temporary budget is program means
 own_by implement take meant (command.Mini program source) watches files = mini_tells watches files program source _ refl
 own_by implement take meant c watches files = tt
 
-pub lowers : BuiltImplements → BuiltTakesValues → KeptMeansOnly → (c : Command) (watches : List Watching) (files : Files) → LowersPrograms c files (answer_to c watches files)
+pub lowers : BuiltImplements → BuiltTakesValues → KeptMeansOnly → (c : Command) (watches : List Watching) (files : Files)
+    → LowersPrograms c files (answer_to c watches files)
 lowers implement take meant c watches files = record {
   own = own_by implement take meant c watches files;
   images = images c files (answer_to c watches files).output (stores implement c watches files);

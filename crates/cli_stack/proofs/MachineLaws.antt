@@ -187,7 +187,8 @@ piton_end_none system limit (piton_run.Error kind) seen = refl
 piton_run_none : (found : Result CheckedOf Verdict) (limit : ℕ) → NoMachine (checked_run_reply found limit)
 unfolding system_run_reply
 piton_run_none (Ok checked) limit =
-    let ran : Ran = state_run (system_in checked) limit (opening (system_in checked) (system_in checked).stack) in piton_end_none checked.system limit ran.run ran.seen
+    let ran : Ran = state_run (system_in checked) limit (opening (system_in checked) (system_in checked).stack) in
+    piton_end_none checked.system limit ran.run ran.seen
 piton_run_none (Err verdict) limit = refl
 
 mean_end_none : (source : SourceOf) (limit : ℕ) (r : MeanRun) (seen : MeanSeen) → NoMachine (mean_end_reply source limit r seen)
@@ -236,22 +237,27 @@ with_run c reply runs (inr end) = inr (runs, end)
 by_command : (c : Command) (watches : List Watching) (texts : Texts) → OnlyRuns (Some c) (reply_by c watches texts)
 unfolding reply_by
 by_command (command.Check source) watches texts = inl (judgement_none (accepted_in (text_of role.Source texts)))
-by_command (command.Mean source values control temporary limit) watches texts = inl (mean_none (accepted_in (text_of role.Source texts)) (stack_sizes control temporary) (text_of role.Values texts) limit)
+by_command (command.Mean source values control temporary limit) watches texts =
+    inl (mean_none (accepted_in (text_of role.Source texts)) (stack_sizes control temporary) (text_of role.Values texts) limit)
 by_command (command.Pit source control temporary piton) watches texts = inl (pit_none piton (compiled (text_of role.Source texts) control temporary 0))
 by_command (command.Build source control temporary image) watches texts = inl (build_none (built (text_of role.Source texts) control temporary 0))
 by_command (command.Pcheck piton) watches texts = inl (judgement_none (checked_in (text_of role.Piton texts)))
 by_command (command.Prun piton limit) watches texts = inl (piton_run_none (checked_in (text_of role.Piton texts)) limit)
 by_command (command.Pbuild piton image) watches texts = inl (checked_none (checked_in (text_of role.Piton texts)))
 by_command (command.Run image values budget) watches texts =
-    with_run (command.Run image values budget) (reply_by (command.Run image values budget) watches texts) tt (image_ends (text_of role.Values texts) budget (read_of (text_of role.Image texts)))
+    with_run (command.Run image values budget) (reply_by (command.Run image values budget) watches texts) tt
+    (image_ends (text_of role.Values texts) budget (read_of (text_of role.Image texts)))
 by_command (command.Go source values control temporary budget image) watches texts =
-    with_run (command.Go source values control temporary budget image) (reply_by (command.Go source values control temporary budget image) watches texts) tt (go_ends (built (text_of role.Source texts) control temporary 0) (text_of role.Values texts) budget)
+    with_run (command.Go source values control temporary budget image)
+    (reply_by (command.Go source values control temporary budget image) watches texts) tt
+    (go_ends (built (text_of role.Source texts) control temporary 0) (text_of role.Values texts) budget)
 by_command (command.Show image) watches texts = inl (listing_none (read_of (text_of role.Image texts)))
 by_command (command.Migrate image output) watches texts = inl (migrated_none output (read_of (text_of role.Image texts)))
 by_command (command.Asm assembly image) watches texts = inl (assembled_none (assembly_of (text_of role.Assembly texts)))
 by_command (command.Unasm image assembly) watches texts = inl (printed_none assembly (read_of (text_of role.Image texts)))
 by_command (command.Need source certificate) watches texts = inl (need_none (accepted_in (text_of role.Source texts)))
-by_command (command.Cert source certificate control temporary) watches texts = inl (cert_none (accepted_in (text_of role.Source texts)) (stack_sizes control temporary) (text_of role.Certificate texts))
+by_command (command.Cert source certificate control temporary) watches texts =
+    inl (cert_none (accepted_in (text_of role.Source texts)) (stack_sizes control temporary) (text_of role.Certificate texts))
 by_command (command.Debug level source values control temporary script) watches texts =
     inl (debug_none (run_in level (text_of role.Source texts) (stack_sizes control temporary) (text_of role.Values texts)) watches (text_of role.Script texts))
 by_command (command.Turns turn budget control temporary tasks) watches texts =
@@ -270,6 +276,7 @@ of_reply None watches reply is = inl (ap (λ (r : ReplyOf). r.state) is)
 of_reply (Some c) watches reply to = subst (OnlyRuns (Some c)) (sym to.1) (by_command c watches to.0)
 
 -- a reply that is not the end of such a run has no machine
-pub only_runs : (c : Option Command) (watches : List Watching) (reply : Reply) → RepliesToSome c watches (reply_of reply) → ¬ (RunsImage c × IsRunEnd (status_of reply.verdict))
+pub only_runs : (c : Option Command) (watches : List Watching) (reply : Reply) → RepliesToSome c watches (reply_of reply)
+    → ¬ (RunsImage c × IsRunEnd (status_of reply.verdict))
     → option_map (λ (m : MachineOf). m.state) reply.machine ≡ None
 only_runs c watches reply is none = ⊎_elim (λ (state : (reply_of reply).state ≡ None). state) (λ run. absurd (none run)) (of_reply c watches reply is)

@@ -19,7 +19,8 @@ use Rattle.gypsy_semantics.specs.Room.{Suffices}
 use Rattle.gypsy_semantics.specs.Calls.{CurrentCondition}
 use Rattle.gypsy_semantics.specs.Counted.{instruction_count}
 use Rattle.gypsy_semantics.specs.Meaning.{Done as MeaningDone, meaning}
-use Rattle.gypsy_semantics.specs.Views.RunView.{Seen, Ran, Stage, Running, Finished, IsOfRun, IsEnd, answer_from, answer_of, end_by, left_from, left_of, opening, ran_on, meaning_run, values_at}
+use Rattle.gypsy_semantics.specs.Views.RunView.{Seen, Ran, Stage, Running, Finished, IsOfRun, IsEnd, answer_from, answer_of, end_by, left_from, left_of}
+use Rattle.gypsy_semantics.specs.Views.RunView.{opening, ran_on, meaning_run, values_at}
 use Rattle.gypsy_semantics.specs.Views.Shown.{condition_at, names_at}
 use Rattle.gypsy_semantics.proofs.ReachLaws.{opening_reached, completes}
 use Rattle.gypsy_semantics.proofs.RunLaws.{run_agrees}
@@ -66,7 +67,8 @@ record Told (source : SourceOf) (sizes : StackSizes) (values finals : List Value
   pub said : reply.said ≡ meaning_text source (Finished finals way) steps count
 
 -- so does the answer that has the reply
-answer_tells : (source : SourceOf) (sizes : StackSizes) (values finals : List ValueOf) (way : CurrentCondition) (output : Option (List ℕ × List ℕ)) (reply : ReplyOf) → Told source sizes values finals way reply → TellsSteps source sizes values finals way (answer_with output reply)
+answer_tells : (source : SourceOf) (sizes : StackSizes) (values finals : List ValueOf) (way : CurrentCondition) (output : Option (List ℕ × List ℕ))
+    (reply : ReplyOf) → Told source sizes values finals way reply → TellsSteps source sizes values finals way (answer_with output reply)
 answer_tells source sizes values finals way output reply told = record {
   steps = told.steps;
   count = told.count;
@@ -76,7 +78,8 @@ answer_tells source sizes values finals way output reply told = record {
 }
 
 -- a run of which the end agrees with the meaning
-end_told : (source : SourceOf) (sizes : StackSizes) (values finals : List ValueOf) (way : CurrentCondition) (limit : ℕ) (a : MeanRun) (w : Seen) → a ≡ run.Ended → w.stage ≡ Finished finals way → MeansEnd w finals way
+end_told : (source : SourceOf) (sizes : StackSizes) (values finals : List ValueOf) (way : CurrentCondition) (limit : ℕ) (a : MeanRun) (w : Seen)
+    → a ≡ run.Ended → w.stage ≡ Finished finals way → MeansEnd w finals way
     → IsOfRun (opening (program_of source) sizes values) w → Told source sizes values finals way (mean_end_reply source limit a w)
 end_told source sizes values finals way limit a w ended stage means same =
     let program = same.program in
@@ -104,12 +107,14 @@ end_told source sizes values finals way limit a w ended stage means same =
 
 -- a run that ends within so many steps ends so within more
 module _ (x : List ValueOf) (c : CurrentCondition) where
-  go_further : (m : Moved) (v : Seen) (k limit : ℕ) → ((w : Seen) → IsEnd (meaning_run k w) x c → IsEnd (meaning_run limit w) x c) → IsEnd (ran_on m v (meaning_run k)) x c
+  go_further : (m : Moved) (v : Seen) (k limit : ℕ) → ((w : Seen) → IsEnd (meaning_run k w) x c → IsEnd (meaning_run limit w) x c)
+      → IsEnd (ran_on m v (meaning_run k)) x c
       → IsEnd (ran_on m v (meaning_run limit)) x c
   go_further moved.Moved v k limit rest ends = rest v ends
   go_further moved.Ended v k limit rest ends = ends
 
-  over_already : (limit : ℕ) (v : Seen) (s : Stage) → IsEnd (record { run = end_by s; seen = v }) x c → IsEnd (ran_on (answer_from v s) (left_from v s) (meaning_run limit)) x c
+  over_already : (limit : ℕ) (v : Seen) (s : Stage) → IsEnd (record { run = end_by s; seen = v }) x c
+      → IsEnd (ran_on (answer_from v s) (left_from v s) (meaning_run limit)) x c
   over_already limit v (Running g) ends = absurd (let never : run.Spent ≡ run.Ended = ends.run in cc)
   over_already limit v (Finished y d) ends = ends
 
@@ -126,14 +131,16 @@ module _ (source : SourceOf) (sizes : StackSizes) (values : List ValueOf) (limit
   by_stage a w (Running g) ended stage agrees same = absurd agrees
   by_stage a w (Finished x c) ended stage agrees same = (x, c, end_told source sizes values x c limit a w ended stage agrees same)
 
-  by_run : (a : MeanRun) (w : Seen) → RunAgrees w a → IsOfRun (opening (program_of source) sizes values) w → (mean_end_reply source limit a w).verdict ≡ verdict.Done
+  by_run : (a : MeanRun) (w : Seen) → RunAgrees w a → IsOfRun (opening (program_of source) sizes values) w
+      → (mean_end_reply source limit a w).verdict ≡ verdict.Done
       → (finals : List ValueOf) × (way : CurrentCondition) × Told source sizes values finals way (mean_end_reply source limit a w)
   by_run run.Ended w agrees same e = by_stage run.Ended w w.stage refl refl agrees same
   by_run run.Spent w agrees same e = absurd cc
 
   -- what is told is a meaning
   run_told : (mean_run_reply source (opening (program_of source) sizes values) limit).verdict ≡ verdict.Done
-      → (finals : List ValueOf) × (way : CurrentCondition) × Told source sizes values finals way (mean_run_reply source (opening (program_of source) sizes values) limit)
+      → (finals : List ValueOf) × (way : CurrentCondition) × Told source sizes values finals way
+      (mean_run_reply source (opening (program_of source) sizes values) limit)
   unfolding mean_run_reply
   run_told e =
       let from : Seen = opening (program_of source) sizes values in
@@ -141,7 +148,8 @@ module _ (source : SourceOf) (sizes : StackSizes) (values : List ValueOf) (limit
       by_run r.run r.seen (run_agrees limit from (opening_reached (program_of source) sizes values)) (run_same limit from) e
 
   -- a meaning that is done is told
-  ended_told : (a : MeanRun) (w : Seen) (x : List ValueOf) (c : CurrentCondition) → a ≡ run.Ended → w.stage ≡ Finished x c → RunAgrees w a → IsOfRun (opening (program_of source) sizes values) w
+  ended_told : (a : MeanRun) (w : Seen) (x : List ValueOf) (c : CurrentCondition) → a ≡ run.Ended → w.stage ≡ Finished x c → RunAgrees w a
+      → IsOfRun (opening (program_of source) sizes values) w
       → Told source sizes values x c (mean_end_reply source limit a w)
   ended_told a w x c ended stage agrees same =
       let at_end : RunAgrees w run.Ended = subst (λ (b : MeanRun). RunAgrees w b) ended agrees in
@@ -167,7 +175,8 @@ module _ (source : SourceOf) (sizes : StackSizes) (values : List ValueOf) (limit
       let same : found.0 ≤ found.0 = omega arith in
       (found.0, found.1 found.0 same)
 
-  reply_follows : (output : Option (List ℕ × List ℕ)) (reply : ReplyOf) → reply ≡ mean_run_reply source (opening (program_of source) sizes values) limit → Follows source sizes values limit (answer_with output reply)
+  reply_follows : (output : Option (List ℕ × List ℕ)) (reply : ReplyOf) → reply ≡ mean_run_reply source (opening (program_of source) sizes values) limit
+      → Follows source sizes values limit (answer_with output reply)
   reply_follows output reply is =
       subst (λ (r : ReplyOf). Follows source sizes values limit (answer_with output r)) (sym is) record {
         told = λ status.
@@ -180,7 +189,8 @@ module _ (source : SourceOf) (sizes : StackSizes) (values : List ValueOf) (limit
 -- 2. The files lead to it.
 
 module _ (watches : List Watching) (files : Files) (text values_text : List ℕ) (source : SourceOf) (values : List ValueOf) where
-  mean_is : (control temporary limit : ℕ) → accepted_source text ≡ Ok source → Suffices (program_of source) (stack_sizes control temporary) → values_in (formal_slots source) values_text ≡ Ok values
+  mean_is : (control temporary limit : ℕ) → accepted_source text ≡ Ok source → Suffices (program_of source) (stack_sizes control temporary)
+      → values_in (formal_slots source) values_text ≡ Ok values
       → mean_reply text values_text control temporary limit ≡ mean_run_reply source (opening (program_of source) (stack_sizes control temporary) values) limit
   unfolding accepted_in gypsy_start
   mean_is control temporary limit read enough found =
@@ -195,13 +205,16 @@ module _ (watches : List Watching) (files : Files) (text values_text : List ℕ)
       ∙ ap (λ (v : Result (List ValueOf) (ℕ × ℕ)). mean_started_reply source limit (begins v)) found
 
   mean_follows : (source_name values_name : List ℕ) (control temporary limit : ℕ) → IsReadable files Source source_name text → accepted_source text ≡ Ok source
-      → Suffices (program_of source) (stack_sizes control temporary) → IsReadable files Values values_name values_text → values_in (formal_slots source) values_text ≡ Ok values
+      → Suffices (program_of source) (stack_sizes control temporary) → IsReadable files Values values_name values_text
+      → values_in (formal_slots source) values_text ≡ Ok values
       → Follows source (stack_sizes control temporary) values limit (answer_to (command.Mean source_name values_name control temporary limit) watches files)
   unfolding inputs_of reply_by
   mean_follows source_name values_name control temporary limit there read enough there' found =
-      subst (λ (r : Result Texts EarlyEnd). Follows source (stack_sizes control temporary) values limit (answer_on (command.Mean source_name values_name control temporary limit) watches r))
+      subst (λ (r : Result Texts EarlyEnd). Follows source (stack_sizes control temporary) values limit
+      (answer_on (command.Mean source_name values_name control temporary limit) watches r))
       (sym (both_there files (Source, source_name) (Values, values_name) text values_text there there'))
-      (reply_follows source (stack_sizes control temporary) values limit _ (mean_reply text values_text control temporary limit) (mean_is control temporary limit read enough found))
+      (reply_follows source (stack_sizes control temporary) values limit _ (mean_reply text values_text control temporary limit)
+      (mean_is control temporary limit read enough found))
 
 -- 3. All commands.
 
@@ -223,22 +236,27 @@ means (command.Check source_name) watches files = λ source values reads writes.
 means (command.Mean source_name values_name control temporary limit) watches files = λ source values reads writes. (
   ap first_name reads,
   ap (λ (fs : List (Role × List ℕ)). first_name (others fs)) reads,
-  λ text s values_text v there read enough there' found. mean_follows watches files text values_text s v source_name values_name control temporary limit there read enough there' found,
+  λ text s values_text v there read enough there' found. mean_follows watches files text values_text s v source_name values_name control temporary limit
+      there read enough there' found,
 )
 means (command.Pit source_name control temporary piton) watches files = λ source values reads writes. absurd (let e : Some (Piton, piton) ≡ None = writes in cc)
-means (command.Build source_name control temporary image) watches files = λ source values reads writes. absurd (let e : Some (Image, image) ≡ None = writes in cc)
+means (command.Build source_name control temporary image) watches files =
+    λ source values reads writes. absurd (let e : Some (Image, image) ≡ None = writes in cc)
 means (command.Pcheck piton) watches files = λ source values reads writes. absurd (let e : Piton ≡ Source = ap first_role reads in cc)
 means (command.Prun piton limit) watches files = λ source values reads writes. absurd (let e : Piton ≡ Source = ap first_role reads in cc)
 means (command.Pbuild piton image) watches files = λ source values reads writes. absurd (let e : Some (Image, image) ≡ None = writes in cc)
 means (command.Run image values_name budget) watches files = λ source values reads writes. absurd (let e : Image ≡ Source = ap first_role reads in cc)
-means (command.Go source_name values_name control temporary budget image) watches files = λ source values reads writes. absurd (let e : Some (Image, image) ≡ None = writes in cc)
+means (command.Go source_name values_name control temporary budget image) watches files =
+    λ source values reads writes. absurd (let e : Some (Image, image) ≡ None = writes in cc)
 means (command.Show image) watches files = λ source values reads writes. absurd (let e : Image ≡ Source = ap first_role reads in cc)
 means (command.Migrate image output) watches files = λ source values reads writes. absurd (let e : Image ≡ Source = ap first_role reads in cc)
 means (command.Asm assembly image) watches files = λ source values reads writes. absurd (let e : Assembly ≡ Source = ap first_role reads in cc)
 means (command.Unasm image assembly) watches files = λ source values reads writes. absurd (let e : Image ≡ Source = ap first_role reads in cc)
 means (command.Need source_name certificate) watches files = λ source values reads writes. absurd (let e : [] ≡ (Values, values) ∷ [] = ap others reads in cc)
-means (command.Cert source_name certificate control temporary) watches files = λ source values reads writes. absurd (let e : Certificate ≡ Values = ap (λ (fs : List (Role × List ℕ)). first_role (others fs)) reads in cc)
-means (command.Debug level source_name values_name control temporary script) watches files = λ source values reads writes. absurd (let e : (Script, script) ∷ [] ≡ [] = ap (λ (fs : List (Role × List ℕ)). others (others fs)) reads in cc)
+means (command.Cert source_name certificate control temporary) watches files =
+    λ source values reads writes. absurd (let e : Certificate ≡ Values = ap (λ (fs : List (Role × List ℕ)). first_role (others fs)) reads in cc)
+means (command.Debug level source_name values_name control temporary script) watches files =
+    λ source values reads writes. absurd (let e : (Script, script) ∷ [] ≡ [] = ap (λ (fs : List (Role × List ℕ)). others (others fs)) reads in cc)
 means (command.Turns turn budget control temporary tasks) watches files = λ source values reads writes. absurd (no_source tasks (ap first_role reads))
   where
     no_source : (tasks : List TaskFiles) → first_role (task_inputs tasks) ≡ Source → ⊥

@@ -1,5 +1,6 @@
 -- The file that `migrate` stores runs as the one before.
-use Rattle.std.proofs.Common.{◌≡◌, ◌≢◌, ◌≤◌, ◌∷◌, [], ⊎_elim, ℕ, List, Bool, true, false, ◌==◌, ◌&&◌, if◌then◌else◌, Option, Some, None, Result, Ok, Err, length, refl, sym, ap, ◌∙◌, subst, arith}
+use Rattle.std.proofs.Common.{◌≡◌, ◌≢◌, ◌≤◌, ◌∷◌, [], ⊎_elim, ℕ, List, Bool, true, false, ◌==◌, ◌&&◌, if◌then◌else◌, Option, Some, None, Result, Ok, Err}
+use Rattle.std.proofs.Common.{length, refl, sym, ap, ◌∙◌, subst, arith}
 use Rattle.std.proofs.lemmas.Bool.{and_parts, eqb-true, or_cases}
 use Rattle.std.proofs.lemmas.List.{nil_from_length}
 use Rattle.stack_text.specs.Results.{◌>>=◌}
@@ -38,17 +39,21 @@ use Rattle.cli_stack.proofs.TellsLaws.{is_there}
 
 -- 1. Its file is short enough to be read.
 
-none_few : (procedures : List ProcedureOf) (marks : List Mark) → length procedures ≡ 0 → length marks ≡ 0 → length (tables_bytes 2 (record { procedures = procedures; marks = marks })) ≤ 8
+none_few : (procedures : List ProcedureOf) (marks : List Mark) → length procedures ≡ 0 → length marks ≡ 0
+    → length (tables_bytes 2 (record { procedures = procedures; marks = marks })) ≤ 8
 none_few procedures marks p m =
     subst (λ (ps : List ProcedureOf). length (tables_bytes 2 (record { procedures = ps; marks = marks })) ≤ 8) (sym (nil_from_length procedures p))
     (subst (λ (ms : List Mark). length (tables_bytes 2 (record { procedures = []; marks = ms })) ≤ 8) (sym (nil_from_length marks m)) (omega arith))
 
 -- an image of version 1 has no tables
-no_tables : (image : ImageOf) (b : Bool) → b ≡ true → (if b then length image.procedures == 0 && length image.marks == 0 else are_tables (window_of image) (tables_of image)) ≡ true → (length image.procedures ≡ 0) × (length image.marks ≡ 0)
+no_tables : (image : ImageOf) (b : Bool) → b ≡ true
+    → (if b then length image.procedures == 0 && length image.marks == 0 else are_tables (window_of image) (tables_of image)) ≡ true
+    → (length image.procedures ≡ 0) × (length image.marks ≡ 0)
 no_tables image true is h = let both = and_parts (length image.procedures == 0) (length image.marks == 0) h in (eqb-true _ 0 both.0, eqb-true _ 0 both.1)
 no_tables image false is h = absurd cc
 
-migrated_short : (bytes : List ℕ) (image : ImageOf) → Spelled bytes image → length bytes ≤ limit_of Image → length (spelling (in_version_2 image)) ≤ limit_of Image
+migrated_short : (bytes : List ℕ) (image : ImageOf) → Spelled bytes image → length bytes ≤ limit_of Image
+    → length (spelling (in_version_2 image)) ≤ limit_of Image
 migrated_short bytes image spelled short =
     ⊎_elim
     (λ one.
@@ -92,13 +97,15 @@ module _ (image output values : List ℕ) (budget : ℕ) (watches : List Watchin
   run_after made = let left = files_after made.output files in run_on output (fetch_output left) (fetch_values left)
 
   -- on two files of which one is the other's in version 2
-  on_texts : (bytes stored : List ℕ) (read : ImageOf) → read_of bytes ≡ Ok read → read_of stored ≡ Ok (in_version_2 read) → (second : Fetched) → run_on output (Ok stored) second ≡ run_on image (Ok bytes) second
+  on_texts : (bytes stored : List ℕ) (read : ImageOf) → read_of bytes ≡ Ok read → read_of stored ≡ Ok (in_version_2 read) → (second : Fetched)
+      → run_on output (Ok stored) second ≡ run_on image (Ok bytes) second
   unfolding run_on output_of reply_by
   on_texts bytes stored read is again (Err e) = refl
   on_texts bytes stored read is again (Ok other) =
       ap (answer_with None) (ap (image_reply other budget) again ∙ runs_same read other budget ∙ sym (ap (image_reply other budget) is))
 
-  by_image : (first : Fetched) → text_or_end (Image, image) (fetched files image (limit_of Image)) ≡ first → (migrate_on first).status ≡ Done → run_after (migrate_on first) ≡ run_on image first (fetch_values files)
+  by_image : (first : Fetched) → text_or_end (Image, image) (fetched files image (limit_of Image)) ≡ first → (migrate_on first).status ≡ Done
+      → run_after (migrate_on first) ≡ run_on image first (fetch_values files)
   unfolding run_after migrate_on output_of stored_by reply_by
   by_image (Err e) got done = absurd (early_done e done)
   by_image (Ok bytes) got done = by_reading (read_of bytes) refl done
@@ -107,16 +114,21 @@ module _ (image output values : List ℕ) (budget : ℕ) (watches : List Watchin
       was = was_short files (Image, image) bytes got
 
       by_reading : (found : Result ImageOf (ℕ × ℕ)) → read_of bytes ≡ found → status_of (migrated_reply output found).verdict ≡ Done
-          → run_after (answer_with (set_file (Some (Image, output)) (migrated_stored found)) (migrated_reply output found)) ≡ run_on image (Ok bytes) (fetch_values files)
+          → run_after (answer_with (set_file (Some (Image, output)) (migrated_stored found)) (migrated_reply output found))
+          ≡ run_on image (Ok bytes) (fetch_values files)
       by_reading (Err f) is done = absurd cc
       by_reading (Ok read) is done =
           let spelled = read_spells bytes read (are_bytes bytes (all bytes was.0)) is in
           let stored : List ℕ = spelling (in_version_2 read) in
           let left : Files = put_file files output stored in
-          let again : read_of stored ≡ Ok (in_version_2 read) = is_read_again (in_version_2 read) (version_2_fits read spelled.limits) spelled.registers spelled.words in
-          let there : fetch_output left ≡ Ok stored = is_there left (Image, output) stored (record { there = put_there files output stored; short = migrated_short bytes read spelled was.1 }) in
-          let kept : fetch_values left ≡ fetch_values files = ap (λ (o : Option (List ℕ)). text_or_end (Values, values) (within (limit_of Values) o)) (put_other files output stored values differ) in
-          ap (λ (first : Fetched). run_on output first (fetch_values left)) there ∙ ap (run_on output (Ok stored)) kept ∙ on_texts bytes stored read is again (fetch_values files)
+          let again : read_of stored ≡ Ok (in_version_2 read) =
+          is_read_again (in_version_2 read) (version_2_fits read spelled.limits) spelled.registers spelled.words in
+          let there : fetch_output left ≡ Ok stored =
+          is_there left (Image, output) stored (record { there = put_there files output stored; short = migrated_short bytes read spelled was.1 }) in
+          let kept : fetch_values left ≡ fetch_values files =
+          ap (λ (o : Option (List ℕ)). text_or_end (Values, values) (within (limit_of Values) o)) (put_other files output stored values differ) in
+          ap (λ (first : Fetched). run_on output first (fetch_values left)) there ∙ ap (run_on output (Ok stored)) kept
+          ∙ on_texts bytes stored read is again (fetch_values files)
 
 pub migrated_runs : MigratedRunsTheSame
 unfolding inputs_of run_after run_on migrate_on

@@ -79,10 +79,12 @@ shaped_same a b (d ∷ ds) (first ∷ others) =
 abbrev told_of : SourceOf → ReadingOf → ℕ → List ℕ
 told_of source read count = line (codes "finished " ++ decimal count) ++ reading_lines read.condition (shaped (formal_slots source) read.items)
 
-report_is : (source : SourceOf) (sizes : StackSizes) (base : ℕ) (read : ReadingOf) (count : ℕ) → report_text (image_of source sizes base) read count ≡ told_of source read count
+report_is : (source : SourceOf) (sizes : StackSizes) (base : ℕ) (read : ReadingOf) (count : ℕ)
+    → report_text (image_of source sizes base) read count ≡ told_of source read count
 unfolding image_of
 report_is source sizes base read count =
-    ap (λ (vs : List VariableOf). line (codes "finished " ++ decimal count) ++ reading_lines read.condition vs) (shaped_same _ 0 (shown_formals source) read.items)
+    ap (λ (vs : List VariableOf). line (codes "finished " ++ decimal count) ++ reading_lines read.condition vs)
+    (shaped_same _ 0 (shown_formals source) read.items)
 
 -- 2. What `go` told is what the meaning is done with.
 
@@ -98,10 +100,12 @@ record HasTold (source : SourceOf) (sizes : StackSizes) (values_text : List ℕ)
 
 module _ (source : SourceOf) (sizes : StackSizes) (values_text : List ℕ) (budget : ℕ) (output : Option (List ℕ × List ℕ)) (b : BuiltOf) (values : List ValueOf)
     (builds : Builds source sizes b) (gives : values_in b.image.slots values_text ≡ Ok values) (fits : FitsFormals source values) where
-  ended : (k : ℕ) (s : Fm) → k ≤ budget → IsFirst (loaded b.image values) b.image.final_pc k s → HasTold source sizes values_text budget (answer_with output (end_reply b.image budget (run.Ended k) s))
+  ended : (k : ℕ) (s : Fm) → k ≤ budget → IsFirst (loaded b.image values) b.image.final_pc k s
+      → HasTold source sizes values_text budget (answer_with output (end_reply b.image budget (run.Ended k) s))
   ended k s within first = by_moment (moment_from (program_of source) sizes values (suc k)) refl (builds.moments values (suc k) fits)
     where
-      by_moment : (m : Move) → moment_from (program_of source) sizes values (suc k) ≡ m → ArrivesAt source sizes b.image values m → HasTold source sizes values_text budget (answer_with output (end_reply b.image budget (run.Ended k) s))
+      by_moment : (m : Move) → moment_from (program_of source) sizes values (suc k) ≡ m → ArrivesAt source sizes b.image values m
+          → HasTold source sizes values_text budget (answer_with output (end_reply b.image budget (run.Ended k) s))
       by_moment (Next (At p x w fs t)) e a =
           let grows : suc k ≤ t.count = counts_grow (program_of source) sizes values (suc k) (At p x w fs t) e in
           absurd (a.goes_on k s (omega (arith, grows)) first.reached first.there)
@@ -125,28 +129,34 @@ module _ (source : SourceOf) (sizes : StackSizes) (values_text : List ℕ) (budg
                 ∙ ap (λ (n : ℕ). told_of source (meaning_shown source x c) n) once.0;
           }
 
-  run_told : status_of (run_reply b.image values budget).verdict ≡ Done → HasTold source sizes values_text budget (answer_with output (run_reply b.image values budget))
+  run_told : status_of (run_reply b.image values budget).verdict ≡ Done → HasTold source sizes values_text budget
+      (answer_with output (run_reply b.image values budget))
   unfolding run_reply
   run_told done =
       let o : RunOutcome = outcome budget b.image.final_pc (loaded b.image values) in
       by_end o.run o.state (outcome_is (loaded b.image values) b.image.final_pc budget) done
     where
-      by_end : (r : Run) (s : Fm) → IsOutcome (loaded b.image values) b.image.final_pc budget r s → status_of (end_reply b.image budget r s).verdict ≡ Done → HasTold source sizes values_text budget (answer_with output (end_reply b.image budget r s))
+      by_end : (r : Run) (s : Fm) → IsOutcome (loaded b.image values) b.image.final_pc budget r s
+          → status_of (end_reply b.image budget r s).verdict ≡ Done → HasTold source sizes values_text budget
+          (answer_with output (end_reply b.image budget r s))
       by_end (run.Ended k) s is done = ended k s is.0 is.1
       by_end run.Spent s is done = absurd cc
       by_end (run.Outside a k) s is done = absurd cc
 
 -- 3. It is told again with other stacks.
 
-finishes : (source : SourceOf) (sizes : StackSizes) (v : List ValueOf) (x : List ValueOf) (c : CurrentCondition) (t : Tally) → EndsWith (program_of source) sizes v x c t → Finishes source sizes v x c t.count
+finishes : (source : SourceOf) (sizes : StackSizes) (v : List ValueOf) (x : List ValueOf) (c : CurrentCondition) (t : Tally)
+    → EndsWith (program_of source) sizes v x c t → Finishes source sizes v x c t.count
 finishes source sizes v x c t e = record {
   bound = e.0;
   done = sym (meaning-uncounted (program_of source) sizes v e.0) ∙ ap uncounted e.1;
   counted = ap (λ (o : CountedOutcome). option_map (λ (t : Tally). t.count) (tally_of o)) e.1;
 }
 
-module _ (implement : BuiltImplements) (take : BuiltTakesValues) (watches : List Watching) (files : Files) (name text : List ℕ) (readable : IsReadable files Source name text) (source : SourceOf) (read : accepted_source text ≡ Ok source)
-    (s t : StackSizes) (same : (v x : List ValueOf) (c : CurrentCondition) (u : Tally) → EndsWith (program_of source) s v x c u → EndsWith (program_of source) t v x c u) where
+module _ (implement : BuiltImplements) (take : BuiltTakesValues) (watches : List Watching) (files : Files) (name text : List ℕ)
+    (readable : IsReadable files Source name text) (source : SourceOf) (read : accepted_source text ≡ Ok source)
+    (s t : StackSizes) (same : (v x : List ValueOf) (c : CurrentCondition) (u : Tally) → EndsWith (program_of source) s v x c u
+    → EndsWith (program_of source) t v x c u) where
   abbrev Fetched : Type 0
   Fetched = Result (List ℕ) EarlyEnd
 
@@ -169,19 +179,22 @@ module _ (implement : BuiltImplements) (take : BuiltTakesValues) (watches : List
   unfolding build_on reply_by
   built_again image done = by_built (built text t.ctrl t.temp 0) refl done
     where
-      by_built : (found : Result BuiltOf BuildFault) → built text t.ctrl t.temp 0 ≡ found → status_of (build_reply found).verdict ≡ Done → (b : BuiltOf) × (built text t.ctrl t.temp 0 ≡ Ok b)
+      by_built : (found : Result BuiltOf BuildFault) → built text t.ctrl t.temp 0 ≡ found → status_of (build_reply found).verdict ≡ Done → (b : BuiltOf)
+          × (built text t.ctrl t.temp 0 ≡ Ok b)
       by_built (Err f) is done = absurd (build_done f done)
       by_built (Ok b) is done = (b, is)
 
   made_builds : (b : BuiltOf) → built text t.ctrl t.temp 0 ≡ Ok b → Builds source t b
   made_builds b is =
-      let builds : BuildsText text t.ctrl t.temp b = subst (λ (r : Result BuiltOf BuildFault). IfOk r (BuildsText text t.ctrl t.temp)) is (implement text t.ctrl t.temp 0 short (omega arith)) in
+      let builds : BuildsText text t.ctrl t.temp b =
+      subst (λ (r : Result BuiltOf BuildFault). IfOk r (BuildsText text t.ctrl t.temp)) is (implement text t.ctrl t.temp 0 short (omega arith)) in
       let same_read : Ok builds.source ≡ Ok source = sym builds.read ∙ read in
       let one : builds.source ≡ source = cc in
       subst (λ (s : SourceOf). Builds s t b) one builds.builds
 
   module _ (values image other : List ℕ) (budget more : ℕ) (le : budget ≤ more) where
-    by_values : (second : Fetched) → fetch_values values ≡ second → (go_on s values image budget (Ok text) second).status ≡ Done → (build_on other (Ok text)).status ≡ Done
+    by_values : (second : Fetched) → fetch_values values ≡ second → (go_on s values image budget (Ok text) second).status ≡ Done
+        → (build_on other (Ok text)).status ≡ Done
         → TellsAlso (go_on s values image budget (Ok text) second) (answer_to (command.Go name values t.ctrl t.temp more other) watches files)
     unfolding go_on output_of stored_by reply_by
     by_values (Err e) got done makes = absurd (early_done e done)
@@ -196,8 +209,10 @@ module _ (implement : BuiltImplements) (take : BuiltTakesValues) (watches : List
         let builds = made_builds b.0 b.1 in
         let gives : values_in b.0.image.slots written ≡ Ok told.values =
         ap (λ (i : ImageOf). values_in i.slots written) builds.is ∙ image_takes source t builds.base written ∙ told.gives in
-        let again : TellsReport source b.0.image told.finals told.way told.spent.count (answer_to (command.Go name values t.ctrl t.temp more other) watches files) =
-        go_tells files t source b.0.image written told.values told.finals told.way told.spent.count more watches gives (finishes source t told.values told.finals told.way told.spent (same told.values told.finals told.way told.spent told.ends))
+        let again : TellsReport source b.0.image told.finals told.way told.spent.count
+        (answer_to (command.Go name values t.ctrl t.temp more other) watches files) =
+        go_tells files t source b.0.image written told.values told.finals told.way told.spent.count more watches gives
+        (finishes source t told.values told.finals told.way told.spent (same told.values told.finals told.way told.spent told.ends))
         (omega (arith, told.within, le)) implement take name values other t.ctrl t.temp refl made (record { there = there.0; short = there.1 }) in
         record {
           status = again.status;

@@ -1,5 +1,6 @@
 -- What `pit` stores carries the meaning of its source, and `pbuild` of it makes what `build` does.
-use Rattle.std.proofs.Common.{◌≡◌, ◌≤◌, ◌∷◌, [], ℕ, List, Bool, true, false, if◌then◌else◌, Option, Some, None, Result, Ok, Err, length, map, refl, sym, ap, ◌∙◌, subst, arith}
+use Rattle.std.proofs.Common.{◌≡◌, ◌≤◌, ◌∷◌, [], ℕ, List, Bool, true, false, if◌then◌else◌, Option, Some, None, Result, Ok, Err, length, map, refl, sym, ap}
+use Rattle.std.proofs.Common.{◌∙◌, subst, arith}
 use Rattle.std.specs.Prelude.{nat_lt}
 use Rattle.fm_words.specs.WindowLimit.{most_window}
 use Rattle.stack_text.specs.Breaches.{least}
@@ -92,7 +93,8 @@ reread acceptable places s sizes accepted limits =
       view = ap system_view same.1 ∙ a.view;
     }
 
-implements : SourceRuns → EachMomentIsReached → GeneratedIsAcceptable → (s : SourceOf) (sizes : StackSizes) (c : CheckedOf) → IsAccepted s → LimitsFit (program_of s) sizes 0 → system_in c ≡ generated_view (program_of s) sizes 0
+implements : SourceRuns → EachMomentIsReached → GeneratedIsAcceptable → (s : SourceOf) (sizes : StackSizes) (c : CheckedOf) → IsAccepted s
+    → LimitsFit (program_of s) sizes 0 → system_in c ≡ generated_view (program_of s) sizes 0
     → SystemImplements s sizes 0 c
 implements runs moments acceptable s sizes c accepted limits view =
     let q = program_of s in
@@ -122,7 +124,8 @@ made s sizes = by_fault (size_fault (program_of s) sizes) refl
     by_fault (Some f) is = Fault f (ap (λ (o : Option GenFault). unless_fault o (generated s sizes 0)) is)
     by_fault None is = System (ap (λ (o : Option GenFault). unless_fault o (generated s sizes 0)) is) (limits_fit (program_of s) sizes 0 (omega arith) is)
 
-module _ (acceptable : GeneratedIsAcceptable) (places : PlacesChangeNothing) (source piton : List ℕ) (control temporary : ℕ) (watches : List Watching) (files : Files) where
+module _ (acceptable : GeneratedIsAcceptable) (places : PlacesChangeNothing) (source piton : List ℕ) (control temporary : ℕ) (watches : List Watching)
+    (files : Files) where
   abbrev pit_made : Result SystemOf BuildFault → Answer
   pit_made found = answer_with (set_file (Some (Piton, piton)) (pit_stored found)) (pit_reply piton found)
 
@@ -133,16 +136,19 @@ module _ (acceptable : GeneratedIsAcceptable) (places : PlacesChangeNothing) (so
   unfolding pit_on output_of stored_by reply_by
   pit_is text found is = ap pit_made is
 
-  compiled_is : (text : List ℕ) (s : SourceOf) (found : Result SystemOf GenFault) → accepted_source text ≡ Ok s → generation s (stack_sizes control temporary) 0 ≡ found → compiled text control temporary 0 ≡ generated_by found
+  compiled_is : (text : List ℕ) (s : SourceOf) (found : Result SystemOf GenFault) → accepted_source text ≡ Ok s
+      → generation s (stack_sizes control temporary) 0 ≡ found → compiled text control temporary 0 ≡ generated_by found
   unfolding compiled
-  compiled_is text s found read is = ap (λ (r : Result SourceOf BuildFault). r >>= λ source. generated_by (generation source (stack_sizes control temporary) 0)) read ∙ ap generated_by is
+  compiled_is text s found read is = ap (λ (r : Result SourceOf BuildFault). r >>= λ source. generated_by
+      (generation source (stack_sizes control temporary) 0)) read ∙ ap generated_by is
 
   compiled_not : (text : List ℕ) (f : BuildFault) → accepted_source text ≡ Err f → compiled text control temporary 0 ≡ Err f
   unfolding compiled
   compiled_not text f read = ap (λ (r : Result SourceOf BuildFault). r >>= λ source. generated_by (generation source (stack_sizes control temporary) 0)) read
 
   module _ (runs : SourceRuns) (moments : EachMomentIsReached) where
-    pit_holds : (first : Fetched) → text_or_end (Source, source) (fetched files source (limit_of Source)) ≡ first → (stored text : List ℕ) → (pit_on first).output ≡ Some (stored, text) → HoldsSystem files source (stack_sizes control temporary) text
+    pit_holds : (first : Fetched) → text_or_end (Source, source) (fetched files source (limit_of Source)) ≡ first → (stored text : List ℕ)
+        → (pit_on first).output ≡ Some (stored, text) → HoldsSystem files source (stack_sizes control temporary) text
     unfolding pit_on
     pit_holds (Err e) got stored text sets = absurd (let none : None ≡ Some (stored, text) = sets in cc)
     pit_holds (Ok own) got stored text sets = by_source (accepted_source own) refl
@@ -151,17 +157,21 @@ module _ (acceptable : GeneratedIsAcceptable) (places : PlacesChangeNothing) (so
         was = was_short files (Source, source) own got
 
         by_source : (found : Result SourceOf BuildFault) → accepted_source own ≡ found → HoldsSystem files source (stack_sizes control temporary) text
-        by_source (Err f) read = absurd (let none : None ≡ Some (stored, text) = sym (ap (λ (a : Answer). a.output) (pit_is own (Err f) (compiled_not own f read))) ∙ sets in cc)
+        by_source (Err f) read = absurd (let none : None ≡ Some (stored, text) = sym
+            (ap (λ (a : Answer). a.output) (pit_is own (Err f) (compiled_not own f read))) ∙ sets in cc)
         by_source (Ok s) read = by_made (made s (stack_sizes control temporary))
           where
             by_made : Made s (stack_sizes control temporary) → HoldsSystem files source (stack_sizes control temporary) text
             by_made (Fault f is) =
-                absurd (let none : None ≡ Some (stored, text) = sym (ap (λ (a : Answer). a.output) (pit_is own (Err (generating_fault f)) (compiled_is own s (Err f) read is))) ∙ sets in cc)
+                absurd (let none : None ≡ Some (stored, text) = sym
+                (ap (λ (a : Answer). a.output) (pit_is own (Err (generating_fault f)) (compiled_is own s (Err f) read is))) ∙ sets in cc)
             by_made (System is limits) =
                 let accepted = source_is_accepted own (omega (arith, was.1)) s read in
                 let again = reread acceptable places s (stack_sizes control temporary) accepted limits in
                 let same : piton_text (generated s (stack_sizes control temporary) 0) ≡ text =
-                ap set_bytes (sym (ap (λ (a : Answer). a.output) (pit_is own (Ok (generated s (stack_sizes control temporary) 0)) (compiled_is own s (Ok (generated s (stack_sizes control temporary) 0)) read is))) ∙ sets) in
+                ap set_bytes (sym (ap (λ (a : Answer). a.output)
+                (pit_is own (Ok (generated s (stack_sizes control temporary) 0))
+                (compiled_is own s (Ok (generated s (stack_sizes control temporary) 0)) read is))) ∙ sets) in
                 record {
                   source_text = own;
                   there = was.0;
@@ -199,7 +209,8 @@ module _ (acceptable : GeneratedIsAcceptable) (places : PlacesChangeNothing) (so
     unfolding built
     built_not text f read = ap (λ (r : Result SourceOf BuildFault). r >>= λ source. source_built source (stack_sizes control temporary) 0) read
 
-    built_is : (text : List ℕ) (s : SourceOf) (found : Result SystemOf GenFault) → accepted_source text ≡ Ok s → generation s (stack_sizes control temporary) 0 ≡ found
+    built_is : (text : List ℕ) (s : SourceOf) (found : Result SystemOf GenFault) → accepted_source text ≡ Ok s
+        → generation s (stack_sizes control temporary) 0 ≡ found
         → built text control temporary 0 ≡ (generated_by found >>= linked_of s (stack_sizes control temporary) 0)
     unfolding built source_built
     built_is text s found read is =
@@ -242,7 +253,8 @@ module _ (acceptable : GeneratedIsAcceptable) (places : PlacesChangeNothing) (so
       unfolding linked_of
       ends_alike = alike_if (nat_lt most_window (placed shape).size)
 
-      stores_untold : (build_made (linked_of s (stack_sizes control temporary) 0 system)).status ≡ Done → StoresUntold (build_made (linked_of s (stack_sizes control temporary) 0 system)) (linked_made shape) image name
+      stores_untold : (build_made (linked_of s (stack_sizes control temporary) 0 system)).status ≡ Done
+          → StoresUntold (build_made (linked_of s (stack_sizes control temporary) 0 system)) (linked_made shape) image name
       unfolding linked_of
       stores_untold done = untold_if (nat_lt most_window (placed shape).size) done
 
@@ -291,9 +303,11 @@ module _ (acceptable : GeneratedIsAcceptable) (places : PlacesChangeNothing) (so
                 let accepted = source_is_accepted own (omega (arith, was.1)) s read in
                 let again = reread acceptable places s (stack_sizes control temporary) accepted limits in
                 let pit : pit_on (Ok own) ≡ pit_made (Ok g) = pit_is own (Ok g) (compiled_is own s (Ok g) read is) in
-                let build : build_on (Ok own) ≡ build_made (linked_of s (stack_sizes control temporary) 0 g) = build_is own (linked_of s (stack_sizes control temporary) 0 g) (built_is own s (Ok g) read is) in
+                let build : build_on (Ok own) ≡ build_made (linked_of s (stack_sizes control temporary) 0 g) =
+                build_is own (linked_of s (stack_sizes control temporary) 0 g) (built_is own s (Ok g) read is) in
                 let left : Files = put_file files piton (piton_text g) in
-                let pbuild : length (piton_text g) ≤ limit_of Piton → pbuild_after (pit_on (Ok own)) ≡ linked_made s g (generated_view (program_of s) (stack_sizes control temporary) 0) =
+                let pbuild : length (piton_text g) ≤ limit_of Piton → pbuild_after (pit_on (Ok own))
+                ≡ linked_made s g (generated_view (program_of s) (stack_sizes control temporary) 0) =
                 λ short.
                 ap pbuild_after pit
                 ∙ ap pbuild_on (is_there left (Piton, piton) (piton_text g) (record { there = put_there files piton (piton_text g); short = short }))
@@ -304,12 +318,16 @@ module _ (acceptable : GeneratedIsAcceptable) (places : PlacesChangeNothing) (so
                   stops = λ other. absurd (other (ap (λ (a : Answer). a.status) pit));
                   ends = λ text sets short.
                       let few : length (piton_text g) ≤ limit_of Piton = subst (λ (t : List ℕ). length t ≤ limit_of Piton) (sym (text_is text sets)) short in
-                      subst (EndsAlike (build_on (Ok own))) (sym (pbuild few)) (subst (λ (a : Answer). EndsAlike a (linked_made s g (generated_view (program_of s) (stack_sizes control temporary) 0))) (sym build) (ends_alike s g));
+                      subst (EndsAlike (build_on (Ok own))) (sym (pbuild few))
+                      (subst (λ (a : Answer). EndsAlike a (linked_made s g (generated_view (program_of s) (stack_sizes control temporary) 0)))
+                      (sym build) (ends_alike s g));
                   stores = λ text sets short done.
                       let few : length (piton_text g) ≤ limit_of Piton = subst (λ (t : List ℕ). length t ≤ limit_of Piton) (sym (text_is text sets)) short in
-                      let ended : (build_made (linked_of s (stack_sizes control temporary) 0 g)).status ≡ Done = ap (λ (a : Answer). a.status) (sym build) ∙ done in
+                      let ended : (build_made (linked_of s (stack_sizes control temporary) 0 g)).status ≡ Done =
+                      ap (λ (a : Answer). a.status) (sym build) ∙ done in
                       subst (λ (a : Answer). StoresUntold (build_on (Ok own)) a image name) (sym (pbuild few))
-                      (subst (λ (a : Answer). StoresUntold a (linked_made s g (generated_view (program_of s) (stack_sizes control temporary) 0)) image name) (sym build) (stores_untold s g ended));
+                      (subst (λ (a : Answer). StoresUntold a (linked_made s g (generated_view (program_of s) (stack_sizes control temporary) 0)) image
+                      name) (sym build) (stores_untold s g ended));
                 }
 
 pub pit_carries : GeneratedIsAcceptable → PlacesChangeNothing → SourceRuns → EachMomentIsReached → PitCarriesMeanings
@@ -319,4 +337,5 @@ pit_carries acceptable places runs moments source piton stored text control temp
 
 pub build_in_two : GeneratedIsAcceptable → PlacesChangeNothing → BuildIsPitAndPbuild
 unfolding inputs_of pit_on build_on pbuild_on pbuild_after
-build_in_two acceptable places source piton image name control temporary watches files = in_two acceptable places source piton control temporary watches files image name _ refl
+build_in_two acceptable places source piton image name control temporary watches files =
+    in_two acceptable places source piton control temporary watches files image name _ refl

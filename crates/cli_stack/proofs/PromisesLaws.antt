@@ -1,5 +1,6 @@
 -- The promises of the program, from what its two halves say: how the command was performed, and how it was concluded.
-use Rattle.std.proofs.Common.{◌≡◌, ◌⊎◌, inl, inr, ⊎_elim, ℕ, List, Bool, true, false, Option, Some, None, IfSome, IfErr, IfOk, Result, Ok, Err, refl, sym, ap, ◌∙◌, subst}
+use Rattle.std.proofs.Common.{◌≡◌, ◌⊎◌, inl, inr, ⊎_elim, ℕ, List, Bool, true, false, Option, Some, None, IfSome, IfErr, IfOk, Result, Ok, Err, refl, sym, ap}
+use Rattle.std.proofs.Common.{◌∙◌, subst}
 use Rattle.std.specs.Prelude.{◌≢◌}
 use Rattle.std.specs.Option.{option_map}
 use Rattle.fm_machine.specs.State.{Fm, MachineOf}
@@ -86,7 +87,8 @@ record Known (answer : Answer) (names : List (List ℕ)) (files : Files) (before
   pub files_at_14 : status ≡ OutOfMemory → (after.shelf.files ≡ Some files) ⊎ LeavesFiles files answer.output names before after
   pub text : (status ≡ SinkFault) ⊎ (status ≡ OutOfMemory) → PrintsPrefix answer.text names before after
 
-holds_machine : (before after machine : Option MachineOf) (state : Option Fm) → after ≡ machine_kept before machine → state ≡ option_map (λ (m : MachineOf). m.state) machine → HoldsMachine before after state
+holds_machine : (before after machine : Option MachineOf) (state : Option Fm) → after ≡ machine_kept before machine
+    → state ≡ option_map (λ (m : MachineOf). m.state) machine → HoldsMachine before after state
 holds_machine before after None None kept is = kept
 holds_machine before after None (Some s) kept is = cc
 holds_machine before after (Some m) None kept is = cc
@@ -114,29 +116,36 @@ agreeing Took answer names files before after c status ends says runs left plain
   files_at_10 = λ h. absurd (apart is_plain c.status ShelfFault plain refl (sym p.ends ∙ h));
   files_at_11 = λ h. inl left;
   files_at_14 = λ h. inr (inl left);
-  text = λ h. absurd (⊎_elim (λ (e : status ≡ SinkFault). apart is_plain c.status SinkFault plain refl (sym p.ends ∙ e)) (λ e. apart is_plain c.status OutOfMemory plain refl (sym p.ends ∙ e)) h);
+  text = λ h. absurd (⊎_elim (λ (e : status ≡ SinkFault). apart is_plain c.status SinkFault plain refl (sym p.ends ∙ e))
+      (λ e. apart is_plain c.status OutOfMemory plain refl (sym p.ends ∙ e)) h);
 }
 agreeing Took answer names files before after c status ends says runs left plain (inr (inr s)) = record {
   answers = λ h1 h2 h3. absurd (⊎_elim (λ failed. h2 failed.0) (λ memory. h3 memory) s.cause);
-  files_at_10 = λ h. absurd (⊎_elim (λ failed. let e : ShelfFault ≡ SinkFault = sym h ∙ failed.0 in cc) (λ memory. let e : ShelfFault ≡ OutOfMemory = sym h ∙ memory in cc) s.cause);
+  files_at_10 = λ h. absurd (⊎_elim (λ failed. let e : ShelfFault ≡ SinkFault = sym h ∙ failed.0 in cc)
+      (λ memory. let e : ShelfFault ≡ OutOfMemory = sym h ∙ memory in cc) s.cause);
   files_at_11 = λ h. inl left;
   files_at_14 = λ h. inr (inl left);
   text = λ h. inl (subst (PrefixAppended before.out.taken after.out.taken) (sym says) s.text);
 }
 
 -- an early end that isn't a failure leaves the files, and sets none
-early_left : (answer : Answer) (end : EarlyEnd) (files : Files) (left : Option Files) → answer ≡ early_answer end → left ≡ Some files → left ≡ Some (files_after answer.output files)
+early_left : (answer : Answer) (end : EarlyEnd) (files : Files) (left : Option Files) → answer ≡ early_answer end → left ≡ Some files
+    → left ≡ Some (files_after answer.output files)
 early_left answer end files left is same = same ∙ ap (λ (a : Answer). Some (files_after a.output files)) (sym is)
 
-known : (Took : List ℕ → Type 0) (command : Option Command) (answer : Answer) (files : Files) (before after : World) (ran : Result Reply EarlyEnd) (status : Status)
+known : (Took : List ℕ → Type 0) (command : Option Command) (answer : Answer) (files : Files) (before after : World) (ran : Result Reply EarlyEnd)
+    (status : Status)
     → LeavesAs answer (file_names command) files before.shelf after.shelf ran → IfErr ran (HasReason before.shelf.counts after.shelf.counts command)
     → Concludes Took (conclusion_of ran) status before.out after.out → Known answer (file_names command) files before after status
 known Took command answer files before after (Ok reply) status l reason ends =
-    agreeing Took answer (file_names command) files before after _ status (ap (λ (a : Answer). a.status) l.0) (ap (λ (a : Answer). a.text) l.0) (ap (λ (a : Answer). a.machine) l.0) l.1 (plain_verdict reply.verdict) ends
+    agreeing Took answer (file_names command) files before after _ status (ap (λ (a : Answer). a.status) l.0) (ap (λ (a : Answer). a.text) l.0)
+    (ap (λ (a : Answer). a.machine) l.0) l.1 (plain_verdict reply.verdict) ends
 known Took command answer files before after (Err (early.Missing name)) status l reason ends =
-    agreeing Took answer (file_names command) files before after _ status (ap (λ (a : Answer). a.status) l.0) (ap (λ (a : Answer). a.text) l.0) (ap (λ (a : Answer). a.machine) l.0) (early_left answer (early.Missing name) files after.shelf.files l.0 l.1) refl ends
+    agreeing Took answer (file_names command) files before after _ status (ap (λ (a : Answer). a.status) l.0) (ap (λ (a : Answer). a.text) l.0)
+    (ap (λ (a : Answer). a.machine) l.0) (early_left answer (early.Missing name) files after.shelf.files l.0 l.1) refl ends
 known Took command answer files before after (Err (early.TooLong limit)) status l reason ends =
-    agreeing Took answer (file_names command) files before after _ status (ap (λ (a : Answer). a.status) l.0) (ap (λ (a : Answer). a.text) l.0) (ap (λ (a : Answer). a.machine) l.0) (early_left answer (early.TooLong limit) files after.shelf.files l.0 l.1) refl ends
+    agreeing Took answer (file_names command) files before after _ status (ap (λ (a : Answer). a.status) l.0) (ap (λ (a : Answer). a.text) l.0)
+    (ap (λ (a : Answer). a.machine) l.0) (early_left answer (early.TooLong limit) files after.shelf.files l.0 l.1) refl ends
 known Took command answer files before after (Err (early.ShelfFault name)) status l reason (inl n) = record {
   answers = λ h1 h2 h3. absurd (h3 n.ends);
   files_at_10 = λ h. l;
@@ -149,14 +158,21 @@ known Took command answer files before after (Err (early.ShelfFault name)) statu
   files_at_10 = λ h. l;
   files_at_11 = λ h. absurd (let e : SinkFault ≡ ShelfFault = sym h ∙ p.ends in cc);
   files_at_14 = λ h. absurd (let e : OutOfMemory ≡ ShelfFault = sym h ∙ p.ends in cc);
-  text = λ h. absurd (⊎_elim (λ (e : status ≡ SinkFault). let f : SinkFault ≡ ShelfFault = sym e ∙ p.ends in cc) (λ e. let f : OutOfMemory ≡ ShelfFault = sym e ∙ p.ends in cc) h);
+  text = λ h. absurd (⊎_elim (λ (e : status ≡ SinkFault). let f : SinkFault ≡ ShelfFault = sym e ∙ p.ends in cc)
+      (λ e. let f : OutOfMemory ≡ ShelfFault = sym e ∙ p.ends in cc) h);
 }
 known Took command answer files before after (Err (early.ShelfFault name)) status l reason (inr (inr s)) = record {
   answers = λ h1 h2 h3. absurd (⊎_elim (λ failed. h2 failed.0) (λ memory. h3 memory) s.cause);
   files_at_10 = λ h. l;
   files_at_11 = λ h. inr (l, (reason.0, reason.1, reason.2.1, tt));
   files_at_14 = λ h. inr (inr (l, (reason.0, reason.1, reason.2.1, tt)));
-  text = λ h. inr (reason.0, reason.1, reason.2.1, subst (λ (n : List ℕ). PrefixAppended before.out.taken after.out.taken (end_line (early.ShelfFault n))) reason.2.0 s.text);
+  text = λ h. inr (
+    reason.0,
+    reason.1,
+    reason.2.1,
+    subst
+        (λ (n : List ℕ). PrefixAppended before.out.taken after.out.taken (end_line (early.ShelfFault n))) reason.2.0 s.text,
+  );
 }
 known Took command answer files before after (Err early.OutOfMemory) status l reason (inl n) = record {
   answers = λ h1 h2 h3. absurd (h3 n.ends);
@@ -169,14 +185,19 @@ known Took command answer files before after (Err early.OutOfMemory) status l re
 
 -- 3. Causes.
 
-record Caused {S K : Type 0} (devices : Devices S K) (command : Option Command) (watches : List Watching) (before after : World) (status : Status) : Type 0 where
-  pub missing : status ≡ Missing → RoseAt (λ c. c.absences) (input_names command) before.shelf after.shelf (λ name. after.out.taken ≡ appended before.out.taken (end_line (early.Missing name)))
-  pub shelf_fault : status ≡ ShelfFault → RoseAt (λ c. c.faults) (file_names command) before.shelf after.shelf (λ name. after.out.taken ≡ appended before.out.taken (end_line (early.ShelfFault name)))
+record Caused {S K : Type 0} (devices : Devices S K) (command : Option Command) (watches : List Watching) (before after : World)
+    (status : Status) : Type 0 where
+  pub missing : status ≡ Missing → RoseAt (λ c. c.absences) (input_names command) before.shelf after.shelf
+      (λ name. after.out.taken ≡ appended before.out.taken (end_line (early.Missing name)))
+  pub shelf_fault : status ≡ ShelfFault → RoseAt (λ c. c.faults) (file_names command) before.shelf after.shelf
+      (λ name. after.out.taken ≡ appended before.out.taken (end_line (early.ShelfFault name)))
   pub sink_fault : status ≡ SinkFault → Rose before.out.faults after.out.faults
-  pub replies : status ≢ Missing → status ≢ ShelfFault → status ≢ SinkFault → status ≢ OutOfMemory → IsTooLong command before after status ⊎ Replies devices command watches before after status
+  pub replies : status ≢ Missing → status ≢ ShelfFault → status ≢ SinkFault → status ≢ OutOfMemory → IsTooLong command before after status
+      ⊎ Replies devices command watches before after status
   pub kept : ¬ (RunsImage command × IsRunEnd status) → after.out.kept ≡ before.out.kept
 
-not_begun : {S K : Type 0} (devices : Devices S K) (command : Option Command) (watches : List Watching) (before after : World) (status : Status) → NotBegun status before.out after.out → Caused devices command watches before after status
+not_begun : {S K : Type 0} (devices : Devices S K) (command : Option Command) (watches : List Watching) (before after : World) (status : Status)
+    → NotBegun status before.out after.out → Caused devices command watches before after status
 not_begun devices command watches before after status n = record {
   missing = λ h. absurd (let e : Missing ≡ OutOfMemory = sym h ∙ n.ends in cc);
   shelf_fault = λ h. absurd (let e : ShelfFault ≡ OutOfMemory = sym h ∙ n.ends in cc);
@@ -185,17 +206,20 @@ not_begun devices command watches before after status n = record {
   kept = λ h. n.machine;
 }
 
-stopped : {S K : Type 0} (devices : Devices S K) (command : Option Command) (watches : List Watching) (before after : World) (c : Conclusion) (status : Status) → Stopped c status before.out after.out → Caused devices command watches before after status
+stopped : {S K : Type 0} (devices : Devices S K) (command : Option Command) (watches : List Watching) (before after : World) (c : Conclusion)
+    (status : Status) → Stopped c status before.out after.out → Caused devices command watches before after status
 stopped devices command watches before after c status s = record {
   missing = λ h. absurd (other Missing refl h);
-  shelf_fault = λ h. absurd (⊎_elim (λ failed. let e : ShelfFault ≡ SinkFault = sym h ∙ failed.0 in cc) (λ memory. let e : ShelfFault ≡ OutOfMemory = sym h ∙ memory in cc) s.cause);
+  shelf_fault = λ h. absurd (⊎_elim (λ failed. let e : ShelfFault ≡ SinkFault = sym h ∙ failed.0 in cc)
+      (λ memory. let e : ShelfFault ≡ OutOfMemory = sym h ∙ memory in cc) s.cause);
   sink_fault = λ h. ⊎_elim (λ failed. failed.1) (λ memory. absurd (let e : SinkFault ≡ OutOfMemory = sym h ∙ memory in cc)) s.cause;
   replies = λ h1 h2 h3 h4. absurd (⊎_elim (λ failed. h3 failed.0) (λ memory. h4 memory) s.cause);
   kept = λ h. s.machine;
 }
   where
     other : (t : Status) → is_plain t ≡ true → status ≡ t → ⊥
-    other t plain h = ⊎_elim (λ (failed : (status ≡ SinkFault) × Rose before.out.faults after.out.faults). apart is_plain t SinkFault plain refl (sym h ∙ failed.0)) (λ memory. apart is_plain t OutOfMemory plain refl (sym h ∙ memory)) s.cause
+    other t plain h = ⊎_elim (λ (failed : (status ≡ SinkFault) × Rose before.out.faults after.out.faults). apart is_plain t SinkFault plain refl
+        (sym h ∙ failed.0)) (λ memory. apart is_plain t OutOfMemory plain refl (sym h ∙ memory)) s.cause
 
 -- the reply is one to some texts
 to_some : {S K : Type 0} (devices : Devices S K) (command : Option Command) (watches : List Watching) (reply : ReplyOf)
@@ -203,9 +227,12 @@ to_some : {S K : Type 0} (devices : Devices S K) (command : Option Command) (wat
 to_some devices None watches reply to = to.0
 to_some devices (Some c) watches reply to = (to.texts, to.is)
 
-caused : {S K : Type 0} (devices : Devices S K) (command : Option Command) (watches : List Watching) (before after : World) (ran : Result Reply EarlyEnd) (status : Status)
-    → IfErr ran (HasReason before.shelf.counts after.shelf.counts command) → IfOk ran (λ reply. IsReplyTo devices.gave devices.got devices.shelf_before devices.shelf_after command watches (reply_of reply))
-    → Concludes (TookLines devices.took devices.out_before devices.out_after) (conclusion_of ran) status before.out after.out → Caused devices command watches before after status
+caused : {S K : Type 0} (devices : Devices S K) (command : Option Command) (watches : List Watching) (before after : World)
+    (ran : Result Reply EarlyEnd) (status : Status)
+    → IfErr ran (HasReason before.shelf.counts after.shelf.counts command) → IfOk ran
+    (λ reply. IsReplyTo devices.gave devices.got devices.shelf_before devices.shelf_after command watches (reply_of reply))
+    → Concludes (TookLines devices.took devices.out_before devices.out_after) (conclusion_of ran) status before.out after.out
+    → Caused devices command watches before after status
 caused devices command watches before after ran status reason to (inl n) = not_begun devices command watches before after status n
 caused devices command watches before after (Ok reply) status reason to (inr (inr s)) = stopped devices command watches before after _ status s
 caused devices command watches before after (Ok reply) status reason to (inr (inl p)) = record {
@@ -221,10 +248,12 @@ caused devices command watches before after (Ok reply) status reason to (inr (in
     machine = holds_machine before.out.kept after.out.kept reply.machine (option_map (λ (m : MachineOf). m.state) reply.machine) p.machine refl;
     sized = λ h. has_sizes command watches reply (to_some devices command watches (reply_of reply) to) (sym p.ends ∙ h);
   });
-  kept = λ none. unchanged reply.machine p.machine (only_runs command watches reply (to_some devices command watches (reply_of reply) to) (λ run. none (run.0, subst IsRunEnd (sym p.ends) run.1)));
+  kept = λ none. unchanged reply.machine p.machine
+      (only_runs command watches reply (to_some devices command watches (reply_of reply) to) (λ run. none (run.0, subst IsRunEnd (sym p.ends) run.1)));
 }
   where
-    unchanged : (machine : Option MachineOf) → after.out.kept ≡ machine_kept before.out.kept machine → option_map (λ (m : MachineOf). m.state) machine ≡ None → after.out.kept ≡ before.out.kept
+    unchanged : (machine : Option MachineOf) → after.out.kept ≡ machine_kept before.out.kept machine
+        → option_map (λ (m : MachineOf). m.state) machine ≡ None → after.out.kept ≡ before.out.kept
     unchanged None kept none = kept
     unchanged (Some m) kept none = absurd cc
 caused devices command watches before after (Err (early.Missing name)) status reason to (inr (inr s)) = stopped devices command watches before after _ status s
@@ -243,7 +272,8 @@ caused devices command watches before after (Err (early.TooLong limit)) status r
   replies = λ h1 h2 h3 h4. inl (p.ends, (reason.0, reason.1, reason.2, tt));
   kept = λ h. p.machine;
 }
-caused devices command watches before after (Err (early.ShelfFault name)) status reason to (inr (inr s)) = stopped devices command watches before after _ status s
+caused devices command watches before after (Err (early.ShelfFault name)) status reason to (inr (inr s)) =
+    stopped devices command watches before after _ status s
 caused devices command watches before after (Err (early.ShelfFault name)) status reason to (inr (inl p)) = record {
   missing = λ h. absurd (let e : Missing ≡ ShelfFault = sym h ∙ p.ends in cc);
   shelf_fault = λ h. (reason.0, reason.1, reason.2.1, p.text ∙ ap (λ (n : List ℕ). appended before.out.taken (end_line (early.ShelfFault n))) reason.2.0);
@@ -255,13 +285,16 @@ caused devices command watches before after (Err early.OutOfMemory) status reaso
 
 -- 4. The words were read.
 
-ends_after_words : (Took : List ℕ → Type 0) (c : Conclusion) (status : Status) (before after : World) → is_after_words c.status ≡ true → Concludes Took (Some c) status before.out after.out → status ≢ NoWords
+ends_after_words : (Took : List ℕ → Type 0) (c : Conclusion) (status : Status) (before after : World) → is_after_words c.status ≡ true
+    → Concludes Took (Some c) status before.out after.out → status ≢ NoWords
 ends_after_words Took c status before after own (inl n) = λ h. apart is_after_words OutOfMemory NoWords refl refl (sym n.ends ∙ h)
 ends_after_words Took c status before after own (inr (inl p)) = λ h. apart is_after_words c.status NoWords own refl (sym p.ends ∙ h)
 ends_after_words Took c status before after own (inr (inr s)) = λ h.
-    ⊎_elim (λ (failed : (status ≡ SinkFault) × Rose before.out.faults after.out.faults). apart is_after_words SinkFault NoWords refl refl (sym failed.0 ∙ h)) (λ memory. apart is_after_words OutOfMemory NoWords refl refl (sym memory ∙ h)) s.cause
+    ⊎_elim (λ (failed : (status ≡ SinkFault) × Rose before.out.faults after.out.faults). apart is_after_words SinkFault NoWords refl refl
+    (sym failed.0 ∙ h)) (λ memory. apart is_after_words OutOfMemory NoWords refl refl (sym memory ∙ h)) s.cause
 
-words_read : (Took : List ℕ → Type 0) (ran : Result Reply EarlyEnd) (status : Status) (before after : World) → Concludes Took (conclusion_of ran) status before.out after.out → status ≢ NoWords
+words_read : (Took : List ℕ → Type 0) (ran : Result Reply EarlyEnd) (status : Status) (before after : World)
+    → Concludes Took (conclusion_of ran) status before.out after.out → status ≢ NoWords
 words_read Took (Ok reply) status before after ends = ends_after_words Took _ status before after (verdict_after_words reply.verdict) ends
 words_read Took (Err early.OutOfMemory) status before after (inl n) = λ h. apart is_after_words OutOfMemory NoWords refl refl (sym n.ends ∙ h)
 words_read Took (Err early.OutOfMemory) status before after (inr none) = absurd none
@@ -274,18 +307,22 @@ if_known : (o : Option Files) (P Q : Files → Type 0) → ((files : Files) → 
 if_known None P Q go p = tt
 if_known (Some files) P Q go p = go files p
 
-promises_of : {S K : Type 0} (devices : Devices S K) (command : Option Command) (watches : List Watching) (before after : World) (ran : Result Reply EarlyEnd) (status : Status)
+promises_of : {S K : Type 0} (devices : Devices S K) (command : Option Command) (watches : List Watching) (before after : World)
+    (ran : Result Reply EarlyEnd) (status : Status)
     → IfSome before.shelf.files (λ files. Leaves command watches files before.shelf after.shelf ran)
-    → IfErr ran (HasReason before.shelf.counts after.shelf.counts command) → IfOk ran (λ reply. IsReplyTo devices.gave devices.got devices.shelf_before devices.shelf_after command watches (reply_of reply))
+    → IfErr ran (HasReason before.shelf.counts after.shelf.counts command) → IfOk ran
+    (λ reply. IsReplyTo devices.gave devices.got devices.shelf_before devices.shelf_after command watches (reply_of reply))
     → Concludes (TookLines devices.took devices.out_before devices.out_after) (conclusion_of ran) status before.out after.out
     → ((files : Files) → IfSome command (λ c. TellsMeanings c files (answer_to c watches files)))
     → KeepsPromises devices command watches before after status
 promises_of devices command watches before after ran status leaves reason to ends tells =
     let causes = caused devices command watches before after ran status reason to ends in
     record {
-      known = if_known before.shelf.files (λ files. Leaves command watches files before.shelf after.shelf ran) (λ files. KeepsWithFiles command (answer_by command watches files) files before after status)
+      known = if_known before.shelf.files (λ files. Leaves command watches files before.shelf after.shelf ran)
+          (λ files. KeepsWithFiles command (answer_by command watches files) files before after status)
           (λ files l.
-          let k = known (TookLines devices.took devices.out_before devices.out_after) command (answer_by command watches files) files before after ran status l reason ends in
+          let k = known (TookLines devices.took devices.out_before devices.out_after) command (answer_by command watches files) files before after ran
+          status l reason ends in
           record {
             answers = k.answers;
             completes = completes watches before after status command files k.answers causes.shelf_fault causes.sink_fault (tells files);

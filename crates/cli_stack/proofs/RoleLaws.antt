@@ -25,7 +25,8 @@ only_role role other first name apart (zero, lt, is) = apart (ap (λ (f : Role �
 only_role role other first name apart (suc i, lt, is) = omega arith
 
 -- nor who reads two files
-pub both_roles : (role other second : Role) (first next name : List ℕ) → (other ≡ role → ⊥) → (second ≡ role → ⊥) → Contains {X = Role × List ℕ} ((other, first) ∷ (second, next) ∷ []) (role, name) → ⊥
+pub both_roles : (role other second : Role) (first next name : List ℕ) → (other ≡ role → ⊥) → (second ≡ role → ⊥)
+    → Contains {X = Role × List ℕ} ((other, first) ∷ (second, next) ∷ []) (role, name) → ⊥
 both_roles role other second first next name apart apart' (zero, lt, is) = apart (ap (λ (f : Role × List ℕ). f.0) is)
 both_roles role other second first next name apart apart' (suc zero, lt, is) = apart' (ap (λ (f : Role × List ℕ). f.0) is)
 both_roles role other second first next name apart apart' (suc (suc i), lt, is) = omega arith

@@ -1,5 +1,6 @@
 -- Where a certificate is enough, no run of the source sets spaceerror.
-use Rattle.std.proofs.Common.{◌≡◌, ◌≤◌, ◌∷◌, [], ◌++◌, ℕ, suc, List, Bool, true, false, Option, Some, Result, Ok, Err, length, get_or, refl, sym, ap, ◌∙◌, subst, arith, append-nil}
+use Rattle.std.proofs.Common.{◌≡◌, ◌≤◌, ◌∷◌, [], ◌++◌, ℕ, suc, List, Bool, true, false, Option, Some, Result, Ok, Err, length, get_or, refl, sym, ap, ◌∙◌}
+use Rattle.std.proofs.Common.{subst, arith, append-nil}
 use Rattle.std.specs.Prelude.{◌^◌, codes}
 use Rattle.std.specs.Result.{MatchResult}
 use Rattle.stack_text.specs.Lines.{line}
@@ -69,12 +70,14 @@ use Rattle.cli_stack.proofs.TellsLaws.{is_there}
 
 -- 1. A run that ended.
 
-module _ (source : SourceOf) (sizes : StackSizes) (never_set : (values : List ValueOf) → NeverSpaceError (program_of source) sizes values) (image : ImageOf) (values : List ValueOf)
+module _ (source : SourceOf) (sizes : StackSizes) (never_set : (values : List ValueOf) → NeverSpaceError (program_of source) sizes values)
+    (image : ImageOf) (values : List ValueOf)
     (keeps : KeepsMoments image source sizes) (fits : FitsFormals source values) (budget : ℕ) (output : Option (List ℕ × List ℕ)) where
   ended : (k : ℕ) (s : Fm) → IsFirst (loaded image values) image.final_pc k s → TellsOther source (answer_with output (end_reply image budget (run.Ended k) s))
   ended k s first = by_moment (moment_from (program_of source) sizes values (suc k)) refl (keeps values (suc k) fits)
     where
-      by_moment : (m : Move) → moment_from (program_of source) sizes values (suc k) ≡ m → ArrivesAt source sizes image values m → TellsOther source (answer_with output (end_reply image budget (run.Ended k) s))
+      by_moment : (m : Move) → moment_from (program_of source) sizes values (suc k) ≡ m → ArrivesAt source sizes image values m
+          → TellsOther source (answer_with output (end_reply image budget (run.Ended k) s))
       by_moment (Next (At p x w fs t)) e a =
           let grows : suc k ≤ t.count = counts_grow (program_of source) sizes values (suc k) (At p x w fs t) e in
           absurd (a.goes_on k s (omega (arith, grows)) first.reached first.there)
@@ -86,7 +89,9 @@ module _ (source : SourceOf) (sizes : StackSizes) (never_set : (values : List Va
             finals = x;
             way = c;
             count = k;
-            other = λ is. (never_set values).ends (suc k) x t (moment_over (program_of source) sizes (suc k) (start (program_of source) values) x c t e ∙ ap (λ (way : CurrentCondition). Over x way t) is);
+            other = λ is. (never_set values).ends (suc k) x t
+                (moment_over (program_of source) sizes (suc k) (start (program_of source) values) x c t e
+                ∙ ap (λ (way : CurrentCondition). Over x way t) is);
             tells = record { status = refl; text = append-nil _ ∙ ap (λ (r : ReadingOf). report_text image r k) shown };
           }
 
@@ -96,14 +101,16 @@ module _ (source : SourceOf) (sizes : StackSizes) (never_set : (values : List Va
       let o : RunOutcome = outcome budget image.final_pc (loaded image values) in
       by_end o.run o.state (outcome_is (loaded image values) image.final_pc budget) done
     where
-      by_end : (r : Run) (s : Fm) → IsOutcome (loaded image values) image.final_pc budget r s → status_of (end_reply image budget r s).verdict ≡ Done → TellsOther source (answer_with output (end_reply image budget r s))
+      by_end : (r : Run) (s : Fm) → IsOutcome (loaded image values) image.final_pc budget r s → status_of (end_reply image budget r s).verdict ≡ Done
+          → TellsOther source (answer_with output (end_reply image budget r s))
       by_end (run.Ended k) s is done = ended k s is.1
       by_end run.Spent s is done = absurd cc
       by_end (run.Outside a k) s is done = absurd cc
 
 -- 2. `go`.
 
-module _ (implement : BuiltImplements) (take : BuiltTakesValues) (files : Files) (name text : List ℕ) (readable : IsReadable files Source name text) (source : SourceOf) (read : accepted_source text ≡ Ok source) (sizes : StackSizes)
+module _ (implement : BuiltImplements) (take : BuiltTakesValues) (files : Files) (name text : List ℕ) (readable : IsReadable files Source name text)
+    (source : SourceOf) (read : accepted_source text ≡ Ok source) (sizes : StackSizes)
     (never_set : (values : List ValueOf) → NeverSpaceError (program_of source) sizes values) where
   short : length text ≤ 2 ^ 31
   short = omega (arith, readable.short)
@@ -112,12 +119,19 @@ module _ (implement : BuiltImplements) (take : BuiltTakesValues) (files : Files)
   unfolding inputs_of reply_by
   goes_other values image budget watches =
       let go : Command = command.Go name values sizes.ctrl sizes.temp budget image in
-      subst (λ (first : Result (List ℕ) EarlyEnd). (answer_on go watches (first >>= λ t. (text_or_end (Values, values) (fetched files values (limit_of Values)) >>= λ other. Ok ((Values, other) ∷ [])) >>= λ texts. Ok ((Source, t) ∷ texts))).status ≡ Done
-      → TellsOther source (answer_on go watches (first >>= λ t. (text_or_end (Values, values) (fetched files values (limit_of Values)) >>= λ other. Ok ((Values, other) ∷ [])) >>= λ texts. Ok ((Source, t) ∷ texts))))
+      subst (λ (first : Result (List ℕ) EarlyEnd).
+      (answer_on go watches (first >>= λ t. (text_or_end (Values, values) (fetched files values (limit_of Values))
+      >>= λ other. Ok ((Values, other) ∷ [])) >>= λ texts. Ok ((Source, t) ∷ texts))).status ≡ Done
+      → TellsOther source (answer_on go watches
+      (first >>= λ t. (text_or_end (Values, values) (fetched files values (limit_of Values)) >>= λ other. Ok ((Values, other) ∷ []))
+      >>= λ texts. Ok ((Source, t) ∷ texts))))
       (sym (is_there files (Source, name) text readable)) (by_second (text_or_end (Values, values) (fetched files values (limit_of Values))))
     where
-      by_second : (second : Result (List ℕ) EarlyEnd) → (answer_on (command.Go name values sizes.ctrl sizes.temp budget image) watches ((second >>= λ other. Ok ((Values, other) ∷ [])) >>= λ texts. Ok ((Source, text) ∷ texts))).status ≡ Done
-          → TellsOther source (answer_on (command.Go name values sizes.ctrl sizes.temp budget image) watches ((second >>= λ other. Ok ((Values, other) ∷ [])) >>= λ texts. Ok ((Source, text) ∷ texts)))
+      by_second : (second : Result (List ℕ) EarlyEnd)
+          → (answer_on (command.Go name values sizes.ctrl sizes.temp budget image) watches
+          ((second >>= λ other. Ok ((Values, other) ∷ [])) >>= λ texts. Ok ((Source, text) ∷ texts))).status ≡ Done
+          → TellsOther source (answer_on (command.Go name values sizes.ctrl sizes.temp budget image) watches
+          ((second >>= λ other. Ok ((Values, other) ∷ [])) >>= λ texts. Ok ((Source, text) ∷ texts)))
       by_second (Err e) done = absurd (early_done e done)
       by_second (Ok other) done =
           go_done implement take text short source read sizes (TellsOther source) other budget _
@@ -132,7 +146,8 @@ module _ (implement : BuiltImplements) (take : BuiltTakesValues) (watches : List
   need_on : Result (List ℕ) EarlyEnd → Answer
   need_on first = answer_on (command.Need name certificate) watches (first >>= λ text. Ok ((Source, text) ∷ []))
 
-  need_tells : (first : Result (List ℕ) EarlyEnd) → text_or_end (Source, name) (fetched files name (limit_of Source)) ≡ first → TellsNeed files name certificate (need_on first)
+  need_tells : (first : Result (List ℕ) EarlyEnd) → text_or_end (Source, name) (fetched files name (limit_of Source)) ≡ first
+      → TellsNeed files name certificate (need_on first)
   unfolding need_on output_of stored_by reply_by accepted_in certified_stored certified_reply
   need_tells (Err e) got = record { done = λ h. absurd (early_done e h); recursive = λ h. absurd (early_recursive e h) }
     where
@@ -156,12 +171,14 @@ module _ (implement : BuiltImplements) (take : BuiltTakesValues) (watches : List
       build_recursive (fault.Words count) h = cc
       build_recursive fault.Memory h = cc
 
-      by_certified : (source : SourceOf) → accepted_source text ≡ Ok source → ProgramFits (program_of source) → (found : Result Bounds ℕ) → MatchResult found (IsLeast (program_of source)) (IsFirstRecursive (program_of source))
+      by_certified : (source : SourceOf) → accepted_source text ≡ Ok source → ProgramFits (program_of source) → (found : Result Bounds ℕ)
+          → MatchResult found (IsLeast (program_of source)) (IsFirstRecursive (program_of source))
           → TellsNeed files name certificate (answer_with (set_file (Some (Certificate, certificate)) (bounds_stored source found)) (bounds_reply source found))
       by_certified source read fits (Ok bounds) least = record {
         done = λ h. record {
           sizes = sizes_for (program_of source) bounds;
-          room = has_room implement take files name text file source read (sizes_for (program_of source) bounds) (never (program_of source) bounds (sizes_for (program_of source) bounds) (covers_main (program_of source) bounds least) fits);
+          room = has_room implement take files name text file source read (sizes_for (program_of source) bounds)
+              (never (program_of source) bounds (sizes_for (program_of source) bounds) (covers_main (program_of source) bounds least) fits);
           bounds = bounds;
           least = least;
           enough = refl;
@@ -175,7 +192,9 @@ module _ (implement : BuiltImplements) (take : BuiltTakesValues) (watches : List
         recursive = λ h. record { text = text; readable = file; source = source; read = read; procedure = p; first = first; told = refl; stored = refl };
       }
 
-      by_source : (found : Result SourceOf BuildFault) → accepted_source text ≡ found → TellsNeed files name certificate (answer_with (set_file (Some (Certificate, certificate)) (need_stored_by (unless_refused found))) (need_reply_by (unless_refused found)))
+      by_source : (found : Result SourceOf BuildFault) → accepted_source text ≡ found
+          → TellsNeed files name certificate (answer_with (set_file (Some (Certificate, certificate)) (need_stored_by (unless_refused found)))
+          (need_reply_by (unless_refused found)))
       by_source (Err f) read = record { done = λ h. absurd (build_done f h); recursive = λ h. absurd (build_recursive f h) }
       by_source (Ok source) read =
           let fits = (source_is_accepted text (omega (arith, file.short)) source read).fits in
@@ -189,7 +208,8 @@ first_byte bytes = get_or bytes 0 0
 abbrev yes : List ℕ
 yes = line (codes "yes")
 
-module _ (implement : BuiltImplements) (take : BuiltTakesValues) (watches : List Watching) (files : Files) (name certificate : List ℕ) (control temporary : ℕ) where
+module _ (implement : BuiltImplements) (take : BuiltTakesValues) (watches : List Watching) (files : Files) (name certificate : List ℕ)
+    (control temporary : ℕ) where
   -- what begins with another letter isn't yes
   not_yes : (bytes : List ℕ) (letter : ℕ) → first_byte bytes ≡ letter → (letter ≡ 121 → ⊥) → bytes ≡ yes → ⊥
   not_yes bytes letter is other e = other (sym is ∙ ap first_byte e)
@@ -211,11 +231,13 @@ module _ (implement : BuiltImplements) (take : BuiltTakesValues) (watches : List
   build_yes fault.Memory = not_yes (verdict_line (build_verdict fault.Memory)) 117 refl (λ e. omega (arith, e))
 
   module _ (text bounds_text : List ℕ) (readable : IsReadable files Source name text) where
-    by_bounds : (source : SourceOf) → accepted_source text ≡ Ok source → (found : Result Bounds (ℕ × ℕ)) → reply_text (judged_reply source (stack_sizes control temporary) found) ≡ yes → HasRoom files name (stack_sizes control temporary)
+    by_bounds : (source : SourceOf) → accepted_source text ≡ Ok source → (found : Result Bounds (ℕ × ℕ))
+        → reply_text (judged_reply source (stack_sizes control temporary) found) ≡ yes → HasRoom files name (stack_sizes control temporary)
     by_bounds source read (Err f) h = absurd (not_yes (verdict_line (verdict.Certificate f.0 f.1)) 99 refl (λ e. omega (arith, e)) h)
     by_bounds source read (Ok bounds) h = by_cover (is_covered (program_of source) bounds (stack_sizes control temporary)) refl h
       where
-        by_cover : (b : Bool) → is_covered (program_of source) bounds (stack_sizes control temporary) ≡ b → yes_or_no b ++ [] ≡ yes → HasRoom files name (stack_sizes control temporary)
+        by_cover : (b : Bool) → is_covered (program_of source) bounds (stack_sizes control temporary) ≡ b → yes_or_no b ++ [] ≡ yes
+            → HasRoom files name (stack_sizes control temporary)
         by_cover false is h = absurd (not_yes (yes_or_no false ++ []) 110 refl (λ e. omega (arith, e)) h)
         by_cover true is h =
             let sizes : StackSizes = stack_sizes control temporary in
@@ -223,13 +245,16 @@ module _ (implement : BuiltImplements) (take : BuiltTakesValues) (watches : List
             let covers : Covers (program_of source) bounds sizes = (covered_is (program_of source) fits bounds sizes).0 is in
             has_room implement take files name text readable source read sizes (never (program_of source) bounds sizes covers fits)
 
-    by_source : (found : Result SourceOf BuildFault) → accepted_source text ≡ found → reply_text (cert_reply_by (unless_refused found) (stack_sizes control temporary) bounds_text) ≡ yes → HasRoom files name (stack_sizes control temporary)
+    by_source : (found : Result SourceOf BuildFault) → accepted_source text ≡ found
+        → reply_text (cert_reply_by (unless_refused found) (stack_sizes control temporary) bounds_text) ≡ yes
+        → HasRoom files name (stack_sizes control temporary)
     unfolding certificate_reply
     by_source (Err f) read h = absurd (build_yes f h)
     by_source (Ok source) read h = by_bounds source read (bounds_in (procedure_names source) bounds_text) h
 
   cert_says : (first second : Result (List ℕ) EarlyEnd) → text_or_end (Source, name) (fetched files name (limit_of Source)) ≡ first
-      → (answer_on (command.Cert name certificate control temporary) watches (first >>= λ t. (second >>= λ other. Ok ((Certificate, other) ∷ [])) >>= λ texts. Ok ((Source, t) ∷ texts))).text ≡ yes
+      → (answer_on (command.Cert name certificate control temporary) watches
+      (first >>= λ t. (second >>= λ other. Ok ((Certificate, other) ∷ [])) >>= λ texts. Ok ((Source, t) ∷ texts))).text ≡ yes
       → HasRoom files name (stack_sizes control temporary)
   unfolding reply_by accepted_in
   cert_says (Err e) second got h = absurd (early_yes e h)
@@ -243,5 +268,6 @@ module _ (implement : BuiltImplements) (take : BuiltTakesValues) (watches : List
 pub needs : BuiltImplements → BuiltTakesValues → (c : Command) (watches : List Watching) (files : Files) → Needs c files (answer_to c watches files)
 unfolding inputs_of need_on
 needs implement take (command.Need source certificate) watches files = need_tells implement take watches files source certificate _ refl
-needs implement take (command.Cert source certificate control temporary) watches files = λ h. cert_says implement take watches files source certificate control temporary _ _ refl h
+needs implement take (command.Cert source certificate control temporary) watches files =
+    λ h. cert_says implement take watches files source certificate control temporary _ _ refl h
 needs implement take c watches files = tt

@@ -155,7 +155,8 @@ need_no_size (Ok source) none = by_bounds (certified (program_of source))
     by_bounds (Ok bounds) = refl
     by_bounds (Err procedure) = refl
 
-cert_no_size : (found : Result SourceOf Verdict) (sizes : StackWords) (text : List ℕ) → IfErr found (λ v. is_size v ≡ false) → is_size (cert_reply_by found sizes text).verdict ≡ false
+cert_no_size : (found : Result SourceOf Verdict) (sizes : StackWords) (text : List ℕ) → IfErr found (λ v. is_size v ≡ false)
+    → is_size (cert_reply_by found sizes text).verdict ≡ false
 unfolding certificate_reply
 cert_no_size (Err verdict) sizes text none = none
 cert_no_size (Ok source) sizes text none = by_bounds (bounds_in (procedure_names source) text)
@@ -173,10 +174,12 @@ piton_run_no_size system limit piton_run.Halted seen = refl
 piton_run_no_size system limit piton_run.Spent seen = refl
 piton_run_no_size system limit (piton_run.Error kind) seen = refl
 
-checked_run_no_size : (found : Result CheckedOf Verdict) (limit : ℕ) → IfErr found (λ v. is_size v ≡ false) → is_size (checked_run_reply found limit).verdict ≡ false
+checked_run_no_size : (found : Result CheckedOf Verdict) (limit : ℕ) → IfErr found (λ v. is_size v ≡ false)
+    → is_size (checked_run_reply found limit).verdict ≡ false
 unfolding system_run_reply
 checked_run_no_size (Ok checked) limit none =
-    let ran : Ran = state_run (system_in checked) limit (opening (system_in checked) (system_in checked).stack) in piton_run_no_size checked.system limit ran.run ran.seen
+    let ran : Ran = state_run (system_in checked) limit (opening (system_in checked) (system_in checked).stack) in
+    piton_run_no_size checked.system limit ran.run ran.seen
 checked_run_no_size (Err verdict) limit none = none
 
 -- 2. All commands.
@@ -189,38 +192,51 @@ no_sizes c reply none size = absurd (let e : false ≡ true = sym none ∙ size 
 
 sizes_by : (c : Command) (watches : List Watching) (texts : Texts) → Sizes c (reply_by c watches texts)
 unfolding reply_by output_of
-sizes_by (command.Check source) watches texts = no_sizes (command.Check source) (reply_by (command.Check source) watches texts) (judgement_no_size (accepted_in (text_of role.Source texts)) (source_no_size (text_of role.Source texts)))
+sizes_by (command.Check source) watches texts = no_sizes (command.Check source) (reply_by (command.Check source) watches texts)
+    (judgement_no_size (accepted_in (text_of role.Source texts)) (source_no_size (text_of role.Source texts)))
 sizes_by (command.Mean source values control temporary limit) watches texts = λ size. inl refl
 sizes_by (command.Pit source control temporary piton) watches texts = λ size. inl refl
 sizes_by (command.Build source control temporary image) watches texts = λ size. inl refl
-sizes_by (command.Pcheck piton) watches texts = no_sizes (command.Pcheck piton) (reply_by (command.Pcheck piton) watches texts) (judgement_no_size (checked_in (text_of role.Piton texts)) (refused_no_size (text_of role.Piton texts)))
-sizes_by (command.Prun piton limit) watches texts = no_sizes (command.Prun piton limit) (reply_by (command.Prun piton limit) watches texts) (checked_run_no_size (checked_in (text_of role.Piton texts)) limit (refused_no_size (text_of role.Piton texts)))
+sizes_by (command.Pcheck piton) watches texts = no_sizes (command.Pcheck piton) (reply_by (command.Pcheck piton) watches texts)
+    (judgement_no_size (checked_in (text_of role.Piton texts)) (refused_no_size (text_of role.Piton texts)))
+sizes_by (command.Prun piton limit) watches texts = no_sizes (command.Prun piton limit) (reply_by (command.Prun piton limit) watches texts)
+    (checked_run_no_size (checked_in (text_of role.Piton texts)) limit (refused_no_size (text_of role.Piton texts)))
 sizes_by (command.Pbuild piton image) watches texts = λ size. inr (image, refl)
 sizes_by (command.Run image values budget) watches texts =
-    no_sizes (command.Run image values budget) (reply_by (command.Run image values budget) watches texts) (image_no_size (text_of role.Values texts) budget (read_of (text_of role.Image texts)))
+    no_sizes (command.Run image values budget) (reply_by (command.Run image values budget) watches texts)
+    (image_no_size (text_of role.Values texts) budget (read_of (text_of role.Image texts)))
 sizes_by (command.Go source values control temporary budget image) watches texts = λ size. inl refl
-sizes_by (command.Show image) watches texts = no_sizes (command.Show image) (reply_by (command.Show image) watches texts) (listing_no_size (read_of (text_of role.Image texts)))
+sizes_by (command.Show image) watches texts =
+    no_sizes (command.Show image) (reply_by (command.Show image) watches texts) (listing_no_size (read_of (text_of role.Image texts)))
 sizes_by (command.Migrate image output) watches texts =
-    no_sizes (command.Migrate image output) (reply_by (command.Migrate image output) watches texts) (migrated_no_size output (read_of (text_of role.Image texts)))
-sizes_by (command.Asm assembly image) watches texts = no_sizes (command.Asm assembly image) (reply_by (command.Asm assembly image) watches texts) (assembled_no_size (assembly_of (text_of role.Assembly texts)))
-sizes_by (command.Unasm image assembly) watches texts = no_sizes (command.Unasm image assembly) (reply_by (command.Unasm image assembly) watches texts) (printed_no_size assembly (read_of (text_of role.Image texts)))
+    no_sizes (command.Migrate image output) (reply_by (command.Migrate image output) watches texts)
+    (migrated_no_size output (read_of (text_of role.Image texts)))
+sizes_by (command.Asm assembly image) watches texts = no_sizes (command.Asm assembly image) (reply_by (command.Asm assembly image) watches texts)
+    (assembled_no_size (assembly_of (text_of role.Assembly texts)))
+sizes_by (command.Unasm image assembly) watches texts = no_sizes (command.Unasm image assembly) (reply_by (command.Unasm image assembly) watches texts)
+    (printed_no_size assembly (read_of (text_of role.Image texts)))
 sizes_by (command.Need source certificate) watches texts =
-    no_sizes (command.Need source certificate) (reply_by (command.Need source certificate) watches texts) (need_no_size (accepted_in (text_of role.Source texts)) (source_no_size (text_of role.Source texts)))
+    no_sizes (command.Need source certificate) (reply_by (command.Need source certificate) watches texts)
+    (need_no_size (accepted_in (text_of role.Source texts)) (source_no_size (text_of role.Source texts)))
 sizes_by (command.Cert source certificate control temporary) watches texts =
     no_sizes (command.Cert source certificate control temporary) (reply_by (command.Cert source certificate control temporary) watches texts)
-    (cert_no_size (accepted_in (text_of role.Source texts)) (stack_sizes control temporary) (text_of role.Certificate texts) (source_no_size (text_of role.Source texts)))
+    (cert_no_size (accepted_in (text_of role.Source texts)) (stack_sizes control temporary) (text_of role.Certificate texts)
+    (source_no_size (text_of role.Source texts)))
 sizes_by (command.Debug level source values control temporary script) watches texts = λ size. inl refl
 sizes_by (command.Turns turn budget control temporary tasks) watches texts = λ size. inl refl
 sizes_by (command.Big number procedures) watches texts = λ size. inl refl
 sizes_by (command.Mini program source) watches texts =
-    no_sizes (command.Mini program source) (reply_by (command.Mini program source) watches texts) (lowered_no_size source (lowering_of (text_of role.Infix texts)))
+    no_sizes (command.Mini program source) (reply_by (command.Mini program source) watches texts)
+    (lowered_no_size source (lowering_of (text_of role.Infix texts)))
 
 -- where a size is refused, the command has sizes
-pub has_sizes : (c : Option Command) (watches : List Watching) (reply : Reply) → RepliesToSome c watches (reply_of reply) → status_of reply.verdict ≡ Size → IsSomeAnd c HasSizes
+pub has_sizes : (c : Option Command) (watches : List Watching) (reply : Reply) → RepliesToSome c watches (reply_of reply)
+    → status_of reply.verdict ≡ Size → IsSomeAnd c HasSizes
 has_sizes None watches reply is size =
     let e : Usage ≡ Size = ap (λ (r : ReplyOf). status_of r.verdict) (sym is) ∙ size in
     absurd cc
-has_sizes (Some c) watches reply to size = sizes_by c watches to.0 (is_size_by (reply_by c watches to.0).verdict (ap (λ (r : ReplyOf). status_of r.verdict) (sym to.1) ∙ size))
+has_sizes (Some c) watches reply to size =
+    sizes_by c watches to.0 (is_size_by (reply_by c watches to.0).verdict (ap (λ (r : ReplyOf). status_of r.verdict) (sym to.1) ∙ size))
   where
     is_size_by : (v : Verdict) → status_of v ≡ Size → is_size v ≡ true
     is_size_by (verdict.Size of need) h = refl

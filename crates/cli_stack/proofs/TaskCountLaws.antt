@@ -6,8 +6,11 @@ use Rattle.stack_text.specs.Options.{◌>>=◌}
 use Rattle.command_line.specs.declared.command.Command.{Command}
 use Rattle.command_line.specs.declared.command.Command.TheVariants as command
 use Rattle.command_line.specs.declared.command.TaskFiles.{TaskFiles}
-use Rattle.command_line.specs.CommandRows.{command_of, row_of, whole_of, at_end, read_on, check_row, mean_row, pit_row, build_row, pcheck_row, prun_row, pbuild_row, run_row, go_row, show_row, migrate_row, asm_row, unasm_row, need_row, cert_row, debug_row, turns_row, big_row, mini_row}
-use Rattle.command_line.specs.CommandWords.{CommandWords, Reader, task, tasks, tasks_within, unless_ended, file, size, limit, seed, procedures, debug_level, turn_length, end}
+use Rattle.command_line.specs.CommandRows.{command_of, row_of, whole_of, at_end, read_on, check_row, mean_row, pit_row, build_row, pcheck_row, prun_row}
+use Rattle.command_line.specs.CommandRows.{pbuild_row, run_row, go_row, show_row, migrate_row, asm_row, unasm_row, need_row, cert_row, debug_row, turns_row}
+use Rattle.command_line.specs.CommandRows.{big_row, mini_row}
+use Rattle.command_line.specs.CommandWords.{CommandWords, Reader, task, tasks, tasks_within, unless_ended, file, size, limit, seed, procedures, debug_level}
+use Rattle.command_line.specs.CommandWords.{turn_length, end}
 
 -- there are one to eight tasks where there are any
 abbrev pub HasFew : Command → Type 0
@@ -24,7 +27,8 @@ unfolding tasks_within
 within zero words = tt
 within (suc n) words = by_task (task words) (λ ws. within n ws)
   where
-    by_others : (names : TaskFiles) (others : Option (List TaskFiles)) → IfSome others (λ ts. length ts ≤ n) → IfSome (others >>= λ ts. Some (names ∷ ts)) (Within (suc n))
+    by_others : (names : TaskFiles) (others : Option (List TaskFiles)) → IfSome others (λ ts. length ts ≤ n)
+        → IfSome (others >>= λ ts. Some (names ∷ ts)) (Within (suc n))
     by_others names None h = tt
     by_others names (Some ts) h = (omega arith, omega (arith, h))
 
@@ -33,7 +37,8 @@ within (suc n) words = by_task (task words) (λ ws. within n ws)
     none_or (word ∷ words) None h = tt
     none_or (word ∷ words) (Some ts) h = h.1
 
-    by_task : (first : Option (TaskFiles × CommandWords)) → ((ws : CommandWords) → IfSome (tasks_within n ws) (Within n)) → IfSome (first >>= λ f. unless_ended f.1 (tasks_within n f.1) >>= λ others. Some (f.0 ∷ others)) (Within (suc n))
+    by_task : (first : Option (TaskFiles × CommandWords)) → ((ws : CommandWords) → IfSome (tasks_within n ws) (Within n))
+        → IfSome (first >>= λ f. unless_ended f.1 (tasks_within n f.1) >>= λ others. Some (f.0 ∷ others)) (Within (suc n))
     by_task None less = tt
     by_task (Some f) less = by_others f.0 (unless_ended f.1 (tasks_within n f.1)) (none_or f.1 (tasks_within n f.1) (less f.1))
 
@@ -59,7 +64,8 @@ last c has = record { each = λ words. by_end (end words) }
 one : (c : List ℕ → Command) → ((a : List ℕ) → HasFew (c a)) → Few (λ words. read_on (file words) (λ a. at_end (c a)))
 one c has = then_few file (λ a. at_end (c a)) (λ a. last (c a) (has a))
 
-two : (c : List ℕ → List ℕ → Command) → ((a b : List ℕ) → HasFew (c a b)) → Few (λ words. read_on (file words) (λ a words. read_on (file words) (λ b. at_end (c a b))))
+two : (c : List ℕ → List ℕ → Command) → ((a b : List ℕ) → HasFew (c a b)) → Few
+    (λ words. read_on (file words) (λ a words. read_on (file words) (λ b. at_end (c a b))))
 two c has = then_few file (λ a words. read_on (file words) (λ b. at_end (c a b))) (λ a. one (c a) (has a))
 
 check_few : Few check_row
@@ -68,15 +74,19 @@ check_few = one (λ a. command.Check a) (λ a. tt)
 
 mean_few : Few mean_row
 unfolding mean_row
-mean_few = then_few file _ (λ source. then_few file _ (λ values. then_few size _ (λ control. then_few size _ (λ temporary. then_few limit _ (λ steps. last (command.Mean source values control temporary steps) tt)))))
+mean_few = then_few file _ (λ source. then_few file _
+    (λ values. then_few size _ (λ control. then_few size _
+    (λ temporary. then_few limit _ (λ steps. last (command.Mean source values control temporary steps) tt)))))
 
 pit_few : Few pit_row
 unfolding pit_row
-pit_few = then_few file _ (λ source. then_few size _ (λ control. then_few size _ (λ temporary. then_few file _ (λ piton. last (command.Pit source control temporary piton) tt))))
+pit_few = then_few file _ (λ source. then_few size _
+    (λ control. then_few size _ (λ temporary. then_few file _ (λ piton. last (command.Pit source control temporary piton) tt))))
 
 build_few : Few build_row
 unfolding build_row
-build_few = then_few file _ (λ source. then_few size _ (λ control. then_few size _ (λ temporary. then_few file _ (λ image. last (command.Build source control temporary image) tt))))
+build_few = then_few file _ (λ source. then_few size _
+    (λ control. then_few size _ (λ temporary. then_few file _ (λ image. last (command.Build source control temporary image) tt))))
 
 pcheck_few : Few pcheck_row
 unfolding pcheck_row
@@ -96,7 +106,9 @@ run_few = then_few file _ (λ image. then_few file _ (λ values. then_few limit 
 
 go_few : Few go_row
 unfolding go_row
-go_few = then_few file _ (λ source. then_few file _ (λ values. then_few size _ (λ control. then_few size _ (λ temporary. then_few limit _ (λ budget. then_few file _ (λ image. last (command.Go source values control temporary budget image) tt))))))
+go_few = then_few file _ (λ source. then_few file _
+    (λ values. then_few size _ (λ control. then_few size _
+    (λ temporary. then_few limit _ (λ budget. then_few file _ (λ image. last (command.Go source values control temporary budget image) tt))))))
 
 show_few : Few show_row
 unfolding show_row
@@ -120,11 +132,15 @@ need_few = two (λ a b. command.Need a b) (λ a b. tt)
 
 cert_few : Few cert_row
 unfolding cert_row
-cert_few = then_few file _ (λ source. then_few file _ (λ certificate. then_few size _ (λ control. then_few size _ (λ temporary. last (command.Cert source certificate control temporary) tt))))
+cert_few = then_few file _ (λ source. then_few file _
+    (λ certificate. then_few size _ (λ control. then_few size _ (λ temporary. last (command.Cert source certificate control temporary) tt))))
 
 debug_few : Few debug_row
 unfolding debug_row
-debug_few = then_few debug_level _ (λ level. then_few file _ (λ source. then_few file _ (λ values. then_few size _ (λ control. then_few size _ (λ temporary. then_few file _ (λ script. last (command.Debug level source values control temporary script) tt))))))
+debug_few = then_few debug_level _ (λ level. then_few file _
+    (λ source. then_few file _ (λ values. then_few size _
+    (λ control. then_few size _ (λ temporary. then_few file _
+    (λ script. last (command.Debug level source values control temporary script) tt))))))
 
 big_few : Few big_row
 unfolding big_row
@@ -139,13 +155,15 @@ last_tasks : (turn budget control temporary : ℕ) → Few (λ words. read_on (t
 unfolding tasks
 last_tasks turn budget control temporary = record { each = λ words. by_read (tasks_within 8 words) (within 8 words) }
   where
-    by_read : (o : Option (List TaskFiles)) → IfSome o (Within 8) → IfSome (read_on (o >>= λ read. Some (read, [])) (λ names. at_end (command.Turns turn budget control temporary names))) HasFew
+    by_read : (o : Option (List TaskFiles)) → IfSome o (Within 8) → IfSome
+        (read_on (o >>= λ read. Some (read, [])) (λ names. at_end (command.Turns turn budget control temporary names))) HasFew
     by_read None h = tt
     by_read (Some names) h = (last (command.Turns turn budget control temporary names) h).each []
 
 turns_few : Few turns_row
 unfolding turns_row
-turns_few = then_few turn_length _ (λ turn. then_few limit _ (λ budget. then_few size _ (λ control. then_few size _ (λ temporary. last_tasks turn budget control temporary))))
+turns_few = then_few turn_length _ (λ turn. then_few limit _
+    (λ budget. then_few size _ (λ control. then_few size _ (λ temporary. last_tasks turn budget control temporary))))
 
 -- 3. All rows.
 

@@ -9,10 +9,12 @@ use Rattle.command_line.specs.Roles.{limit_of}
 use Rattle.command_line.specs.Gathered.{text_or_end}
 
 -- a file that was fetched is there, and within its limit
-pub was_short : (files : Files) (input : Role × List ℕ) (text : List ℕ) → text_or_end input (fetched files input.1 (limit_of input.0)) ≡ Ok text → (file_at files input.1 ≡ Some text) × (length text ≤ limit_of input.0)
+pub was_short : (files : Files) (input : Role × List ℕ) (text : List ℕ) → text_or_end input (fetched files input.1 (limit_of input.0)) ≡ Ok text
+    → (file_at files input.1 ≡ Some text) × (length text ≤ limit_of input.0)
 was_short files input text h = by_file (file_at files input.1) h
   where
-    by_length : (bytes : List ℕ) (b : Bool) → nat_lt (limit_of input.0) (length bytes) ≡ b → text_or_end input (if b then Err TooLong else Ok bytes) ≡ Ok text → (Some bytes ≡ Some text) × (length text ≤ limit_of input.0)
+    by_length : (bytes : List ℕ) (b : Bool) → nat_lt (limit_of input.0) (length bytes) ≡ b
+        → text_or_end input (if b then Err TooLong else Ok bytes) ≡ Ok text → (Some bytes ≡ Some text) × (length text ≤ limit_of input.0)
     by_length bytes true long h = absurd cc
     by_length bytes false short h =
         let same : bytes ≡ text = cc in

@@ -22,7 +22,8 @@ among before mid after names name (ShelfFault failed) fell in_names ends = (name
 among before mid after names name OutOfMemory fell in_names ends = tt
 
 -- an input at a place is one of them
-pub ends_at_input : (before mid after : Counts) (inputs : List RoleFile) (i : ℕ) (input : RoleFile) (name : List ℕ) (end : EarlyEnd) → NoneFell before mid → i < length inputs
+pub ends_at_input : (before mid after : Counts) (inputs : List RoleFile) (i : ℕ) (input : RoleFile) (name : List ℕ) (end : EarlyEnd)
+    → NoneFell before mid → i < length inputs
     → input ≡ get_or inputs i input → name ≡ input.name.now → EndsAt mid after name end
     → EndsAtOne before after (names_of (map (λ (input : RoleFile). (input.role, input.name.now)) inputs)) end
 ends_at_input before mid after inputs i input name end fell lt is named ends =
@@ -30,7 +31,8 @@ ends_at_input before mid after inputs i input name end fell lt is named ends =
     let second : Role × List ℕ → List ℕ = λ p. p.1 in
     let lt' : i < length (map pair inputs) = rw length-map lt in
     let at : get_or (map second (map pair inputs)) i name ≡ name =
-    get_or-map second (map pair inputs) i (pair input) name lt' ∙ ap second (get_or-map pair inputs i input (pair input) lt) ∙ ap (λ (i : RoleFile). i.name.now) (sym is) ∙ sym named in
+    get_or-map second (map pair inputs) i (pair input) name lt' ∙ ap second (get_or-map pair inputs i input (pair input) lt)
+    ∙ ap (λ (i : RoleFile). i.name.now) (sym is) ∙ sym named in
     among before mid after _ name end fell (i, rw length-map lt', at) ends
 
 -- where no file is left, the shelf is what it is after it gave all texts

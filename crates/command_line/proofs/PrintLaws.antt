@@ -26,11 +26,15 @@ later_prefix old mid new done line after text whole was prefix =
     let all_before : List ℕ = done ++ take prefix.0 line in
     let split : all_before ++ (drop prefix.0 line ++ after) ≡ text =
     append_assoc done (take prefix.0 line) (drop prefix.0 line ++ after)
-    ∙ ap (λ (l : List ℕ). done ++ l) (sym (append_assoc (take prefix.0 line) (drop prefix.0 line) after) ∙ ap (λ (l : List ℕ). l ++ after) (take-append-drop prefix.0 line))
+    ∙ ap (λ (l : List ℕ). done ++ l) (sym (append_assoc (take prefix.0 line) (drop prefix.0 line) after)
+    ∙ ap (λ (l : List ℕ). l ++ after) (take-append-drop prefix.0 line))
     ∙ whole in
     let taken : take (length all_before) text ≡ all_before =
-    ap (λ (l : List ℕ). take (length all_before) l) (sym split) ∙ take-append_seam all_before (drop prefix.0 line ++ after) in
-    (length all_before, prefix.1 ∙ ap (λ (t : Option (List ℕ)). appended t (take prefix.0 line)) was ∙ appended-appended old done (take prefix.0 line) ∙ ap (λ (l : List ℕ). appended old l) (sym taken))
+    ap (λ (l : List ℕ). take (length all_before) l) (sym split) ∙ take-append_seam all_before (drop prefix.0 line ++ after) in (
+      length all_before,
+      prefix.1 ∙ ap (λ (t : Option (List ℕ)). appended t (take prefix.0 line)) was ∙ appended-appended old done (take prefix.0 line)
+          ∙ ap (λ (l : List ℕ). appended old l) (sym taken),
+    )
 
 -- nothing was printed, which is a prefix of each text
 pub nothing_printed : (taken now : Option (List ℕ)) (text : List ℕ) → now ≡ taken → PrefixAppended taken now text

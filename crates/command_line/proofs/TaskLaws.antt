@@ -27,7 +27,8 @@ same_role TaskValues TaskValues h = refl
 same_role a b h = absurd cc
 
 -- one more file, which is of the role or not
-one_file : (role : Role) (files : Files) (input : Role × List ℕ) (text : List ℕ) (names texts : List (List ℕ)) → text_or_end input (fetched files input.1 (limit_of input.0)) ≡ Ok text → AreRead files role names texts
+one_file : (role : Role) (files : Files) (input : Role × List ℕ) (text : List ℕ) (names texts : List (List ℕ))
+    → text_or_end input (fetched files input.1 (limit_of input.0)) ≡ Ok text → AreRead files role names texts
     → (b : Bool) → is_role input.0 role ≡ b → AreRead files role (if b then input.1 ∷ names else names) (if b then text ∷ texts else texts)
 one_file role files input text names texts read others false other = others
 one_file role files input text names texts read others true same =
@@ -35,11 +36,13 @@ one_file role files input text names texts read others true same =
     (file.0, subst (λ (r : Role). length text ≤ limit_of r) (same_role input.0 role same) file.1, others)
 
 -- the texts of a role, of files that were gathered
-pub texts_read : (role : Role) (files : Files) (inputs : List (Role × List ℕ)) (texts : Texts) → gathered files inputs ≡ Ok texts → AreRead files role (names_in role inputs) (texts_of role texts)
+pub texts_read : (role : Role) (files : Files) (inputs : List (Role × List ℕ)) (texts : Texts) → gathered files inputs ≡ Ok texts
+    → AreRead files role (names_in role inputs) (texts_of role texts)
 texts_read role files [] texts got = let none : [] ≡ texts = cc in subst (λ (t : Texts). AreRead files role [] (texts_of role t)) none tt
 texts_read role files (input ∷ inputs) texts got = by_text _ refl (λ rest. texts_read role files inputs rest) got
   where
-    by_rest : (text : List ℕ) (rest : Result Texts EarlyEnd) → text_or_end input (fetched files input.1 (limit_of input.0)) ≡ Ok text → ((others : Texts) → rest ≡ Ok others → AreRead files role (names_in role inputs) (texts_of role others))
+    by_rest : (text : List ℕ) (rest : Result Texts EarlyEnd) → text_or_end input (fetched files input.1 (limit_of input.0)) ≡ Ok text
+        → ((others : Texts) → rest ≡ Ok others → AreRead files role (names_in role inputs) (texts_of role others))
         → (rest >>= λ others. Ok ((input.0, text) ∷ others)) ≡ Ok texts → AreRead files role (names_in role (input ∷ inputs)) (texts_of role texts)
     by_rest text (Err early) read known h = absurd cc
     by_rest text (Ok others) read known h =
@@ -47,8 +50,10 @@ texts_read role files (input ∷ inputs) texts got = by_text _ refl (λ rest. te
         subst (λ (t : Texts). AreRead files role (names_in role (input ∷ inputs)) (texts_of role t)) whole
         (one_file role files input text (names_in role inputs) (texts_of role others) read (known others refl) (is_role input.0 role) refl)
 
-    by_text : (first : Result (List ℕ) EarlyEnd) → text_or_end input (fetched files input.1 (limit_of input.0)) ≡ first → ((others : Texts) → gathered files inputs ≡ Ok others → AreRead files role (names_in role inputs) (texts_of role others))
-        → (first >>= λ text. gathered files inputs >>= λ others. Ok ((input.0, text) ∷ others)) ≡ Ok texts → AreRead files role (names_in role (input ∷ inputs)) (texts_of role texts)
+    by_text : (first : Result (List ℕ) EarlyEnd) → text_or_end input (fetched files input.1 (limit_of input.0)) ≡ first
+        → ((others : Texts) → gathered files inputs ≡ Ok others → AreRead files role (names_in role inputs) (texts_of role others))
+        → (first >>= λ text. gathered files inputs >>= λ others. Ok ((input.0, text) ∷ others)) ≡ Ok texts
+        → AreRead files role (names_in role (input ∷ inputs)) (texts_of role texts)
     by_text (Err early) read known h = absurd cc
     by_text (Ok text) read known h = by_rest text (gathered files inputs) read known h
 
@@ -62,8 +67,12 @@ values_names [] = refl
 values_names (task ∷ tasks) = ap (λ names. task.values ∷ names) (values_names tasks)
 
 -- where the files of tasks are gathered, each task has a source and values
-pub sources_read : (files : Files) (tasks : List TaskFiles) (texts : Texts) → gathered files (task_inputs tasks) ≡ Ok texts → AreRead files TaskSource (map (λ task. task.source) tasks) (texts_of TaskSource texts)
-sources_read files tasks texts got = subst (λ names. AreRead files TaskSource names (texts_of TaskSource texts)) (source_names tasks) (texts_read TaskSource files (task_inputs tasks) texts got)
+pub sources_read : (files : Files) (tasks : List TaskFiles) (texts : Texts) → gathered files (task_inputs tasks) ≡ Ok texts
+    → AreRead files TaskSource (map (λ task. task.source) tasks) (texts_of TaskSource texts)
+sources_read files tasks texts got = subst (λ names. AreRead files TaskSource names (texts_of TaskSource texts)) (source_names tasks)
+    (texts_read TaskSource files (task_inputs tasks) texts got)
 
-pub values_read : (files : Files) (tasks : List TaskFiles) (texts : Texts) → gathered files (task_inputs tasks) ≡ Ok texts → AreRead files TaskValues (map (λ task. task.values) tasks) (texts_of TaskValues texts)
-values_read files tasks texts got = subst (λ names. AreRead files TaskValues names (texts_of TaskValues texts)) (values_names tasks) (texts_read TaskValues files (task_inputs tasks) texts got)
+pub values_read : (files : Files) (tasks : List TaskFiles) (texts : Texts) → gathered files (task_inputs tasks) ≡ Ok texts
+    → AreRead files TaskValues (map (λ task. task.values) tasks) (texts_of TaskValues texts)
+values_read files tasks texts got = subst (λ names. AreRead files TaskValues names (texts_of TaskValues texts)) (values_names tasks)
+    (texts_read TaskValues files (task_inputs tasks) texts got)

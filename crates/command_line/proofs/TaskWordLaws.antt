@@ -1,5 +1,6 @@
 -- Tasks that are read one after the other.
-use Rattle.std.proofs.Common.{◌≡◌, ◌≤◌, ◌<◌, ◌+◌, ◌-◌, ◌++◌, ◌∷◌, [], ◌∙◌, ◌==◌, ℕ, suc, List, true, false, Option, Some, None, Err, length, refl, sym, ap, subst, arith, append_assoc}
+use Rattle.std.proofs.Common.{◌≡◌, ◌≤◌, ◌<◌, ◌+◌, ◌-◌, ◌++◌, ◌∷◌, [], ◌∙◌, ◌==◌, ℕ, suc, List, true, false, Option, Some, None, Err, length, refl, sym, ap}
+use Rattle.std.proofs.Common.{subst, arith, append_assoc}
 use Rattle.std.specs.Prelude.{String}
 use Rattle.std.specs.Global.{Global}
 use Rattle.std.proofs.lemmas.Bool.{eqb-true}
@@ -26,7 +27,8 @@ module _ (front : List TaskFiles) (most done : ℕ) (words : CommandWords) (all 
       let one_less : most - done ≡ suc (most - (done + 1)) = omega (arith, lt) in
       subst (λ n. with_tasks front (tasks_within n words) ≡ all) one_less so_far
 
-  pub task_fails : (fault : WordsFault) → Reads {X = TaskFiles × CommandWords} (λ found. found) (Err fault) (task words) → Reads {X = List TaskFiles} (λ tasks. tasks) (Err fault) all
+  pub task_fails : (fault : WordsFault) → Reads {X = TaskFiles × CommandWords} (λ found. found) (Err fault) (task words)
+      → Reads {X = List TaskFiles} (λ tasks. tasks) (Err fault) all
   task_fails Usage none = sym (subst (λ first. with_tasks front (behind first) ≡ all) none opened)
   task_fails Memory none = tt
 
@@ -34,12 +36,14 @@ module _ (front : List TaskFiles) (most done : ℕ) (words : CommandWords) (all 
     read_on : with_tasks front (behind (Some (read, spelled after))) ≡ all
     read_on = subst (λ first. with_tasks front (behind first) ≡ all) is opened
 
-    by_last : (ws : List (String Global)) → with_tasks front (unless_ended (spelled ws) (tasks_within (most - (done + 1)) (spelled ws)) >>= λ others. Some (read ∷ others)) ≡ all
+    by_last : (ws : List (String Global)) → with_tasks front
+        (unless_ended (spelled ws) (tasks_within (most - (done + 1)) (spelled ws)) >>= λ others. Some (read ∷ others)) ≡ all
         → (length ws == 0) ≡ true → all ≡ Some (front ++ read ∷ [])
     by_last [] h none = sym h
     by_last (w ∷ ws) h none = absurd (omega (arith, eqb-true (length (w ∷ ws)) 0 none))
 
-    by_next : (ws : List (String Global)) → with_tasks front (unless_ended (spelled ws) (tasks_within (most - (done + 1)) (spelled ws)) >>= λ others. Some (read ∷ others)) ≡ all
+    by_next : (ws : List (String Global)) → with_tasks front
+        (unless_ended (spelled ws) (tasks_within (most - (done + 1)) (spelled ws)) >>= λ others. Some (read ∷ others)) ≡ all
         → (length ws == 0) ≡ false → with_tasks (front ++ read ∷ []) (tasks_within (most - (done + 1)) (spelled ws)) ≡ all
     by_next [] h some = absurd (let e : true ≡ false = some in cc)
     by_next (w ∷ ws) h some = one_more (tasks_within (most - (done + 1)) (spelled (w ∷ ws))) ∙ h
@@ -57,7 +61,8 @@ module _ (front : List TaskFiles) (most done : ℕ) (words : CommandWords) (all 
     next_task some = by_next after read_on some
 
 -- no more are allowed
-pub none_left : (front : List TaskFiles) (most done : ℕ) (words : CommandWords) (all : Option (List TaskFiles)) → most ≤ done → with_tasks front (tasks_within (most - done) words) ≡ all → all ≡ None
+pub none_left : (front : List TaskFiles) (most done : ℕ) (words : CommandWords) (all : Option (List TaskFiles)) → most ≤ done
+    → with_tasks front (tasks_within (most - done) words) ≡ all → all ≡ None
 unfolding tasks_within
 none_left front most done words all le so_far =
     let nothing : most - done ≡ 0 = omega (arith, le) in sym (subst (λ n. with_tasks front (tasks_within n words) ≡ all) nothing so_far)

@@ -19,5 +19,6 @@ is_checked system c is kept =
 -- it has few areas
 pub few_areas : (c : CheckedOf) → IsChecked c → length c.system.areas ≤ 1000
 few_areas c is =
-    let same : length c.resolved.areas ≡ length c.system.areas = ap (λ (r : ResolvedOf). length r.areas) is.names ∙ length-map c.system.areas (resolved_area c.system) in
+    let same : length c.resolved.areas ≡ length c.system.areas =
+    ap (λ (r : ResolvedOf). length r.areas) is.names ∙ length-map c.system.areas (resolved_area c.system) in
     subst (λ (n : ℕ). n ≤ 1000) same is.sound.few_areas

@@ -1,5 +1,6 @@
 -- Where the step machine has come to its end, Piton's machine has halted, and a session says the meaning.
-use Rattle.std.proofs.Common.{◌≡◌, ◌≤◌, ◌<◌, ◌+◌, ◌-◌, ℕ, zero, suc, Bool, true, List, [], ◌∷◌, ◌++◌, length, map, reverse, Option, Some, refl, sym, ap, subst, ◌∙◌, arith, append_assoc, length-append, if◌then◌else◌}
+use Rattle.std.proofs.Common.{◌≡◌, ◌≤◌, ◌<◌, ◌+◌, ◌-◌, ℕ, zero, suc, Bool, true, List, [], ◌∷◌, ◌++◌, length, map, reverse, Option, Some, refl, sym, ap, subst}
+use Rattle.std.proofs.Common.{◌∙◌, arith, append_assoc, length-append, if◌then◌else◌}
 use Rattle.std.specs.Prelude.{◌==◌, slice_index, unwrap_or}
 use Rattle.std.specs.List.{list_all, zip}
 use Rattle.std.proofs.lemmas.Bool.{and_from, le-leb, lt-ltb}
@@ -59,7 +60,8 @@ use Rattle.stack_build.proofs.StartLaws.{made}
 use Rattle.stack_build.proofs.Storing.{items_words}
 use Rattle.level_debuggers.specs.Levels.{LevelOf, Piton, lifted, next_of, up_text}
 use Rattle.level_debuggers.specs.PitonLevels.{PitonLevelOf, piton_from}
-use Rattle.level_debuggers.specs.PitonReadings.{area_number, covers, element_at, element_numbers, elements_down, piton_at, piton_end, piton_reading_of, piton_up, variable_at}
+use Rattle.level_debuggers.specs.PitonReadings.{area_number, covers, element_at, element_numbers, elements_down, piton_at, piton_end, piton_reading_of}
+use Rattle.level_debuggers.specs.PitonReadings.{piton_up, variable_at}
 use Rattle.level_debuggers.specs.RunWalks.{SystemsWalk, WalksTo}
 use Rattle.level_debuggers.specs.Steps as step
 use Rattle.level_debuggers.specs.Steps.{Makes, Over, Stops}
@@ -75,7 +77,8 @@ unfolding walk
 walk_stays zero level over = refl
 walk_stays (suc n) level over = ap (λ (x : step.Next LevelOf). (walk_on level (walk n) x).level) over
 
-pub walk_past : (n m : ℕ) (level to : LevelOf) → n ≤ m → length (walk n level).events ≡ n → (walk n level).level ≡ to → next_of to ≡ Over → (walk m level).level ≡ to
+pub walk_past : (n m : ℕ) (level to : LevelOf) → n ≤ m → length (walk n level).events ≡ n → (walk n level).level ≡ to → next_of to ≡ Over
+    → (walk m level).level ≡ to
 unfolding walk
 walk_past zero m level to le whole leads over = walk_stays m level (ap next_of leads ∙ over) ∙ leads
 walk_past (suc n) zero level to le whole leads over = absurd (omega (arith, le))
@@ -95,7 +98,8 @@ element_behind : (front : List ℕ) (w : ℕ) (rest : List ℕ) → slice_index 
 element_behind [] w rest = refl
 element_behind (v ∷ front) w rest = element_behind front w rest
 
-elements_read : (above : ℕ) (front ws rest : List ℕ) (a : ℕ) → length front + length ws ≤ above → a ≡ above - 1 - length front → elements_down above (front ++ (ws ++ rest)) a (length ws) ≡ ws
+elements_read : (above : ℕ) (front ws rest : List ℕ) (a : ℕ) → length front + length ws ≤ above → a ≡ above - 1 - length front
+    → elements_down above (front ++ (ws ++ rest)) a (length ws) ≡ ws
 elements_read above front [] rest a le e = refl
 elements_read above front (w ∷ ws) rest a le e =
     let all : List ℕ = front ++ (w ∷ (ws ++ rest)) in
@@ -110,8 +114,10 @@ elements_read above front (w ∷ ws) rest a le e =
     ∙ ap (λ (vs : List ℕ). w ∷ vs) (ap (λ (es : List ℕ). elements_down above es (a - 1) (length ws)) (sym more) ∙ others)
 
 -- a slot from whose address downwards the stack has a value is read as the value
-slot_read : (above : ℕ) (elements : List ℕ) (slot : Slot) (value : ValueOf) → slot.shape ≡ value.shape → map (item_of value.shape.kind) (map word_of_int value.items) ≡ value_shown value
-    → elements_down above elements slot.address (item_count value.shape) ≡ map word_of_int value.items → variable_at above elements slot ≡ (slot.name, value_shown value)
+slot_read : (above : ℕ) (elements : List ℕ) (slot : Slot) (value : ValueOf) → slot.shape ≡ value.shape
+    → map (item_of value.shape.kind) (map word_of_int value.items) ≡ value_shown value
+    → elements_down above elements slot.address (item_count value.shape) ≡ map word_of_int value.items
+    → variable_at above elements slot ≡ (slot.name, value_shown value)
 slot_read above elements slot value same items held =
     ap (λ (shape : Shape). (slot.name, map (item_of shape.kind) (elements_down above elements slot.address (item_count shape)))) same
     ∙ ap (λ (words : List ℕ). (slot.name, map (item_of value.shape.kind) words)) held
@@ -122,7 +128,8 @@ record SlotsAreRead (above : ℕ) (elements : List ℕ) (slots : List Slot) (ds 
   items : map (variable_at above elements) slots ≡ map variable_shown (zip (map (λ (d : Decl). d.name.name) ds) x)
   covered : list_all (covers above elements) slots ≡ true
 
-slots_read : (above : ℕ) (front : List ℕ) (ds : List Decl) (x : List ValueOf) (rest : List ℕ) (a : ℕ) → VarsFit (shapes_in ds) x → 1 ≤ above → length front + length (items_words x) ≤ above → a ≡ above - 1 - length front
+slots_read : (above : ℕ) (front : List ℕ) (ds : List Decl) (x : List ValueOf) (rest : List ℕ) (a : ℕ) → VarsFit (shapes_in ds) x → 1 ≤ above
+    → length front + length (items_words x) ≤ above → a ≡ above - 1 - length front
     → SlotsAreRead above (front ++ (items_words x ++ rest)) (slots_from a ds) ds x
 slots_read above front [] [] rest a f some le e = record { items = refl; covered = refl }
 slots_read above front [] (v ∷ x) rest a f some le e = absurd f
@@ -146,7 +153,8 @@ slots_read above front (d ∷ ds) (v ∷ x) rest a f some le e =
     let long : length (front ++ is) ≡ length front + length is = length-append front is in
     let below : a - count ≡ above - 1 - length (front ++ is) = omega (arith, e, many, same, long) in
     let r = slots_read above (front ++ is) ds x rest (a - count) f.2 some (omega (arith, room, both, long)) below in
-    let total : length all ≡ length front + (length (is ++ others) + length rest) = length-append front ((is ++ others) ++ rest) ∙ ap (λ n. length front + n) (length-append (is ++ others) rest) in
+    let total : length all ≡ length front + (length (is ++ others) + length rest) =
+    length-append front ((is ++ others) ++ rest) ∙ ap (λ n. length front + n) (length-append (is ++ others) rest) in
     let at : a < above = omega (arith, e, some) in
     let reaches : above + count ≤ a + 1 + length all = omega (arith, e, room, both, many, same, total) in
     record {
@@ -157,8 +165,10 @@ slots_read above front (d ∷ ds) (v ∷ x) rest a f some le e =
 
 -- 3. A halted state.
 
-module _ (s : SystemView) (a : PitonState) (ds : List Decl) (conditions names : List (List ℕ)) (tables : Tables) (x : List ValueOf) (c : CurrentCondition) (locals : List Word) (fits : VarsFit (shapes_in ds) x)
-    (areas : a.areas ≡ (Nat (number_of_way c) ∷ []) ∷ []) (stack : a.stack ≡ reverse (words_of_values x ++ locals)) (some : 1 ≤ end_of s) (room : length (items_words x) ≤ end_of s)
+module _ (s : SystemView) (a : PitonState) (ds : List Decl) (conditions names : List (List ℕ)) (tables : Tables) (x : List ValueOf)
+    (c : CurrentCondition) (locals : List Word) (fits : VarsFit (shapes_in ds) x)
+    (areas : a.areas ≡ (Nat (number_of_way c) ∷ []) ∷ []) (stack : a.stack ≡ reverse (words_of_values x ++ locals)) (some : 1 ≤ end_of s)
+    (room : length (items_words x) ≤ end_of s)
     (shown : condition_of conditions (number_of_way c) ≡ way_shown names c) where
   elements_are : element_numbers s a ≡ [] ++ (items_words x ++ numbers (addresses_of s) locals)
   elements_are =
@@ -173,7 +183,8 @@ module _ (s : SystemView) (a : PitonState) (ds : List Decl) (conditions names : 
       subst (λ (es : List ℕ). SlotsAreRead (end_of s) es (slots_from (end_of s - 1) ds) ds x) (sym elements_are)
       (slots_read (end_of s) [] ds x (numbers (addresses_of s) locals) (end_of s - 1) fits some (omega (arith, room)) (omega arith))
 
-  halted_reads : piton_reading_of s (image_with ds conditions tables s) a ≡ record { condition = Some (way_shown names c); items = map variable_shown (zip (map (λ (d : Decl). d.name.name) ds) x) }
+  halted_reads : piton_reading_of s (image_with ds conditions tables s) a
+      ≡ record { condition = Some (way_shown names c); items = map variable_shown (zip (map (λ (d : Decl). d.name.name) ds) x) }
   halted_reads =
       let condition : Some (condition_of conditions (unwrap_or (area_number s a (areas_start s)) 0)) ≡ Some (way_shown names c) =
       ap (λ (o : Option ℕ). Some (condition_of conditions (unwrap_or o 0))) (condition_at s a (number_of_way c) areas) ∙ ap (λ (w : Shown). Some w) shown in
@@ -188,7 +199,8 @@ module _ (run : PitonLevelOf) (halted : run.seen.state.frames ≡ []) where
       → (read : ReadingOf) → piton_reading_of (system_in run.checked) run.image run.seen.state ≡ read → up_text (Piton run) ≡ lines_of_reading run.image read
   unfolding piton_up
   said covered read reads =
-      ap (λ (b : Bool). if b then piton_end run else mark_text (read_from run.image (piton_at (system_in run.checked) run.seen.state))) (ap (λ (fs : List piton.Frame). length fs == 0) halted)
+      ap (λ (b : Bool). if b then piton_end run else mark_text (read_from run.image (piton_at (system_in run.checked) run.seen.state)))
+      (ap (λ (fs : List piton.Frame). length fs == 0) halted)
       ∙ ap (λ (b : Bool). if b then lines_of_reading run.image (piton_reading_of (system_in run.checked) run.image run.seen.state) else no_mark) covered
       ∙ ap (lines_of_reading run.image) reads
 
@@ -204,7 +216,8 @@ words_front : (ss ts : List Shape) → words_of ss ≤ words_of (ss ++ ts)
 words_front [] ts = omega arith
 words_front (s ∷ ss) ts = let rest : words_of ss ≤ words_of (ss ++ ts) = words_front ss ts in omega (arith, rest)
 
-module _ (source : SourceOf) (sizes : StackSizes) (base : ℕ) (accepted : IsAccepted source) (suffice : SizesFit (program_of source) sizes) (finals : List ValueOf) (way : CurrentCondition)
+module _ (source : SourceOf) (sizes : StackSizes) (base : ℕ) (accepted : IsAccepted source) (suffice : SizesFit (program_of source) sizes)
+    (finals : List ValueOf) (way : CurrentCondition)
     (ends : EndsWell (program_of source) finals way) where
   abbrev q : Program
   q = program_of source
@@ -225,14 +238,16 @@ module _ (source : SourceOf) (sizes : StackSizes) (base : ℕ) (accepted : IsAcc
   finals_fit : VarsFit (shapes_in (shown_formals source)) finals
   finals_fit =
       let main = main_is source accepted in
-      let formals : (proc_at q q.main).formals ≡ shapes_in (shown_formals source) = ap (λ (z : Proc). z.formals) main.1.at ∙ ap (λ (o : Option ProcOf). shapes_in (formals_in o)) (sym main.1.found) in
+      let formals : (proc_at q q.main).formals ≡ shapes_in (shown_formals source) =
+      ap (λ (z : Proc). z.formals) main.1.at ∙ ap (λ (o : Option ProcOf). shapes_in (formals_in o)) (sym main.1.found) in
       subst (λ (shapes : List Shape). VarsFit shapes finals) formals ends.values
 
   way_is : condition_of (shown_conditions source) (number_of_way way) ≡ way_shown (formal_conditions source) way
   way_is =
       let main = main_is source accepted in
       let count : length (formal_conditions source) ≡ (proc_at q q.main).conds =
-      ap (λ (o : Option ProcOf). length (formal_conditions_in o)) main.1.found ∙ length-map (main.0).conds (λ (n : Named). n.name) ∙ sym (ap (λ (z : Proc). z.conds) main.1.at) in
+      ap (λ (o : Option ProcOf). length (formal_conditions_in o)) main.1.found ∙ length-map (main.0).conds (λ (n : Named). n.name)
+      ∙ sym (ap (λ (z : Proc). z.conds) main.1.at) in
       way_read q (formal_conditions source) way ends.way count
 
   finals_room : length (items_words finals) ≤ end_of S
@@ -240,14 +255,16 @@ module _ (source : SourceOf) (sizes : StackSizes) (base : ℕ) (accepted : IsAcc
       let A : Addresses = addresses_of S in
       let own : length (words_of_values finals) ≡ words_of (proc_at q q.main).formals = values_words (proc_at q q.main).formals finals ends.values in
       let words : length (numbers A (words_of_values finals)) ≡ length (words_of_values finals) = length-map (words_of_values finals) (word_number A) in
-      let same : length (numbers A (words_of_values finals)) ≡ length (items_words finals) = ap length (values_numbers A finals (each_fits (shapes_in (shown_formals source)) finals finals_fit)) in
+      let same : length (numbers A (words_of_values finals)) ≡ length (items_words finals) =
+      ap length (values_numbers A finals (each_fits (shapes_in (shown_formals source)) finals finals_fit)) in
       let fits : words_of (proc_at q q.main).formals ≤ sizes.temp = main_fits.1 in
       more_room (temp_start S) (length (items_words finals)) sizes.temp (omega (arith, own, words, same, fits))
 
   some_end : 1 ≤ end_of S
   some_end = some_room (ctrl_start S) sizes.ctrl sizes.temp main_fits.0
 
-  module _ (to : PitonState) (locals : List Word) (halted : to.frames ≡ []) (areas : to.areas ≡ (Nat (number_of_way way) ∷ []) ∷ []) (stack : to.stack ≡ reverse (words_of_values finals ++ locals))
+  module _ (to : PitonState) (locals : List Word) (halted : to.frames ≡ []) (areas : to.areas ≡ (Nat (number_of_way way) ∷ []) ∷ [])
+      (stack : to.stack ≡ reverse (words_of_values finals ++ locals))
       (checked : CheckedOf) (seen : Seen) (same : system_in checked ≡ S) (at : seen.state ≡ to) where
     abbrev there : PitonLevelOf
     there = record { checked = checked; image = image_of source sizes base; seen = seen }
@@ -255,8 +272,10 @@ module _ (source : SourceOf) (sizes : StackSizes) (base : ℕ) (accepted : IsAcc
     end_said : up_text (Piton there) ≡ lines_of_reading (image_of source sizes base) (meaning_shown source finals way)
     unfolding image_of
     end_said =
-        let slots = slots_are S to (shown_formals source) (shown_conditions source) (formal_conditions source) (source_tables source S) finals way locals finals_fit areas stack some_end finals_room way_is in
-        let reads = halted_reads S to (shown_formals source) (shown_conditions source) (formal_conditions source) (source_tables source S) finals way locals finals_fit areas stack some_end finals_room way_is in
+        let slots = slots_are S to (shown_formals source) (shown_conditions source) (formal_conditions source) (source_tables source S) finals way
+        locals finals_fit areas stack some_end finals_room way_is in
+        let reads = halted_reads S to (shown_formals source) (shown_conditions source) (formal_conditions source) (source_tables source S) finals way
+        locals finals_fit areas stack some_end finals_room way_is in
         said there (ap (λ (p : PitonState). p.frames) at ∙ halted)
         (ap (λ (s : SystemView). list_all (covers (end_of s) (element_numbers s seen.state)) there.image.slots) same
         ∙ ap (λ (p : PitonState). list_all (covers (end_of S) (element_numbers S p)) there.image.slots) at ∙ slots.covered)
@@ -271,14 +290,18 @@ built_ends acceptable reached systems source sizes j n b values finals way t acc
     let S : SystemView = generated_view q sizes 0 in
     let m = made acceptable source sizes accepted b is in
     let image : ImageOf = image_of source sizes 0 in
-    let has : RunsTo S (opened q sizes 0 values) finals way t = subst (λ (m : Move). HasMoment q S (opened q sizes 0 values) m) stands (reached q sizes 0 values j accepted.fits m.sizes_fit fits) in
-    let counted : counted_meaning q sizes values (suc j) ≡ CountedDone finals way t = (agree q sizes values).ended j finals way t (moment_over q sizes j (start q values) finals way t stands) in
+    let has : RunsTo S (opened q sizes 0 values) finals way t =
+    subst (λ (m : Move). HasMoment q S (opened q sizes 0 values) m) stands (reached q sizes 0 values j accepted.fits m.sizes_fit fits) in
+    let counted : counted_meaning q sizes values (suc j) ≡ CountedDone finals way t =
+    (agree q sizes values).ended j finals way t (moment_over q sizes j (start q values) finals way t stands) in
     let ends : EndsWell q finals way = ends_well q sizes accepted.fits finals way t values (suc j) fits counted in
     let first : Seen = opening (system_in b.piton) (main_words source values) in
     let run : PitonLevelOf = record { checked = b.piton; image = image; seen = first } in
     let to : PitonLevelOf = record { checked = b.piton; image = image; seen = advanced first t.steps t.count has.to } in
-    let steps : Steps (system_in b.piton) t.steps t.count first.state has.to = subst (λ (s : SystemView). Steps s t.steps t.count (started s (main_words source values)) has.to) (sym m.view) has.runs in
+    let steps : Steps (system_in b.piton) t.steps t.count first.state has.to =
+    subst (λ (s : SystemView). Steps s t.steps t.count (started s (main_words source values)) has.to) (sym m.view) has.runs in
     let w : WalksTo t.steps (Piton run) (Piton to) = systems t.steps t.count run has.to steps (omega arith) (omega arith) in
     let past : (walk n (Piton run)).level ≡ Piton to = walk_past t.steps n (Piton run) (Piton to) enough w.whole w.leads (is_over to has.halted) in
     subst (λ (i : ImageOf). up_text (walk n (system_run source b.piton i values)).level ≡ lines_of_reading i (meaning_shown source finals way)) m.image
-    (ap up_text past ∙ end_said source sizes 0 accepted m.sizes_fit finals way ends has.to has.locals has.halted has.condition has.stack b.piton (advanced first t.steps t.count has.to) m.view refl)
+    (ap up_text past ∙ end_said source sizes 0 accepted m.sizes_fit finals way ends has.to has.locals has.halted has.condition has.stack b.piton
+    (advanced first t.steps t.count has.to) m.view refl)

@@ -66,13 +66,15 @@ module _ (run : FmLevelOf) (apart : pc_of run.state ≢ run.image.final_pc) wher
 
   machine_said : (read : ReadingAtOf) → reading_at run.image run.state ≡ Some read → up_text (Fm run) ≡ mark_text (Some read)
   machine_said read e =
-      ap (λ (b : Bool). if b then lines_of_reading run.image (reading run.image run.state) else mark_text (reading_at run.image run.state)) (ne_eqb (pc_of run.state) run.image.final_pc apart)
+      ap (λ (b : Bool). if b then lines_of_reading run.image (reading run.image run.state) else mark_text (reading_at run.image run.state))
+      (ne_eqb (pc_of run.state) run.image.final_pc apart)
       ∙ ap mark_text e
 
 pub machine_says : MomentsAreRead → MachinesWalk → MachineSaysMoments
 machine_says read walk source sizes base j values (At p x w fs t) accepted short fits keeps is =
     let image : ImageOf = image_of source sizes base in
-    let arrives : ArrivesAtMark source sizes image values p x w fs t.count = subst (λ (m : Move). ArrivesAt source sizes image values m) is (keeps values j fits) in
+    let arrives : ArrivesAtMark source sizes image values p x w fs t.count =
+    subst (λ (m : Move). ArrivesAt source sizes image values m) is (keeps values j fits) in
     let run : FmLevelOf = record { image = image; state = loaded image values } in
     let there : FmLevelOf = record { image = image; state = arrives.state } in
     let apart : pc_of arrives.state ≢ image.final_pc = arrives.goes_on t.count arrives.state (omega arith) arrives.reached in
@@ -100,10 +102,12 @@ module _ (run : PitonLevelOf) (f : piton.Frame) (rest : List piton.Frame) (there
   system_goes : is_over (next_of (Piton run)) ≡ false
   system_goes = from_goes run f rest run.seen.state.frames there
 
-  system_said : (read : ReadingAtOf) → read_from run.image (piton_at (system_in run.checked) run.seen.state) ≡ Some read → up_text (Piton run) ≡ mark_text (Some read)
+  system_said : (read : ReadingAtOf) → read_from run.image (piton_at (system_in run.checked) run.seen.state) ≡ Some read
+      → up_text (Piton run) ≡ mark_text (Some read)
   unfolding piton_up
   system_said read e =
-      ap (λ (b : Bool). if b then piton_end run else mark_text (read_from run.image (piton_at (system_in run.checked) run.seen.state))) (not_halted f rest run.seen.state.frames there)
+      ap (λ (b : Bool). if b then piton_end run else mark_text (read_from run.image (piton_at (system_in run.checked) run.seen.state)))
+      (not_halted f rest run.seen.state.frames there)
       ∙ ap mark_text e
 
 pub system_says : EachMomentIsReached → ShownMomentsAreRead → SystemsWalk → SystemSaysMoments
@@ -111,15 +115,18 @@ system_says reached shown walk source sizes base j checked values (At p x w fs t
     let q : Program = program_of source in
     let S : SystemView = generated_view q sizes base in
     let image : ImageOf = image_of source sizes base in
-    let has : ComesToMark q S (opened q sizes base values) p x w fs t = subst (λ (m : Move). HasMoment q S (opened q sizes base values) m) is (reached q sizes base values j accepted.fits size fits) in
+    let has : ComesToMark q S (opened q sizes base values) p x w fs t =
+    subst (λ (m : Move). HasMoment q S (opened q sizes base values) m) is (reached q sizes base values j accepted.fits size fits) in
     let first : Seen = opening (system_in checked) (main_words source values) in
     let run : PitonLevelOf = record { checked = checked; image = image; seen = first } in
     let there : PitonLevelOf = record { checked = checked; image = image; seen = advanced first t.steps t.count has.to } in
-    let steps : Steps (system_in checked) t.steps t.count first.state has.to = subst (λ (s : SystemView). Steps s t.steps t.count (started s (main_words source values)) has.to) (sym same) has.runs in
+    let steps : Steps (system_in checked) t.steps t.count first.state has.to =
+    subst (λ (s : SystemView). Steps s t.steps t.count (started s (main_words source values)) has.to) (sym same) has.runs in
     let frame = going q p fs has.to.frames has.reads.frames in
     let vars = (moment_fits q sizes accepted.fits values j (At p x w fs t) fits is).0 in
     let reads : read_from image (piton_at S has.to) ≡ Some (moment_shown source (At p x w fs t)) =
-    shown source sizes base j values (piton_at S has.to) (At p x w fs t) accepted short fits is (state_shows source sizes base has.to p x w fs vars has.reads) in
+    shown source sizes base j values (piton_at S has.to) (At p x w fs t) accepted short fits is
+    (state_shows source sizes base has.to p x w fs vars has.reads) in
     says_there t.steps (Piton run) (Piton there) (state_text source (At p x w fs t)) (walk t.steps t.count run has.to steps (omega arith) (omega arith))
     (system_goes there frame.0 frame.1 frame.2)
     (system_said there frame.0 frame.1 frame.2 (moment_shown source (At p x w fs t))

@@ -1,5 +1,6 @@
 -- A state of the generated system that reads as an activation shows it where it stands.
-use Rattle.std.proofs.Common.{◌≡◌, ◌+◌, ◌-◌, ◌<◌, ℕ, ℤ, Bool, true, false, List, [], ◌∷◌, length, map, reverse, Some, None, refl, sym, ap, ◌∙◌, arith, append-nil}
+use Rattle.std.proofs.Common.{◌≡◌, ◌+◌, ◌-◌, ◌<◌, ℕ, ℤ, Bool, true, false, List, [], ◌∷◌, length, map, reverse, Some, None, refl, sym, ap, ◌∙◌, arith}
+use Rattle.std.proofs.Common.{append-nil}
 use Rattle.std.specs.List.{flat_map}
 use Rattle.std.specs.Prelude.{slice_get, nat_lt, if◌then◌else◌}
 use Rattle.std.proofs.lemmas.Bool.{le-ltb, ltb-true}
@@ -38,7 +39,8 @@ use Rattle.level_debuggers.specs.PitonReadings.{area_number, piton_at}
 element_read : (stack : List Word) (k : ℕ) (w : Word) → element stack k ≡ Some w → slice_get (reverse stack) k ≡ Some w
 element_read stack k w e = by_side (nat_lt k (length stack)) refl e
   where
-    by_side : (b : Bool) → nat_lt k (length stack) ≡ b → (if b then slice_get stack (length stack - 1 - k) else None) ≡ Some w → slice_get (reverse stack) k ≡ Some w
+    by_side : (b : Bool) → nat_lt k (length stack) ≡ b → (if b then slice_get stack (length stack - 1 - k) else None) ≡ Some w
+        → slice_get (reverse stack) k ≡ Some w
     by_side true is f =
         let lt : k < length stack = ltb-true k (length stack) is in
         slice_get-get_or (reverse stack) k w (omega (arith, lt, length-reverse stack))
@@ -50,7 +52,8 @@ value_numbers : (A : Addresses) (v : ValueOf) → ValueFits v → numbers A (wor
 value_numbers A v fits =
     ap (numbers A) (sym (append-nil (words_of_value v))) ∙ values_numbers A (v ∷ []) (fits, tt) ∙ append-nil (map word_of_int v.items)
 
-item_number : (A : Addresses) (v : ValueOf) (h : ℕ) (z : ℤ) → ValueFits v → slice_get v.items h ≡ Some z → word_number A (word_of_item v.shape.kind z) ≡ word_of_int z
+item_number : (A : Addresses) (v : ValueOf) (h : ℕ) (z : ℤ) → ValueFits v → slice_get v.items h ≡ Some z
+    → word_number A (word_of_item v.shape.kind z) ≡ word_of_int z
 item_number A v h z fits e =
     let word : slice_get (words_of_value v) h ≡ Some (word_of_item v.shape.kind z) = get_map (word_of_item v.shape.kind) v.items h z e in
     some_is (word_number A (word_of_item v.shape.kind z)) (word_of_int z)
@@ -99,5 +102,6 @@ state_shows source sizes base a p x w fs vars reads =
     record {
       mark = address_is q S a p x w fs reads;
       condition = condition_is q S a p x w fs reads;
-      variables = λ b shape e. variable_is q S a p x w fs reads b (value_at x b) (value_fits (shapes_of (proc_at q p)) x b shape vars e).1 (reads.variables b shape e);
+      variables = λ b shape e. variable_is q S a p x w fs reads b (value_at x b) (value_fits (shapes_of (proc_at q p)) x b shape vars e).1
+          (reads.variables b shape e);
     }

@@ -1,5 +1,6 @@
 -- A binary search finds the mark at an address.
-use Rattle.std.proofs.Common.{◌≡◌, ◌≢◌, ℕ, zero, suc, ◌-◌, ◌<◌, ◌≤◌, List, [], ◌∷◌, length, Some, None, Result, Ok, Err, IfOk, IfErr, cond, refl, sym, ap, ◌∙◌, arith}
+use Rattle.std.proofs.Common.{◌≡◌, ◌≢◌, ℕ, zero, suc, ◌-◌, ◌<◌, ◌≤◌, List, [], ◌∷◌, length, Some, None, Result, Ok, Err, IfOk, IfErr, cond, refl, sym, ap, ◌∙◌}
+use Rattle.std.proofs.Common.{arith}
 use Rattle.std.specs.Prelude.{slice_get}
 use Rattle.std.specs.List.Sorted.{IsSearchInRange, IsBinarySearchResult, IsNonDecreasingBy}
 use Rattle.std.specs.Ordering.{nat_cmp, ordering_index}
@@ -12,7 +13,8 @@ use Rattle.fm_image.proofs.MarkLaws.{no_mark, address_at, Ascending}
 use Rattle.display_maps.specs.ReadingAt.{mark_there}
 
 -- no mark before the place has the address, and the one there has it
-there : (ms : List Mark) (address i : ℕ) → ((j : ℕ) → j < i → address_at ms j ≢ address) → i < length ms → address_at ms i ≡ address → mark_there address ms ≡ slice_get ms i
+there : (ms : List Mark) (address i : ℕ) → ((j : ℕ) → j < i → address_at ms j ≢ address) → i < length ms → address_at ms i ≡ address
+    → mark_there address ms ≡ slice_get ms i
 there [] address i before lt is = absurd (omega (arith, lt))
 there (m ∷ ms) address zero before lt is = ap (λ b. cond b (Some m) (mark_there address ms)) (eq-eqb m.address address is)
 there (m ∷ ms) address (suc i) before lt is =
@@ -40,6 +42,7 @@ module _ (ms : List Mark) (ascending : Ascending ms) (address : ℕ) where
     where
       others : (j : ℕ) → j < length ms → address_at ms j ≢ address
       others j low same =
-          let smaller : j < at → address_at ms j < address = λ lt. ranked _ address _ (sym ((parted comparisons_rise).0 j no_mark (omega (arith, in_range)) lt)) in
+          let smaller : j < at → address_at ms j < address =
+          λ lt. ranked _ address _ (sym ((parted comparisons_rise).0 j no_mark (omega (arith, in_range)) lt)) in
           let greater : at ≤ j → address < address_at ms j = λ le. ranked _ address _ (sym ((parted comparisons_rise).1 j no_mark le low)) in
           grind (arith, smaller, greater, same)

@@ -1,5 +1,6 @@
 -- A text that spells an image is assembled to it.
-use Rattle.std.proofs.Common.{◌≡◌, ℕ, ◌+◌, ◌-◌, ◌<◌, ◌≤◌, ◌^◌, ◌==◌, true, not, List, [], ◌∷◌, length, map, Option, Some, Result, Ok, is_some, refl, sym, ap, ◌∙◌, arith, nat_lt, ltb-true, leb-true}
+use Rattle.std.proofs.Common.{◌≡◌, ℕ, ◌+◌, ◌-◌, ◌<◌, ◌≤◌, ◌^◌, ◌==◌, true, not, List, [], ◌∷◌, length, map, Option, Some, Result, Ok, is_some, refl, sym, ap}
+use Rattle.std.proofs.Common.{◌∙◌, arith, nat_lt, ltb-true, leb-true}
 use Rattle.std.specs.List.{flat_map, list_all, slice_split}
 use Rattle.std.proofs.lemmas.Bool.{and_parts, and_from}
 use Rattle.stack_text.specs.declared.breach.Breach.{Breach}
@@ -15,7 +16,8 @@ use Rattle.fm_asm.specs.Printing.{plain_image}
 use Rattle.fm_asm.specs.Assembling.{image_of, assembly_of}
 use Rattle.fm_asm.specs.Assembly.{statements_of, labels_of, statement_word, IsAssembly}
 use Rattle.fm_asm.proofs.SourceLaws.{lines_are_read, header_due, dues}
-use Rattle.fm_asm.proofs.JudgingLaws.{words-lines, final_by, final-lines, start_by, start-lines, as_word-fits, words-statements, word_total, is_good, good_lines, is_fresh, none_repeats}
+use Rattle.fm_asm.proofs.JudgingLaws.{words-lines, final_by, final-lines, start_by, start-lines, as_word-fits, words-statements, word_total, is_good}
+use Rattle.fm_asm.proofs.JudgingLaws.{good_lines, is_fresh, none_repeats}
 
 -- names are fresh where nothing stands before them
 all_fresh : (names : List (List ℕ)) → list_all (is_fresh []) names ≡ true
@@ -50,11 +52,13 @@ good_words b n known (instruction x ∷ ss) (w ∷ ws) h =
     let later = good_words b n known ss ws rest in
     (later.0, omega (arith, later.1))
 
-source_is : (text : List ℕ) (image : ImageOf) (a : IsAssembly text image) → source_in text ≡ Ok (record { base = image.base; size = image.size; lines = a.lines })
+source_is : (text : List ℕ) (image : ImageOf) (a : IsAssembly text image) → source_in text
+    ≡ Ok (record { base = image.base; size = image.size; lines = a.lines })
 unfolding source_in
 source_is text image a =
     lines_are_read (length text) 0 0 due.Base image.base image.size (slice_split (λ b. b == 10) text) a.lines a.are_lines
-    (ap (dues due.Base) a.in_order ∙ header_due image.base image.size image.final_pc a.start_pc (offset_of a.lines) a.end_value a.start_value a.statements a.words a.sized a.end_is a.start_is a.words_are)
+    (ap (dues due.Base) a.in_order ∙ header_due image.base image.size image.final_pc a.start_pc (offset_of a.lines) a.end_value a.start_value
+    a.statements a.words a.sized a.end_is a.start_is a.words_are)
 
 no_breach : (text : List ℕ) (image : ImageOf) (a : IsAssembly text image) → breaches (record { base = image.base; size = image.size; lines = a.lines }) ≡ []
 unfolding breaches is_good word_total
@@ -62,7 +66,8 @@ no_breach text image a =
     let known = offset_of a.lines in
     let words = good_words image.base image.size (offset_of a.lines) a.statements a.words a.words_are in
     let ended : is_some (number_of image.base (offset_of a.lines) a.end_value) ≡ true = ap (λ (o : Option ℕ). is_some o) a.end_is in
-    let inside : not (is_outside image.base image.size (number_of image.base (offset_of a.lines) a.end_value)) ≡ true = ap (λ (o : Option ℕ). not (is_outside image.base image.size o)) a.end_is ∙ ap (λ t. not (not t)) a.inside in
+    let inside : not (is_outside image.base image.size (number_of image.base (offset_of a.lines) a.end_value)) ≡ true =
+    ap (λ (o : Option ℕ). not (is_outside image.base image.size o)) a.end_is ∙ ap (λ t. not (not t)) a.inside in
     let begun : is_some (number_of image.base (offset_of a.lines) a.start_value) ≡ true = ap (λ (o : Option ℕ). is_some o) a.start_is in
     let good : list_all (is_good image.base image.size (offset_of a.lines)) (statements_of a.lines) ≡ true =
     ap (list_all (is_good image.base image.size (offset_of a.lines))) a.in_order ∙ and_from _ _ (and_from _ _ ended inside) (and_from _ _ begun words.0) in
@@ -78,7 +83,8 @@ small_end b n e sized inside =
     let within = ltb-true e (b + n) (and_parts _ _ inside).1 in
     omega (arith, limit, within)
 
-image_is_it : (text : List ℕ) (image : ImageOf) (a : IsAssembly text image) → image_of (record { base = image.base; size = image.size; lines = a.lines }) ≡ image
+image_is_it : (text : List ℕ) (image : ImageOf) (a : IsAssembly text image) → image_of
+    (record { base = image.base; size = image.size; lines = a.lines }) ≡ image
 unfolding final_by start_by statement_words
 image_is_it text image a =
     let fits = and_parts (nat_lt a.start_pc (2 ^ 32)) (are_words a.words) a.fit in
@@ -87,12 +93,15 @@ image_is_it text image a =
     ∙ words-statements image.base (offset_of a.lines) a.statements a.words a.words_are fits.1 in
     let ends : final_in image.base (offset_of a.lines) a.lines ≡ image.final_pc =
     final-lines image.base (offset_of a.lines) a.lines ∙ ap (final_by image.base (offset_of a.lines)) a.in_order
-    ∙ as_word-fits (number_of image.base (offset_of a.lines) a.end_value) image.final_pc a.end_is (small_end image.base image.size image.final_pc a.sized a.inside) in
+    ∙ as_word-fits (number_of image.base (offset_of a.lines) a.end_value) image.final_pc a.end_is
+    (small_end image.base image.size image.final_pc a.sized a.inside) in
     let begins : start_in image.base (offset_of a.lines) a.lines ≡ a.start_pc =
     start-lines image.base (offset_of a.lines) a.lines ∙ ap (start_by image.base (offset_of a.lines)) a.in_order
     ∙ as_word-fits (number_of image.base (offset_of a.lines) a.start_value) a.start_pc a.start_is (ltb-true a.start_pc (2 ^ 32) fits.0) in
-    ap (λ (e : ℕ). plain_image image.base image.size e (start_in image.base (offset_of a.lines) a.lines) (without_trailing 0 (flat_map (line_words image.base (offset_of a.lines)) a.lines))) ends
-    ∙ ap (λ (x : ℕ). plain_image image.base image.size image.final_pc x (without_trailing 0 (flat_map (line_words image.base (offset_of a.lines)) a.lines))) begins
+    ap (λ (e : ℕ). plain_image image.base image.size e (start_in image.base (offset_of a.lines) a.lines)
+    (without_trailing 0 (flat_map (line_words image.base (offset_of a.lines)) a.lines))) ends
+    ∙ ap (λ (x : ℕ). plain_image image.base image.size image.final_pc x
+    (without_trailing 0 (flat_map (line_words image.base (offset_of a.lines)) a.lines))) begins
     ∙ ap (λ (ws : List ℕ). plain_image image.base image.size image.final_pc a.start_pc (without_trailing 0 ws)) words
     ∙ sym a.image_is
 

@@ -1,5 +1,6 @@
 -- Bytes that are cut into parts.
-use Rattle.std.proofs.Common.{◌≡◌, Bor, ◌≢◌, ℕ, zero, suc, ◌+◌, ◌-◌, ◌<◌, ◌≤◌, ◌==◌, ◌&&◌, Bool, true, false, cond, not, List, [], ◌∷◌, ◌++◌, length, take, drop, get_or, Option, Some, None, option_map, unwrap_or, refl, sym, ap, ◌∙◌, arith, eqb-true}
+use Rattle.std.proofs.Common.{◌≡◌, Bor, ◌≢◌, ℕ, zero, suc, ◌+◌, ◌-◌, ◌<◌, ◌≤◌, ◌==◌, ◌&&◌, Bool, true, false, cond, not, List, [], ◌∷◌, ◌++◌, length, take}
+use Rattle.std.proofs.Common.{drop, get_or, Option, Some, None, option_map, unwrap_or, refl, sym, ap, ◌∙◌, arith, eqb-true}
 use Rattle.std.specs.Prelude.{nat_eq}
 use Rattle.std.specs.List.{list_all}
 use lib.Pointwise.{pointwise}
@@ -60,7 +61,8 @@ unfolding whole
 whole-cons byte b front None = refl
 whole-cons byte b front (Some rest) = refl
 
-whole_by : (byte b : ℕ) (bytes : List ℕ) (t : Bool) → (b == byte) ≡ t → bytes ≡ whole byte (cut byte bytes).0 (cut byte bytes).1 → b ∷ bytes ≡ whole byte (cut byte (b ∷ bytes)).0 (cut byte (b ∷ bytes)).1
+whole_by : (byte b : ℕ) (bytes : List ℕ) (t : Bool) → (b == byte) ≡ t → bytes ≡ whole byte (cut byte bytes).0 (cut byte bytes).1
+    → b ∷ bytes ≡ whole byte (cut byte (b ∷ bytes)).0 (cut byte (b ∷ bytes)).1
 unfolding whole chosen
 whole_by byte b bytes true e later =
     let parts = cut-cons byte b bytes true e in
@@ -88,7 +90,8 @@ pub split_once_found : (byte : ℕ) (text front rest : List ℕ) → split_once 
 unfolding split_once
 split_once_found byte text front rest e = by_rest (cut byte text).1 refl e
   where
-    by_rest : (r : Option (List ℕ)) → (cut byte text).1 ≡ r → option_map {U = List ℕ × List ℕ} (λ rest. ((cut byte text).0, rest)) r ≡ Some (front, rest) → text ≡ front ++ byte ∷ rest
+    by_rest : (r : Option (List ℕ)) → (cut byte text).1 ≡ r → option_map {U = List ℕ × List ℕ} (λ rest. ((cut byte text).0, rest)) r
+        ≡ Some (front, rest) → text ≡ front ++ byte ∷ rest
     by_rest None h k = absurd cc
     by_rest (Some more) h k =
         let first = ap (λ (o : Option (List ℕ × List ℕ)). (unwrap_or o (front, rest)).0) k in
@@ -108,7 +111,8 @@ after_prefix_found [] bytes rest e = cc
 after_prefix_found (p ∷ ps) [] rest e = absurd cc
 after_prefix_found (p ∷ ps) (b ∷ bs) rest e = by_test (b == p) refl e (after_prefix_found ps bs rest)
   where
-    by_test : (t : Bool) → (b == p) ≡ t → cond t (after_prefix ps bs) None ≡ Some rest → (after_prefix ps bs ≡ Some rest → bs ≡ ps ++ rest) → b ∷ bs ≡ p ∷ (ps ++ rest)
+    by_test : (t : Bool) → (b == p) ≡ t → cond t (after_prefix ps bs) None ≡ Some rest → (after_prefix ps bs ≡ Some rest → bs ≡ ps ++ rest)
+        → b ∷ bs ≡ p ∷ (ps ++ rest)
     by_test true h k later = ap (λ c. c ∷ bs) (eqb-true b p h) ∙ ap (λ cs. p ∷ cs) (later k)
     by_test false h k later = absurd cc
 
@@ -128,7 +132,8 @@ last-other item (y ∷ z ∷ xs) x h = ap (unless_trailing item y) (last-other i
 -- ---- what the code knows
 
 -- the byte at a place, which is the first that is this one
-pub cut_at : (byte : ℕ) (bytes : List ℕ) (k : ℕ) → k < length bytes → ((j : ℕ) → j < k → (get_or bytes j 0 == byte) ≡ false) → (get_or bytes k 0 == byte) ≡ true → cut byte bytes ≡ (take k bytes, Some (drop (k + 1) bytes))
+pub cut_at : (byte : ℕ) (bytes : List ℕ) (k : ℕ) → k < length bytes → ((j : ℕ) → j < k → (get_or bytes j 0 == byte) ≡ false)
+    → (get_or bytes k 0 == byte) ≡ true → cut byte bytes ≡ (take k bytes, Some (drop (k + 1) bytes))
 unfolding chosen
 cut_at byte [] k lt none here = absurd (omega arith)
 cut_at byte (b ∷ bytes) zero lt none here = cut-cons byte b bytes true here
@@ -141,7 +146,8 @@ cut_at byte (b ∷ bytes) (suc k) lt none here =
 pub cut_nowhere : (byte : ℕ) (bytes : List ℕ) → ((j : ℕ) → j < length bytes → (get_or bytes j 0 == byte) ≡ false) → cut byte bytes ≡ (bytes, None)
 unfolding cut chosen
 cut_nowhere byte [] none = refl
-cut_nowhere byte (b ∷ bytes) none = cut-cons byte b bytes false (none 0 (omega arith)) ∙ ap (in_front b) (cut_nowhere byte bytes (λ j h. none (suc j) (omega arith)))
+cut_nowhere byte (b ∷ bytes) none =
+    cut-cons byte b bytes false (none 0 (omega arith)) ∙ ap (in_front b) (cut_nowhere byte bytes (λ j h. none (suc j) (omega arith)))
 
 tail_all : (k : ℕ) (bytes : List ℕ) → take (length bytes - k) (drop k bytes) ≡ drop k bytes
 tail_all k bytes = take_all (length bytes - k) (drop k bytes) (omega (arith, length-drop k bytes))
@@ -156,7 +162,8 @@ pub cut_absent : (byte : ℕ) (bytes : List ℕ) → IsFirstByte (is_byte byte) 
 cut_absent byte bytes h = sym (cut_nowhere byte bytes (λ j lt. never_true (get_or bytes j 0 == byte) (h j (omega arith) lt)))
 
 -- a prefix, by the bytes that are taken and dropped
-after_prefix_is : (prefix bytes : List ℕ) → pointwise nat_eq (take (length prefix) bytes) prefix ≡ true → after_prefix prefix bytes ≡ Some (drop (length prefix) bytes)
+after_prefix_is : (prefix bytes : List ℕ) → pointwise nat_eq (take (length prefix) bytes) prefix ≡ true
+    → after_prefix prefix bytes ≡ Some (drop (length prefix) bytes)
 unfolding after_prefix
 after_prefix_is [] bytes h = refl
 after_prefix_is (p ∷ ps) [] h = absurd cc
@@ -170,19 +177,23 @@ after_prefix_none [] bytes h = absurd cc
 after_prefix_none (p ∷ ps) [] h = refl
 after_prefix_none (p ∷ ps) (b ∷ bs) h = by_test (b == p) refl h (after_prefix_none ps bs)
   where
-    by_test : (t : Bool) → (b == p) ≡ t → t && pointwise nat_eq (take (length ps) bs) ps ≡ false → (pointwise nat_eq (take (length ps) bs) ps ≡ false → after_prefix ps bs ≡ None) → cond (b == p) (after_prefix ps bs) None ≡ None
+    by_test : (t : Bool) → (b == p) ≡ t → t && pointwise nat_eq (take (length ps) bs) ps ≡ false
+        → (pointwise nat_eq (take (length ps) bs) ps ≡ false → after_prefix ps bs ≡ None) → cond (b == p) (after_prefix ps bs) None ≡ None
     by_test true e k later = rw e (later k)
     by_test false e k later = rw e refl
 
 pub after_prefix_by : (prefix bytes : List ℕ) (r : Option (Bor (List ℕ)))
-    → MatchOption r (pointwise nat_eq (take (length prefix) bytes) prefix ≡ false) (λ x. (pointwise nat_eq (take (length prefix) bytes) prefix ≡ true) × (x.now ≡ drop (length prefix) bytes) × (length x.now + length prefix ≡ length bytes))
+    → MatchOption r (pointwise nat_eq (take (length prefix) bytes) prefix ≡ false)
+    (λ x. (pointwise nat_eq (take (length prefix) bytes) prefix ≡ true) × (x.now ≡ drop (length prefix) bytes)
+    × (length x.now + length prefix ≡ length bytes))
     → option_copied r ≡ after_prefix prefix bytes
 after_prefix_by prefix bytes None h = sym (after_prefix_none prefix bytes h)
 after_prefix_by prefix bytes (Some x) h = ap (λ (xs : List ℕ). Some xs) h.1 ∙ sym (after_prefix_is prefix bytes h.0)
 
 -- ---- spaces, one byte after the other
 
-pub space_next : (bytes : List ℕ) (k d : ℕ) → get_or bytes k d ≡ 32 → k < length bytes → without_leading_spaces (drop k bytes) ≡ without_leading_spaces bytes → without_leading_spaces (drop (k + 1) bytes) ≡ without_leading_spaces bytes
+pub space_next : (bytes : List ℕ) (k d : ℕ) → get_or bytes k d ≡ 32 → k < length bytes
+    → without_leading_spaces (drop k bytes) ≡ without_leading_spaces bytes → without_leading_spaces (drop (k + 1) bytes) ≡ without_leading_spaces bytes
 unfolding without_leading_spaces
 space_next bytes k d is lt so_far =
     let begins : drop k bytes ≡ get_or bytes k d ∷ drop (k + 1) bytes = drop_more bytes k d lt in
@@ -193,7 +204,8 @@ space_next bytes k d is lt so_far =
 differs : (b item : ℕ) → b ≢ item → (b == item) ≡ false
 differs b item h = never_true (b == item) (λ e. h (eqb-true b item e))
 
-pub other_here : (bytes : List ℕ) (k d : ℕ) → get_or bytes k d ≢ 32 → k < length bytes → without_leading_spaces (drop k bytes) ≡ without_leading_spaces bytes → drop k bytes ≡ without_leading_spaces bytes
+pub other_here : (bytes : List ℕ) (k d : ℕ) → get_or bytes k d ≢ 32 → k < length bytes
+    → without_leading_spaces (drop k bytes) ≡ without_leading_spaces bytes → drop k bytes ≡ without_leading_spaces bytes
 unfolding without_leading_spaces
 other_here bytes k d other lt so_far =
     let begins : drop k bytes ≡ get_or bytes k d ∷ drop (k + 1) bytes = drop_more bytes k d lt in
@@ -201,7 +213,8 @@ other_here bytes k d other lt so_far =
     let stays : without_leading_spaces (get_or bytes k d ∷ drop (k + 1) bytes) ≡ get_or bytes k d ∷ drop (k + 1) bytes = rw no_space refl in
     begins ∙ sym stays ∙ ap without_leading_spaces (sym begins) ∙ so_far
 
-pub spaces_end : (bytes : List ℕ) (k : ℕ) → length bytes ≤ k → without_leading_spaces (drop k bytes) ≡ without_leading_spaces bytes → drop (length bytes) bytes ≡ without_leading_spaces bytes
+pub spaces_end : (bytes : List ℕ) (k : ℕ) → length bytes ≤ k → without_leading_spaces (drop k bytes) ≡ without_leading_spaces bytes
+    → drop (length bytes) bytes ≡ without_leading_spaces bytes
 unfolding without_leading_spaces
 spaces_end bytes k past so_far = drop_all (length bytes) bytes (omega arith) ∙ ap without_leading_spaces (sym (drop_all k bytes past)) ∙ so_far
 
@@ -211,9 +224,11 @@ same_last : (item : ℕ) (xs : List ℕ) (x : ℕ) → x ≡ item → without_tr
 same_last item xs x is = ap (λ y. without_trailing item (xs ++ y ∷ [])) is ∙ last-same item xs
 
 -- the items so far: the next one is this one, or it is the last so far that isn't
-pub same_next : (item : ℕ) (xs : List ℕ) (used k d : ℕ) → take used xs ≡ without_trailing item (take k xs) → get_or xs k d ≡ item → k < length xs → take used xs ≡ without_trailing item (take (k + 1) xs)
+pub same_next : (item : ℕ) (xs : List ℕ) (used k d : ℕ) → take used xs ≡ without_trailing item (take k xs) → get_or xs k d ≡ item → k < length xs
+    → take used xs ≡ without_trailing item (take (k + 1) xs)
 same_next item xs used k d h is lt = h ∙ sym (same_last item (take k xs) (get_or xs k d) is) ∙ ap (without_trailing item) (sym (take_more xs k d lt))
 
 pub other_next : (item : ℕ) (xs : List ℕ) (k d : ℕ) → get_or xs k d ≢ item → k < length xs → take (k + 1) xs ≡ without_trailing item (take (k + 1) xs)
 other_next item xs k d other lt =
-    take_more xs k d lt ∙ sym (last-other item (take k xs) (get_or xs k d) (differs (get_or xs k d) item other)) ∙ ap (without_trailing item) (sym (take_more xs k d lt))
+    take_more xs k d lt ∙ sym (last-other item (take k xs) (get_or xs k d) (differs (get_or xs k d) item other))
+    ∙ ap (without_trailing item) (sym (take_more xs k d lt))

@@ -26,7 +26,8 @@ fit_trimmed (w ∷ ws) h =
     let parts = and_parts (nat_lt w (2 ^ 32)) (are_words ws) h in
     fit_unless w (without_trailing 0 ws) parts.0 (fit_trimmed ws parts.1)
 
-plain_fits : (base size final_pc start : ℕ) (ws : List ℕ) → is_size base size ≡ true → is_inside base size final_pc ≡ true → length ws ≤ size → nat_lt start (2 ^ 32) ≡ true → are_words ws ≡ true
+plain_fits : (base size final_pc start : ℕ) (ws : List ℕ) → is_size base size ≡ true → is_inside base size final_pc ≡ true → length ws ≤ size
+    → nat_lt start (2 ^ 32) ≡ true → are_words ws ≡ true
     → Spelled (spelling (plain_image base size final_pc start ws)) (plain_image base size final_pc start ws)
 unfolding all_after
 plain_fits base size final_pc start ws sized inside few begins fit = record {

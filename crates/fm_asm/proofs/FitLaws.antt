@@ -1,5 +1,6 @@
 -- The numbers of a text have 32 bits.
-use Rattle.std.proofs.Common.{◌≡◌, ℕ, ℤ, pos, negsuc, ◌+◌, ◌-◌, ◌*◌, ◌/◌, ◌%◌, ◌^◌, ◌<◌, ◌≤◌, ◌==◌, Bool, true, false, cond, List, [], ◌∷◌, ◌++◌, length, Option, Some, None, option_map, refl, sym, ap, subst, ◌∙◌, arith, nat_lt, nat_le, leb-true, ltb-true}
+use Rattle.std.proofs.Common.{◌≡◌, ℕ, ℤ, pos, negsuc, ◌+◌, ◌-◌, ◌*◌, ◌/◌, ◌%◌, ◌^◌, ◌<◌, ◌≤◌, ◌==◌, Bool, true, false, cond, List, [], ◌∷◌, ◌++◌, length}
+use Rattle.std.proofs.Common.{Option, Some, None, option_map, refl, sym, ap, subst, ◌∙◌, arith, nat_lt, nat_le, leb-true, ltb-true}
 use Rattle.std.specs.Prelude.{option_to_list}
 use Rattle.std.specs.Int.{w32, from_be_bytes}
 use Rattle.std.specs.List.{list_all}
@@ -20,7 +21,9 @@ use Rattle.fm_asm.specs.Statements.{Statement, base, size, final, start, word, i
 use Rattle.fm_asm.specs.Lines.{Said, Line}
 use Rattle.fm_asm.specs.Sources.{word_count}
 use Rattle.fm_asm.specs.Labels.{is_labelled, offset_of, number_of}
-use Rattle.fm_asm.specs.Assembly.{IsHexadecimal, SpellsValue, decimal as in_decimal, hexadecimal, named as in_name, SpellsOperand, immediate, place as in_place, SpellsInstruction, SpellsStatement, says_base, says_size, says_final, says_start, says_word, says_instruction, SpellsSaid, nothing, statement_alone, label_alone, label_and_statement, AreLines, no_line, one_line, statements_of}
+use Rattle.fm_asm.specs.Assembly.{IsHexadecimal, SpellsValue, decimal as in_decimal, hexadecimal, named as in_name, SpellsOperand, immediate, place as in_place}
+use Rattle.fm_asm.specs.Assembly.{SpellsInstruction, SpellsStatement, says_base, says_size, says_final, says_start, says_word, says_instruction, SpellsSaid}
+use Rattle.fm_asm.specs.Assembly.{nothing, statement_alone, label_alone, label_and_statement, AreLines, no_line, one_line, statements_of}
 use Rattle.fm_asm.proofs.TextLaws.{all-append}
 use Rattle.fm_asm.proofs.SourceLaws.{statements-kept}
 use Rattle.fm_asm.proofs.JudgingLaws.{word_total}
@@ -109,7 +112,8 @@ significant_below w = by_test (w / 2 ^ 9 % 2 == 1)
     by_test false = omega arith
 
 encoded_below : (i : Instr) → IsInstr i → encode_of i < 2 ^ 28
-encoded_below i h = subst (λ (w : ℕ). w < 2 ^ 28) (sym (encode_decode (encode_of i)) ∙ ap (λ (j : Instr). encode_of j) (decode_encode i h)) (significant_below (encode_of i))
+encoded_below i h = subst (λ (w : ℕ). w < 2 ^ 28) (sym (encode_decode (encode_of i)) ∙ ap (λ (j : Instr). encode_of j) (decode_encode i h))
+    (significant_below (encode_of i))
 
 instruction_fits : (text : List ℕ) (w : Option ℕ) → SpellsInstruction text w → number_fits w ≡ true
 unfolding number_fits
@@ -119,11 +123,13 @@ instruction_fits text w i = by_operand i.a refl
     wider n h = omega arith
 
     by_operand : (o : Option OperandA) → i.a ≡ o → number_fits w ≡ true
-    by_operand None is = ap number_fits (i.word_is ∙ ap (option_map (λ a. encode_of (record { op = i.op; cc = i.condition; set = i.set; mode_b = i.mode; reg_b = i.reg; a = a }))) is)
+    by_operand None is = ap number_fits (i.word_is ∙ ap
+        (option_map (λ a. encode_of (record { op = i.op; cc = i.condition; set = i.set; mode_b = i.mode; reg_b = i.reg; a = a }))) is)
     by_operand (Some a) is =
         let it : Instr = record { op = i.op; cc = i.condition; set = i.set; mode_b = i.mode; reg_b = i.reg; a = a } in
         let bound = encoded_below it (i.register, operand_small i.operand i.a a i.operand_is is) in
-        ap number_fits (i.word_is ∙ ap (option_map (λ a. encode_of (record { op = i.op; cc = i.condition; set = i.set; mode_b = i.mode; reg_b = i.reg; a = a }))) is)
+        ap number_fits (i.word_is ∙ ap (option_map
+        (λ a. encode_of (record { op = i.op; cc = i.condition; set = i.set; mode_b = i.mode; reg_b = i.reg; a = a }))) is)
         ∙ below-small (encode_of it) (wider (encode_of it) bound)
 
 written_statement_fits : (text : List ℕ) (s : Statement) → SpellsStatement text s → statement_fits s ≡ true
@@ -141,29 +147,34 @@ said_fits _ _ (statement_alone text s h) = and_from (statement_fits s) true (wri
 said_fits _ _ (label_alone name h) = refl
 said_fits _ _ (label_and_statement name gap text s named spaces h) = and_from (statement_fits s) true (written_statement_fits text s h) refl
 
-pub lines_fit : (place offset : ℕ) (texts : List (List ℕ)) (lines : List Line) → AreLines place offset texts lines → list_all statement_fits (statements_of lines) ≡ true
+pub lines_fit : (place offset : ℕ) (texts : List (List ℕ)) (lines : List Line) → AreLines place offset texts lines
+    → list_all statement_fits (statements_of lines) ≡ true
 lines_fit _ _ _ _ (no_line place offset) = refl
 lines_fit _ _ _ _ (one_line place offset bytes said rest lines is_line are) =
     ap (list_all statement_fits) (statements-kept place offset said lines)
-    ∙ all-append statement_fits (option_to_list said.statement) (statements_of lines) (said_fits _ said is_line.written) (lines_fit (place + length bytes + 1) (offset + word_count said.statement) rest lines are)
+    ∙ all-append statement_fits (option_to_list said.statement) (statements_of lines) (said_fits _ said is_line.written)
+    (lines_fit (place + length bytes + 1) (offset + word_count said.statement) rest lines are)
 
 -- ---- a label is no further than the words
 
-offset_within : (offset : ℕ) (lines : List Line) (name : List ℕ) (o : ℕ) → HasOffsets offset lines → offset_of lines name ≡ Some o → o ≤ offset + word_total (statements_of lines)
+offset_within : (offset : ℕ) (lines : List Line) (name : List ℕ) (o : ℕ) → HasOffsets offset lines → offset_of lines name ≡ Some o
+    → o ≤ offset + word_total (statements_of lines)
 unfolding HasOffsets offset_of word_total
 offset_within offset [] name o h is = absurd cc
 offset_within offset (line ∷ lines) name o h is =
     by_label (is_labelled name line.said.label) line.said.statement h.1 is (λ p hs ks. offset_within p lines name o hs ks)
   where
     by_label : (t : Bool) (s : Option Statement) → HasOffsets (offset + word_count s) lines → cond t (Some line.offset) (offset_of lines name) ≡ Some o
-        → ((p : ℕ) → HasOffsets p lines → offset_of lines name ≡ Some o → o ≤ p + word_total (statements_of lines)) → o ≤ offset + word_total (option_to_list s ++ statements_of lines)
+        → ((p : ℕ) → HasOffsets p lines → offset_of lines name ≡ Some o → o ≤ p + word_total (statements_of lines))
+        → o ≤ offset + word_total (option_to_list s ++ statements_of lines)
     by_label true None hs k later = let same = by_some line.offset o k in let at = h.0 in omega arith
     by_label true (Some s) hs k later = let same = by_some line.offset o k in let at = h.0 in omega arith
     by_label false None hs k later = let l = later (offset + 0) hs k in omega arith
     by_label false (Some s) hs k later = let l = later (offset + word_count (Some s)) hs k in omega arith
 
 -- the value that is written has 32 bits, where the words are few
-pub valued_fits : (b n : ℕ) (lines : List Line) (v : Value) (w : ℕ) → HasOffsets 0 lines → word_total (statements_of lines) ≤ n → b + n ≤ 2 ^ 32 - 1 → value_fits v ≡ true
+pub valued_fits : (b n : ℕ) (lines : List Line) (v : Value) (w : ℕ) → HasOffsets 0 lines → word_total (statements_of lines) ≤ n → b + n ≤ 2 ^ 32 - 1
+    → value_fits v ≡ true
     → number_of b (offset_of lines) v ≡ Some w → w < 2 ^ 32
 unfolding number_of value_fits number_fits
 valued_fits b n lines (number None) w offsets few limit fits is = absurd cc

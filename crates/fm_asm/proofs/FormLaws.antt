@@ -1,5 +1,6 @@
 -- The fault of a text's form is the least of all breaches of rules 1 to 3.
-use Rattle.std.proofs.Common.{◌≡◌, ℕ, suc, ◌+◌, ◌<◌, ◌==◌, ◌&&◌, ◌||◌, Bool, true, false, cond, not, List, [], ◌∷◌, length, Option, Some, None, Result, Ok, Err, refl, sym, ap, subst, ◌∙◌, arith, nat_lt}
+use Rattle.std.proofs.Common.{◌≡◌, ℕ, suc, ◌+◌, ◌<◌, ◌==◌, ◌&&◌, ◌||◌, Bool, true, false, cond, not, List, [], ◌∷◌, length, Option, Some, None, Result, Ok, Err}
+use Rattle.std.proofs.Common.{refl, sym, ap, subst, ◌∙◌, arith, nat_lt}
 use Rattle.std.specs.List.{slice_split, onto_first}
 use Rattle.std.proofs.lemmas.Bool.Decides.{nat_tests}
 use Rattle.stack_text.specs.Breaches.{when, lesser_of, least}
@@ -15,7 +16,8 @@ use Rattle.fm_asm.specs.Statements.{Statement, base, size, final, start, word, i
 use Rattle.stack_text.specs.Lines.{is_plain_line}
 use Rattle.fm_asm.specs.Lines.{Said, Line, text_of, statement_or_none, said_by, said_in}
 use Rattle.fm_asm.specs.FormBreaches.{breach_at, said_breaches, form_breaches, due_after_read, end_breaches, lines_breaches, text_breaches, fault_in}
-use Rattle.fm_asm.specs.Sources.{if_in_range, if_encoded, size_due, final_due, due_after, due_after_line, at_place, if_of_form, said_of_line, line_read, word_count, kept, SourceOf, window_of, with_lines, lines_read, source_in}
+use Rattle.fm_asm.specs.Sources.{if_in_range, if_encoded, size_due, final_due, due_after, due_after_line, at_place, if_of_form, said_of_line, line_read}
+use Rattle.fm_asm.specs.Sources.{word_count, kept, SourceOf, window_of, with_lines, lines_read, source_in}
 use Rattle.fm_asm.proofs.SourceLaws.{paired}
 
 -- ---- where a breach is
@@ -62,7 +64,8 @@ form_after : (p place : ℕ) (d : Due) (bytes : List ℕ) → p < place → IsAf
 unfolding form_breaches
 form_after p place d bytes h =
     subst (IsAfter p) (sym (least-append (when (not (is_plain_line bytes)) place 1) (said_breaches d place (said_in (text_of bytes)))))
-    (lesser_after p (least (when (not (is_plain_line bytes)) place 1)) (least (said_breaches d place (said_in (text_of bytes)))) (when_after p place 1 (not (is_plain_line bytes)) h) (said_after p place d (said_in (text_of bytes)) h))
+    (lesser_after p (least (when (not (is_plain_line bytes)) place 1)) (least (said_breaches d place (said_in (text_of bytes))))
+    (when_after p place 1 (not (is_plain_line bytes)) h) (said_after p place d (said_in (text_of bytes)) h))
 
 end_after : (p end : ℕ) (o : Option (ℕ × ℕ)) → p < end → IsAfter p (least (end_breaches end o))
 unfolding IsAfter
@@ -73,8 +76,10 @@ lines_after : (p end place : ℕ) (d : Due) (texts : List (List ℕ)) → p < pl
 unfolding lines_breaches
 lines_after p end place d [] h k = end_after p end (window_of d) k
 lines_after p end place d (bytes ∷ rest) h k =
-    subst (IsAfter p) (sym (least-append (form_breaches d place bytes) (lines_breaches end (place + length bytes + 1) (due_after_read d (line_read d bytes)) rest)))
-    (lesser_after p (least (form_breaches d place bytes)) (least (lines_breaches end (place + length bytes + 1) (due_after_read d (line_read d bytes)) rest)) (form_after p place d bytes h)
+    subst (IsAfter p) (sym (least-append (form_breaches d place bytes)
+    (lines_breaches end (place + length bytes + 1) (due_after_read d (line_read d bytes)) rest)))
+    (lesser_after p (least (form_breaches d place bytes))
+    (least (lines_breaches end (place + length bytes + 1) (due_after_read d (line_read d bytes)) rest)) (form_after p place d bytes h)
     (lines_after p end (place + length bytes + 1) (due_after_read d (line_read d bytes)) rest (omega arith) k))
 
 -- the fault of a line is the least of its breaches
@@ -98,7 +103,8 @@ unfolding total
 total_split [] = refl
 total_split (b ∷ text) = by_test (b == 10) (total_split text)
   where
-    by_test : (t : Bool) → total (slice_split (λ c. c == 10) text) ≡ length text + 1 → total (cond t ([] ∷ slice_split (λ c. c == 10) text) (onto_first b (slice_split (λ c. c == 10) text))) ≡ suc (length text) + 1
+    by_test : (t : Bool) → total (slice_split (λ c. c == 10) text) ≡ length text + 1
+        → total (cond t ([] ∷ slice_split (λ c. c == 10) text) (onto_first b (slice_split (λ c. c == 10) text))) ≡ suc (length text) + 1
     by_test true h = omega arith
     by_test false h = let o = total_onto b (slice_split (λ c. c == 10) text) (omega arith) in omega arith
 
@@ -173,7 +179,8 @@ line_above d (Some s) = due_above d s
 
 -- ---- one line
 
-rule_first : (place : ℕ) (r : Result Due ℕ) → IsAbove r → lesser_of (Some (record { rule = 1; place = place })) (least (breach_at place r)) ≡ Some (record { rule = 1; place = place })
+rule_first : (place : ℕ) (r : Result Due ℕ) → IsAbove r → lesser_of (Some (record { rule = 1; place = place })) (least (breach_at place r))
+    ≡ Some (record { rule = 1; place = place })
 unfolding IsAbove
 rule_first place (Ok d) h = refl
 rule_first place (Err rule) h = rw test refl
@@ -181,12 +188,14 @@ rule_first place (Err rule) h = rw test refl
     test : (nat_lt place place || (place == place && nat_lt rule 1)) ≡ false
     test = grind (arith, nat_tests)
 
-said_first : (place : ℕ) (d : Due) (o : Option Said) → lesser_of (Some (record { rule = 1; place = place })) (least (said_breaches d place o)) ≡ Some (record { rule = 1; place = place })
+said_first : (place : ℕ) (d : Due) (o : Option Said) → lesser_of (Some (record { rule = 1; place = place })) (least (said_breaches d place o))
+    ≡ Some (record { rule = 1; place = place })
 unfolding IsAbove
 said_first place d None = rule_first place (Err 2) (omega arith)
 said_first place d (Some said) = rule_first place (due_after_line d said.statement) (line_above d said.statement)
 
-said_rule : (place : ℕ) (d : Due) (o : Option Said) → least (said_breaches d place o) ≡ rule_at place (if_of_form o >>= λ said. due_after_line d said.statement >>= λ next. paired said next)
+said_rule : (place : ℕ) (d : Due) (o : Option Said) → least (said_breaches d place o)
+    ≡ rule_at place (if_of_form o >>= λ said. due_after_line d said.statement >>= λ next. paired said next)
 said_rule place d None = refl
 said_rule place d (Some said) = by_due (due_after_line d said.statement)
   where
@@ -196,7 +205,8 @@ said_rule place d (Some said) = by_due (due_after_line d said.statement)
 
 line_rule : (place : ℕ) (d : Due) (bytes : List ℕ) → least (form_breaches d place bytes) ≡ rule_at place (line_read d bytes)
 unfolding form_breaches line_read said_of_line
-line_rule place d bytes = least-append (when (not (is_plain_line bytes)) place 1) (said_breaches d place (said_in (text_of bytes))) ∙ by_plain (is_plain_line bytes)
+line_rule place d bytes =
+    least-append (when (not (is_plain_line bytes)) place 1) (said_breaches d place (said_in (text_of bytes))) ∙ by_plain (is_plain_line bytes)
   where
     by_plain : (t : Bool) → lesser_of (least (when (not t) place 1)) (least (said_breaches d place (said_in (text_of bytes))))
         ≡ rule_at place (cond t (if_of_form (said_in (text_of bytes))) (Err 1) >>= λ said. due_after_line d said.statement >>= λ next. paired said next)
@@ -214,17 +224,22 @@ unfolding line_read said_of_line is_plain_line text_of said_in said_by statement
 no_byte d [] rule h = absurd cc
 no_byte d (b ∷ bytes) rule h = omega arith
 
-one_line : (end place offset : ℕ) (d : Due) (bytes : List ℕ) (rest : List (List ℕ)) (r : Result (Said × Due) ℕ) → line_read d bytes ≡ r → place + (length bytes + 1 + total rest) ≡ end + 1
+one_line : (end place offset : ℕ) (d : Due) (bytes : List ℕ) (rest : List (List ℕ)) (r : Result (Said × Due) ℕ) → line_read d bytes ≡ r
+    → place + (length bytes + 1 + total rest) ≡ end + 1
     → ((o : ℕ) (e : Due) → least (lines_breaches end (place + length bytes + 1) e rest) ≡ fault_in (lines_read end (place + length bytes + 1) o e rest))
     → lesser_of (rule_at place r) (least (lines_breaches end (place + length bytes + 1) (due_after_read d r) rest))
-    ≡ fault_in (at_place place r >>= λ next. with_lines (kept (record { place = place; offset = offset; said = next.0 })) (lines_read end (place + length bytes + 1) (offset + word_count next.0.statement) next.1 rest))
+    ≡ fault_in (at_place place r >>= λ next. with_lines (kept (record { place = place; offset = offset; said = next.0 }))
+    (lines_read end (place + length bytes + 1) (offset + word_count next.0.statement) next.1 rest))
 one_line end place offset d bytes rest (Err rule) is long later =
     let some = no_byte d bytes rule is in
-    stays (record { rule = rule; place = place }) (least (lines_breaches end (place + length bytes + 1) d rest)) (lines_after place end (place + length bytes + 1) d rest (omega arith) (omega arith))
+    stays (record { rule = rule; place = place }) (least (lines_breaches end (place + length bytes + 1) d rest))
+    (lines_after place end (place + length bytes + 1) d rest (omega arith) (omega arith))
 one_line end place offset d bytes rest (Ok x) is long later =
-    later (offset + word_count x.0.statement) x.1 ∙ kept_fault (kept (record { place = place; offset = offset; said = x.0 })) (lines_read end (place + length bytes + 1) (offset + word_count x.0.statement) x.1 rest)
+    later (offset + word_count x.0.statement) x.1 ∙ kept_fault (kept (record { place = place; offset = offset; said = x.0 }))
+    (lines_read end (place + length bytes + 1) (offset + word_count x.0.statement) x.1 rest)
 
-all_lines : (end place offset : ℕ) (d : Due) (texts : List (List ℕ)) → place + total texts ≡ end + 1 → least (lines_breaches end place d texts) ≡ fault_in (lines_read end place offset d texts)
+all_lines : (end place offset : ℕ) (d : Due) (texts : List (List ℕ)) → place + total texts ≡ end + 1
+    → least (lines_breaches end place d texts) ≡ fault_in (lines_read end place offset d texts)
 unfolding lines_breaches lines_read total
 all_lines end place offset due.Base [] long = refl
 all_lines end place offset (due.Size b) [] long = refl
@@ -233,7 +248,8 @@ all_lines end place offset (due.Start b n) [] long = refl
 all_lines end place offset (due.Words b n) [] long = refl
 all_lines end place offset d (bytes ∷ rest) long =
     least-append (form_breaches d place bytes) (lines_breaches end (place + length bytes + 1) (due_after_read d (line_read d bytes)) rest)
-    ∙ ap (λ (o : Option Breach). lesser_of o (least (lines_breaches end (place + length bytes + 1) (due_after_read d (line_read d bytes)) rest))) (line_rule place d bytes)
+    ∙ ap (λ (o : Option Breach). lesser_of o (least (lines_breaches end (place + length bytes + 1) (due_after_read d (line_read d bytes)) rest)))
+    (line_rule place d bytes)
     ∙ one_line end place offset d bytes rest (line_read d bytes) refl long (λ o e. all_lines end (place + length bytes + 1) o e rest (omega arith))
 
 -- the fault of a text's form is the least of them

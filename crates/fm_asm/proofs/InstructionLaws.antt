@@ -1,5 +1,6 @@
 -- Instructions are read from what they are written as.
-use Rattle.std.proofs.Common.{◌≡◌, ℕ, ◌+◌, ◌-◌, ◌/◌, ◌%◌, ◌<◌, ◌≤◌, ◌==◌, ◌&&◌, Bool, true, false, not, List, [], ◌∷◌, ◌++◌, length, Option, Some, None, option_map, refl, sym, ap, ◌∙◌, arith, codes, append-nil, append_assoc, ⊎_elim, eqb-true, nat_le}
+use Rattle.std.proofs.Common.{◌≡◌, ℕ, ◌+◌, ◌-◌, ◌/◌, ◌%◌, ◌<◌, ◌≤◌, ◌==◌, ◌&&◌, Bool, true, false, not, List, [], ◌∷◌, ◌++◌, length, Option, Some, None}
+use Rattle.std.proofs.Common.{option_map, refl, sym, ap, ◌∙◌, arith, codes, append-nil, append_assoc, ⊎_elim, eqb-true, nat_le}
 use Rattle.std.specs.Fmt.{decimal, digits}
 use Rattle.std.specs.List.{list_all}
 use Rattle.std.specs.Char.{is_ascii_digit}
@@ -18,7 +19,9 @@ use Rattle.fm_words.specs.declared.instruction.Mode.TheVariants.{Register, Indir
 use Rattle.fm_words.specs.declared.instruction.OperandA.{OperandA}
 use Rattle.fm_show.specs.Disassembly.{operation_name, condition_text, flags_text, register_name, place_text}
 use Rattle.fm_asm.specs.Cuts.{cut, split_once, after_prefix}
-use Rattle.fm_asm.specs.Instructions.{operation_in, condition_named, condition_in, letter_in, flag_letters_in, flags_in, named_in, head_in, register_in, closing_mode, indirect_in, decrement_in, direct_in, place_in, immediate_in, as_operand, operand_by, operand_in, instruction_in}
+use Rattle.fm_asm.specs.Instructions.{operation_in, condition_named, condition_in, letter_in, flag_letters_in, flags_in, named_in, head_in, register_in}
+use Rattle.fm_asm.specs.Instructions.{closing_mode, indirect_in, decrement_in, direct_in, place_in, immediate_in, as_operand, operand_by, operand_in}
+use Rattle.fm_asm.specs.Instructions.{instruction_in}
 use Rattle.fm_asm.specs.Assembly.{SpellsOperand, immediate, place, SpellsInstruction}
 use Rattle.fm_asm.proofs.CutLaws.{lacks, lacks-append, cut-append, cut-lacks, split_once-append}
 use Rattle.fm_asm.proofs.ValueLaws.{if_true, digits_lack}
@@ -81,7 +84,8 @@ bracketed : (k : Cc) (text : List ℕ) → condition_text k ≡ 91 ∷ text → 
     → lacks 123 (condition_text k) ≡ true → lacks 32 (condition_text k) ≡ true → lacks 58 (condition_text k) ≡ true
     → list_all is_text_byte (condition_text k) ≡ true → nat_le (length (condition_text k)) 4 ≡ true → IsBracketed k
 unfolding tail
-bracketed k text is reads braces spaces colons all few = record { rest = Some text; text = is; read = reads; braceless = braces; spaceless = spaces; colonless = colons; bytes = all; short = few }
+bracketed k text is reads braces spaces colons all few =
+    record { rest = Some text; text = is; read = reads; braceless = braces; spaceless = spaces; colonless = colons; bytes = all; short = few }
 
 pub condition_bracketed : (k : Cc) → IsBracketed k
 unfolding tail condition_in condition_named cut split_once
@@ -113,10 +117,12 @@ pub record IsBraced (f : Flags) : Type 0 where
   pub bytes : list_all is_text_byte (flags_text f) ≡ true
   pub short : nat_le (length (flags_text f)) 6 ≡ true
 
-braced : (f : Flags) (text : List ℕ) → flags_text f ≡ 123 ∷ text → flags_in (Some text) ≡ Some f → lacks 32 (flags_text f) ≡ true → lacks 58 (flags_text f) ≡ true
+braced : (f : Flags) (text : List ℕ) → flags_text f ≡ 123 ∷ text → flags_in (Some text) ≡ Some f → lacks 32 (flags_text f) ≡ true
+    → lacks 58 (flags_text f) ≡ true
     → list_all is_text_byte (flags_text f) ≡ true → nat_le (length (flags_text f)) 6 ≡ true → IsBraced f
 unfolding tail
-braced f text is reads spaces colons all few = record { rest = Some text; text = is; read = reads; spaceless = spaces; colonless = colons; bytes = all; short = few }
+braced f text is reads spaces colons all few =
+    record { rest = Some text; text = is; read = reads; spaceless = spaces; colonless = colons; bytes = all; short = few }
 
 bits_braced : (c v n z : Bool) → IsBraced (record { c = c; v = v; n = n; z = z })
 unfolding tail flags_in flag_letters_in letter_in after_prefix
@@ -154,7 +160,8 @@ named_read op k =
     let n = operation_named op in
     let b = condition_bracketed k in
     let text : operation_name op ++ condition_text k ≡ operation_name op ++ tail 91 b.rest = ap (λ t. operation_name op ++ t) b.text in
-    let parts : cut 91 (operation_name op ++ condition_text k) ≡ (operation_name op, b.rest) = ap (cut 91) text ∙ cut-tail 91 (operation_name op) b.rest n.bracketless in
+    let parts : cut 91 (operation_name op ++ condition_text k) ≡ (operation_name op, b.rest) =
+    ap (cut 91) text ∙ cut-tail 91 (operation_name op) b.rest n.bracketless in
     rw parts (rw (n.read, b.read) refl)
 
 pub head_read : (op : Op) (k : Cc) (f : Flags) → head_in (head_text op k f) ≡ Some (op, k, f)
@@ -164,7 +171,8 @@ head_read op k f =
     let b = condition_bracketed k in
     let g = flags_braced f in
     let front = operation_name op ++ condition_text k in
-    let braceless : lacks 123 (operation_name op ++ condition_text k) ≡ true = lacks-append 123 (operation_name op) (condition_text k) n.braceless b.braceless in
+    let braceless : lacks 123 (operation_name op ++ condition_text k) ≡ true =
+    lacks-append 123 (operation_name op) (condition_text k) n.braceless b.braceless in
     let parts : cut 123 ((operation_name op ++ condition_text k) ++ flags_text f) ≡ (operation_name op ++ condition_text k, g.rest) =
     ap (λ t. cut 123 ((operation_name op ++ condition_text k) ++ t)) g.text ∙ cut-tail 123 (operation_name op ++ condition_text k) g.rest braceless in
     rw parts (rw (named_read op k, g.read) refl)
@@ -213,7 +221,8 @@ register_text r h =
     record { read = ap register_in text ∙ one_digit r small; are_digits = ap is_digits text ∙ shown })
     (λ big.
     let tens : r / 10 ≡ 1 = omega arith in
-    let text : decimal r ≡ 49 ∷ (48 + r % 10) ∷ [] = decimal_step r big (omega arith) ∙ ap (λ n. decimal n ++ ((48 + r % 10) ∷ [])) tens ∙ ap (λ ds. ds ++ ((48 + r % 10) ∷ [])) (decimal_digit 1 (omega arith)) in
+    let text : decimal r ≡ 49 ∷ (48 + r % 10) ∷ [] = decimal_step r big (omega arith) ∙ ap (λ n. decimal n ++ ((48 + r % 10) ∷ [])) tens
+    ∙ ap (λ ds. ds ++ ((48 + r % 10) ∷ [])) (decimal_digit 1 (omega arith)) in
     let shown : is_digits (49 ∷ (48 + r % 10) ∷ []) ≡ true = rw (digit_is (r % 10) (omega arith)) refl in
     record { read = ap register_in text ∙ two_digits r big h; are_digits = ap is_digits text ∙ shown })
     (cases_lt r 10)
@@ -231,7 +240,8 @@ place_read PreDecrement r h =
     let parts : split_once 41 (decimal r ++ 41 ∷ []) ≡ Some (decimal r, []) = split_once-append 41 (decimal r) [] (register_lacks 41 r refl h) in
     rw parts (rw (register_text r h).read refl)
 place_read PostIncrement r h =
-    let parts : split_once 41 (decimal r ++ 41 ∷ 43 ∷ []) ≡ Some (decimal r, 43 ∷ []) = split_once-append 41 (decimal r) (43 ∷ []) (register_lacks 41 r refl h) in
+    let parts : split_once 41 (decimal r ++ 41 ∷ 43 ∷ []) ≡ Some (decimal r, 43 ∷ []) =
+    split_once-append 41 (decimal r) (43 ∷ []) (register_lacks 41 r refl h) in
     rw parts (rw (register_text r h).read refl)
 
 pub place_lacks : (byte : ℕ) (m : Mode) (r : ℕ) → is_ascii_digit byte ≡ false → lacks byte (codes "r()-+") ≡ true → r < 16 → lacks byte (place_text m r) ≡ true
@@ -240,18 +250,23 @@ place_lacks byte m r fails marks h =
     let b = and_parts (not (40 == byte)) (lacks byte (41 ∷ 45 ∷ 43 ∷ [])) a.1 in
     let c = and_parts (not (41 == byte)) (lacks byte (45 ∷ 43 ∷ [])) b.1 in
     let d = and_parts (not (45 == byte)) (lacks byte (43 ∷ [])) c.1 in
-    by_mode m (and_from (not (114 == byte)) true a.0 refl) (and_from (not (40 == byte)) true b.0 refl) (and_from (not (41 == byte)) true c.0 refl) (and_from (not (45 == byte)) true d.0 refl) d.1
+    by_mode m (and_from (not (114 == byte)) true a.0 refl) (and_from (not (40 == byte)) true b.0 refl) (and_from (not (41 == byte)) true c.0 refl)
+    (and_from (not (45 == byte)) true d.0 refl) d.1
   where
     name : lacks byte (114 ∷ []) ≡ true → lacks byte (register_name r) ≡ true
     name k = lacks-append byte (codes "r") (decimal r) k (register_lacks byte r fails h)
 
-    by_mode : (m : Mode) → lacks byte (114 ∷ []) ≡ true → lacks byte (40 ∷ []) ≡ true → lacks byte (41 ∷ []) ≡ true → lacks byte (45 ∷ []) ≡ true → lacks byte (43 ∷ []) ≡ true → lacks byte (place_text m r) ≡ true
+    by_mode : (m : Mode) → lacks byte (114 ∷ []) ≡ true → lacks byte (40 ∷ []) ≡ true → lacks byte (41 ∷ []) ≡ true → lacks byte (45 ∷ []) ≡ true
+        → lacks byte (43 ∷ []) ≡ true → lacks byte (place_text m r) ≡ true
     by_mode Register k opens closes minus plus = name k
-    by_mode Indirect k opens closes minus plus = lacks-append byte (codes "(" ++ register_name r) (codes ")") (lacks-append byte (codes "(") (register_name r) opens (name k)) closes
+    by_mode Indirect k opens closes minus plus =
+        lacks-append byte (codes "(" ++ register_name r) (codes ")") (lacks-append byte (codes "(") (register_name r) opens (name k)) closes
     by_mode PreDecrement k opens closes minus plus =
-        lacks-append byte (codes "-(" ++ register_name r) (codes ")") (lacks-append byte (codes "-(") (register_name r) (lacks-append byte (45 ∷ []) (40 ∷ []) minus opens) (name k)) closes
+        lacks-append byte (codes "-(" ++ register_name r) (codes ")")
+        (lacks-append byte (codes "-(") (register_name r) (lacks-append byte (45 ∷ []) (40 ∷ []) minus opens) (name k)) closes
     by_mode PostIncrement k opens closes minus plus =
-        lacks-append byte (codes "(" ++ register_name r) (codes ")+") (lacks-append byte (codes "(") (register_name r) opens (name k)) (lacks-append byte (41 ∷ []) (43 ∷ []) closes plus)
+        lacks-append byte (codes "(" ++ register_name r) (codes ")+") (lacks-append byte (codes "(") (register_name r) opens (name k))
+        (lacks-append byte (41 ∷ []) (43 ∷ []) closes plus)
 
 -- ---- operand A
 
@@ -294,7 +309,8 @@ unfoldable pub operands_text : Mode → ℕ → List ℕ → List ℕ
 operands_text m r operand = place_text m r ++ 44 ∷ operand
 
 pub regrouped : (op : Op) (k : Cc) (f : Flags) (m : Mode) (r : ℕ) (operand : List ℕ)
-    → operation_name op ++ condition_text k ++ flags_text f ++ codes " " ++ place_text m r ++ codes "," ++ operand ≡ head_text op k f ++ 32 ∷ operands_text m r operand
+    → operation_name op ++ condition_text k ++ flags_text f ++ codes " " ++ place_text m r ++ codes "," ++ operand ≡ head_text op k f ++ 32
+    ∷ operands_text m r operand
 unfolding head_text operands_text
 regrouped op k f m r operand = simp append_assoc
 
@@ -302,5 +318,7 @@ pub instruction_read : (text : List ℕ) (w : Option ℕ) (i : SpellsInstruction
     → instruction_in (head_text i.op i.condition i.set) (operands_text i.mode i.reg i.operand) ≡ Some w
 unfolding instruction_in operands_text
 instruction_read text w i =
-    let parts : split_once 44 (place_text i.mode i.reg ++ 44 ∷ i.operand) ≡ Some (place_text i.mode i.reg, i.operand) = split_once-append 44 (place_text i.mode i.reg) i.operand (place_lacks 44 i.mode i.reg refl refl i.register) in
-    rw parts (rw (head_read i.op i.condition i.set, place_read i.mode i.reg i.register, operand_read i.operand i.a i.operand_is) (ap (λ (x : Option ℕ). Some x) (sym i.word_is)))
+    let parts : split_once 44 (place_text i.mode i.reg ++ 44 ∷ i.operand) ≡ Some (place_text i.mode i.reg, i.operand) =
+    split_once-append 44 (place_text i.mode i.reg) i.operand (place_lacks 44 i.mode i.reg refl refl i.register) in
+    rw parts (rw (head_read i.op i.condition i.set, place_read i.mode i.reg i.register, operand_read i.operand i.a i.operand_is)
+    (ap (λ (x : Option ℕ). Some x) (sym i.word_is)))

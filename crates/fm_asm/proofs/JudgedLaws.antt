@@ -1,5 +1,6 @@
 -- What judging a source gives, from what its parts give.
-use Rattle.std.proofs.Common.{◌≡◌, ℕ, suc, ◌≤◌, ◌==◌, Bool, true, false, cond, arith, List, [], ◌∷◌, ◌++◌, length, map, Option, Some, None, Result, Ok, Err, unwrap_or, refl, sym, ap, ◌∙◌}
+use Rattle.std.proofs.Common.{◌≡◌, ℕ, suc, ◌≤◌, ◌==◌, Bool, true, false, cond, arith, List, [], ◌∷◌, ◌++◌, length, map, Option, Some, None, Result, Ok, Err}
+use Rattle.std.proofs.Common.{unwrap_or, refl, sym, ap, ◌∙◌}
 use Rattle.std.specs.List.{flat_map}
 use Rattle.stack_text.specs.Breaches.{least, Notes}
 use Rattle.stack_text.specs.declared.breach.Breach.{Breach}
@@ -25,25 +26,34 @@ first_value-map g f [] = refl
 first_value-map g f (x ∷ xs) = ap (unwrap_or (f (g x))) (first_value-map g f xs)
 
 -- the source's lines, and a table of their labels
-module _ (s : Source) (lines : List declared.Line) (known : List ℕ → Option ℕ) (same : lines ≡ s.lines.items) (knows : (name : List ℕ) → known name ≡ offset_of (map line_of lines) name) where
+module _ (s : Source) (lines : List declared.Line) (known : List ℕ → Option ℕ) (same : lines ≡ s.lines.items)
+    (knows : (name : List ℕ) → known name ≡ offset_of (map line_of lines) name) where
   known_is : known ≡ offset_of (source_of s).lines
   known_is = λ t name. (knows name ∙ ap (λ (ls : List declared.Line). offset_of (map line_of ls) name) same) t
 
-  pub least_is : (noted best : Option Breach) → Notes None (repeats [] (map line_of lines)) noted → Notes noted (flat_map (λ (line : declared.Line). line_breaches s.base s.size known (line_of line)) lines) best → least (breaches (source_of s)) ≡ best
+  pub least_is : (noted best : Option Breach) → Notes None (repeats [] (map line_of lines)) noted
+      → Notes noted (flat_map (λ (line : declared.Line). line_breaches s.base s.size known (line_of line)) lines) best
+      → least (breaches (source_of s)) ≡ best
   unfolding breaches
   least_is noted best h k =
-      ap (λ (bs : List Breach). least (repeats [] (source_of s).lines ++ bs)) (flat_map-map line_of (line_breaches s.base s.size (offset_of (source_of s).lines)) s.lines.items)
-      ∙ ap (λ (f : List ℕ → Option ℕ). least (repeats [] (map line_of s.lines.items) ++ flat_map (λ (line : declared.Line). line_breaches s.base s.size f (line_of line)) s.lines.items)) (sym known_is)
-      ∙ ap (λ (ls : List declared.Line). least (repeats [] (map line_of ls) ++ flat_map (λ (line : declared.Line). line_breaches s.base s.size known (line_of line)) ls)) (sym same)
-      ∙ sym (notes_more None noted best (repeats [] (map line_of lines)) (flat_map (λ (line : declared.Line). line_breaches s.base s.size known (line_of line)) lines) h k)
+      ap (λ (bs : List Breach). least (repeats [] (source_of s).lines ++ bs))
+      (flat_map-map line_of (line_breaches s.base s.size (offset_of (source_of s).lines)) s.lines.items)
+      ∙ ap (λ (f : List ℕ → Option ℕ). least (repeats [] (map line_of s.lines.items)
+      ++ flat_map (λ (line : declared.Line). line_breaches s.base s.size f (line_of line)) s.lines.items)) (sym known_is)
+      ∙ ap (λ (ls : List declared.Line). least
+      (repeats [] (map line_of ls) ++ flat_map (λ (line : declared.Line). line_breaches s.base s.size known (line_of line)) ls)) (sym same)
+      ∙ sym (notes_more None noted best (repeats [] (map line_of lines))
+      (flat_map (λ (line : declared.Line). line_breaches s.base s.size known (line_of line)) lines) h k)
 
-  pub final_is : (f : ℕ) → f ≡ first_value (λ (line : declared.Line). final_word s.base known (line_of line).said.statement) lines → f ≡ final_in s.base (offset_of (source_of s).lines) (source_of s).lines
+  pub final_is : (f : ℕ) → f ≡ first_value (λ (line : declared.Line). final_word s.base known (line_of line).said.statement) lines
+      → f ≡ final_in s.base (offset_of (source_of s).lines) (source_of s).lines
   final_is f h =
       h ∙ ap (λ (ls : List declared.Line). first_value (λ (line : declared.Line). final_word s.base known (line_of line).said.statement) ls) same
       ∙ ap (λ (k : List ℕ → Option ℕ). first_value (λ (line : declared.Line). final_word s.base k (line_of line).said.statement) s.lines.items) known_is
       ∙ sym (first_value-map line_of (λ (line : Line). final_word s.base (offset_of (source_of s).lines) line.said.statement) s.lines.items)
 
-  pub start_is : (f : ℕ) → f ≡ first_value (λ (line : declared.Line). start_word s.base known (line_of line).said.statement) lines → f ≡ start_in s.base (offset_of (source_of s).lines) (source_of s).lines
+  pub start_is : (f : ℕ) → f ≡ first_value (λ (line : declared.Line). start_word s.base known (line_of line).said.statement) lines
+      → f ≡ start_in s.base (offset_of (source_of s).lines) (source_of s).lines
   start_is f h =
       h ∙ ap (λ (ls : List declared.Line). first_value (λ (line : declared.Line). start_word s.base known (line_of line).said.statement) ls) same
       ∙ ap (λ (k : List ℕ → Option ℕ). first_value (λ (line : declared.Line). start_word s.base k (line_of line).said.statement) s.lines.items) known_is
@@ -56,7 +66,8 @@ module _ (s : Source) (lines : List declared.Line) (known : List ℕ → Option 
       ∙ sym (flat_map-map line_of (line_words s.base (offset_of (source_of s).lines)) s.lines.items)
 
 -- the least breach is the fault
-pub is_refused : (s : SourceOf) (best : Option Breach) (breach : Breach) → best ≡ Some breach → least (breaches s) ≡ best → judged s (least (breaches s)) ≡ Err breach
+pub is_refused : (s : SourceOf) (best : Option Breach) (breach : Breach) → best ≡ Some breach → least (breaches s) ≡ best
+    → judged s (least (breaches s)) ≡ Err breach
 is_refused s best breach is e = ap (judged s) (e ∙ is)
 
 -- there is none, and the source is fit for an image

@@ -1,5 +1,6 @@
 -- Where a text spells an image, nothing breaks a rule.
-use Rattle.std.proofs.Common.{◌≡◌, ℕ, ◌+◌, ◌%◌, ◌^◌, ◌<◌, ◌≤◌, ◌&&◌, ◌||◌, Bool, true, false, cond, not, List, [], ◌∷◌, ◌++◌, length, map, Option, Some, None, is_some, unwrap_or, refl, sym, ap, subst, ◌∙◌, arith, nat_lt, nat_le, ltb-true}
+use Rattle.std.proofs.Common.{◌≡◌, ℕ, ◌+◌, ◌%◌, ◌^◌, ◌<◌, ◌≤◌, ◌&&◌, ◌||◌, Bool, true, false, cond, not, List, [], ◌∷◌, ◌++◌, length, map, Option, Some, None}
+use Rattle.std.proofs.Common.{is_some, unwrap_or, refl, sym, ap, subst, ◌∙◌, arith, nat_lt, nat_le, ltb-true}
 use Rattle.std.specs.Prelude.{option_to_list}
 use Rattle.std.specs.List.{flat_map, list_all, list_any}
 use Rattle.std.specs.Str.{bytes_eq}
@@ -11,19 +12,22 @@ use Rattle.fm_image.specs.Spelling.{are_words}
 use Rattle.fm_asm.specs.Statements.{Statement, base, size, final, start, word, instruction}
 use Rattle.fm_asm.specs.Lines.{Line}
 use Rattle.fm_asm.specs.Sources.{word_count, kept}
-use Rattle.fm_asm.specs.Labels.{is_labelled, offset_of, repeated, repeats, number_of, undefined, beyond_size, ends_outside, is_outside, statement_breaches, line_breaches, as_word, statement_words, line_words, final_word, final_in, start_word, start_in, first_value}
+use Rattle.fm_asm.specs.Labels.{is_labelled, offset_of, repeated, repeats, number_of, undefined, beyond_size, ends_outside, is_outside, statement_breaches}
+use Rattle.fm_asm.specs.Labels.{line_breaches, as_word, statement_words, line_words, final_word, final_in, start_word, start_in, first_value}
 use Rattle.fm_asm.specs.Assembly.{AreLines, no_line, one_line, statements_of, labels_of, are_distinct, statement_word}
 
 -- ---- a statement is as it is in its list
 
 -- the words of lines are those of their statements
-pub words-lines : (b : ℕ) (known : List ℕ → Option ℕ) (lines : List Line) → flat_map (line_words b known) lines ≡ flat_map (λ s. statement_words b known (Some s)) (statements_of lines)
+pub words-lines : (b : ℕ) (known : List ℕ → Option ℕ) (lines : List Line) → flat_map (line_words b known) lines
+    ≡ flat_map (λ s. statement_words b known (Some s)) (statements_of lines)
 unfolding statement_words
 words-lines b known [] = refl
 words-lines b known (line ∷ lines) = by_statement line.said.statement (words-lines b known lines)
   where
     by_statement : (s : Option Statement) → flat_map (line_words b known) lines ≡ flat_map (λ t. statement_words b known (Some t)) (statements_of lines)
-        → statement_words b known s ++ flat_map (line_words b known) lines ≡ flat_map (λ t. statement_words b known (Some t)) (option_to_list s ++ statements_of lines)
+        → statement_words b known s ++ flat_map (line_words b known) lines ≡ flat_map (λ t. statement_words b known (Some t))
+        (option_to_list s ++ statements_of lines)
     by_statement None h = h
     by_statement (Some s) h = ap (λ ws. statement_words b known (Some s) ++ ws) h
 
@@ -37,7 +41,8 @@ unfolding first_value final_by
 final-lines b known [] = refl
 final-lines b known (line ∷ lines) = by_statement line.said.statement (final-lines b known lines)
   where
-    by_statement : (s : Option Statement) → final_in b known lines ≡ final_by b known (statements_of lines) → unwrap_or (final_word b known s) (final_in b known lines) ≡ final_by b known (option_to_list s ++ statements_of lines)
+    by_statement : (s : Option Statement) → final_in b known lines ≡ final_by b known (statements_of lines)
+        → unwrap_or (final_word b known s) (final_in b known lines) ≡ final_by b known (option_to_list s ++ statements_of lines)
     by_statement None h = h
     by_statement (Some s) h = ap (unwrap_or (final_word b known (Some s))) h
 
@@ -50,7 +55,8 @@ unfolding first_value start_by
 start-lines b known [] = refl
 start-lines b known (line ∷ lines) = by_statement line.said.statement (start-lines b known lines)
   where
-    by_statement : (s : Option Statement) → start_in b known lines ≡ start_by b known (statements_of lines) → unwrap_or (start_word b known s) (start_in b known lines) ≡ start_by b known (option_to_list s ++ statements_of lines)
+    by_statement : (s : Option Statement) → start_in b known lines ≡ start_by b known (statements_of lines)
+        → unwrap_or (start_word b known s) (start_in b known lines) ≡ start_by b known (option_to_list s ++ statements_of lines)
     by_statement None h = h
     by_statement (Some s) h = ap (unwrap_or (start_word b known (Some s))) h
 
@@ -63,7 +69,8 @@ as_word-fits o w e h = ap as_word e ∙ small
     small = omega arith
 
 -- the words of statements whose numbers are there
-pub words-statements : (b : ℕ) (known : List ℕ → Option ℕ) (ss : List Statement) (ws : List ℕ) → map (statement_word b known) ss ≡ map (λ w. Some w) ws → are_words ws ≡ true
+pub words-statements : (b : ℕ) (known : List ℕ → Option ℕ) (ss : List Statement) (ws : List ℕ) → map (statement_word b known) ss ≡ map (λ w. Some w) ws
+    → are_words ws ≡ true
     → flat_map (λ s. statement_words b known (Some s)) ss ≡ ws
 unfolding statement_words statement_word
 words-statements b known [] [] h fit = refl
@@ -125,7 +132,8 @@ not_outside place b n o h = by_test (is_outside b n o) h
     by_test true k = absurd cc
     by_test false k = refl
 
-good_statement : (b n : ℕ) (known : List ℕ → Option ℕ) (place offset : ℕ) (s : Statement) → is_good b n known s ≡ true → offset + word_count (Some s) ≤ n → statement_breaches b n known place offset (Some s) ≡ []
+good_statement : (b n : ℕ) (known : List ℕ → Option ℕ) (place offset : ℕ) (s : Statement) → is_good b n known s ≡ true
+    → offset + word_count (Some s) ≤ n → statement_breaches b n known place offset (Some s) ≡ []
 unfolding statement_breaches is_good
 good_statement b n known place offset (base x) h few = refl
 good_statement b n known place offset (size x) h few = refl
@@ -136,7 +144,8 @@ good_statement b n known place offset (start v) h few = not_undefined place (num
 good_statement b n known place offset (word v) h few = rw (not_undefined place (number_of b known v) h, not_beyond place n offset (omega arith)) refl
 good_statement b n known place offset (instruction w) h few = not_beyond place n offset (omega arith)
 
-pub good_lines : (b n : ℕ) (known : List ℕ → Option ℕ) (place offset : ℕ) (texts : List (List ℕ)) (lines : List Line) → AreLines place offset texts lines → list_all (is_good b n known) (statements_of lines) ≡ true
+pub good_lines : (b n : ℕ) (known : List ℕ → Option ℕ) (place offset : ℕ) (texts : List (List ℕ)) (lines : List Line)
+    → AreLines place offset texts lines → list_all (is_good b n known) (statements_of lines) ≡ true
     → offset + word_total (statements_of lines) ≤ n → flat_map (line_breaches b n known) lines ≡ []
 unfolding statement_breaches word_total
 good_lines b n known _ _ _ _ (no_line place offset) good few = refl
@@ -146,8 +155,10 @@ good_lines b n known _ _ _ _ (one_line place offset bytes said rest lines is_lin
     line_of_said : Option (List ℕ) → Option Statement → Line
     line_of_said l s = record { place = place; offset = offset; said = record { label = l; statement = s } }
 
-    by_said : (l : Option (List ℕ)) (s : Option Statement) → list_all (is_good b n known) (statements_of (kept (line_of_said l s) ++ lines)) ≡ true → offset + word_total (statements_of (kept (line_of_said l s) ++ lines)) ≤ n
-        → (list_all (is_good b n known) (statements_of lines) ≡ true → offset + word_count s + word_total (statements_of lines) ≤ n → flat_map (line_breaches b n known) lines ≡ [])
+    by_said : (l : Option (List ℕ)) (s : Option Statement) → list_all (is_good b n known) (statements_of (kept (line_of_said l s) ++ lines)) ≡ true
+        → offset + word_total (statements_of (kept (line_of_said l s) ++ lines)) ≤ n
+        → (list_all (is_good b n known) (statements_of lines) ≡ true → offset + word_count s + word_total (statements_of lines) ≤ n
+        → flat_map (line_breaches b n known) lines ≡ [])
         → flat_map (line_breaches b n known) (kept (line_of_said l s) ++ lines) ≡ []
     by_said None None g f later = later g (omega arith)
     by_said (Some l) None g f later = later g (omega arith)
@@ -164,18 +175,21 @@ good_lines b n known _ _ _ _ (one_line place offset bytes said rest lines is_lin
 unfoldable pub is_fresh : List Line → List ℕ → Bool
 is_fresh earlier name = not (is_some (offset_of earlier name))
 
-offset-push : (lines : List Line) (line : Line) (name : List ℕ) → is_fresh lines name ≡ true → is_labelled name line.said.label ≡ false → is_fresh (lines ++ line ∷ []) name ≡ true
+offset-push : (lines : List Line) (line : Line) (name : List ℕ) → is_fresh lines name ≡ true → is_labelled name line.said.label ≡ false
+    → is_fresh (lines ++ line ∷ []) name ≡ true
 unfolding is_fresh offset_of
 offset-push [] line name h other = rw other refl
 offset-push (m ∷ lines) line name h other = by_test (is_labelled name m.said.label) h (λ k. offset-push lines line name k other)
   where
-    by_test : (t : Bool) → not (is_some (cond t (Some m.offset) (offset_of lines name))) ≡ true → (not (is_some (offset_of lines name)) ≡ true → not (is_some (offset_of (lines ++ line ∷ []) name)) ≡ true)
+    by_test : (t : Bool) → not (is_some (cond t (Some m.offset) (offset_of lines name))) ≡ true
+        → (not (is_some (offset_of lines name)) ≡ true → not (is_some (offset_of (lines ++ line ∷ []) name)) ≡ true)
         → not (is_some (cond t (Some m.offset) (offset_of (lines ++ line ∷ []) name))) ≡ true
     by_test true k later = absurd cc
     by_test false k later = later k
 
 -- the labels of later lines are fresh after one more line
-fresh-push : (earlier : List Line) (line : Line) (names : List (List ℕ)) → list_all (is_fresh earlier) names ≡ true → list_all (λ name. not (is_labelled name line.said.label)) names ≡ true
+fresh-push : (earlier : List Line) (line : Line) (names : List (List ℕ)) → list_all (is_fresh earlier) names ≡ true
+    → list_all (λ name. not (is_labelled name line.said.label)) names ≡ true
     → list_all (is_fresh (earlier ++ line ∷ [])) names ≡ true
 fresh-push earlier line [] h k = refl
 fresh-push earlier line (name ∷ names) h k =
@@ -192,11 +206,13 @@ no_label_all : (names : List (List ℕ)) → list_all (λ name. not (is_labelled
 no_label_all [] = refl
 no_label_all (name ∷ names) = no_label_all names
 
-others_differ : (own : List ℕ) (names : List (List ℕ)) → not (list_any (bytes_eq own) names) ≡ true → list_all (λ name. not (is_labelled name (Some own))) names ≡ true
+others_differ : (own : List ℕ) (names : List (List ℕ)) → not (list_any (bytes_eq own) names) ≡ true
+    → list_all (λ name. not (is_labelled name (Some own))) names ≡ true
 others_differ own [] h = refl
 others_differ own (name ∷ names) h = by_test (bytes_eq own name) refl h (others_differ own names)
   where
-    by_test : (t : Bool) → bytes_eq own name ≡ t → not (t || list_any (bytes_eq own) names) ≡ true → (not (list_any (bytes_eq own) names) ≡ true → list_all (λ m. not (is_labelled m (Some own))) names ≡ true)
+    by_test : (t : Bool) → bytes_eq own name ≡ t → not (t || list_any (bytes_eq own) names) ≡ true
+        → (not (list_any (bytes_eq own) names) ≡ true → list_all (λ m. not (is_labelled m (Some own))) names ≡ true)
         → (not (bytes_eq name own) && list_all (λ m. not (is_labelled m (Some own))) names) ≡ true
     by_test true e k later = absurd cc
     by_test false e k later = and_from (not (bytes_eq name own)) _ (ap not (bytes_apart own name e)) (later k)
@@ -205,18 +221,25 @@ new_is : (place : ℕ) (t : Bool) → not t ≡ true → when t place 4 ≡ []
 new_is place true k = absurd cc
 new_is place false k = refl
 
-pub none_repeats : (earlier lines : List Line) → are_distinct (labels_of lines) ≡ true → list_all (is_fresh earlier) (labels_of lines) ≡ true → repeats earlier lines ≡ []
+pub none_repeats : (earlier lines : List Line) → are_distinct (labels_of lines) ≡ true → list_all (is_fresh earlier) (labels_of lines) ≡ true
+    → repeats earlier lines ≡ []
 unfolding repeats are_distinct is_fresh
 none_repeats earlier [] differ fresh = refl
 none_repeats earlier (line ∷ lines) differ fresh =
     by_label line.said.label refl differ fresh (none_repeats (earlier ++ line ∷ []) lines)
   where
-    by_label : (l : Option (List ℕ)) → line.said.label ≡ l → are_distinct (option_to_list l ++ labels_of lines) ≡ true → list_all (is_fresh earlier) (option_to_list l ++ labels_of lines) ≡ true
-        → (are_distinct (labels_of lines) ≡ true → list_all (is_fresh (earlier ++ line ∷ [])) (labels_of lines) ≡ true → repeats (earlier ++ line ∷ []) lines ≡ [])
+    by_label : (l : Option (List ℕ)) → line.said.label ≡ l → are_distinct (option_to_list l ++ labels_of lines) ≡ true
+        → list_all (is_fresh earlier) (option_to_list l ++ labels_of lines) ≡ true
+        → (are_distinct (labels_of lines) ≡ true → list_all (is_fresh (earlier ++ line ∷ [])) (labels_of lines) ≡ true
+        → repeats (earlier ++ line ∷ []) lines ≡ [])
         → repeated (offset_of earlier) line.place l ++ repeats (earlier ++ line ∷ []) lines ≡ []
-    by_label None e d f later = later d (fresh-push earlier line (labels_of lines) f (subst (λ (o : Option (List ℕ)). list_all (λ name. not (is_labelled name o)) (labels_of lines) ≡ true) (sym e) (no_label_all (labels_of lines))))
+    by_label None e d f later = later d (fresh-push earlier line (labels_of lines) f
+        (subst (λ (o : Option (List ℕ)). list_all (λ name. not (is_labelled name o)) (labels_of lines) ≡ true) (sym e)
+        (no_label_all (labels_of lines))))
     by_label (Some own) e d f later =
         let apart = and_parts (not (list_any (bytes_eq own) (labels_of lines))) (are_distinct (labels_of lines)) d in
         let new = and_parts (is_fresh earlier own) (list_all (is_fresh earlier) (labels_of lines)) f in
         let now : repeated (offset_of earlier) line.place (Some own) ≡ [] = new_is line.place (is_some (offset_of earlier own)) new.0 in
-        rw now (later apart.1 (fresh-push earlier line (labels_of lines) new.1 (subst (λ (o : Option (List ℕ)). list_all (λ name. not (is_labelled name o)) (labels_of lines) ≡ true) (sym e) (others_differ own (labels_of lines) apart.0))))
+        rw now (later apart.1 (fresh-push earlier line (labels_of lines) new.1
+        (subst (λ (o : Option (List ℕ)). list_all (λ name. not (is_labelled name o)) (labels_of lines) ≡ true) (sym e)
+        (others_differ own (labels_of lines) apart.0))))

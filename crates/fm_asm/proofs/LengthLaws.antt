@@ -27,7 +27,8 @@ word_short w = by_test (is_exact w)
 
 words_short : (ws : List ℕ) → length (flat_map word_line ws) ≤ 29 * length ws
 words_short [] = omega arith
-words_short (w ∷ ws) = omega (arith, word_short w, words_short ws, length-append (word_line w) (flat_map word_line ws), length-append (word_text w) (codes "\n"))
+words_short (w ∷ ws) =
+    omega (arith, word_short w, words_short ws, length-append (word_line w) (flat_map word_line ws), length-append (word_text w) (codes "\n"))
 
 number_short : (n : ℕ) → n < 2 ^ 32 → length (decimal n) ≤ 10
 number_short n small = length-decimal-le 10 n (omega arith) (omega arith) (omega arith)
@@ -39,7 +40,16 @@ parts_short a b c d ha hb hc hd =
     let first = codes ".base " ++ a ++ codes "\n.size " in
     let second = first ++ b ++ codes "\n.final " in
     let third = second ++ c ++ codes "\n.start " in
-    omega (arith, length-append (third ++ d) (codes "\n"), length-append third d, length-append (second ++ c) (codes "\n.start "), length-append second c, length-append (first ++ b) (codes "\n.final "), length-append first b, length-append (codes ".base " ++ a) (codes "\n.size "))
+    omega (
+      arith,
+      length-append (third ++ d) (codes "\n"),
+      length-append third d,
+      length-append (second ++ c) (codes "\n.start "),
+      length-append second c,
+      length-append (first ++ b) (codes "\n.final "),
+      length-append first b,
+      length-append (codes ".base " ++ a) (codes "\n.size "),
+    )
 
 pub printed_short : (image : ImageOf) → IsTrue (is_image image) → start_of image < 2 ^ 32 → length (assembly_text image) ≤ 2 ^ 25
 unfolding assembly_text
@@ -51,5 +61,7 @@ printed_short image limits small =
     let few = leb-true image.size (2 ^ 20) (and_parts _ _ size.0).1 in
     let within = ltb-true image.final_pc (image.base + image.size) (and_parts _ _ window.1).1 in
     let count = leb-true (length image.words) image.size l.words in
-    let header = parts_short (decimal image.base) (decimal image.size) (decimal image.final_pc) (decimal (start_of image)) (number_short image.base (omega (arith, limit))) (number_short image.size (omega (arith, few))) (number_short image.final_pc (omega (arith, limit, within))) (number_short (start_of image) small) in
+    let header = parts_short (decimal image.base) (decimal image.size) (decimal image.final_pc) (decimal (start_of image))
+    (number_short image.base (omega (arith, limit))) (number_short image.size (omega (arith, few)))
+    (number_short image.final_pc (omega (arith, limit, within))) (number_short (start_of image) small) in
     omega (arith, header, words_short image.words, few, count, length-append (header_text image) (flat_map word_line image.words))

@@ -1,5 +1,6 @@
 -- Lines are read from what they are written as.
-use Rattle.std.proofs.Common.{◌≡◌, ℕ, ◌==◌, ◌&&◌, true, List, [], ◌∷◌, ◌++◌, length, nat_lt, Option, Some, None, Ok, option_map, refl, sym, ap, ◌∙◌, codes, append_assoc}
+use Rattle.std.proofs.Common.{◌≡◌, ℕ, ◌==◌, ◌&&◌, true, List, [], ◌∷◌, ◌++◌, length, nat_lt, Option, Some, None, Ok, option_map, refl, sym, ap, ◌∙◌, codes}
+use Rattle.std.proofs.Common.{append_assoc}
 use Rattle.std.specs.List.{list_all}
 use Rattle.std.proofs.lemmas.Bool.{and_parts, and_from}
 use Rattle.stack_text.specs.Names.{is_name}
@@ -43,7 +44,8 @@ unfolding said_in said_by labelled
 label_read name rest s named apart reads =
     let parts : cut 58 (name ++ 58 ∷ rest) ≡ (name, Some rest) = cut-append 58 name rest (name_lacks 58 name refl named) in
     let chosen : labelled name rest ≡ option_map (λ (x : Option Statement). says (Some name) x) (statement_or_none (without_leading_spaces rest)) =
-    if_true (is_name name && is_apart rest) (option_map (λ (x : Option Statement). says (Some name) x) (statement_or_none (without_leading_spaces rest))) None (and_from (is_name name) (is_apart rest) named apart) in
+    if_true (is_name name && is_apart rest) (option_map (λ (x : Option Statement). says (Some name) x)
+    (statement_or_none (without_leading_spaces rest))) None (and_from (is_name name) (is_apart rest) named apart) in
     rw parts (chosen ∙ ap (option_map (λ (x : Option Statement). says (Some name) x)) reads)
 
 alone : (text : List ℕ) (s : Statement) → SpellsStatement text s → said_in text ≡ Some (says None (Some s))

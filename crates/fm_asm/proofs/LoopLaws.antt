@@ -1,5 +1,6 @@
 -- Loops over lines, and over words.
-use Rattle.std.proofs.Common.{◌≡◌, Bor, ℕ, ◌+◌, ◌<◌, ◌≤◌, List, [], ◌∷◌, ◌++◌, length, map, get_or, take, drop, Option, Some, None, Bool, true, false, cond, is_some, unwrap_or, refl, sym, ap, ◌∙◌, ◌^◌, append_assoc, nat_lt, lt-ltb}
+use Rattle.std.proofs.Common.{◌≡◌, Bor, ℕ, ◌+◌, ◌<◌, ◌≤◌, List, [], ◌∷◌, ◌++◌, length, map, get_or, take, drop, Option, Some, None, Bool, true, false, cond}
+use Rattle.std.proofs.Common.{is_some, unwrap_or, refl, sym, ap, ◌∙◌, ◌^◌, append_assoc, nat_lt, lt-ltb}
 use Rattle.std.specs.Prelude.{IsTrue}
 use Rattle.std.specs.List.{flat_map}
 use Rattle.std.specs.Map.{lookup}
@@ -21,12 +22,14 @@ use Rattle.fm_asm.proofs.TextLaws.{all-append}
 
 -- ---- the first value
 
-pub value_found : {X : Type 0} (f : X → Option ℕ) (xs : List X) (i : ℕ) (d : X) (w all : ℕ) → i < length xs → Some w ≡ f (get_or xs i d) → first_value f (drop i xs) ≡ all → w ≡ all
+pub value_found : {X : Type 0} (f : X → Option ℕ) (xs : List X) (i : ℕ) (d : X) (w all : ℕ) → i < length xs → Some w ≡ f (get_or xs i d)
+    → first_value f (drop i xs) ≡ all → w ≡ all
 unfolding first_value
 value_found {X} f xs i d w all lt is so_far =
     ap (λ (o : Option ℕ). unwrap_or o (first_value f (drop (i + 1) xs))) is ∙ ap (first_value f) (sym (drop_more xs i d lt)) ∙ so_far
 
-pub value_later : {X : Type 0} (f : X → Option ℕ) (xs : List X) (i : ℕ) (d : X) (all : ℕ) → i < length xs → None ≡ f (get_or xs i d) → first_value f (drop i xs) ≡ all → first_value f (drop (i + 1) xs) ≡ all
+pub value_later : {X : Type 0} (f : X → Option ℕ) (xs : List X) (i : ℕ) (d : X) (all : ℕ) → i < length xs → None ≡ f (get_or xs i d)
+    → first_value f (drop i xs) ≡ all → first_value f (drop (i + 1) xs) ≡ all
 unfolding first_value
 value_later {X} f xs i d all lt is so_far =
     ap (λ (o : Option ℕ). unwrap_or o (first_value f (drop (i + 1) xs))) is ∙ ap (first_value f) (sym (drop_more xs i d lt)) ∙ so_far
@@ -49,14 +52,16 @@ all_pieces {X} {Y} f xs i out all past so_far = sym (append-nil out) ∙ ap (λ 
 pub fit_next : (ws : List ℕ) (i d : ℕ) → i < length ws → get_or ws i d < 2 ^ 32 → IsTrue (are_words (take i ws)) → IsTrue (are_words (take (i + 1) ws))
 fit_next ws i d lt small so_far =
     ap are_words (take_more ws i d lt)
-    ∙ all-append (λ w. nat_lt w (2 ^ 32)) (take i ws) (get_or ws i d ∷ []) so_far (and_from (nat_lt (get_or ws i d) (2 ^ 32)) true (lt-ltb (get_or ws i d) (2 ^ 32) small) refl)
+    ∙ all-append (λ w. nat_lt w (2 ^ 32)) (take i ws) (get_or ws i d ∷ []) so_far
+    (and_from (nat_lt (get_or ws i d) (2 ^ 32)) true (lt-ltb (get_or ws i d) (2 ^ 32) small) refl)
 
 pub all_fit : (ws : List ℕ) (i : ℕ) → length ws ≤ i → IsTrue (are_words (take i ws)) → IsTrue (are_words ws)
 all_fit ws i past so_far = ap are_words (sym (take_all i ws past)) ∙ so_far
 
 -- ---- breaches
 
-pub notes_at : {X : Type 0} (f : X → List Breach) (xs : List X) (i : ℕ) (d : X) (x y z : Option Breach) → i < length xs → Notes x (flat_map f (take i xs)) y → Notes y (f (get_or xs i d)) z → Notes x (flat_map f (take (i + 1) xs)) z
+pub notes_at : {X : Type 0} (f : X → List Breach) (xs : List X) (i : ℕ) (d : X) (x y z : Option Breach) → i < length xs
+    → Notes x (flat_map f (take i xs)) y → Notes y (f (get_or xs i d)) z → Notes x (flat_map f (take (i + 1) xs)) z
 notes_at f xs i d x y z lt h k = notes_next f xs i (get_or xs i d) x y z lt (same_item xs i d (get_or xs i d) lt) h k
 
 -- ---- labels
@@ -68,7 +73,8 @@ abbrev sought : List ℕ → Key → Bool
 sought name key = bytes_eq name key.now
 
 -- a name that was not there is entered after the others
-pub entered : (eq : Key → Key → Bool) → ((a b : Key) → eq a b ≡ bytes_eq a.now b.now) → (es : List (Key × ℕ)) (key : Key) (p : ℕ) → is_some (lookup (sought key.now) es) ≡ false →
+pub entered : (eq : Key → Key → Bool) → ((a b : Key) → eq a b ≡ bytes_eq a.now b.now) → (es : List (Key × ℕ)) (key : Key) (p : ℕ)
+    → is_some (lookup (sought key.now) es) ≡ false →
     (other : List ℕ) → lookup (sought other) (insert_entry eq es key p) ≡ first_or (lookup (sought other) es) (bytes_eq other key.now) p
 entered eq is [] key p absent other = by_test (bytes_eq other key.now)
   where
@@ -77,19 +83,23 @@ entered eq is [] key p absent other = by_test (bytes_eq other key.now)
     by_test false = refl
 entered eq is (e ∷ es) key p absent other = by_test (bytes_eq key.now e.0.now) refl absent (λ none. entered eq is es key p none other)
   where
-    by_other : (b : Bool) (later : Option ℕ) → later ≡ first_or (lookup (sought other) es) (bytes_eq other key.now) p → cond b (Some e.1) later ≡ first_or (cond b (Some e.1) (lookup (sought other) es)) (bytes_eq other key.now) p
+    by_other : (b : Bool) (later : Option ℕ) → later ≡ first_or (lookup (sought other) es) (bytes_eq other key.now) p
+        → cond b (Some e.1) later ≡ first_or (cond b (Some e.1) (lookup (sought other) es)) (bytes_eq other key.now) p
     by_other true later h = refl
     by_other false later h = h
 
     by_test : (b : Bool) → bytes_eq key.now e.0.now ≡ b → is_some (cond b (Some e.1) (lookup (sought key.now) es)) ≡ false →
-        (is_some (lookup (sought key.now) es) ≡ false → lookup (sought other) (insert_entry eq es key p) ≡ first_or (lookup (sought other) es) (bytes_eq other key.now) p) →
-        lookup (sought other) (cond (eq key e.0) ((e.0, p) ∷ es) (e ∷ insert_entry eq es key p)) ≡ first_or (lookup (sought other) (e ∷ es)) (bytes_eq other key.now) p
+        (is_some (lookup (sought key.now) es) ≡ false → lookup (sought other) (insert_entry eq es key p)
+        ≡ first_or (lookup (sought other) es) (bytes_eq other key.now) p) →
+        lookup (sought other) (cond (eq key e.0) ((e.0, p) ∷ es) (e ∷ insert_entry eq es key p))
+        ≡ first_or (lookup (sought other) (e ∷ es)) (bytes_eq other key.now) p
     by_test true h none later = absurd cc
     by_test false h none later =
         ap (λ (b : Bool). lookup (sought other) (cond b ((e.0, p) ∷ es) (e ∷ insert_entry eq es key p))) (is key e.0 ∙ h)
         ∙ by_other (bytes_eq other e.0.now) (lookup (sought other) (insert_entry eq es key p)) (later none)
 
-offset-push : (lines : List Line) (line : Line) (name : List ℕ) → offset_of (lines ++ line ∷ []) name ≡ first_or (offset_of lines name) (is_labelled name line.said.label) line.offset
+offset-push : (lines : List Line) (line : Line) (name : List ℕ) → offset_of (lines ++ line ∷ []) name
+    ≡ first_or (offset_of lines name) (is_labelled name line.said.label) line.offset
 unfolding offset_of
 offset-push [] line name = by_test (is_labelled name line.said.label)
   where
@@ -99,21 +109,26 @@ offset-push [] line name = by_test (is_labelled name line.said.label)
 offset-push (m ∷ lines) line name = by_test (is_labelled name m.said.label) (offset-push lines line name)
   where
     by_test : (b : Bool) → offset_of (lines ++ line ∷ []) name ≡ first_or (offset_of lines name) (is_labelled name line.said.label) line.offset
-        → cond b (Some m.offset) (offset_of (lines ++ line ∷ []) name) ≡ first_or (cond b (Some m.offset) (offset_of lines name)) (is_labelled name line.said.label) line.offset
+        → cond b (Some m.offset) (offset_of (lines ++ line ∷ []) name) ≡ first_or (cond b (Some m.offset) (offset_of lines name))
+        (is_labelled name line.said.label) line.offset
     by_test true h = refl
     by_test false h = h
 
-repeats-push : (earlier lines : List Line) (line : Line) → repeats earlier (lines ++ line ∷ []) ≡ repeats earlier lines ++ repeated (offset_of (earlier ++ lines)) line.place line.said.label
+repeats-push : (earlier lines : List Line) (line : Line) → repeats earlier (lines ++ line ∷ []) ≡ repeats earlier lines
+    ++ repeated (offset_of (earlier ++ lines)) line.place line.said.label
 unfolding repeats
 repeats-push earlier [] line =
     append-nil (repeated (offset_of earlier) line.place line.said.label)
     ∙ ap (λ (ls : List Line). repeated (offset_of ls) line.place line.said.label) (sym (append-nil earlier))
 repeats-push earlier (m ∷ lines) line =
     ap (λ (bs : List Breach). repeated (offset_of earlier) m.place m.said.label ++ bs) (repeats-push (earlier ++ m ∷ []) lines line)
-    ∙ ap (λ (ls : List Line). repeated (offset_of earlier) m.place m.said.label ++ (repeats (earlier ++ m ∷ []) lines ++ repeated (offset_of ls) line.place line.said.label)) (append_assoc earlier (m ∷ []) lines)
-    ∙ sym (append_assoc (repeated (offset_of earlier) m.place m.said.label) (repeats (earlier ++ m ∷ []) lines) (repeated (offset_of (earlier ++ m ∷ lines)) line.place line.said.label))
+    ∙ ap (λ (ls : List Line). repeated (offset_of earlier) m.place m.said.label
+    ++ (repeats (earlier ++ m ∷ []) lines ++ repeated (offset_of ls) line.place line.said.label)) (append_assoc earlier (m ∷ []) lines)
+    ∙ sym (append_assoc (repeated (offset_of earlier) m.place m.said.label) (repeats (earlier ++ m ∷ []) lines)
+    (repeated (offset_of (earlier ++ m ∷ lines)) line.place line.said.label))
 
-lines_more : (lines : List declared.Line) (i : ℕ) (d : declared.Line) → i < length lines → map line_of (take (i + 1) lines) ≡ map line_of (take i lines) ++ line_of (get_or lines i d) ∷ []
+lines_more : (lines : List declared.Line) (i : ℕ) (d : declared.Line) → i < length lines
+    → map line_of (take (i + 1) lines) ≡ map line_of (take i lines) ++ line_of (get_or lines i d) ∷ []
 lines_more lines i d lt = ap (map line_of) (take_more lines i d lt) ∙ map_push line_of (take i lines) (get_or lines i d)
 
 -- the table has the labels so far, and one more
@@ -135,6 +150,7 @@ pub noted_next : (lines : List declared.Line) (i : ℕ) (d : declared.Line) (a b
 noted_next lines i d a b c old lt so_far h k =
     let known : old ≡ offset_of (map line_of (take i lines)) = λ t name. so_far name t in
     notes_more a b c (repeats [] (map line_of (take i lines))) (repeated old (get_or lines i d).place (line_of (get_or lines i d)).said.label) h k
-    ∙ ap (λ (f : List ℕ → Option ℕ). lesser_of a (least (repeats [] (map line_of (take i lines)) ++ repeated f (get_or lines i d).place (line_of (get_or lines i d)).said.label))) known
+    ∙ ap (λ (f : List ℕ → Option ℕ). lesser_of a
+    (least (repeats [] (map line_of (take i lines)) ++ repeated f (get_or lines i d).place (line_of (get_or lines i d)).said.label))) known
     ∙ ap (λ (bs : List Breach). lesser_of a (least bs)) (sym (repeats-push [] (map line_of (take i lines)) (line_of (get_or lines i d))))
     ∙ ap (λ (ls : List Line). lesser_of a (least (repeats [] ls))) (sym (lines_more lines i d lt))

@@ -1,5 +1,7 @@
 -- The assembly text of a plain image spells that image.
-use Rattle.std.proofs.Common.{◌≡◌, ℕ, zero, suc, ◌+◌, ◌-◌, ◌^◌, ◌<◌, ◌≤◌, ◌==◌, ◌&&◌, ◌||◌, Bool, true, false, cond, not, List, [], ◌∷◌, ◌++◌, length, map, take, get_or, Option, Some, None, Ok, is_none, refl, sym, ap, subst, ◌∙◌, arith, codes, append_assoc, nat_lt, leb-true, lt-ltb, ltb-true, eqb-true}
+use Rattle.std.proofs.Common.{◌≡◌, ℕ, zero, suc, ◌+◌, ◌-◌, ◌^◌, ◌<◌, ◌≤◌, ◌==◌, ◌&&◌, ◌||◌, Bool, true, false, cond, not, List, [], ◌∷◌, ◌++◌, length, map}
+use Rattle.std.proofs.Common.{take, get_or, Option, Some, None, Ok, is_none, refl, sym, ap, subst, ◌∙◌, arith, codes, append_assoc, nat_lt, leb-true, lt-ltb}
+use Rattle.std.proofs.Common.{ltb-true, eqb-true}
 use Rattle.std.specs.Prelude.{pos, replicate, slice_index, slice_get, IsTrue, IsOk, Result, Err, IfOk, OnOk}
 use Rattle.stack_text.specs.declared.memory.Memory.{Memory}
 use Rattle.std.specs.Fmt.{decimal}
@@ -32,8 +34,11 @@ use Rattle.stack_text.specs.Lines.{is_plain_line}
 use Rattle.fm_asm.specs.Lines.{Line, text_of}
 use Rattle.fm_asm.specs.Sources.{word_count}
 use Rattle.fm_asm.specs.Labels.{offset_of, number_of}
-use Rattle.fm_asm.specs.Printing.{are_clear, has_no_names, has_no_tables, are_zero_but_last, is_zero, ends_in_zero, is_plain, plain_image, start_of, is_exact, word_text, word_line, assembly_text}
-use Rattle.fm_asm.specs.Assembly.{says, SpellsValue, decimal as in_decimal, hexadecimal, SpellsStatement, says_base, says_size, says_final, says_start, says_word, says_instruction, SpellsSaid, nothing, statement_alone, IsLine, AreLines, no_line, one_line, statements_of, labels_of, are_distinct, statement_word, IsAssembly}
+use Rattle.fm_asm.specs.Printing.{are_clear, has_no_names, has_no_tables, are_zero_but_last, is_zero, ends_in_zero, is_plain, plain_image, start_of, is_exact}
+use Rattle.fm_asm.specs.Printing.{word_text, word_line, assembly_text}
+use Rattle.fm_asm.specs.Assembly.{says, SpellsValue, decimal as in_decimal, hexadecimal, SpellsStatement, says_base, says_size, says_final, says_start}
+use Rattle.fm_asm.specs.Assembly.{says_word, says_instruction, SpellsSaid, nothing, statement_alone, IsLine, AreLines, no_line, one_line, statements_of}
+use Rattle.fm_asm.specs.Assembly.{labels_of, are_distinct, statement_word, IsAssembly}
 use Rattle.fm_asm.specs.Assembling.{assembly_of}
 use Rattle.fm_asm.proofs.CutLaws.{lacks}
 use Rattle.fm_asm.proofs.ValueLaws.{if_true, lacks_from}
@@ -56,7 +61,8 @@ decimal_number n small =
     fits = let yes : Option ℕ = Some n in if_true (nat_lt n (2 ^ 32)) yes None (lt-ltb n (2 ^ 32) small)
 
 value_of_decimal : (n : ℕ) → n < 2 ^ 32 → SpellsValue (decimal n) (number (Some n))
-value_of_decimal n small = subst (λ (o : Option ℕ). SpellsValue (decimal n) (number o)) (decimal_number n small) (in_decimal (decimal n) (decimal_bytes n small))
+value_of_decimal n small =
+    subst (λ (o : Option ℕ). SpellsValue (decimal n) (number o)) (decimal_number n small) (in_decimal (decimal n) (decimal_bytes n small))
 
 record IsMore (text : List ℕ) : Type 0 where
   first : ℕ
@@ -83,18 +89,21 @@ header_tidy front n small all few =
       begins = refl;
       no_space = refl;
       ends = ap (λ (ds : List ℕ). 46 ∷ front ++ ds) more.is;
-      spaceless = ap (lacks 32) (sym more.is) ∙ lacks_from is_ascii_digit 32 (decimal n) refl (and_parts (nat_lt 0 (length (decimal n))) (list_all is_ascii_digit (decimal n)) digits).1;
+      spaceless = ap (lacks 32) (sym more.is) ∙ lacks_from is_ascii_digit 32 (decimal n) refl
+          (and_parts (nat_lt 0 (length (decimal n))) (list_all is_ascii_digit (decimal n)) digits).1;
     }
 
 prints_base : (n : ℕ) → n < 2 ^ 32 → Prints (codes ".base " ++ decimal n) (base (Some n))
 prints_base n small = record {
-  written = subst (λ (o : Option ℕ). SpellsStatement (codes ".base " ++ decimal n) (base o)) (decimal_number n small) (says_base (decimal n) (decimal_bytes n small));
+  written = subst (λ (o : Option ℕ). SpellsStatement (codes ".base " ++ decimal n) (base o)) (decimal_number n small)
+      (says_base (decimal n) (decimal_bytes n small));
   tidy = header_tidy (codes "base ") n small refl (omega arith);
 }
 
 prints_size : (n : ℕ) → n < 2 ^ 32 → Prints (codes ".size " ++ decimal n) (size (Some n))
 prints_size n small = record {
-  written = subst (λ (o : Option ℕ). SpellsStatement (codes ".size " ++ decimal n) (size o)) (decimal_number n small) (says_size (decimal n) (decimal_bytes n small));
+  written = subst (λ (o : Option ℕ). SpellsStatement (codes ".size " ++ decimal n) (size o)) (decimal_number n small)
+      (says_size (decimal n) (decimal_bytes n small));
   tidy = header_tidy (codes "size ") n small refl (omega arith);
 }
 
@@ -137,7 +146,12 @@ hex_all w =
 
 prints_hex : (w : ℕ) → w < 2 ^ 32 → Prints (codes ".word 0x" ++ hex_digits w) (word (number (Some w)))
 prints_hex w small = record {
-  written = says_word (codes "0x" ++ hex_digits w) (number (Some w)) (hexadecimal (hex_digits w) w (record { bytes = to_be_bytes w32 w; digits_are = hex_decodes w; number_is = sym (from_be_bytes-to_be_bytes_4 w small) }));
+  written = says_word (codes "0x" ++ hex_digits w) (number (Some w))
+      (hexadecimal (hex_digits w) w (record {
+        bytes = to_be_bytes w32 w;
+        digits_are = hex_decodes w;
+        number_is = sym (from_be_bytes-to_be_bytes_4 w small);
+      }));
   tidy = record {
     bytes = all-append is_text_byte (codes ".word 0x") (hex_digits w) refl (all_weaker is_hex_digit is_text_byte (hex_digits w) hex_is_text (hex_all w));
     short = omega (arith, decode_sized-ok (hex_digits w) 4 (to_be_bytes w32 w) (hex_decodes w));
@@ -154,13 +168,18 @@ prints_hex w small = record {
 }
 
 prints_instruction : (w : ℕ) → is_exact w ≡ true → Prints (disassembly_text w) (instruction (Some w))
-prints_instruction w exact = record { written = says_instruction (disassembly_text w) (Some w) (instruction_written w (eqb-true (encode_of (decode_of w)) w exact)); tidy = instruction_tidy w }
+prints_instruction w exact = record {
+  written = says_instruction (disassembly_text w) (Some w)
+      (instruction_written w (eqb-true (encode_of (decode_of w)) w exact));
+  tidy = instruction_tidy w;
+}
 
 prints_word : (w : ℕ) → w < 2 ^ 32 → Prints (word_text w) (word_statement w)
 unfolding word_text word_statement
 prints_word w small = by_test (is_exact w) refl
   where
-    by_test : (t : Bool) → is_exact w ≡ t → Prints (cond t (disassembly_text w) (codes ".word 0x" ++ hex_digits w)) (cond t (instruction (Some w)) (word (number (Some w))))
+    by_test : (t : Bool) → is_exact w ≡ t → Prints (cond t (disassembly_text w) (codes ".word 0x" ++ hex_digits w))
+        (cond t (instruction (Some w)) (word (number (Some w))))
     by_test true e = prints_instruction w e
     by_test false e = prints_hex w small
 
@@ -176,7 +195,8 @@ AllPrint (p ∷ ps) = Prints p.text p.says_so × AllPrint ps
 
 made : ℕ → ℕ → List PrintedLine → List Line
 made place offset [] = []
-made place offset (p ∷ ps) = record { place = place; offset = offset; said = says None (Some p.says_so) } ∷ made (place + length p.text + 1) (offset + word_count (Some p.says_so)) ps
+made place offset (p ∷ ps) = record { place = place; offset = offset; said = says None (Some p.says_so) }
+    ∷ made (place + length p.text + 1) (offset + word_count (Some p.says_so)) ps
 
 line_is : (text : List ℕ) (s : Statement) → Prints text s → IsLine text (says None (Some s))
 line_is text s p = record {
@@ -192,7 +212,8 @@ are_made : (place offset : ℕ) (ps : List PrintedLine) → AllPrint ps → AreL
 unfolding AllPrint made
 are_made place offset [] all = one_line place offset [] (says None None) [] [] empty_line (no_line (place + 0 + 1) (offset + 0))
 are_made place offset (p ∷ ps) all =
-    one_line place offset p.text (says None (Some p.says_so)) (map (λ q. q.text) ps ++ [] ∷ []) (made (place + length p.text + 1) (offset + word_count (Some p.says_so)) ps)
+    one_line place offset p.text (says None (Some p.says_so)) (map (λ q. q.text) ps ++ [] ∷ [])
+    (made (place + length p.text + 1) (offset + word_count (Some p.says_so)) ps)
     (line_is p.text p.says_so all.0) (are_made (place + length p.text + 1) (offset + word_count (Some p.says_so)) ps all.1)
 
 statements-made : (place offset : ℕ) (ps : List PrintedLine) → statements_of (made place offset ps) ≡ map (λ p. p.says_so) ps
@@ -208,7 +229,8 @@ labels-made place offset (p ∷ ps) = labels-made (place + length p.text + 1) (o
 print_lacks : (ps : List PrintedLine) → AllPrint ps → list_all (lacks 10) (map (λ p. p.text) ps) ≡ true
 unfolding AllPrint
 print_lacks [] all = refl
-print_lacks (p ∷ ps) all = and_from (lacks 10 p.text) (list_all (lacks 10) (map (λ q. q.text) ps)) (lacks_from is_text_byte 10 p.text refl all.0.tidy.bytes) (print_lacks ps all.1)
+print_lacks (p ∷ ps) all = and_from (lacks 10 p.text) (list_all (lacks 10) (map (λ q. q.text) ps))
+    (lacks_from is_text_byte 10 p.text refl all.0.tidy.bytes) (print_lacks ps all.1)
 
 -- ---- the lines of an image
 
@@ -219,7 +241,8 @@ word_prints (w ∷ ws) = record { text = word_text w; says_so = word_statement w
 all_words_print : (ws : List ℕ) → are_words ws ≡ true → AllPrint (word_prints ws)
 unfolding AllPrint word_prints
 all_words_print [] h = tt
-all_words_print (w ∷ ws) h = let parts = and_parts (nat_lt w (2 ^ 32)) (are_words ws) h in (prints_word w (ltb-true w (2 ^ 32) parts.0), all_words_print ws parts.1)
+all_words_print (w ∷ ws) h =
+    let parts = and_parts (nat_lt w (2 ^ 32)) (are_words ws) h in (prints_word w (ltb-true w (2 ^ 32) parts.0), all_words_print ws parts.1)
 
 words-printed : (ws : List ℕ) → flat_map word_line ws ≡ lines_text (map (λ p. p.text) (word_prints ws))
 unfolding lines_text word_prints
@@ -243,7 +266,10 @@ text_is : (image : ImageOf) → assembly_text image ≡ lines_text (map (λ p. p
 unfolding assembly_text lines_text image_prints
 text_is image =
     regrouped_header (decimal image.base) (decimal image.size) (decimal image.final_pc) (decimal (start_of image)) (flat_map word_line image.words)
-    ∙ ap (λ (t : List ℕ). (codes ".base " ++ decimal image.base) ++ 10 ∷ ((codes ".size " ++ decimal image.size) ++ 10 ∷ ((codes ".final " ++ decimal image.final_pc) ++ 10 ∷ ((codes ".start " ++ decimal (start_of image)) ++ 10 ∷ t)))) (words-printed image.words)
+    ∙ ap (λ (t : List ℕ). (codes ".base " ++ decimal image.base) ++ 10
+    ∷ ((codes ".size " ++ decimal image.size) ++ 10
+    ∷ ((codes ".final " ++ decimal image.final_pc) ++ 10 ∷ ((codes ".start " ++ decimal (start_of image)) ++ 10 ∷ t))))
+    (words-printed image.words)
 
 -- ---- a plain image
 
@@ -284,11 +310,13 @@ kept_words (w ∷ v ∷ ws) h =
     ap (unless_trailing 0 w) (kept_words (v ∷ ws) later)
 
 -- the image is what its text tells of it
-plain_is : (image : ImageOf) → IsTrue (is_plain image) → length image.registers ≡ 16 → image ≡ plain_image image.base image.size image.final_pc (start_of image) (without_trailing 0 image.words)
+plain_is : (image : ImageOf) → IsTrue (is_plain image) → length image.registers ≡ 16
+    → image ≡ plain_image image.base image.size image.final_pc (start_of image) (without_trailing 0 image.words)
 unfolding is_plain
 plain_is image h sixteen =
     let versioned = image.version == marked_version in
-    let a = and_parts (versioned && has_no_names image && has_no_tables image && are_clear image.flags && are_zero_but_last image.registers) (not (ends_in_zero image.words)) h in
+    let a = and_parts (versioned && has_no_names image && has_no_tables image && are_clear image.flags && are_zero_but_last image.registers)
+    (not (ends_in_zero image.words)) h in
     let b = and_parts (versioned && has_no_names image && has_no_tables image && are_clear image.flags) (are_zero_but_last image.registers) a.0 in
     let c = and_parts (versioned && has_no_names image && has_no_tables image) (are_clear image.flags) b.0 in
     let f = and_parts (versioned && has_no_names image) (has_no_tables image) c.0 in
@@ -326,19 +354,27 @@ words_stated b known [] = refl
 words_stated b known (w ∷ ws) = by_test (is_exact w) (words_stated b known ws)
   where
     by_test : (t : Bool) → map (statement_word b known) (map (λ p. p.says_so) (word_prints ws)) ≡ map (λ v. Some v) ws
-        → statement_word b known (cond t (instruction (Some w)) (word (number (Some w)))) ∷ map (statement_word b known) (map (λ p. p.says_so) (word_prints ws)) ≡ Some w ∷ map (λ v. Some v) ws
+        → statement_word b known (cond t (instruction (Some w)) (word (number (Some w))))
+        ∷ map (statement_word b known) (map (λ p. p.says_so) (word_prints ws)) ≡ Some w ∷ map (λ v. Some v) ws
     by_test true h = ap (λ (os : List (Option ℕ)). Some w ∷ os) h
     by_test false h = ap (λ (os : List (Option ℕ)). Some w ∷ os) h
 
 -- what a plain image is printed as spells it
-pub printed_spells : (image : ImageOf) → IsTrue (is_plain image) → IsTrue (is_image image) → start_of image < 2 ^ 32 → are_words image.words ≡ true → IsAssembly (assembly_text image) image
+pub printed_spells : (image : ImageOf) → IsTrue (is_plain image) → IsTrue (is_image image) → start_of image < 2 ^ 32 → are_words image.words ≡ true
+    → IsAssembly (assembly_text image) image
 unfolding image_prints AllPrint number_of are_distinct
 printed_spells image plain limits small words =
     let l = limits_of image limits in
     let window = and_parts (is_size image.base image.size) (is_inside image.base image.size image.final_pc) l.window in
     let limit = leb-true (image.base + image.size) (2 ^ 32 - 1) (and_parts _ _ window.0).1 in
     let within = ltb-true image.final_pc (image.base + image.size) (and_parts _ _ window.1).1 in
-    let all : AllPrint (image_prints image) = (prints_base image.base (omega (arith, limit)), (prints_size image.size (omega (arith, limit)), (prints_final image.final_pc (omega (arith, limit, within)), (prints_start (start_of image) small, all_words_print image.words words)))) in
+    let all : AllPrint (image_prints image) = (
+      prints_base image.base (omega (arith, limit)),
+      (
+        prints_size image.size (omega (arith, limit)),
+        (prints_final image.final_pc (omega (arith, limit, within)), (prints_start (start_of image) small, all_words_print image.words words)),
+      ),
+    ) in
     let split : slice_split (λ b. b == 10) (assembly_text image) ≡ map (λ p. p.text) (image_prints image) ++ [] ∷ [] =
     ap (slice_split (λ b. b == 10)) (text_is image) ∙ split-lines (map (λ p. p.text) (image_prints image)) (print_lacks (image_prints image) all) in
     record {
@@ -363,10 +399,13 @@ printed_spells image plain limits small words =
 
 -- and so do bytes that are that text
 pub spelled_where : {X : Type 0} (items : X → List ℕ) (r : Result X Memory) (image : ImageOf) → IsTrue (is_plain image) → OnOk r (IsTrue (is_image image))
-    → IfOk r (λ x. items x ≡ assembly_text image) → OnOk r (start_of image < 2 ^ 32) → OnOk r (IsTrue (are_words image.words)) → IfOk r (λ x. IsAssembly (items x) image)
-spelled_where items (Ok x) image plain limits is small words = subst (λ (text : List ℕ). IsAssembly text image) (sym is) (printed_spells image plain limits small words)
+    → IfOk r (λ x. items x ≡ assembly_text image) → OnOk r (start_of image < 2 ^ 32) → OnOk r (IsTrue (are_words image.words))
+    → IfOk r (λ x. IsAssembly (items x) image)
+spelled_where items (Ok x) image plain limits is small words =
+    subst (λ (text : List ℕ). IsAssembly text image) (sym is) (printed_spells image plain limits small words)
 spelled_where items (Err e) image plain limits is small words = tt
 
 -- and so it is assembled to that image again
-pub printed_is_assembled : (image : ImageOf) → IsTrue (is_plain image) → IsTrue (is_image image) → start_of image < 2 ^ 32 → are_words image.words ≡ true → assembly_of (assembly_text image) ≡ Ok image
+pub printed_is_assembled : (image : ImageOf) → IsTrue (is_plain image) → IsTrue (is_image image) → start_of image < 2 ^ 32
+    → are_words image.words ≡ true → assembly_of (assembly_text image) ≡ Ok image
 printed_is_assembled image plain limits small words = spelled_is_assembled (assembly_text image) image (printed_spells image plain limits small words)

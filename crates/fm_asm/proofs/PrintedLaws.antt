@@ -1,5 +1,6 @@
 -- Printed instructions and words, as statements.
-use Rattle.std.proofs.Common.{◌≡◌, ℕ, suc, ◌^◌, ◌<◌, ◌≤◌, true, List, [], ◌∷◌, ◌++◌, length, Some, refl, sym, ap, subst, ◌∙◌, arith, codes, append_assoc, nat_le, nat_lt, leb-true}
+use Rattle.std.proofs.Common.{◌≡◌, ℕ, suc, ◌^◌, ◌<◌, ◌≤◌, true, List, [], ◌∷◌, ◌++◌, length, Some, refl, sym, ap, subst, ◌∙◌, arith, codes, append_assoc}
+use Rattle.std.proofs.Common.{nat_le, nat_lt, leb-true}
 use Rattle.std.specs.Prelude.{ℤ, pos, negsuc}
 use Rattle.std.specs.Fmt.{decimal, signed_decimal}
 use Rattle.std.specs.List.{list_all}
@@ -96,8 +97,10 @@ immediate_bytes (pos n) h = decimal_text n (let small : n ≤ 255 = grind (arith
 immediate_bytes (negsuc n) h = and_from true _ refl (decimal_text (suc n) (let small : n ≤ 255 = grind (arith, ints) in omega arith))
 
 immediate_short : (z : ℤ) → IsOperand (Immediate z) → length (signed_decimal z) ≤ 4
-immediate_short (pos n) h = let small : n ≤ 255 = grind (arith, ints) in let few : length (decimal n) ≤ 3 = length-decimal-le 3 n (omega arith) (omega arith) (omega arith) in omega arith
-immediate_short (negsuc n) h = let small : n ≤ 255 = grind (arith, ints) in let few : length (decimal (suc n)) ≤ 3 = length-decimal-le 3 (suc n) (omega arith) (omega arith) (omega arith) in omega arith
+immediate_short (pos n) h = let small : n ≤ 255 = grind (arith, ints) in let few : length (decimal n) ≤ 3 =
+    length-decimal-le 3 n (omega arith) (omega arith) (omega arith) in omega arith
+immediate_short (negsuc n) h = let small : n ≤ 255 = grind (arith, ints) in let few : length (decimal (suc n)) ≤ 3 =
+    length-decimal-le 3 (suc n) (omega arith) (omega arith) (omega arith) in omega arith
 
 operand_bytes : (a : OperandA) → IsOperand a → list_all is_text_byte (operand_text a) ≡ true
 operand_bytes (Immediate z) h = and_from true _ refl (immediate_bytes z h)
@@ -144,26 +147,42 @@ instruction_short w =
     let head = head_text (decode_of w).op (decode_of w).cc (decode_of w).set in
     let b = place_text (decode_of w).mode_b (decode_of w).reg_b in
     let a = operand_text (decode_of w).a in
-    let split : disassembly_text w ≡ head ++ 32 ∷ (b ++ 44 ∷ a) = regrouped (decode_of w).op (decode_of w).cc (decode_of w).set (decode_of w).mode_b (decode_of w).reg_b a in
+    let split : disassembly_text w ≡ head ++ 32 ∷ (b ++ 44 ∷ a) =
+    regrouped (decode_of w).op (decode_of w).cc (decode_of w).set (decode_of w).mode_b (decode_of w).reg_b a in
     let long : length (disassembly_text w) ≡ length (head ++ 32 ∷ (b ++ 44 ∷ a)) = ap length split in
-    omega (arith, head_short (decode_of w).op (decode_of w).cc (decode_of w).set, place_short (decode_of w).mode_b (decode_of w).reg_b (limits w).0, operand_short (decode_of w).a (limits w).1, length-append head (32 ∷ (b ++ 44 ∷ a)), length-append b (44 ∷ a))
+    omega (
+      arith,
+      head_short (decode_of w).op (decode_of w).cc (decode_of w).set,
+      place_short (decode_of w).mode_b (decode_of w).reg_b (limits w).0,
+      operand_short (decode_of w).a (limits w).1,
+      length-append head (32 ∷ (b ++ 44 ∷ a)),
+      length-append b (44 ∷ a),
+    )
 
 pub instruction_tidy : (w : ℕ) → IsTidy (disassembly_text w)
 unfolding instruction_text operands_text
 instruction_tidy w =
     let i = decode_of w in
     let head = head_text (decode_of w).op (decode_of w).cc (decode_of w).set in
-    let split : disassembly_text w ≡ head_text (decode_of w).op (decode_of w).cc (decode_of w).set ++ 32 ∷ operands_text (decode_of w).mode_b (decode_of w).reg_b (operand_text (decode_of w).a) =
+    let split : disassembly_text w ≡ head_text (decode_of w).op (decode_of w).cc (decode_of w).set ++ 32
+    ∷ operands_text (decode_of w).mode_b (decode_of w).reg_b (operand_text (decode_of w).a) =
     regrouped (decode_of w).op (decode_of w).cc (decode_of w).set (decode_of w).mode_b (decode_of w).reg_b (operand_text (decode_of w).a) in
-    let start = head_begins (decode_of w).op (decode_of w).cc (decode_of w).set (32 ∷ operands_text (decode_of w).mode_b (decode_of w).reg_b (operand_text (decode_of w).a)) in
+    let start = head_begins (decode_of w).op (decode_of w).cc (decode_of w).set
+    (32 ∷ operands_text (decode_of w).mode_b (decode_of w).reg_b (operand_text (decode_of w).a)) in
     let last = operand_some (decode_of w).a in
     let ops : list_all is_text_byte (place_text (decode_of w).mode_b (decode_of w).reg_b ++ 44 ∷ operand_text (decode_of w).a) ≡ true =
-    all-append is_text_byte (place_text (decode_of w).mode_b (decode_of w).reg_b) (44 ∷ operand_text (decode_of w).a) (place_bytes (decode_of w).mode_b (decode_of w).reg_b (limits w).0) (and_from true _ refl (operand_bytes (decode_of w).a (limits w).1)) in
-    let all : list_all is_text_byte (head_text (decode_of w).op (decode_of w).cc (decode_of w).set ++ 32 ∷ operands_text (decode_of w).mode_b (decode_of w).reg_b (operand_text (decode_of w).a)) ≡ true =
-    all-append is_text_byte (head_text (decode_of w).op (decode_of w).cc (decode_of w).set) (32 ∷ operands_text (decode_of w).mode_b (decode_of w).reg_b (operand_text (decode_of w).a)) (head_bytes (decode_of w).op (decode_of w).cc (decode_of w).set) (and_from true _ refl ops) in
+    all-append is_text_byte (place_text (decode_of w).mode_b (decode_of w).reg_b) (44 ∷ operand_text (decode_of w).a)
+    (place_bytes (decode_of w).mode_b (decode_of w).reg_b (limits w).0) (and_from true _ refl (operand_bytes (decode_of w).a (limits w).1)) in
+    let all : list_all is_text_byte (head_text (decode_of w).op (decode_of w).cc (decode_of w).set ++ 32
+    ∷ operands_text (decode_of w).mode_b (decode_of w).reg_b (operand_text (decode_of w).a)) ≡ true =
+    all-append is_text_byte (head_text (decode_of w).op (decode_of w).cc (decode_of w).set)
+    (32 ∷ operands_text (decode_of w).mode_b (decode_of w).reg_b (operand_text (decode_of w).a))
+    (head_bytes (decode_of w).op (decode_of w).cc (decode_of w).set) (and_from true _ refl ops) in
     let front = head_text (decode_of w).op (decode_of w).cc (decode_of w).set ++ 32 ∷ (place_text (decode_of w).mode_b (decode_of w).reg_b ++ 44 ∷ []) in
-    let ending : disassembly_text w ≡ (head_text (decode_of w).op (decode_of w).cc (decode_of w).set ++ 32 ∷ (place_text (decode_of w).mode_b (decode_of w).reg_b ++ 44 ∷ [])) ++ operand_text (decode_of w).a =
-    split ∙ front_moved (head_text (decode_of w).op (decode_of w).cc (decode_of w).set) (place_text (decode_of w).mode_b (decode_of w).reg_b) (operand_text (decode_of w).a) in
+    let ending : disassembly_text w ≡ (head_text (decode_of w).op (decode_of w).cc (decode_of w).set ++ 32
+    ∷ (place_text (decode_of w).mode_b (decode_of w).reg_b ++ 44 ∷ [])) ++ operand_text (decode_of w).a =
+    split ∙ front_moved (head_text (decode_of w).op (decode_of w).cc (decode_of w).set) (place_text (decode_of w).mode_b (decode_of w).reg_b)
+    (operand_text (decode_of w).a) in
     record {
       bytes = ap (list_all is_text_byte) split ∙ all;
       short = omega (arith, instruction_short w);
@@ -174,7 +193,8 @@ instruction_tidy w =
       more = last.rest;
       begins = split ∙ start.begins;
       no_space = start.spaceless;
-      ends = ending ∙ ap (λ (t : List ℕ). (head_text (decode_of w).op (decode_of w).cc (decode_of w).set ++ 32 ∷ (place_text (decode_of w).mode_b (decode_of w).reg_b ++ 44 ∷ [])) ++ t) last.is;
+      ends = ending ∙ ap (λ (t : List ℕ). (head_text (decode_of w).op (decode_of w).cc (decode_of w).set ++ 32
+          ∷ (place_text (decode_of w).mode_b (decode_of w).reg_b ++ 44 ∷ [])) ++ t) last.is;
       spaceless = ap (lacks 32) (sym last.is) ∙ operand_spaceless (decode_of w).a (limits w).1;
     }
   where

@@ -1,5 +1,6 @@
 -- A text spells the image that it is assembled to.
-use Rattle.std.proofs.Common.{◌≡◌, ◌↔◌, ℕ, ◌+◌, ◌-◌, ◌%◌, ◌^◌, ◌<◌, ◌≤◌, ◌==◌, ◌&&◌, Bool, true, false, cond, not, List, [], ◌∷◌, ◌++◌, map, Option, Some, None, Result, Ok, Err, is_some, unwrap_or, refl, sym, ap, subst, ◌∙◌, arith, nat_lt, leb-true}
+use Rattle.std.proofs.Common.{◌≡◌, ◌↔◌, ℕ, ◌+◌, ◌-◌, ◌%◌, ◌^◌, ◌<◌, ◌≤◌, ◌==◌, ◌&&◌, Bool, true, false, cond, not, List, [], ◌∷◌, ◌++◌, map, Option, Some, None}
+use Rattle.std.proofs.Common.{Result, Ok, Err, is_some, unwrap_or, refl, sym, ap, subst, ◌∙◌, arith, nat_lt, leb-true}
 use Rattle.std.specs.Prelude.{option_to_list, IfOk}
 use Rattle.std.specs.List.{flat_map, list_all, list_any, slice_split}
 use Rattle.std.specs.Str.{bytes_eq}
@@ -19,7 +20,8 @@ use Rattle.fm_asm.specs.Values.{Value, number, label}
 use Rattle.fm_asm.specs.Statements.{Statement, base, size, final, start, word, instruction}
 use Rattle.fm_asm.specs.Lines.{Line}
 use Rattle.fm_asm.specs.Sources.{due_after, SourceOf, source_in, IsOfText}
-use Rattle.fm_asm.specs.Labels.{is_labelled, offset_of, repeated, repeats, number_of, line_breaches, breaches, as_word, statement_words, words_of, final_in, start_in, is_outside}
+use Rattle.fm_asm.specs.Labels.{is_labelled, offset_of, repeated, repeats, number_of, line_breaches, breaches, as_word, statement_words, words_of, final_in}
+use Rattle.fm_asm.specs.Labels.{start_in, is_outside}
 use Rattle.fm_asm.specs.Assembling.{GivesAssembly, image_of, judged, assembly_of}
 use Rattle.fm_asm.specs.Assembly.{statements_of, labels_of, are_distinct, statement_word, IsAssembly}
 use Rattle.fm_asm.proofs.SourceLaws.{dues}
@@ -31,7 +33,8 @@ use Rattle.fm_asm.proofs.SpelledLineLaws.{lines_spelled}
 
 -- ---- labels differ where none repeats
 
-fresh-pull : (earlier : List Line) (line : Line) (name : List ℕ) → is_fresh (earlier ++ line ∷ []) name ≡ true → (is_fresh earlier name ≡ true) × (is_labelled name line.said.label ≡ false)
+fresh-pull : (earlier : List Line) (line : Line) (name : List ℕ) → is_fresh (earlier ++ line ∷ []) name ≡ true → (is_fresh earlier name ≡ true)
+    × (is_labelled name line.said.label ≡ false)
 unfolding is_fresh offset_of
 fresh-pull [] line name h = by_test (is_labelled name line.said.label) h
   where
@@ -41,7 +44,8 @@ fresh-pull [] line name h = by_test (is_labelled name line.said.label) h
 fresh-pull (m ∷ earlier) line name h = by_test (is_labelled name m.said.label) h (fresh-pull earlier line name)
   where
     by_test : (t : Bool) → not (is_some (cond t (Some m.offset) (offset_of (earlier ++ line ∷ []) name))) ≡ true
-        → (not (is_some (offset_of (earlier ++ line ∷ []) name)) ≡ true → (not (is_some (offset_of earlier name)) ≡ true) × (is_labelled name line.said.label ≡ false))
+        → (not (is_some (offset_of (earlier ++ line ∷ []) name)) ≡ true → (not (is_some (offset_of earlier name)) ≡ true)
+        × (is_labelled name line.said.label ≡ false))
         → (not (is_some (cond t (Some m.offset) (offset_of earlier name))) ≡ true) × (is_labelled name line.said.label ≡ false)
     by_test true k later = absurd cc
     by_test false k later = later k
@@ -79,13 +83,15 @@ repeats_none earlier (line ∷ lines) h =
     let both = by_label line.said.label parts.0 pulled.1 (record { fresh = pulled.0; distinct = later.distinct }) in
     record { fresh = both.0; distinct = both.1 }
   where
-    by_label : (l : Option (List ℕ)) → repeated (offset_of earlier) line.place l ≡ [] → list_all (λ name. not (is_labelled name l)) (labels_of lines) ≡ true → AreNew earlier lines
+    by_label : (l : Option (List ℕ)) → repeated (offset_of earlier) line.place l ≡ []
+        → list_all (λ name. not (is_labelled name l)) (labels_of lines) ≡ true → AreNew earlier lines
         → (list_all (is_fresh earlier) (option_to_list l ++ labels_of lines) ≡ true) × (are_distinct (option_to_list l ++ labels_of lines) ≡ true)
     by_label None r o later = (later.fresh, later.distinct)
     by_label (Some own) r o later =
         let new : is_some (offset_of earlier own) ≡ false = rule_fails (is_some (offset_of earlier own)) line.place 4 r in (
           and_from (is_fresh earlier own) (list_all (is_fresh earlier) (labels_of lines)) (ap not new) later.fresh,
-          and_from (not (list_any (bytes_eq own) (labels_of lines))) (are_distinct (labels_of lines)) (ap not (none_same own (labels_of lines) o)) later.distinct,
+          and_from (not (list_any (bytes_eq own) (labels_of lines))) (are_distinct (labels_of lines)) (ap not (none_same own (labels_of lines) o))
+              later.distinct,
         )
 
 -- ---- what is assembled
@@ -106,19 +112,23 @@ record AreThere (b : ℕ) (known : List ℕ → Option ℕ) (ss : List Statement
   words : map (statement_word b known) ss ≡ map (λ w. Some w) (flat_map (λ s. statement_words b known (Some s)) ss)
   fit : are_words (flat_map (λ s. statement_words b known (Some s)) ss) ≡ true
 
-one_there : {b : ℕ} {known : List ℕ → Option ℕ} (s : Statement) (ss : List Statement) (w : ℕ) → statement_word b known s ≡ Some w → statement_words b known (Some s) ≡ w ∷ [] → small w ≡ true
+one_there : {b : ℕ} {known : List ℕ → Option ℕ} (s : Statement) (ss : List Statement) (w : ℕ) → statement_word b known s ≡ Some w
+    → statement_words b known (Some s) ≡ w ∷ [] → small w ≡ true
     → AreThere b known ss → AreThere b known (s ∷ ss)
 unfolding small
 one_there {b} {known} s ss w is words fits later =
     let all = flat_map (λ t. statement_words b known (Some t)) ss in
-    let whole : flat_map (λ t. statement_words b known (Some t)) (s ∷ ss) ≡ w ∷ flat_map (λ t. statement_words b known (Some t)) ss = ap (λ (ws : List ℕ). ws ++ flat_map (λ t. statement_words b known (Some t)) ss) words in
+    let whole : flat_map (λ t. statement_words b known (Some t)) (s ∷ ss) ≡ w ∷ flat_map (λ t. statement_words b known (Some t)) ss =
+    ap (λ (ws : List ℕ). ws ++ flat_map (λ t. statement_words b known (Some t)) ss) words in
     record {
-      words = ap (λ (o : Option ℕ). o ∷ map (statement_word b known) ss) is ∙ ap (λ (os : List (Option ℕ)). Some w ∷ os) later.words ∙ ap (map (λ (x : ℕ). let o : Option ℕ = Some x in o)) (sym whole);
+      words = ap (λ (o : Option ℕ). o ∷ map (statement_word b known) ss) is ∙ ap (λ (os : List (Option ℕ)). Some w ∷ os) later.words
+          ∙ ap (map (λ (x : ℕ). let o : Option ℕ = Some x in o)) (sym whole);
       fit = ap are_words whole ∙ and_from (nat_lt w (2 ^ 32)) (are_words (flat_map (λ t. statement_words b known (Some t)) ss)) fits later.fit;
     }
 
 -- the statements after the header, where nothing but words is due
-words_there : (b n : ℕ) (known : List ℕ → Option ℕ) (ss : List Statement) → ((v : Value) (w : ℕ) → value_fits v ≡ true → number_of b known v ≡ Some w → w < 2 ^ 32)
+words_there : (b n : ℕ) (known : List ℕ → Option ℕ) (ss : List Statement)
+    → ((v : Value) (w : ℕ) → value_fits v ≡ true → number_of b known v ≡ Some w → w < 2 ^ 32)
     → dues (due.Words b n) ss ≡ Ok (due.Words b n) → list_all (is_good b n known) ss ≡ true → list_all statement_fits ss ≡ true → AreThere b known ss
 unfolding dues due_after is_good statement_fits number_fits statement_word statement_words
 words_there b n known [] bound h good fits = record { words = refl; fit = refl }
@@ -130,12 +140,15 @@ words_there b n known (word (number None) ∷ ss) bound h good fits = absurd cc
 words_there b n known (word (number (Some z)) ∷ ss) bound h good fits =
     let g = and_parts (is_some (number_of b known (number (Some z)))) (list_all (is_good b n known) ss) good in
     let f = and_parts (value_fits (number (Some z))) (list_all statement_fits ss) fits in
-    one_there (word (number (Some z))) ss (as_word (number_of b known (number (Some z)))) (word_there (number_of b known (number (Some z))) g.0 (λ w is. bound (number (Some z)) w f.0 is)) refl (word_small (number_of b known (number (Some z))))
+    one_there (word (number (Some z))) ss (as_word (number_of b known (number (Some z))))
+    (word_there (number_of b known (number (Some z))) g.0 (λ w is. bound (number (Some z)) w f.0 is)) refl
+    (word_small (number_of b known (number (Some z))))
     (words_there b n known ss bound h g.1 f.1)
 words_there b n known (word (label name) ∷ ss) bound h good fits =
     let g = and_parts (is_some (number_of b known (label name))) (list_all (is_good b n known) ss) good in
     let f = and_parts (value_fits (label name)) (list_all statement_fits ss) fits in
-    one_there (word (label name)) ss (as_word (number_of b known (label name))) (word_there (number_of b known (label name)) g.0 (λ w is. bound (label name) w f.0 is)) refl (word_small (number_of b known (label name)))
+    one_there (word (label name)) ss (as_word (number_of b known (label name)))
+    (word_there (number_of b known (label name)) g.0 (λ w is. bound (label name) w f.0 is)) refl (word_small (number_of b known (label name)))
     (words_there b n known ss bound h g.1 f.1)
 words_there b n known (instruction None ∷ ss) bound h good fits = absurd cc
 words_there b n known (instruction (Some z) ∷ ss) bound h good fits =
@@ -156,18 +169,26 @@ good_source text s is none =
     let total = g.few in
     let few : word_total (statements_of s.lines) ≤ s.size = omega (arith, total) in
     let limit : s.base + s.size ≤ 2 ^ 32 - 1 = leb-true (s.base + s.size) (2 ^ 32 - 1) (and_parts _ _ h.sized).1 in
-    let good : list_all (is_good s.base s.size (offset_of s.lines)) (base (Some s.base) ∷ size (Some s.size) ∷ final h.end_value ∷ start h.start_value ∷ h.words) ≡ true =
+    let good : list_all (is_good s.base s.size (offset_of s.lines))
+    (base (Some s.base) ∷ size (Some s.size) ∷ final h.end_value ∷ start h.start_value ∷ h.words) ≡ true =
     ap (list_all (is_good s.base s.size (offset_of s.lines))) (sym h.is) ∙ g.good in
     let fits : list_all statement_fits (base (Some s.base) ∷ size (Some s.size) ∷ final h.end_value ∷ start h.start_value ∷ h.words) ≡ true =
     ap (list_all statement_fits) (sym h.is) ∙ lines_fit 0 0 (slice_split (λ b. b == 10) text) s.lines lines in
-    let good_end = and_parts (is_some (number_of s.base (offset_of s.lines) h.end_value) && not (is_outside s.base s.size (number_of s.base (offset_of s.lines) h.end_value))) (is_some (number_of s.base (offset_of s.lines) h.start_value) && list_all (is_good s.base s.size (offset_of s.lines)) h.words) good in
-    let good_start = and_parts (is_some (number_of s.base (offset_of s.lines) h.start_value)) (list_all (is_good s.base s.size (offset_of s.lines)) h.words) good_end.1 in
-    let end_there = and_parts (is_some (number_of s.base (offset_of s.lines) h.end_value)) (not (is_outside s.base s.size (number_of s.base (offset_of s.lines) h.end_value))) good_end.0 in
+    let good_end = and_parts (is_some (number_of s.base (offset_of s.lines) h.end_value)
+    && not (is_outside s.base s.size (number_of s.base (offset_of s.lines) h.end_value)))
+    (is_some (number_of s.base (offset_of s.lines) h.start_value) && list_all (is_good s.base s.size (offset_of s.lines)) h.words) good in
+    let good_start = and_parts (is_some (number_of s.base (offset_of s.lines) h.start_value))
+    (list_all (is_good s.base s.size (offset_of s.lines)) h.words) good_end.1 in
+    let end_there = and_parts (is_some (number_of s.base (offset_of s.lines) h.end_value))
+    (not (is_outside s.base s.size (number_of s.base (offset_of s.lines) h.end_value))) good_end.0 in
     let fits_end = and_parts (value_fits h.end_value) (value_fits h.start_value && list_all statement_fits h.words) fits in
     let fits_start = and_parts (value_fits h.start_value) (list_all statement_fits h.words) fits_end.1 in
-    let bound : (v : Value) (w : ℕ) → value_fits v ≡ true → number_of s.base (offset_of s.lines) v ≡ Some w → w < 2 ^ 32 = λ v w f e. valued_fits s.base s.size s.lines v w r.offsets few limit f e in
-    let last : final_in s.base (offset_of s.lines) s.lines ≡ as_word (number_of s.base (offset_of s.lines) h.end_value) = final-lines s.base (offset_of s.lines) s.lines ∙ ap (final_by s.base (offset_of s.lines)) h.is in
-    let first : start_in s.base (offset_of s.lines) s.lines ≡ as_word (number_of s.base (offset_of s.lines) h.start_value) = start-lines s.base (offset_of s.lines) s.lines ∙ ap (start_by s.base (offset_of s.lines)) h.is in
+    let bound : (v : Value) (w : ℕ) → value_fits v ≡ true → number_of s.base (offset_of s.lines) v ≡ Some w → w < 2 ^ 32 =
+    λ v w f e. valued_fits s.base s.size s.lines v w r.offsets few limit f e in
+    let last : final_in s.base (offset_of s.lines) s.lines ≡ as_word (number_of s.base (offset_of s.lines) h.end_value) =
+    final-lines s.base (offset_of s.lines) s.lines ∙ ap (final_by s.base (offset_of s.lines)) h.is in
+    let first : start_in s.base (offset_of s.lines) s.lines ≡ as_word (number_of s.base (offset_of s.lines) h.start_value) =
+    start-lines s.base (offset_of s.lines) s.lines ∙ ap (start_by s.base (offset_of s.lines)) h.is in
     let words : words_of s ≡ flat_map (λ t. statement_words s.base (offset_of s.lines) (Some t)) h.words =
     words-lines s.base (offset_of s.lines) s.lines ∙ ap (flat_map (λ t. statement_words s.base (offset_of s.lines) (Some t))) h.is in
     let there = words_there s.base s.size (offset_of s.lines) h.words bound h.words_due good_start.1 fits_start.1 in
@@ -183,10 +204,13 @@ good_source text s is none =
       in_order = h.is;
       sized = h.sized;
       labels_differ = new.distinct;
-      end_is = word_there (number_of s.base (offset_of s.lines) h.end_value) end_there.0 (λ w e. bound h.end_value w fits_end.0 e) ∙ ap (λ (x : ℕ). Some x) (sym last);
-      start_is = word_there (number_of s.base (offset_of s.lines) h.start_value) good_start.0 (λ w e. bound h.start_value w fits_start.0 e) ∙ ap (λ (x : ℕ). Some x) (sym first);
+      end_is = word_there (number_of s.base (offset_of s.lines) h.end_value) end_there.0 (λ w e. bound h.end_value w fits_end.0 e)
+          ∙ ap (λ (x : ℕ). Some x) (sym last);
+      start_is = word_there (number_of s.base (offset_of s.lines) h.start_value) good_start.0 (λ w e. bound h.start_value w fits_start.0 e)
+          ∙ ap (λ (x : ℕ). Some x) (sym first);
       words_are = there.words ∙ ap (map (λ (x : ℕ). let o : Option ℕ = Some x in o)) (sym words);
-      fit = and_from (nat_lt (start_in s.base (offset_of s.lines) s.lines) (2 ^ 32)) (are_words (words_of s)) (ap (λ (x : ℕ). nat_lt x (2 ^ 32)) first ∙ word_small (number_of s.base (offset_of s.lines) h.start_value)) (ap are_words words ∙ there.fit);
+      fit = and_from (nat_lt (start_in s.base (offset_of s.lines) s.lines) (2 ^ 32)) (are_words (words_of s))
+          (ap (λ (x : ℕ). nat_lt x (2 ^ 32)) first ∙ word_small (number_of s.base (offset_of s.lines) h.start_value)) (ap are_words words ∙ there.fit);
       few = fit.few;
       inside = fit.inside;
       image_is = refl;
@@ -213,7 +237,8 @@ spelled_if text (Err e) h = tt
 
 -- a text spells at most one image
 pub one_image : (text : List ℕ) (image other : ImageOf) → IsAssembly text image → IsAssembly text other → image ≡ other
-one_image text image other a b = ap (λ (r : Result ImageOf Breach). result_unwrap_or r image) (sym (spelled_is_assembled text image a) ∙ spelled_is_assembled text other b)
+one_image text image other a b =
+    ap (λ (r : Result ImageOf Breach). result_unwrap_or r image) (sym (spelled_is_assembled text image a) ∙ spelled_is_assembled text other b)
 
 -- a text that spells no image has a fault, and no other has one
 pub fault_or_image : (text : List ℕ) → ((breach : Breach) × (assembly_of text ≡ Err breach)) ↔ ((image : ImageOf) → IsAssembly text image → ⊥)
@@ -222,6 +247,7 @@ fault_or_image text = (λ faulty image a. never faulty.0 image faulty.1 (spelled
     never : (breach : Breach) (image : ImageOf) → assembly_of text ≡ Err breach → assembly_of text ≡ Ok image → ⊥
     never breach image e f = cc
 
-    by_result : (r : Result ImageOf Breach) → assembly_of text ≡ r → ((image : ImageOf) → IsAssembly text image → ⊥) → (breach : Breach) × (assembly_of text ≡ Err breach)
+    by_result : (r : Result ImageOf Breach) → assembly_of text ≡ r → ((image : ImageOf) → IsAssembly text image → ⊥) → (breach : Breach)
+        × (assembly_of text ≡ Err breach)
     by_result (Err breach) is none = (breach, is)
     by_result (Ok image) is none = absurd (none image (assembled_is_spelled text image is))

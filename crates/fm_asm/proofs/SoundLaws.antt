@@ -1,5 +1,6 @@
 -- What holds of a source that was read, and where nothing breaks a rule.
-use Rattle.std.proofs.Common.{◌≡◌, ℕ, ◌+◌, ◌-◌, ◌^◌, ◌≤◌, ◌==◌, Bool, true, false, cond, not, List, [], ◌∷◌, ◌++◌, length, Option, Some, None, Result, Ok, Err, is_some, is_none, refl, sym, ap, subst, ◌∙◌, arith, nat_le, leb-true, ltb-true, leb-false}
+use Rattle.std.proofs.Common.{◌≡◌, ℕ, ◌+◌, ◌-◌, ◌^◌, ◌≤◌, ◌==◌, Bool, true, false, cond, not, List, [], ◌∷◌, ◌++◌, length, Option, Some, None, Result, Ok, Err}
+use Rattle.std.proofs.Common.{is_some, is_none, refl, sym, ap, subst, ◌∙◌, arith, nat_le, leb-true, ltb-true, leb-false}
 use Rattle.std.specs.Prelude.{option_to_list}
 use Rattle.std.specs.Result.{result_unwrap_or}
 use Rattle.std.specs.List.{flat_map, list_all, slice_split}
@@ -13,8 +14,10 @@ use Rattle.fm_asm.specs.declared.due.Due.TheVariants as due
 use Rattle.fm_asm.specs.Values.{Value, number, label}
 use Rattle.fm_asm.specs.Statements.{Statement, base, size, final, start, word, instruction}
 use Rattle.fm_asm.specs.Lines.{Said, Line}
-use Rattle.fm_asm.specs.Sources.{due_after, due_after_line, at_place, said_of_line, line_read, word_count, kept, SourceOf, with_lines, lines_read, source_in, IsOfText}
-use Rattle.fm_asm.specs.Labels.{offset_of, number_of, undefined, beyond_size, ends_outside, is_outside, statement_breaches, line_breaches, repeats, breaches, as_word, statement_words, words_of, final_in}
+use Rattle.fm_asm.specs.Sources.{due_after, due_after_line, at_place, said_of_line, line_read, word_count, kept, SourceOf, with_lines, lines_read, source_in}
+use Rattle.fm_asm.specs.Sources.{IsOfText}
+use Rattle.fm_asm.specs.Labels.{offset_of, number_of, undefined, beyond_size, ends_outside, is_outside, statement_breaches, line_breaches, repeats, breaches}
+use Rattle.fm_asm.specs.Labels.{as_word, statement_words, words_of, final_in}
 use Rattle.fm_asm.specs.Assembly.{statements_of}
 use Rattle.fm_asm.proofs.SourceLaws.{dues, statements-kept, paired}
 use Rattle.fm_asm.proofs.JudgingLaws.{words-lines, final_by, final-lines, as_word-fits, word_total, is_good}
@@ -47,7 +50,8 @@ offsets-kept place offset None (Some s) lines h = (refl, h)
 offsets-kept place offset (Some l) None lines h = (refl, h)
 offsets-kept place offset (Some l) (Some s) lines h = (refl, h)
 
-on_with : (place offset : ℕ) (d next : Due) (said : Said) (r : Result SourceOf Breach) → due_after_line d said.statement ≡ Ok next → OnRead (offset + word_count said.statement) next r
+on_with : (place offset : ℕ) (d next : Due) (said : Said) (r : Result SourceOf Breach) → due_after_line d said.statement ≡ Ok next
+    → OnRead (offset + word_count said.statement) next r
     → OnRead offset d (with_lines (kept (record { place = place; offset = offset; said = said })) r)
 unfolding OnRead
 on_with place offset d next said (Err fault) h k = tt
@@ -60,7 +64,8 @@ due_of : (d : Due) (bytes : List ℕ) (said : Said) (next : Due) → line_read d
 unfolding line_read
 due_of d bytes said next h = by_said (said_of_line bytes) h
   where
-    by_due : (s : Said) (r : Result Due ℕ) → due_after_line d s.statement ≡ r → (r >>= λ e. paired s e) ≡ Ok (said, next) → due_after_line d said.statement ≡ Ok next
+    by_due : (s : Said) (r : Result Due ℕ) → due_after_line d s.statement ≡ r → (r >>= λ e. paired s e) ≡ Ok (said, next)
+        → due_after_line d said.statement ≡ Ok next
     by_due s (Err rule) is k = absurd cc
     by_due s (Ok e) is k =
         let first : s ≡ said = ap (λ (r : Result (Said × Due) ℕ). (result_unwrap_or r (said, next)).0) k in
@@ -74,11 +79,13 @@ due_of d bytes said next h = by_said (said_of_line bytes) h
 
 on_line : (end place offset : ℕ) (d : Due) (bytes : List ℕ) (rest : List (List ℕ)) (r : Result (Said × Due) ℕ) → line_read d bytes ≡ r
     → ((o : ℕ) (e : Due) → OnRead o e (lines_read end (place + length bytes + 1) o e rest))
-    → OnRead offset d (at_place place r >>= λ next. with_lines (kept (record { place = place; offset = offset; said = next.0 })) (lines_read end (place + length bytes + 1) (offset + word_count next.0.statement) next.1 rest))
+    → OnRead offset d (at_place place r >>= λ next. with_lines (kept (record { place = place; offset = offset; said = next.0 }))
+    (lines_read end (place + length bytes + 1) (offset + word_count next.0.statement) next.1 rest))
 unfolding OnRead
 on_line end place offset d bytes rest (Err rule) is later = tt
 on_line end place offset d bytes rest (Ok x) is later =
-    on_with place offset d x.1 x.0 (lines_read end (place + length bytes + 1) (offset + word_count x.0.statement) x.1 rest) (due_of d bytes x.0 x.1 is) (later (offset + word_count x.0.statement) x.1)
+    on_with place offset d x.1 x.0 (lines_read end (place + length bytes + 1) (offset + word_count x.0.statement) x.1 rest) (due_of d bytes x.0 x.1 is)
+    (later (offset + word_count x.0.statement) x.1)
 
 on_read : (end place offset : ℕ) (d : Due) (texts : List (List ℕ)) → OnRead offset d (lines_read end place offset d texts)
 unfolding lines_read OnRead HasOffsets dues
@@ -87,7 +94,8 @@ on_read end place offset (due.Size b) [] = tt
 on_read end place offset (due.Final b n) [] = tt
 on_read end place offset (due.Start b n) [] = tt
 on_read end place offset (due.Words b n) [] = record { offsets = tt; in_order = refl }
-on_read end place offset d (bytes ∷ rest) = on_line end place offset d bytes rest (line_read d bytes) refl (λ o e. on_read end (place + length bytes + 1) o e rest)
+on_read end place offset d (bytes ∷ rest) =
+    on_line end place offset d bytes rest (line_read d bytes) refl (λ o e. on_read end (place + length bytes + 1) o e rest)
 
 pub read_is : (s : SourceOf) → IsOfText s → IsReadFrom 0 due.Base s
 unfolding OnRead source_in
@@ -123,7 +131,8 @@ pub record HasHeader (b n : ℕ) (ss : List Statement) : Type 0 where
   pub words_due : dues (due.Words b n) words ≡ Ok (due.Words b n)
   pub is : ss ≡ base (Some b) ∷ size (Some n) ∷ final end_value ∷ start start_value ∷ words
 
-header_made : (b n x y : ℕ) (v w : Value) (ss : List Statement) → is_size x y ≡ true → dues (due.Words x y) ss ≡ Ok (due.Words b n) → HasHeader b n (base (Some x) ∷ size (Some y) ∷ final v ∷ start w ∷ ss)
+header_made : (b n x y : ℕ) (v w : Value) (ss : List Statement) → is_size x y ≡ true → dues (due.Words x y) ss ≡ Ok (due.Words b n)
+    → HasHeader b n (base (Some x) ∷ size (Some y) ∷ final v ∷ start w ∷ ss)
 header_made b n x y v w ss sized h =
     let e = words_end b n x y ss h in
     record {
@@ -131,11 +140,14 @@ header_made b n x y v w ss sized h =
       end_value = v;
       start_value = w;
       words = ss;
-      words_due = subst (λ (m : ℕ). dues (due.Words m n) ss ≡ Ok (due.Words b n)) e.base_is (subst (λ (m : ℕ). dues (due.Words x m) ss ≡ Ok (due.Words b n)) e.size_is h);
-      is = ap (λ (m : ℕ). base (Some m) ∷ size (Some y) ∷ final v ∷ start w ∷ ss) e.base_is ∙ ap (λ (m : ℕ). base (Some b) ∷ size (Some m) ∷ final v ∷ start w ∷ ss) e.size_is;
+      words_due = subst (λ (m : ℕ). dues (due.Words m n) ss ≡ Ok (due.Words b n)) e.base_is
+          (subst (λ (m : ℕ). dues (due.Words x m) ss ≡ Ok (due.Words b n)) e.size_is h);
+      is = ap (λ (m : ℕ). base (Some m) ∷ size (Some y) ∷ final v ∷ start w ∷ ss) e.base_is
+          ∙ ap (λ (m : ℕ). base (Some b) ∷ size (Some m) ∷ final v ∷ start w ∷ ss) e.size_is;
     }
 
-after_final : (b n x y : ℕ) (v : Value) (ss : List Statement) → is_size x y ≡ true → dues (due.Start x y) ss ≡ Ok (due.Words b n) → HasHeader b n (base (Some x) ∷ size (Some y) ∷ final v ∷ ss)
+after_final : (b n x y : ℕ) (v : Value) (ss : List Statement) → is_size x y ≡ true → dues (due.Start x y) ss ≡ Ok (due.Words b n)
+    → HasHeader b n (base (Some x) ∷ size (Some y) ∷ final v ∷ ss)
 unfolding dues due_after
 after_final b n x y v [] sized h = absurd cc
 after_final b n x y v (base z ∷ ss) sized h = absurd cc
@@ -147,7 +159,8 @@ after_final b n x y v (start (label name) ∷ ss) sized h = header_made b n x y 
 after_final b n x y v (word z ∷ ss) sized h = absurd cc
 after_final b n x y v (instruction z ∷ ss) sized h = absurd cc
 
-after_size : (b n x y : ℕ) (ss : List Statement) → is_size x y ≡ true → dues (due.Final x y) ss ≡ Ok (due.Words b n) → HasHeader b n (base (Some x) ∷ size (Some y) ∷ ss)
+after_size : (b n x y : ℕ) (ss : List Statement) → is_size x y ≡ true → dues (due.Final x y) ss ≡ Ok (due.Words b n)
+    → HasHeader b n (base (Some x) ∷ size (Some y) ∷ ss)
 unfolding dues due_after
 after_size b n x y [] sized h = absurd cc
 after_size b n x y (base z ∷ ss) sized h = absurd cc
@@ -166,7 +179,8 @@ after_base b n x (base z ∷ ss) h = absurd cc
 after_base b n x (size None ∷ ss) h = absurd cc
 after_base b n x (size (Some y) ∷ ss) h = by_test (is_size x y) refl h
   where
-    by_test : (t : Bool) → is_size x y ≡ t → (cond t (Ok (due.Final x y)) (Err 3) >>= λ e. dues e ss) ≡ Ok (due.Words b n) → HasHeader b n (base (Some x) ∷ size (Some y) ∷ ss)
+    by_test : (t : Bool) → is_size x y ≡ t → (cond t (Ok (due.Final x y)) (Err 3) >>= λ e. dues e ss) ≡ Ok (due.Words b n)
+        → HasHeader b n (base (Some x) ∷ size (Some y) ∷ ss)
     by_test true e k = after_size b n x y ss e k
     by_test false e k = absurd cc
 after_base b n x (final z ∷ ss) h = absurd cc
@@ -214,14 +228,17 @@ pub record AreGood (b n : ℕ) (known : List ℕ → Option ℕ) (offset : ℕ) 
   pub good : list_all (is_good b n known) ss ≡ true
   pub few : offset + word_total ss ≤ n
 
-pub lines_good : (b n : ℕ) (known : List ℕ → Option ℕ) (offset : ℕ) (lines : List Line) → HasOffsets offset lines → flat_map (line_breaches b n known) lines ≡ [] → offset ≤ n → AreGood b n known offset (statements_of lines)
+pub lines_good : (b n : ℕ) (known : List ℕ → Option ℕ) (offset : ℕ) (lines : List Line) → HasOffsets offset lines
+    → flat_map (line_breaches b n known) lines ≡ [] → offset ≤ n → AreGood b n known offset (statements_of lines)
 unfolding HasOffsets word_total statement_breaches
 lines_good b n known offset [] h k le = record { good = refl; few = omega arith }
 lines_good b n known offset (line ∷ lines) h k le =
-    by_statement line.said.statement h.1 (append_none (statement_breaches b n known line.place line.offset line.said.statement) (flat_map (line_breaches b n known) lines) k)
+    by_statement line.said.statement h.1 (append_none (statement_breaches b n known line.place line.offset line.said.statement)
+    (flat_map (line_breaches b n known) lines) k)
     (λ o hs ks les. lines_good b n known o lines hs ks les)
   where
-    by_statement : (s : Option Statement) → HasOffsets (offset + word_count s) lines → (statement_breaches b n known line.place line.offset s ≡ []) × (flat_map (line_breaches b n known) lines ≡ [])
+    by_statement : (s : Option Statement) → HasOffsets (offset + word_count s) lines → (statement_breaches b n known line.place line.offset s ≡ [])
+        × (flat_map (line_breaches b n known) lines ≡ [])
         → ((o : ℕ) → HasOffsets o lines → flat_map (line_breaches b n known) lines ≡ [] → o ≤ n → AreGood b n known o (statements_of lines))
         → AreGood b n known offset (option_to_list s ++ statements_of lines)
     by_statement None hs parts later =
@@ -272,11 +289,15 @@ source_fits s read none =
     let h = header_of s.base s.size (statements_of s.lines) r.in_order in
     let parts = append_none (repeats [] s.lines) (flat_map (line_breaches s.base s.size (offset_of s.lines)) s.lines) none in
     let g = lines_good s.base s.size (offset_of s.lines) 0 s.lines r.offsets parts.1 (omega arith) in
-    let good : list_all (is_good s.base s.size (offset_of s.lines)) (base (Some s.base) ∷ size (Some s.size) ∷ final h.end_value ∷ start h.start_value ∷ h.words) ≡ true =
+    let good : list_all (is_good s.base s.size (offset_of s.lines))
+    (base (Some s.base) ∷ size (Some s.size) ∷ final h.end_value ∷ start h.start_value ∷ h.words) ≡ true =
     ap (list_all (is_good s.base s.size (offset_of s.lines))) (sym h.is) ∙ g.good in
-    let ended = and_parts (is_some (number_of s.base (offset_of s.lines) h.end_value)) (not (is_outside s.base s.size (number_of s.base (offset_of s.lines) h.end_value))) (and_parts _ _ good).0 in
-    let last : final_in s.base (offset_of s.lines) s.lines ≡ as_word (number_of s.base (offset_of s.lines) h.end_value) = final-lines s.base (offset_of s.lines) s.lines ∙ ap (final_by s.base (offset_of s.lines)) h.is in
-    let count : length (words_of s) ≡ word_total (statements_of s.lines) = ap length (words-lines s.base (offset_of s.lines) s.lines) ∙ words_counted s.base (offset_of s.lines) (statements_of s.lines) in
+    let ended = and_parts (is_some (number_of s.base (offset_of s.lines) h.end_value))
+    (not (is_outside s.base s.size (number_of s.base (offset_of s.lines) h.end_value))) (and_parts _ _ good).0 in
+    let last : final_in s.base (offset_of s.lines) s.lines ≡ as_word (number_of s.base (offset_of s.lines) h.end_value) =
+    final-lines s.base (offset_of s.lines) s.lines ∙ ap (final_by s.base (offset_of s.lines)) h.is in
+    let count : length (words_of s) ≡ word_total (statements_of s.lines) =
+    ap length (words-lines s.base (offset_of s.lines) s.lines) ∙ words_counted s.base (offset_of s.lines) (statements_of s.lines) in
     let total = g.few in
     record {
       sized = h.sized;

@@ -25,10 +25,12 @@ dues d (s ∷ ss) = due_after d s >>= λ e. dues e ss
 
 -- ---- one line
 
-pub statements-kept : (place offset : ℕ) (said : Said) (lines : List Line) → statements_of (kept (record { place = place; offset = offset; said = said }) ++ lines) ≡ option_to_list said.statement ++ statements_of lines
+pub statements-kept : (place offset : ℕ) (said : Said) (lines : List Line) → statements_of
+    (kept (record { place = place; offset = offset; said = said }) ++ lines) ≡ option_to_list said.statement ++ statements_of lines
 statements-kept place offset said lines = by_label said.label said.statement
   where
-    by_label : (l : Option (List ℕ)) (s : Option Statement) → statements_of (kept (record { place = place; offset = offset; said = record { label = l; statement = s } }) ++ lines) ≡ option_to_list s ++ statements_of lines
+    by_label : (l : Option (List ℕ)) (s : Option Statement) → statements_of
+        (kept (record { place = place; offset = offset; said = record { label = l; statement = s } }) ++ lines) ≡ option_to_list s ++ statements_of lines
     by_label None None = refl
     by_label None (Some s) = refl
     by_label (Some l) None = refl
@@ -54,7 +56,8 @@ read_so d next bytes said h e = rw (line_said bytes said h) (rw e refl)
 
 -- ---- all lines
 
-pub lines_are_read : (end place offset : ℕ) (d : Due) (b n : ℕ) (texts : List (List ℕ)) (lines : List Line) → AreLines place offset texts lines → dues d (statements_of lines) ≡ Ok (due.Words b n)
+pub lines_are_read : (end place offset : ℕ) (d : Due) (b n : ℕ) (texts : List (List ℕ)) (lines : List Line) → AreLines place offset texts lines
+    → dues d (statements_of lines) ≡ Ok (due.Words b n)
     → lines_read end place offset d texts ≡ Ok (record { base = b; size = n; lines = lines })
 unfolding lines_read dues
 lines_are_read end _ _ d b n _ _ (no_line place offset) h =
@@ -75,7 +78,8 @@ valued b known (number (Some n)) w next h = refl
 valued b known (label name) w next h = refl
 
 -- statements that are words leave words due
-words_due : (b n : ℕ) (known : List ℕ → Option ℕ) (ss : List Statement) (ws : List ℕ) → map (statement_word b known) ss ≡ map (λ w. Some w) ws → dues (due.Words b n) ss ≡ Ok (due.Words b n)
+words_due : (b n : ℕ) (known : List ℕ → Option ℕ) (ss : List Statement) (ws : List ℕ) → map (statement_word b known) ss ≡ map (λ w. Some w) ws
+    → dues (due.Words b n) ss ≡ Ok (due.Words b n)
 unfolding dues due_after statement_word
 words_due b n known [] ws h = refl
 words_due b n known (base x ∷ ss) [] h = absurd cc
@@ -100,7 +104,8 @@ words_due b n known (instruction (Some x) ∷ ss) (w ∷ ws) h =
 sized_due : (b n : ℕ) → is_size b n ≡ true → final_due b (Some n) ≡ Ok (due.Final b n)
 sized_due b n sized = let yes : Result Due ℕ = Ok (due.Final b n) in let other : Result Due ℕ = Err 3 in if_true (is_size b n) yes other sized
 
-pub header_due : (b n e x : ℕ) (known : List ℕ → Option ℕ) (f s : Value) (ss : List Statement) (ws : List ℕ) → is_size b n ≡ true → number_of b known f ≡ Some e → number_of b known s ≡ Some x
+pub header_due : (b n e x : ℕ) (known : List ℕ → Option ℕ) (f s : Value) (ss : List Statement) (ws : List ℕ) → is_size b n ≡ true
+    → number_of b known f ≡ Some e → number_of b known s ≡ Some x
     → map (statement_word b known) ss ≡ map (λ w. Some w) ws → dues due.Base (base (Some b) ∷ size (Some n) ∷ final f ∷ start s ∷ ss) ≡ Ok (due.Words b n)
 unfolding dues due_after
 header_due b n e x known f s ss ws sized end_is start_is words =

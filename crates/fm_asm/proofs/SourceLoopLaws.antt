@@ -1,5 +1,6 @@
 -- The lines of a text, one after the other.
-use Rattle.std.proofs.Common.{◌≡◌, Bor, ℕ, suc, ◌+◌, ◌-◌, ◌≤◌, ◌<◌, ◌==◌, Bool, true, false, cond, List, [], ◌∷◌, ◌++◌, length, Option, Some, None, Result, Ok, Err, refl, sym, ap, subst, ◌∙◌, arith, append_assoc, append-nil}
+use Rattle.std.proofs.Common.{◌≡◌, Bor, ℕ, suc, ◌+◌, ◌-◌, ◌≤◌, ◌<◌, ◌==◌, Bool, true, false, cond, List, [], ◌∷◌, ◌++◌, length, Option, Some, None, Result, Ok}
+use Rattle.std.proofs.Common.{Err, refl, sym, ap, subst, ◌∙◌, arith, append_assoc, append-nil}
 use Rattle.std.specs.List.{slice_split, onto_first}
 use Rattle.std.specs.Option.{option_copied}
 use Rattle.std.proofs.lemmas.List.{length-append}
@@ -44,7 +45,9 @@ split-cut (b ∷ left) = by_test (b == 10) (split-cut left)
     here t = cond t (let now : Cut = ([], Some left) in now) (in_front b (cut 10 left))
 
     by_test : (t : Bool) → slice_split (λ b. b == 10) left ≡ (cut 10 left).0 ∷ lines_of_rest (cut 10 left).1
-        → cond t ([] ∷ slice_split (λ b. b == 10) left) (onto_first b (slice_split (λ b. b == 10) left)) ≡ (cond t (let now : Cut = ([], Some left) in now) (in_front b (cut 10 left))).0 ∷ lines_of_rest (cond t (let now : Cut = ([], Some left) in now) (in_front b (cut 10 left))).1
+        → cond t ([] ∷ slice_split (λ b. b == 10) left) (onto_first b (slice_split (λ b. b == 10) left))
+        ≡ (cond t (let now : Cut = ([], Some left) in now) (in_front b (cut 10 left))).0
+        ∷ lines_of_rest (cond t (let now : Cut = ([], Some left) in now) (in_front b (cut 10 left))).1
     by_test true h = refl
     by_test false h = ap (onto_first b) h
 
@@ -53,7 +56,8 @@ unfolding lines_of_rest
 left-after None = refl
 left-after (Some a) = refl
 
-pub split_off : (left bytes : List ℕ) (after : Option (Bor (List ℕ))) → (let parts : Cut = (bytes, option_copied after) in parts) ≡ cut 10 left → slice_split (λ b. b == 10) left ≡ bytes ∷ lines_left after
+pub split_off : (left bytes : List ℕ) (after : Option (Bor (List ℕ))) → (let parts : Cut = (bytes, option_copied after) in parts) ≡ cut 10 left
+    → slice_split (λ b. b == 10) left ≡ bytes ∷ lines_left after
 split_off left bytes after is =
     split-cut left ∙ ap (λ (parts : Cut). parts.0 ∷ lines_of_rest parts.1) (sym is) ∙ ap (λ ls. bytes ∷ ls) (left-after after)
 
@@ -62,7 +66,8 @@ pub whole_length : Option (Bor (List ℕ)) → List ℕ → ℕ
 whole_length None bytes = length bytes
 whole_length (Some a) bytes = length bytes + 1 + length a.now
 
-pub cut_length : (left bytes : List ℕ) (after : Option (Bor (List ℕ))) → (let parts : Cut = (bytes, option_copied after) in parts) ≡ cut 10 left → length left ≡ whole_length after bytes
+pub cut_length : (left bytes : List ℕ) (after : Option (Bor (List ℕ))) → (let parts : Cut = (bytes, option_copied after) in parts) ≡ cut 10 left
+    → length left ≡ whole_length after bytes
 unfolding whole whole_length
 cut_length left bytes after is = ap length (cut_whole 10 left ∙ ap (λ (parts : Cut). whole 10 parts.0 parts.1) (sym is)) ∙ by_after after
   where
@@ -91,7 +96,8 @@ place_after end count left bytes (Some a) d within long =
     let same : end - length left + length bytes + 1 ≡ end - length a.now = omega (arith, within, long) in
     ap (λ (p : ℕ). lines_read end p count d (slice_split (λ b. b == 10) a.now)) same
 
-pub next_line : (end offset : ℕ) (left bytes : List ℕ) (after : Option (Bor (List ℕ))) (d next : Due) (said : Said) (before new : List Line) (all : Result SourceOf Breach)
+pub next_line : (end offset : ℕ) (left bytes : List ℕ) (after : Option (Bor (List ℕ))) (d next : Due) (said : Said) (before new : List Line)
+    (all : Result SourceOf Breach)
     → (let parts : Cut = (bytes, option_copied after) in parts) ≡ cut 10 left → length left ≤ end
     → with_lines before (lines_read end (end - length left) offset d (slice_split (λ b. b == 10) left)) ≡ all
     → line_read d bytes ≡ Ok (said, next) → new ≡ before ++ kept (record { place = end - length left; offset = offset; said = said })
@@ -102,7 +108,8 @@ next_line end offset left bytes after d next said before new all parts within so
     let later = lines_read end (end - length left + length bytes + 1) (offset + word_count said.statement) next (lines_left after) in
     let read : lines_read end (end - length left) offset d (bytes ∷ lines_left after) ≡ with_lines (kept line) later = rw reads refl in
     ap (λ (ls : List Line). with_lines ls (lines_read end (end - left_length after) (offset + word_count said.statement) next (lines_left after))) pushed
-    ∙ ap (with_lines (before ++ kept line)) (sym (place_after end (offset + word_count said.statement) left bytes after next within (cut_length left bytes after parts)))
+    ∙ ap (with_lines (before ++ kept line)) (sym
+    (place_after end (offset + word_count said.statement) left bytes after next within (cut_length left bytes after parts)))
     ∙ sym (with_lines-twice before (kept line) later)
     ∙ ap (with_lines before) (sym read)
     ∙ ap (λ (ts : List (List ℕ)). with_lines before (lines_read end (end - length left) offset d ts)) (sym (split_off left bytes after parts))
@@ -114,14 +121,16 @@ pub line_fails : (end offset rule : ℕ) (left bytes : List ℕ) (after : Option
     → line_read d bytes ≡ Err rule → all ≡ Err (record { rule = rule; place = end - length left })
 unfolding lines_read
 line_fails end offset rule left bytes after d before all parts so_far reads =
-    let failed : lines_read end (end - length left) offset d (bytes ∷ lines_left after) ≡ Err (record { rule = rule; place = end - length left }) = rw reads refl in
+    let failed : lines_read end (end - length left) offset d (bytes ∷ lines_left after) ≡ Err (record { rule = rule; place = end - length left }) =
+    rw reads refl in
     sym so_far
     ∙ ap (λ (ts : List (List ℕ)). with_lines before (lines_read end (end - length left) offset d ts)) (split_off left bytes after parts)
     ∙ ap (with_lines before) failed
 
 -- ---- no line is left
 
-pub all_read : (end place offset b n : ℕ) (before : List Line) (all : Result SourceOf Breach) → with_lines before (lines_read end place offset (due.Words b n) []) ≡ all
+pub all_read : (end place offset b n : ℕ) (before : List Line) (all : Result SourceOf Breach)
+    → with_lines before (lines_read end place offset (due.Words b n) []) ≡ all
     → all ≡ Ok (record { base = b; size = n; lines = before })
 unfolding lines_read
 all_read end place offset b n before all so_far =
@@ -134,7 +143,8 @@ with_lines-none : (r : Result SourceOf Breach) → with_lines [] r ≡ r
 with_lines-none (Ok s) = refl
 with_lines-none (Err fault) = refl
 
-pub begins : (text : List ℕ) (items : List Line) → items ≡ [] → with_lines items (lines_read (length text) (length text - length text) 0 due.Base (slice_split (λ b. b == 10) text)) ≡ source_in text
+pub begins : (text : List ℕ) (items : List Line) → items ≡ [] → with_lines items
+    (lines_read (length text) (length text - length text) 0 due.Base (slice_split (λ b. b == 10) text)) ≡ source_in text
 unfolding source_in
 begins text items none =
     let zero_place : length text - length text ≡ 0 = omega arith in
@@ -142,36 +152,45 @@ begins text items none =
     ∙ with_lines-none (lines_read (length text) (length text - length text) 0 due.Base (slice_split (λ b. b == 10) text))
     ∙ ap (λ (p : ℕ). lines_read (length text) p 0 due.Base (slice_split (λ b. b == 10) text)) zero_place
 
-pub smaller : (rest : Option (Bor (List ℕ))) (left : Bor (List ℕ)) (bytes : List ℕ) (after : Option (Bor (List ℕ))) → rest ≡ Some left → (let parts : Cut = (bytes, option_copied after) in parts) ≡ cut 10 left.now → left_measure after < left_measure rest
+pub smaller : (rest : Option (Bor (List ℕ))) (left : Bor (List ℕ)) (bytes : List ℕ) (after : Option (Bor (List ℕ))) → rest ≡ Some left
+    → (let parts : Cut = (bytes, option_copied after) in parts) ≡ cut 10 left.now → left_measure after < left_measure rest
 unfolding whole_length
-smaller rest left bytes after is parts = subst (λ (r : Option (Bor (List ℕ))). left_measure after < left_measure r) (sym is) (by_after after (cut_length left.now bytes after parts))
+smaller rest left bytes after is parts =
+    subst (λ (r : Option (Bor (List ℕ))). left_measure after < left_measure r) (sym is) (by_after after (cut_length left.now bytes after parts))
   where
     by_after : (after : Option (Bor (List ℕ))) → length left.now ≡ whole_length after bytes → left_measure after < suc (length left.now)
     by_after None h = omega arith
     by_after (Some a) h = omega (arith, h)
 
-pub within_next : (rest : Option (Bor (List ℕ))) (left : Bor (List ℕ)) (bytes : List ℕ) (after : Option (Bor (List ℕ))) (offset count total : ℕ) → rest ≡ Some left → (let parts : Cut = (bytes, option_copied after) in parts) ≡ cut 10 left.now
+pub within_next : (rest : Option (Bor (List ℕ))) (left : Bor (List ℕ)) (bytes : List ℕ) (after : Option (Bor (List ℕ))) (offset count total : ℕ)
+    → rest ≡ Some left → (let parts : Cut = (bytes, option_copied after) in parts) ≡ cut 10 left.now
     → IsWithin rest offset total → count < 2 → IsWithin after (offset + count) total
 unfolding whole_length
 within_next rest left bytes after offset count total is parts within few =
     by_after after (cut_length left.now bytes after parts) (subst (λ (r : Option (Bor (List ℕ))). IsWithin r offset total) is within)
   where
-    by_after : (after : Option (Bor (List ℕ))) → length left.now ≡ whole_length after bytes → offset + length left.now ≤ total → IsWithin after (offset + count) total
+    by_after : (after : Option (Bor (List ℕ))) → length left.now ≡ whole_length after bytes → offset + length left.now ≤ total
+        → IsWithin after (offset + count) total
     by_after None h le = tt
     by_after (Some a) h le = omega (arith, h)
 
-pub left_within : (rest : Option (Bor (List ℕ))) (left : Bor (List ℕ)) (offset total : ℕ) → rest ≡ Some left → IsWithin rest offset total → offset + length left.now ≤ total
+pub left_within : (rest : Option (Bor (List ℕ))) (left : Bor (List ℕ)) (offset total : ℕ) → rest ≡ Some left → IsWithin rest offset total
+    → offset + length left.now ≤ total
 left_within rest left offset total is within = subst (λ (r : Option (Bor (List ℕ))). IsWithin r offset total) is within
 
-so_far_at : (end offset : ℕ) (rest : Option (Bor (List ℕ))) (left : Bor (List ℕ)) (d : Due) (before : List Line) (all : Result SourceOf Breach) → rest ≡ Some left
+so_far_at : (end offset : ℕ) (rest : Option (Bor (List ℕ))) (left : Bor (List ℕ)) (d : Due) (before : List Line) (all : Result SourceOf Breach)
+    → rest ≡ Some left
     → with_lines before (lines_read end (end - left_length rest) offset d (lines_left rest)) ≡ all
     → with_lines before (lines_read end (end - length left.now) offset d (slice_split (λ b. b == 10) left.now)) ≡ all
-so_far_at end offset rest left d before all is h = subst (λ (r : Option (Bor (List ℕ))). with_lines before (lines_read end (end - left_length r) offset d (lines_left r)) ≡ all) is h
+so_far_at end offset rest left d before all is h =
+    subst (λ (r : Option (Bor (List ℕ))). with_lines before (lines_read end (end - left_length r) offset d (lines_left r)) ≡ all) is h
 
-pub step_on : (end offset count : ℕ) (rest : Option (Bor (List ℕ))) (left : Bor (List ℕ)) (bytes : List ℕ) (after : Option (Bor (List ℕ))) (d next : Due) (said : Said) (before new : List Line) (all : Result SourceOf Breach)
+pub step_on : (end offset count : ℕ) (rest : Option (Bor (List ℕ))) (left : Bor (List ℕ)) (bytes : List ℕ) (after : Option (Bor (List ℕ)))
+    (d next : Due) (said : Said) (before new : List Line) (all : Result SourceOf Breach)
     → rest ≡ Some left → (let parts : Cut = (bytes, option_copied after) in parts) ≡ cut 10 left.now → IsWithin rest offset end
     → with_lines before (lines_read end (end - left_length rest) offset d (lines_left rest)) ≡ all
-    → line_read d bytes ≡ Ok (said, next) → new ≡ before ++ kept (record { place = end - length left.now; offset = offset; said = said }) → count ≡ word_count said.statement
+    → line_read d bytes ≡ Ok (said, next) → new ≡ before ++ kept (record { place = end - length left.now; offset = offset; said = said })
+    → count ≡ word_count said.statement
     → with_lines new (lines_read end (end - left_length after) (offset + count) next (lines_left after)) ≡ all
 step_on end offset count rest left bytes after d next said before new all is parts within so_far reads pushed counted =
     let le : offset + length left.now ≤ end = left_within rest left offset end is within in
@@ -179,7 +198,8 @@ step_on end offset count rest left bytes after d next said before new all is par
     ap (λ (k : ℕ). with_lines new (lines_read end (end - left_length after) (offset + k) next (lines_left after))) counted
     ∙ next_line end offset left.now bytes after d next said before new all parts short (so_far_at end offset rest left d before all is so_far) reads pushed
 
-pub step_fails : (end offset rule : ℕ) (rest : Option (Bor (List ℕ))) (left : Bor (List ℕ)) (bytes : List ℕ) (after : Option (Bor (List ℕ))) (d : Due) (before : List Line) (all : Result SourceOf Breach)
+pub step_fails : (end offset rule : ℕ) (rest : Option (Bor (List ℕ))) (left : Bor (List ℕ)) (bytes : List ℕ) (after : Option (Bor (List ℕ))) (d : Due)
+    (before : List Line) (all : Result SourceOf Breach)
     → rest ≡ Some left → (let parts : Cut = (bytes, option_copied after) in parts) ≡ cut 10 left.now
     → with_lines before (lines_read end (end - left_length rest) offset d (lines_left rest)) ≡ all
     → line_read d bytes ≡ Err rule → all ≡ Err (record { rule = rule; place = end - length left.now })
@@ -191,7 +211,8 @@ pub ends_well : (end offset : ℕ) (rest : Option (Bor (List ℕ))) (d : Due) (w
     → all ≡ Ok (record { base = window.0; size = window.1; lines = before })
 unfolding lines_read
 ends_well end offset rest d window before all is so_far there =
-    let at_end : with_lines before (ended end d) ≡ all = subst (λ (r : Option (Bor (List ℕ))). with_lines before (lines_read end (end - left_length r) offset d (lines_left r)) ≡ all) is so_far in
+    let at_end : with_lines before (ended end d) ≡ all =
+    subst (λ (r : Option (Bor (List ℕ))). with_lines before (lines_read end (end - left_length r) offset d (lines_left r)) ≡ all) is so_far in
     sym at_end ∙ ap (λ (o : Option (ℕ × ℕ)). with_lines before (ended_by end o)) (sym there)
     ∙ (let found : List Line → Result SourceOf Breach = λ ls. Ok (record { base = window.0; size = window.1; lines = ls }) in ap found (append-nil before))
 
@@ -200,5 +221,6 @@ pub ends_early : (end offset : ℕ) (rest : Option (Bor (List ℕ))) (d : Due) (
     → all ≡ Err (record { rule = 2; place = end })
 unfolding lines_read
 ends_early end offset rest d before all is so_far there =
-    let at_end : with_lines before (ended end d) ≡ all = subst (λ (r : Option (Bor (List ℕ))). with_lines before (lines_read end (end - left_length r) offset d (lines_left r)) ≡ all) is so_far in
+    let at_end : with_lines before (ended end d) ≡ all =
+    subst (λ (r : Option (Bor (List ℕ))). with_lines before (lines_read end (end - left_length r) offset d (lines_left r)) ≡ all) is so_far in
     sym at_end ∙ ap (λ (o : Option (ℕ × ℕ)). with_lines before (ended_by end o)) (sym there)

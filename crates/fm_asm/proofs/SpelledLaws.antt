@@ -1,5 +1,6 @@
 -- What is read is written so.
-use Rattle.std.proofs.Common.{◌≡◌, ℕ, ◌+◌, ◌-◌, ◌/◌, ◌%◌, ◌<◌, ◌≤◌, ◌==◌, ◌&&◌, ◌||◌, Bool, true, false, cond, List, [], ◌∷◌, ◌++◌, Option, Some, None, Result, Ok, Err, option_map, unwrap_or, refl, sym, ap, subst, ◌∙◌, arith, codes, append-nil, eqb-true, nat_le, leb-true}
+use Rattle.std.proofs.Common.{◌≡◌, ℕ, ◌+◌, ◌-◌, ◌/◌, ◌%◌, ◌<◌, ◌≤◌, ◌==◌, ◌&&◌, ◌||◌, Bool, true, false, cond, List, [], ◌∷◌, ◌++◌, Option, Some, None, Result}
+use Rattle.std.proofs.Common.{Ok, Err, option_map, unwrap_or, refl, sym, ap, subst, ◌∙◌, arith, codes, append-nil, eqb-true, nat_le, leb-true}
 use Rattle.std.specs.Prelude.{find}
 use Rattle.std.specs.Fmt.{decimal}
 use Rattle.std.specs.List.{list_all}
@@ -26,7 +27,9 @@ use Rattle.fm_words.specs.Encoding.{encode_of}
 use Rattle.fm_show.specs.Disassembly.{operation_name, condition_name, condition_text, shown_if, flags_text, place_text}
 use Rattle.fm_asm.specs.Cuts.{cut, split_once, after_prefix}
 use Rattle.fm_asm.specs.Values.{Value, number, label, decimal_value, decimal_in, number_of_bytes, hex_value, hexadecimal_after, as_number, value_in}
-use Rattle.fm_asm.specs.Instructions.{operation_in, written_conditions, condition_named, closed, condition_in, letter_or, letter_in, flag_letters_in, flags_in, Head, named_in, head_in, register_in, closing_mode, PlaceOf, indirect_in, decrement_in, direct_in, place_by, place_in, in_9_bits, immediate_in, as_operand, operand_by, operand_in, instruction_of, instruction_in}
+use Rattle.fm_asm.specs.Instructions.{operation_in, written_conditions, condition_named, closed, condition_in, letter_or, letter_in, flag_letters_in, flags_in}
+use Rattle.fm_asm.specs.Instructions.{Head, named_in, head_in, register_in, closing_mode, PlaceOf, indirect_in, decrement_in, direct_in, place_by, place_in}
+use Rattle.fm_asm.specs.Instructions.{in_9_bits, immediate_in, as_operand, operand_by, operand_in, instruction_of, instruction_in}
 use Rattle.fm_asm.specs.Assembly.{SpellsValue, decimal as in_decimal, hexadecimal, named, SpellsOperand, immediate, place, SpellsInstruction}
 use Rattle.fm_asm.proofs.CutLaws.{cut_whole, whole, split_once_found, after_prefix_found}
 use Rattle.fm_asm.proofs.InstructionLaws.{head_text, operands_text, regrouped}
@@ -68,7 +71,8 @@ hex_spelled : (digits : List ℕ) (v : Value) → option_map as_number (hex_valu
 unfolding hex_value
 hex_spelled digits v h = by_bytes (decode_sized digits 4) refl h
   where
-    by_bytes : (r : Result (List ℕ) FromHexError) → decode_sized digits 4 ≡ r → option_map as_number (number_of_bytes r) ≡ Some v → SpellsValue (codes "0x" ++ digits) v
+    by_bytes : (r : Result (List ℕ) FromHexError) → decode_sized digits 4 ≡ r → option_map as_number (number_of_bytes r) ≡ Some v
+        → SpellsValue (codes "0x" ++ digits) v
     by_bytes (Err e) is k = absurd cc
     by_bytes (Ok bytes) is k =
         subst (SpellsValue (codes "0x" ++ digits)) (by_some (number (Some (from_be_bytes w32 bytes))) v k)
@@ -86,7 +90,8 @@ value_spelled word v h = by_digits (is_digits word) refl h
     by_name true e k = subst (SpellsValue word) (by_some (label word) v k) (named word e)
     by_name false e k = by_hex (after_prefix (codes "0x") word) refl k
 
-    by_digits : (t : Bool) → is_digits word ≡ t → cond t (Some (number (decimal_value word))) (cond (is_name word) (Some (label word)) (hexadecimal_after (after_prefix (codes "0x") word))) ≡ Some v → SpellsValue word v
+    by_digits : (t : Bool) → is_digits word ≡ t → cond t (Some (number (decimal_value word)))
+        (cond (is_name word) (Some (label word)) (hexadecimal_after (after_prefix (codes "0x") word))) ≡ Some v → SpellsValue word v
     by_digits true e k = subst (SpellsValue word) (by_some (number (decimal_value word)) v k) (in_decimal word e)
     by_digits false e k = by_name (is_name word) refl k
 
@@ -119,7 +124,8 @@ register_spelled (d ∷ []) r h = by_test (nat_le 48 d && nat_le d 57) refl h
         (omega arith, ap (λ x. x ∷ []) same ∙ sym (decimal_digit r small))
 register_spelled (t ∷ d ∷ []) r h = by_test (t == 49) refl (nat_le 48 d && nat_le d 53) refl h
   where
-    by_test : (a : Bool) → (t == 49) ≡ a → (b : Bool) → (nat_le 48 d && nat_le d 53) ≡ b → cond (a && b) (Some (d - 38)) None ≡ Some r → (r < 16) × (t ∷ d ∷ [] ≡ decimal r)
+    by_test : (a : Bool) → (t == 49) ≡ a → (b : Bool) → (nat_le 48 d && nat_le d 53) ≡ b → cond (a && b) (Some (d - 38)) None ≡ Some r → (r < 16)
+        × (t ∷ d ∷ [] ≡ decimal r)
     by_test false ea b eb k = absurd cc
     by_test true ea false eb k = absurd cc
     by_test true ea true eb k =
@@ -131,7 +137,8 @@ register_spelled (t ∷ d ∷ []) r h = by_test (t == 49) refl (nat_le 48 d && n
         let small : r < 16 = omega arith in
         let one : r / 10 ≡ 1 = omega arith in
         let unit : d ≡ 48 + r % 10 = omega arith in
-        let text : decimal r ≡ 49 ∷ (48 + r % 10) ∷ [] = decimal_step r ten (omega arith) ∙ ap (λ n. decimal n ++ ((48 + r % 10) ∷ [])) one ∙ ap (λ ds. ds ++ ((48 + r % 10) ∷ [])) (decimal_digit 1 (omega arith)) in
+        let text : decimal r ≡ 49 ∷ (48 + r % 10) ∷ [] = decimal_step r ten (omega arith) ∙ ap (λ n. decimal n ++ ((48 + r % 10) ∷ [])) one
+        ∙ ap (λ ds. ds ++ ((48 + r % 10) ∷ [])) (decimal_digit 1 (omega arith)) in
         (small, ap (λ x. x ∷ d ∷ []) (eqb-true t 49 ea) ∙ ap (λ x. 49 ∷ x ∷ []) unit ∙ sym text)
 register_spelled (t ∷ d ∷ e ∷ more) r h = absurd cc
 
@@ -144,12 +151,15 @@ record IsPlace (text : List ℕ) (p : PlaceOf) : Type 0 where
 closed_found : (byte : ℕ) (text front : List ℕ) → closed byte text ≡ Some front → text ≡ front ++ byte ∷ []
 closed_found byte text front h = by_parts (split_once byte text) refl h
   where
-    by_end : (p : List ℕ × List ℕ) → split_once byte text ≡ Some p → (t : Bool) → bytes_eq p.1 [] ≡ t → cond t (Some p.0) None ≡ Some front → text ≡ front ++ byte ∷ []
+    by_end : (p : List ℕ × List ℕ) → split_once byte text ≡ Some p → (t : Bool) → bytes_eq p.1 [] ≡ t → cond t (Some p.0) None ≡ Some front
+        → text ≡ front ++ byte ∷ []
     by_end p is false e k = absurd cc
     by_end p is true e k =
-        split_once_found byte text p.0 p.1 is ∙ ap (λ (r : List ℕ). p.0 ++ byte ∷ r) (bytes_same p.1 [] e) ∙ ap (λ (f : List ℕ). f ++ byte ∷ []) (by_some p.0 front k)
+        split_once_found byte text p.0 p.1 is ∙ ap (λ (r : List ℕ). p.0 ++ byte ∷ r) (bytes_same p.1 [] e)
+        ∙ ap (λ (f : List ℕ). f ++ byte ∷ []) (by_some p.0 front k)
 
-    by_parts : (o : Option (List ℕ × List ℕ)) → split_once byte text ≡ o → (o >>= λ parts. cond (bytes_eq parts.1 []) (Some parts.0) None) ≡ Some front → text ≡ front ++ byte ∷ []
+    by_parts : (o : Option (List ℕ × List ℕ)) → split_once byte text ≡ o → (o >>= λ parts. cond (bytes_eq parts.1 []) (Some parts.0) None) ≡ Some front
+        → text ≡ front ++ byte ∷ []
     by_parts None is k = absurd cc
     by_parts (Some p) is k = by_end p is (bytes_eq p.1 []) refl k
 
@@ -169,7 +179,8 @@ direct_spelled text p h = by_register (register_in text) refl h
 
 -- ---- places after `(r` and `-(r`
 
-closing_spelled : (text digits : List ℕ) (m : Mode) (r : ℕ) → closing_mode text ≡ Some m → digits ≡ decimal r → codes "(r" ++ digits ++ 41 ∷ text ≡ place_text m r
+closing_spelled : (text digits : List ℕ) (m : Mode) (r : ℕ) → closing_mode text ≡ Some m → digits ≡ decimal r
+    → codes "(r" ++ digits ++ 41 ∷ text ≡ place_text m r
 unfolding closing_mode
 closing_spelled text digits m r h is =
     chosen_of (bytes_eq text []) Indirect m (cond (bytes_eq text (codes "+")) (Some PostIncrement) None) h
@@ -195,7 +206,8 @@ indirect_spelled text p h =
     let mode = bound (closing_mode parts.value.1) (λ m. some_place m register.value) p register.later in
     let found = register_spelled parts.value.0 register.value register.is in
     let same = by_some (place_at mode.value register.value) p mode.later in
-    let text_is = ap (λ (t : List ℕ). codes "(r" ++ t) (split_once_found 41 text parts.value.0 parts.value.1 parts.is) ∙ closing_spelled parts.value.1 parts.value.0 mode.value register.value mode.is found.1 in
+    let text_is = ap (λ (t : List ℕ). codes "(r" ++ t) (split_once_found 41 text parts.value.0 parts.value.1 parts.is)
+    ∙ closing_spelled parts.value.1 parts.value.0 mode.value register.value mode.is found.1 in
     subst (IsPlace (codes "(r" ++ text)) same (record { small = found.0; is = text_is })
   where
     place_at : Mode → ℕ → PlaceOf
@@ -208,7 +220,8 @@ decrement_spelled text p h =
     let register = bound (register_in digits.value) (λ r. some_place PreDecrement r) p digits.later in
     let found = register_spelled digits.value register.value register.is in
     let same = by_some (place_at register.value) p register.later in
-    let text_is = ap (λ (t : List ℕ). codes "-(r" ++ t) (closed_found 41 text digits.value digits.is) ∙ ap (λ (ds : List ℕ). codes "-(r" ++ ds ++ 41 ∷ []) found.1 in
+    let text_is = ap (λ (t : List ℕ). codes "-(r" ++ t) (closed_found 41 text digits.value digits.is)
+    ∙ ap (λ (ds : List ℕ). codes "-(r" ++ ds ++ 41 ∷ []) found.1 in
     subst (IsPlace (codes "-(r" ++ text)) same (record { small = found.0; is = text_is })
   where
     place_at : ℕ → PlaceOf
@@ -220,9 +233,12 @@ place_spelled text p h = by_front (after_prefix (codes "r") text) refl (after_pr
   where
     by_front : (direct : Option (List ℕ)) → after_prefix (codes "r") text ≡ direct → (indirect : Option (List ℕ)) → after_prefix (codes "(r") text ≡ indirect
         → (decrement : Option (List ℕ)) → after_prefix (codes "-(r") text ≡ decrement → place_by direct indirect decrement ≡ Some p → IsPlace text p
-    by_front (Some rest) d indirect i decrement m k = subst (λ (t : List ℕ). IsPlace t p) (sym (after_prefix_found (codes "r") text rest d)) (direct_spelled rest p k)
-    by_front None d (Some rest) i decrement m k = subst (λ (t : List ℕ). IsPlace t p) (sym (after_prefix_found (codes "(r") text rest i)) (indirect_spelled rest p k)
-    by_front None d None i (Some rest) m k = subst (λ (t : List ℕ). IsPlace t p) (sym (after_prefix_found (codes "-(r") text rest m)) (decrement_spelled rest p k)
+    by_front (Some rest) d indirect i decrement m k =
+        subst (λ (t : List ℕ). IsPlace t p) (sym (after_prefix_found (codes "r") text rest d)) (direct_spelled rest p k)
+    by_front None d (Some rest) i decrement m k =
+        subst (λ (t : List ℕ). IsPlace t p) (sym (after_prefix_found (codes "(r") text rest i)) (indirect_spelled rest p k)
+    by_front None d None i (Some rest) m k =
+        subst (λ (t : List ℕ). IsPlace t p) (sym (after_prefix_found (codes "-(r") text rest m)) (decrement_spelled rest p k)
     by_front None d None i None m k = absurd cc
 
 operand_spelled : (text : List ℕ) (a : Option OperandA) → operand_in text ≡ Some a → SpellsOperand text a
@@ -237,7 +253,8 @@ operand_spelled text a h = by_hash (after_prefix (codes "#") text) refl h
     by_hash None is k =
         let m = mapped as_operand (place_in text) a k in
         let p = place_spelled text m.value m.is in
-        subst (λ (s : List ℕ). SpellsOperand s a) (sym p.is) (subst (SpellsOperand (place_text m.value.0 m.value.1)) m.image (place m.value.0 m.value.1 p.small))
+        subst (λ (s : List ℕ). SpellsOperand s a) (sym p.is)
+        (subst (SpellsOperand (place_text m.value.0 m.value.1)) m.image (place m.value.0 m.value.1 p.small))
 
 -- ---- what stands before the space
 
@@ -256,7 +273,8 @@ condition_spelled : (name : List ℕ) (k : Cc) → condition_named name ≡ Some
 unfolding condition_named
 condition_spelled name k h =
     let named = bytes_same (condition_name k) name (found_tests (λ k. bytes_eq (condition_name k) name) written_conditions k h) in
-    let shown = found_is_of (λ k. bytes_eq (condition_name k) name) (λ k. bytes_eq (condition_text k) (91 ∷ condition_name k ++ 93 ∷ [])) written_conditions k refl h in
+    let shown = found_is_of (λ k. bytes_eq (condition_name k) name) (λ k. bytes_eq (condition_text k) (91 ∷ condition_name k ++ 93 ∷ []))
+    written_conditions k refl h in
     ap (λ (n : List ℕ). 91 ∷ n ++ 93 ∷ []) (sym named) ∙ sym (bytes_same (condition_text k) (91 ∷ condition_name k ++ 93 ∷ []) shown)
 
 bracket_spelled : (front : List ℕ) (rest : Option (List ℕ)) (k : Cc) → condition_in rest ≡ Some k → whole 91 front rest ≡ front ++ condition_text k
@@ -275,7 +293,8 @@ letter_spelled letter text = by_letter (after_prefix letter text) refl
     by_letter (Some rest) is = after_prefix_found letter text rest is
 
 braced_text : (c v n z : Bool) → (c || v || n || z) ≡ true
-    → 123 ∷ shown_if c (codes "c") ++ (shown_if v (codes "v") ++ (shown_if n (codes "n") ++ (shown_if z (codes "z") ++ codes "}"))) ≡ flags_text (record { c = c; v = v; n = n; z = z })
+    → 123 ∷ shown_if c (codes "c") ++ (shown_if v (codes "v") ++ (shown_if n (codes "n") ++ (shown_if z (codes "z") ++ codes "}")))
+    ≡ flags_text (record { c = c; v = v; n = n; z = z })
 braced_text false false false false h = absurd cc
 braced_text false false false true h = refl
 braced_text false false true false h = refl
@@ -306,7 +325,8 @@ letters_spelled text f h =
     ∙ ap (λ (s : List ℕ). 123 ∷ shown_if c.0 (codes "c") ++ s) (letter_spelled (codes "v") c.1)
     ∙ ap (λ (s : List ℕ). 123 ∷ shown_if c.0 (codes "c") ++ (shown_if v.0 (codes "v") ++ s)) (letter_spelled (codes "n") v.1)
     ∙ ap (λ (s : List ℕ). 123 ∷ shown_if c.0 (codes "c") ++ (shown_if v.0 (codes "v") ++ (shown_if n.0 (codes "n") ++ s))) (letter_spelled (codes "z") n.1)
-    ∙ ap (λ (s : List ℕ). 123 ∷ shown_if c.0 (codes "c") ++ (shown_if v.0 (codes "v") ++ (shown_if n.0 (codes "n") ++ (shown_if z.0 (codes "z") ++ s)))) (bytes_same z.1 (codes "}") parts.0)
+    ∙ ap (λ (s : List ℕ). 123 ∷ shown_if c.0 (codes "c") ++ (shown_if v.0 (codes "v") ++ (shown_if n.0 (codes "n") ++ (shown_if z.0 (codes "z") ++ s))))
+    (bytes_same z.1 (codes "}") parts.0)
     ∙ braced_text c.0 v.0 n.0 z.0 parts.1
     ∙ ap (λ (g : Flags). flags_text g) (by_some (flags_from c.0 v.0 n.0 z.0) f t.1)
   where
@@ -355,11 +375,13 @@ head_spelled text head h =
 word_from : Head → PlaceOf → Option OperandA → Option ℕ
 word_from head b a = option_map (λ a. encode_of (instruction_of head b a)) a
 
-both_operands : (operands front operand : List ℕ) (m : Mode) (r : ℕ) → operands ≡ front ++ 44 ∷ operand → front ≡ place_text m r → operands ≡ operands_text m r operand
+both_operands : (operands front operand : List ℕ) (m : Mode) (r : ℕ) → operands ≡ front ++ 44 ∷ operand → front ≡ place_text m r
+    → operands ≡ operands_text m r operand
 unfolding operands_text
 both_operands operands front operand m r is begins = is ∙ ap (λ (t : List ℕ). t ++ 44 ∷ operand) begins
 
-joined : (before operands : List ℕ) (op : Op) (k : Cc) (f : Flags) (m : Mode) (r : ℕ) (operand : List ℕ) → before ≡ head_text op k f → operands ≡ operands_text m r operand
+joined : (before operands : List ℕ) (op : Op) (k : Cc) (f : Flags) (m : Mode) (r : ℕ) (operand : List ℕ) → before ≡ head_text op k f
+    → operands ≡ operands_text m r operand
     → before ++ 32 ∷ operands ≡ operation_name op ++ condition_text k ++ flags_text f ++ codes " " ++ place_text m r ++ codes "," ++ operand
 joined before operands op k f m r operand head rest =
     ap (λ (t : List ℕ). t ++ 32 ∷ operands) head ∙ ap (λ (t : List ℕ). head_text op k f ++ 32 ∷ t) rest ∙ sym (regrouped op k f m r operand)
@@ -367,12 +389,14 @@ joined before operands op k f m r operand head rest =
 pub instruction_spelled : (before operands : List ℕ) (w : Option ℕ) → instruction_in before operands ≡ Some w → SpellsInstruction (before ++ 32 ∷ operands) w
 unfolding instruction_in word_from
 instruction_spelled before operands w h =
-    let parts = bound (split_once 44 operands) (λ (parts : List ℕ × List ℕ). head_in before >>= λ head. place_in parts.0 >>= λ b. operand_in parts.1 >>= λ a. Some (word_from head b a)) w h in
+    let parts = bound (split_once 44 operands)
+    (λ (parts : List ℕ × List ℕ). head_in before >>= λ head. place_in parts.0 >>= λ b. operand_in parts.1 >>= λ a. Some (word_from head b a)) w h in
     let head = bound (head_in before) (λ head. place_in parts.value.0 >>= λ b. operand_in parts.value.1 >>= λ a. Some (word_from head b a)) w parts.later in
     let b = bound (place_in parts.value.0) (λ b. operand_in parts.value.1 >>= λ a. Some (word_from head.value b a)) w head.later in
     let a = bound (operand_in parts.value.1) (λ a. Some (word_from head.value b.value a)) w b.later in
     let place_b = place_spelled parts.value.0 b.value b.is in
-    let operands_are = both_operands operands parts.value.0 parts.value.1 b.value.0 b.value.1 (split_once_found 44 operands parts.value.0 parts.value.1 parts.is) place_b.is in
+    let operands_are = both_operands operands parts.value.0 parts.value.1 b.value.0 b.value.1
+    (split_once_found 44 operands parts.value.0 parts.value.1 parts.is) place_b.is in
     record {
       op = head.value.0;
       condition = head.value.1;
@@ -383,6 +407,7 @@ instruction_spelled before operands w h =
       a = a.value;
       register = place_b.small;
       operand_is = operand_spelled parts.value.1 a.value a.is;
-      text_is = joined before operands head.value.0 head.value.1 head.value.2 b.value.0 b.value.1 parts.value.1 (head_spelled before head.value head.is) operands_are;
+      text_is = joined before operands head.value.0 head.value.1 head.value.2 b.value.0 b.value.1 parts.value.1 (head_spelled before head.value head.is)
+          operands_are;
       word_is = sym {a = word_from head.value b.value a.value} (by_some (word_from head.value b.value a.value) w a.later);
     }

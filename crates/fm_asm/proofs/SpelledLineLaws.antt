@@ -1,5 +1,6 @@
 -- What a line says is written so, and the lines of a source that was read are the text's.
-use Rattle.std.proofs.Common.{◌≡◌, ℕ, suc, ◌+◌, arith, nat_lt, ◌==◌, ◌&&◌, Bool, true, false, cond, List, [], ◌∷◌, ◌++◌, length, append-nil, Option, Some, None, Result, Ok, Err, option_map, refl, sym, ap, subst, ◌∙◌, codes, append_assoc}
+use Rattle.std.proofs.Common.{◌≡◌, ℕ, suc, ◌+◌, arith, nat_lt, ◌==◌, ◌&&◌, Bool, true, false, cond, List, [], ◌∷◌, ◌++◌, length, append-nil, Option, Some, None}
+use Rattle.std.proofs.Common.{Result, Ok, Err, option_map, refl, sym, ap, subst, ◌∙◌, codes, append_assoc}
 use Rattle.std.specs.List.{list_all, slice_split}
 use Rattle.std.specs.Str.{bytes_eq}
 use Rattle.std.specs.Result.{result_unwrap_or}
@@ -19,8 +20,10 @@ use Rattle.fm_asm.specs.Instructions.{instruction_in}
 use Rattle.fm_asm.specs.Statements.{Statement, base, size, final, start, word, instruction, directive_named, directed, by_directive, statement_in}
 use Rattle.stack_text.specs.Lines.{is_plain_line}
 use Rattle.fm_asm.specs.Lines.{Said, text_of, statement_or_none, is_apart, labelled, said_by, said_in}
-use Rattle.fm_asm.specs.Sources.{due_after_line, at_place, if_of_form, said_of_line, line_read, word_count, kept, SourceOf, ended, with_lines, lines_read, source_in}
-use Rattle.fm_asm.specs.Assembly.{says, is_gap, SpellsStatement, says_base, says_size, says_final, says_start, says_word, says_instruction, SpellsSaid, nothing, statement_alone, label_alone, label_and_statement, IsLine, AreLines, no_line, one_line}
+use Rattle.fm_asm.specs.Sources.{due_after_line, at_place, if_of_form, said_of_line, line_read, word_count, kept, SourceOf, ended, with_lines, lines_read}
+use Rattle.fm_asm.specs.Sources.{source_in}
+use Rattle.fm_asm.specs.Assembly.{says, is_gap, SpellsStatement, says_base, says_size, says_final, says_start, says_word, says_instruction, SpellsSaid, nothing}
+use Rattle.fm_asm.specs.Assembly.{statement_alone, label_alone, label_and_statement, IsLine, AreLines, no_line, one_line}
 use Rattle.fm_asm.proofs.CutLaws.{split_once_found, cut_some, last-other}
 use Rattle.fm_asm.proofs.SpelledLaws.{by_some, value_spelled, decimal_spelled, mapped, tested, chosen_of, bound, instruction_spelled}
 use Rattle.fm_asm.proofs.SourceLaws.{paired}
@@ -41,7 +44,8 @@ directive_spelled name d h =
     (λ h1. chosen_of (bytes_eq name (codes ".size")) directive.Size d _ h1 (λ e is. bytes_same name (codes ".size") e ∙ ap directive_bytes is)
     (λ h2. chosen_of (bytes_eq name (codes ".final")) directive.Final d _ h2 (λ e is. bytes_same name (codes ".final") e ∙ ap directive_bytes is)
     (λ h3. chosen_of (bytes_eq name (codes ".start")) directive.Start d _ h3 (λ e is. bytes_same name (codes ".start") e ∙ ap directive_bytes is)
-    (λ h4. let t = tested (bytes_eq name (codes ".word")) (Some directive.Word) d h4 in bytes_same name (codes ".word") t.0 ∙ ap directive_bytes (by_some directive.Word d t.1)))))
+    (λ h4. let t = tested (bytes_eq name (codes ".word")) (Some directive.Word) d h4 in
+    bytes_same name (codes ".word") t.0 ∙ ap directive_bytes (by_some directive.Word d t.1)))))
 
 directed_spelled : (d : Directive) (rest : List ℕ) (s : Statement) → directed d rest ≡ Some s → SpellsStatement (directive_bytes d ++ 32 ∷ rest) s
 unfolding directed directive_bytes
@@ -77,7 +81,8 @@ statement_spelled : (text : List ℕ) (s : Statement) → statement_in text ≡ 
 unfolding statement_in
 statement_spelled text s h =
     let parts = bound (split_once 32 text) (λ (parts : List ℕ × List ℕ). by_directive (directive_named parts.0) parts.0 parts.1) s h in
-    subst (λ (t : List ℕ). SpellsStatement t s) (sym (split_once_found 32 text parts.value.0 parts.value.1 parts.is)) (parts_spelled parts.value.0 parts.value.1 s parts.later)
+    subst (λ (t : List ℕ). SpellsStatement t s) (sym (split_once_found 32 text parts.value.0 parts.value.1 parts.is))
+    (parts_spelled parts.value.0 parts.value.1 s parts.later)
 
 -- ---- spaces
 
@@ -94,7 +99,11 @@ gap_of (b ∷ text) = by_space (b == 32) refl (gap_of text)
   where
     by_space : (t : Bool) → (b == 32) ≡ t → HasGap text → HasGap (b ∷ text)
     by_space false e g = record { gap = []; spaces = refl; is = rw e refl }
-    by_space true e g = record { gap = b ∷ g.gap; spaces = and_from (b == 32) (list_all (λ c. c == 32) g.gap) e g.spaces; is = ap (λ (t : List ℕ). b ∷ t) g.is ∙ rw e refl }
+    by_space true e g = record {
+      gap = b ∷ g.gap;
+      spaces = and_from (b == 32) (list_all (λ c. c == 32) g.gap) e g.spaces;
+      is = ap (λ (t : List ℕ). b ∷ t) g.is ∙ rw e refl;
+    }
 
 spaces_gone : (gap : List ℕ) → list_all (λ b. b == 32) gap ≡ true → without_trailing 32 gap ≡ []
 unfolding without_trailing
@@ -151,23 +160,27 @@ unfolding statement_or_none
 some_spelled [] s h = absurd cc
 some_spelled (b ∷ bs) s h = by_statement (statement_in (b ∷ bs)) refl h
   where
-    by_statement : (o : Option Statement) → statement_in (b ∷ bs) ≡ o → option_map (λ (x : Statement). let r : Option Statement = Some x in r) o ≡ Some (Some s) → SpellsStatement (b ∷ bs) s
+    by_statement : (o : Option Statement) → statement_in (b ∷ bs) ≡ o → option_map (λ (x : Statement). let r : Option Statement = Some x in r) o
+        ≡ Some (Some s) → SpellsStatement (b ∷ bs) s
     by_statement None is k = absurd cc
     by_statement (Some x) is k =
         let same : x ≡ s = cc in
         statement_spelled (b ∷ bs) s (is ∙ ap (λ (y : Statement). Some y) same)
 
 -- a label with spaces after it that end a text without last spaces
-label_ends : (text name gap : List ℕ) → is_name name ≡ true → without_trailing 32 text ≡ text → text ≡ name ++ 58 ∷ gap → list_all (λ b. b == 32) gap ≡ true → SpellsSaid text (says (Some name) None)
+label_ends : (text name gap : List ℕ) → is_name name ≡ true → without_trailing 32 text ≡ text → text ≡ name ++ 58 ∷ gap
+    → list_all (λ b. b == 32) gap ≡ true → SpellsSaid text (says (Some name) None)
 label_ends text name gap named ended is spaces =
     let grouped : name ++ 58 ∷ gap ≡ (name ++ codes ":") ++ gap = simp append_assoc in
-    let short : without_trailing 32 text ≡ name ++ codes ":" = ap (without_trailing 32) (is ∙ grouped) ∙ spaces_cut (name ++ codes ":") gap spaces ∙ last-other 32 name 58 refl in
+    let short : without_trailing 32 text ≡ name ++ codes ":" =
+    ap (without_trailing 32) (is ∙ grouped) ∙ spaces_cut (name ++ codes ":") gap spaces ∙ last-other 32 name 58 refl in
     subst (λ (t : List ℕ). SpellsSaid t (says (Some name) None)) (sym short ∙ ended) (label_alone name named)
 
 positive : (n : ℕ) → nat_lt 0 (suc n) ≡ true
 positive n = grind (arith, nat_tests)
 
-labelled_spelled : (text name rest : List ℕ) (s : Option Statement) → is_name name ≡ true → without_trailing 32 text ≡ text → text ≡ name ++ 58 ∷ rest → is_apart rest ≡ true
+labelled_spelled : (text name rest : List ℕ) (s : Option Statement) → is_name name ≡ true → without_trailing 32 text ≡ text → text ≡ name ++ 58 ∷ rest
+    → is_apart rest ≡ true
     → statement_or_none (without_leading_spaces rest) ≡ Some s → SpellsSaid text (says (Some name) s)
 unfolding without_leading_spaces statement_or_none
 labelled_spelled text name rest None named short is apart h =
@@ -183,8 +196,10 @@ labelled_spelled text name (b ∷ rest) (Some s) named short is apart h =
     let g = gap_of rest in
     let skipped : without_leading_spaces (b ∷ rest) ≡ without_leading_spaces rest = rw apart refl in
     let statement = some_spelled (without_leading_spaces rest) s (ap statement_or_none (sym skipped) ∙ h) in
-    let spaces : is_gap (b ∷ g.gap) ≡ true = and_from (nat_lt 0 (length (b ∷ g.gap))) _ (positive (length g.gap)) (and_from (b == 32) (list_all (λ c. c == 32) g.gap) apart g.spaces) in
-    let grouped : name ++ codes ":" ++ (b ∷ g.gap) ++ without_leading_spaces rest ≡ name ++ 58 ∷ b ∷ (g.gap ++ without_leading_spaces rest) = simp append_assoc in
+    let spaces : is_gap (b ∷ g.gap) ≡ true =
+    and_from (nat_lt 0 (length (b ∷ g.gap))) _ (positive (length g.gap)) (and_from (b == 32) (list_all (λ c. c == 32) g.gap) apart g.spaces) in
+    let grouped : name ++ codes ":" ++ (b ∷ g.gap) ++ without_leading_spaces rest ≡ name ++ 58 ∷ b ∷ (g.gap ++ without_leading_spaces rest) =
+    simp append_assoc in
     subst (λ (t : List ℕ). SpellsSaid t (says (Some name) (Some s))) (grouped ∙ ap (λ (t : List ℕ). name ++ 58 ∷ b ∷ t) (sym g.is) ∙ sym is)
     (label_and_statement name (b ∷ g.gap) (without_leading_spaces rest) s named spaces statement)
 
@@ -197,7 +212,8 @@ said_spelled text said ended h = by_colon (cut 58 text).1 refl h
         let m = mapped (says None) (statement_or_none text) said k in
         subst (SpellsSaid text) m.image (unlabelled text m.value m.is)
     by_colon (Some rest) is k =
-        let t = tested (is_name (cut 58 text).0 && is_apart rest) (option_map (says (Some (cut 58 text).0)) (statement_or_none (without_leading_spaces rest))) said k in
+        let t = tested (is_name (cut 58 text).0 && is_apart rest)
+        (option_map (says (Some (cut 58 text).0)) (statement_or_none (without_leading_spaces rest))) said k in
         let parts = and_parts (is_name (cut 58 text).0) (is_apart rest) t.0 in
         let m = mapped (says (Some (cut 58 text).0)) (statement_or_none (without_leading_spaces rest)) said t.1 in
         subst (SpellsSaid text) m.image (labelled_spelled text (cut 58 text).0 rest m.value parts.0 ended (cut_some 58 text rest is) parts.1 m.is)
@@ -250,7 +266,8 @@ one_more place offset bytes said rest (Ok s) h k = one_line place offset bytes s
 
 on_line : (end place offset : ℕ) (d : Due) (bytes : List ℕ) (rest : List (List ℕ)) (r : Result (Said × Due) ℕ) → line_read d bytes ≡ r
     → ((o : ℕ) (e : Due) → Spells (place + length bytes + 1) o rest (lines_read end (place + length bytes + 1) o e rest))
-    → Spells place offset (bytes ∷ rest) (at_place place r >>= λ next. with_lines (kept (record { place = place; offset = offset; said = next.0 })) (lines_read end (place + length bytes + 1) (offset + word_count next.0.statement) next.1 rest))
+    → Spells place offset (bytes ∷ rest) (at_place place r >>= λ next. with_lines (kept (record { place = place; offset = offset; said = next.0 }))
+    (lines_read end (place + length bytes + 1) (offset + word_count next.0.statement) next.1 rest))
 unfolding Spells
 on_line end place offset d bytes rest (Err rule) is later = tt
 on_line end place offset d bytes rest (Ok x) is later =
@@ -264,7 +281,8 @@ all_spelled end place offset (due.Size b) [] = tt
 all_spelled end place offset (due.Final b n) [] = tt
 all_spelled end place offset (due.Start b n) [] = tt
 all_spelled end place offset (due.Words b n) [] = no_line place offset
-all_spelled end place offset d (bytes ∷ rest) = on_line end place offset d bytes rest (line_read d bytes) refl (λ o e. all_spelled end (place + length bytes + 1) o e rest)
+all_spelled end place offset d (bytes ∷ rest) =
+    on_line end place offset d bytes rest (line_read d bytes) refl (λ o e. all_spelled end (place + length bytes + 1) o e rest)
 
 -- the lines of a source that was read are those of its text
 pub lines_spelled : (text : List ℕ) (s : SourceOf) → source_in text ≡ Ok s → AreLines 0 0 (slice_split (λ b. b == 10) text) s.lines

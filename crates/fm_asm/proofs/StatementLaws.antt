@@ -33,7 +33,8 @@ no_directive And k f = refl
 no_directive Not k f = refl
 no_directive M15 k f = refl
 
-instruction_split : (text : List ℕ) (w : Option ℕ) (i : SpellsInstruction text w) → split_once 32 text ≡ Some (head_text i.op i.condition i.set, operands_text i.mode i.reg i.operand)
+instruction_split : (text : List ℕ) (w : Option ℕ) (i : SpellsInstruction text w)
+    → split_once 32 text ≡ Some (head_text i.op i.condition i.set, operands_text i.mode i.reg i.operand)
 instruction_split text w i =
     ap (split_once 32) (i.text_is ∙ regrouped i.op i.condition i.set i.mode i.reg i.operand)
     ∙ split_once-append 32 (head_text i.op i.condition i.set) (operands_text i.mode i.reg i.operand) (head_spaceless i.op i.condition i.set)
@@ -63,7 +64,8 @@ pub record IsStatementText (text : List ℕ) : Type 0 where
   pub spaceless : (first == 32) ≡ false
 
 directive_text : (front : List ℕ) (argument : List ℕ) → lacks 58 (46 ∷ front) ≡ true → lacks 58 argument ≡ true → IsStatementText (46 ∷ front ++ argument)
-directive_text front argument a b = record { colonless = lacks-append 58 (46 ∷ front) argument a b; first = 46; rest = front ++ argument; begins = refl; spaceless = refl }
+directive_text front argument a b =
+    record { colonless = lacks-append 58 (46 ∷ front) argument a b; first = 46; rest = front ++ argument; begins = refl; spaceless = refl }
 
 pub record BeginsWell (text : List ℕ) : Type 0 where
   pub first : ℕ
@@ -96,9 +98,11 @@ instruction_text_is text w i =
     let split = i.text_is ∙ regrouped i.op i.condition i.set i.mode i.reg i.operand in
     let start = head_begins i.op i.condition i.set (32 ∷ operands_text i.mode i.reg i.operand) in
     let operands : lacks 58 (place_text i.mode i.reg ++ 44 ∷ i.operand) ≡ true =
-    lacks-append 58 (place_text i.mode i.reg) (44 ∷ i.operand) (place_lacks 58 i.mode i.reg refl refl i.register) (and_from _ _ refl (operand_colonless i.operand i.a i.operand_is)) in
+    lacks-append 58 (place_text i.mode i.reg) (44 ∷ i.operand) (place_lacks 58 i.mode i.reg refl refl i.register)
+    (and_from _ _ refl (operand_colonless i.operand i.a i.operand_is)) in
     let all : lacks 58 (head_text i.op i.condition i.set ++ 32 ∷ operands_text i.mode i.reg i.operand) ≡ true =
-    lacks-append 58 (head_text i.op i.condition i.set) (32 ∷ operands_text i.mode i.reg i.operand) (head_colonless i.op i.condition i.set) (and_from _ _ refl operands) in
+    lacks-append 58 (head_text i.op i.condition i.set) (32 ∷ operands_text i.mode i.reg i.operand) (head_colonless i.op i.condition i.set)
+    (and_from _ _ refl operands) in
     record { colonless = ap (lacks 58) split ∙ all; first = start.first; rest = start.rest; begins = split ∙ start.begins; spaceless = start.spaceless }
 
 pub statement_text : (text : List ℕ) (s : Statement) → SpellsStatement text s → IsStatementText text

@@ -1,5 +1,6 @@
 -- Values, and the bytes that they have.
-use Rattle.std.proofs.Common.{◌≡◌, ℕ, ◌==◌, ◌&&◌, Bool, true, false, cond, not, List, [], ◌∷◌, length, Some, option_map, refl, sym, ap, subst, ◌∙◌, arith, codes, eqb-true, nat_lt}
+use Rattle.std.proofs.Common.{◌≡◌, ℕ, ◌==◌, ◌&&◌, Bool, true, false, cond, not, List, [], ◌∷◌, length, Some, option_map, refl, sym, ap, subst, ◌∙◌, arith}
+use Rattle.std.proofs.Common.{codes, eqb-true, nat_lt}
 use Rattle.std.specs.List.{list_all}
 use Rattle.std.specs.Char.{is_ascii_digit, is_ascii_alphabetic}
 use Rattle.std.proofs.lemmas.Bool.{and_parts, and_from}
@@ -54,7 +55,8 @@ letter_is_no_digit b h = grind (arith, nat_tests)
 pub name_is_no_digits : (name : List ℕ) → is_name name ≡ true → is_digits name ≡ false
 name_is_no_digits [] h = refl
 name_is_no_digits (b ∷ bytes) h =
-    ap (λ t. nat_lt 0 (length (b ∷ bytes)) && (t && list_all is_ascii_digit bytes)) (letter_is_no_digit b (name_begins (b ∷ bytes) h)) ∙ and_false (nat_lt 0 (length (b ∷ bytes)))
+    ap (λ t. nat_lt 0 (length (b ∷ bytes)) && (t && list_all is_ascii_digit bytes)) (letter_is_no_digit b (name_begins (b ∷ bytes) h))
+    ∙ and_false (nat_lt 0 (length (b ∷ bytes)))
 
 hex_is_no_digits : (digits : List ℕ) → is_digits (48 ∷ 120 ∷ digits) ≡ false
 hex_is_no_digits digits = and_false (nat_lt 0 (length (48 ∷ 120 ∷ digits)))
@@ -70,13 +72,18 @@ hex_written digits n h = ap number_of_bytes h.digits_are ∙ ap Some (sym h.numb
 pub value_written : (text : List ℕ) (v : Value) → SpellsValue text v → value_in text ≡ Some v
 unfolding value_in
 value_written _ _ (decimal digits h) =
-    if_true (is_digits digits) (Some (number (decimal_value digits))) (cond (is_name digits) (Some (label digits)) (hexadecimal_after (after_prefix (codes "0x") digits))) h
+    if_true (is_digits digits) (Some (number (decimal_value digits)))
+    (cond (is_name digits) (Some (label digits)) (hexadecimal_after (after_prefix (codes "0x") digits))) h
 value_written _ _ (hexadecimal digits n h) =
-    let rest : hexadecimal_after (after_prefix (codes "0x") (48 ∷ 120 ∷ digits)) ≡ Some (number (Some n)) = ap hexadecimal_after (after_prefix-append (codes "0x") digits) ∙ ap (option_map as_number) (hex_written digits n h) in
-    if_false (is_digits (48 ∷ 120 ∷ digits)) (Some (number (decimal_value (48 ∷ 120 ∷ digits)))) (cond (is_name (48 ∷ 120 ∷ digits)) (Some (label (48 ∷ 120 ∷ digits))) (hexadecimal_after (after_prefix (codes "0x") (48 ∷ 120 ∷ digits)))) (hex_is_no_digits digits)
+    let rest : hexadecimal_after (after_prefix (codes "0x") (48 ∷ 120 ∷ digits)) ≡ Some (number (Some n)) =
+    ap hexadecimal_after (after_prefix-append (codes "0x") digits) ∙ ap (option_map as_number) (hex_written digits n h) in
+    if_false (is_digits (48 ∷ 120 ∷ digits)) (Some (number (decimal_value (48 ∷ 120 ∷ digits))))
+    (cond (is_name (48 ∷ 120 ∷ digits)) (Some (label (48 ∷ 120 ∷ digits))) (hexadecimal_after (after_prefix (codes "0x") (48 ∷ 120 ∷ digits))))
+    (hex_is_no_digits digits)
     ∙ rest
 value_written _ _ (named name h) =
-    if_false (is_digits name) (Some (number (decimal_value name))) (cond (is_name name) (Some (label name)) (hexadecimal_after (after_prefix (codes "0x") name))) (name_is_no_digits name h)
+    if_false (is_digits name) (Some (number (decimal_value name)))
+    (cond (is_name name) (Some (label name)) (hexadecimal_after (after_prefix (codes "0x") name))) (name_is_no_digits name h)
     ∙ if_true (is_name name) (Some (label name)) (hexadecimal_after (after_prefix (codes "0x") name)) h
 
 -- ---- bytes that no value has

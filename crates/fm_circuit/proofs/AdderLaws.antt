@@ -54,7 +54,8 @@ turned_neg a p = grind (arith, nat_tests, ints)
 pub turned_dec : (a : ℕ) → a < 2 ^ 32 → turned a (2 ^ 32 - 1) (a + (2 ^ 32 - 1) + 0) ≡ not (is_int (signed_of a -ℤ pos 1))
 turned_dec a p = grind (arith, nat_tests, ints)
 
-pub turned_subb : (a b : ℕ) (c : Bool) → a < 2 ^ 32 → b < 2 ^ 32 → turned (2 ^ 32 - 1 - a) b (2 ^ 32 - 1 - a + b + bit_of (not c)) ≡ not (is_int (signed_of b -ℤ signed_of a -ℤ pos (bit_of c)))
+pub turned_subb : (a b : ℕ) (c : Bool) → a < 2 ^ 32 → b < 2 ^ 32 → turned (2 ^ 32 - 1 - a) b (2 ^ 32 - 1 - a + b + bit_of (not c))
+    ≡ not (is_int (signed_of b -ℤ signed_of a -ℤ pos (bit_of c)))
 turned_subb a b true p q = grind (arith, nat_tests, ints)
 turned_subb a b false p q = grind (arith, nat_tests, ints)
 
@@ -65,7 +66,8 @@ turns : (p q r : Bool) → bit_and (bit_xor (bit_of p) (bit_of r)) (bit_xor (bit
 turns p q r = rw (xor_bits p r, xor_bits q r) (and_bits (not (are_same p r)) (not (are_same q r)))
 
 -- the overflow wire
-pub overflow_bit : (l r x : ℕ) → l < 2 ^ 32 → r < 2 ^ 32 → bit_and (bit_xor (l / 2 ^ 31 % 2) (x / 2 ^ 31 % 2)) (bit_xor (r / 2 ^ 31 % 2) (x / 2 ^ 31 % 2)) ≡ bit_of (turned l r x)
+pub overflow_bit : (l r x : ℕ) → l < 2 ^ 32 → r < 2 ^ 32 → bit_and (bit_xor (l / 2 ^ 31 % 2) (x / 2 ^ 31 % 2))
+    (bit_xor (r / 2 ^ 31 % 2) (x / 2 ^ 31 % 2)) ≡ bit_of (turned l r x)
 overflow_bit l r x p q = rw (bit_31 l p, sum_31 x, bit_31 r q) (turns (nat_le (2 ^ 31) l) (nat_le (2 ^ 31) r) (nat_le (2 ^ 31) (x % 2 ^ 32)))
 
 -- the carry wire

@@ -74,17 +74,27 @@ module _ (ir a b at : ℕ) (f : Flags) (rs : List ℕ) (read outside base : ℕ)
 
     n_is : on_board (board_of execute ir a b at f rs read outside base m) w.NextN ≡ bit_of (flags_set (flags_of (ir / 2 ^ 16 % 16)) f (alu_of op f.c a b)).n
     unfolding settled driver_of
-    n_is = picked (flags_of (ir / 2 ^ 16 % 16)).n f.n (nat_le (2 ^ 31) (alu_of op f.c a b).word) _ _ _ (set_n ir) refl (ap (λ x. x / 2 ^ 31 % 2) (result ir a b at f rs read outside base m op p q e).word ∙ bit_31 (alu_of op f.c a b).word (result_below op f.c a b p q))
+    n_is = picked (flags_of (ir / 2 ^ 16 % 16)).n f.n (nat_le (2 ^ 31) (alu_of op f.c a b).word) _ _ _ (set_n ir) refl
+        (ap (λ x. x / 2 ^ 31 % 2) (result ir a b at f rs read outside base m op p q e).word
+        ∙ bit_31 (alu_of op f.c a b).word (result_below op f.c a b p q))
 
     z_is : on_board (board_of execute ir a b at f rs read outside base m) w.NextZ ≡ bit_of (flags_set (flags_of (ir / 2 ^ 16 % 16)) f (alu_of op f.c a b)).z
     unfolding settled driver_of
-    z_is = picked (flags_of (ir / 2 ^ 16 % 16)).z f.z ((alu_of op f.c a b).word == 0) _ _ _ (set_z ir) refl (ap (λ x. bit_of (x == 0)) (result ir a b at f rs read outside base m op p q e).word)
+    z_is = picked (flags_of (ir / 2 ^ 16 % 16)).z f.z ((alu_of op f.c a b).word == 0) _ _ _ (set_z ir) refl
+        (ap (λ x. bit_of (x == 0)) (result ir a b at f rs read outside base m op p q e).word)
 
     -- the flags after the instruction
     abbrev pub flags_after : Flags
     flags_after = flags_set (flags_of (ir / 2 ^ 16 % 16)) f (alu_of op f.c a b)
 
-    executed : (phase address : ℕ) (rs' : List ℕ) (stores : Bool) → on_board (board_of execute ir a b at f rs read outside base m) w.NextPhase ≡ phase → on_board (board_of execute ir a b at f rs read outside base m) w.Address ≡ address → (if on_board (board_of execute ir a b at f rs read outside base m) w.FileWrite == 1 then slice_set rs (ir / 2 ^ 10 % 16) (on_board (board_of execute ir a b at f rs read outside base m) w.FileData) else rs) ≡ rs' → on_board (board_of execute ir a b at f rs read outside base m) w.MemoryWrite ≡ bit_of stores → cycle (board_of execute ir a b at f rs read outside base m) ≡ board_of phase ir a b address flags_after rs' (unwrap_or (word_at base m address) 0) (bit_of (not (is_some (word_at base m address)))) base (if bit_of stores == 1 && is_some (word_at base m address) then with_word base m address (alu_of op f.c a b).word else m)
+    executed : (phase address : ℕ) (rs' : List ℕ) (stores : Bool) → on_board (board_of execute ir a b at f rs read outside base m) w.NextPhase ≡ phase
+        → on_board (board_of execute ir a b at f rs read outside base m) w.Address ≡ address
+        → (if on_board (board_of execute ir a b at f rs read outside base m) w.FileWrite == 1
+        then slice_set rs (ir / 2 ^ 10 % 16) (on_board (board_of execute ir a b at f rs read outside base m) w.FileData) else rs) ≡ rs'
+        → on_board (board_of execute ir a b at f rs read outside base m) w.MemoryWrite ≡ bit_of stores
+        → cycle (board_of execute ir a b at f rs read outside base m) ≡ board_of phase ir a b address flags_after rs'
+        (unwrap_or (word_at base m address) 0) (bit_of (not (is_some (word_at base m address)))) base
+        (if bit_of stores == 1 && is_some (word_at base m address) then with_word base m address (alu_of op f.c a b).word else m)
     unfolding cycle settled driver_of
     executed phase address rs' stores ph ad fi mw =
         λ i. record {
@@ -92,7 +102,8 @@ module _ (ir a b at : ℕ) (f : Flags) (rs : List ℕ) (read outside base : ℕ)
           read = unwrap_or (word_at base m (ad i)) 0;
           outside = bit_of (not (is_some (word_at base m (ad i))));
           base = base;
-          memory = if mw i == 1 && is_some (word_at base m (ad i)) then with_word base m (ad i) ((result ir a b at f rs read outside base m op p q e).word i) else m;
+          memory = if mw i == 1 && is_some (word_at base m (ad i)) then with_word base m (ad i)
+              ((result ir a b at f rs read outside base m op p q e).word i) else m;
         }
 
     -- the phase after it
@@ -113,7 +124,8 @@ module _ (ir a b at : ℕ) (f : Flags) (rs : List ℕ) (read outside base : ℕ)
     stores_after true mode = true
     stores_after false mode = false
 
-    address_is : (mode : Mode) → ir / 2 ^ 14 % 4 ≡ mode_number mode → on_board (board_of execute ir a b at f rs read outside base m) w.Address ≡ place mode (ir / 2 ^ 10 % 16) rs
+    address_is : (mode : Mode) → ir / 2 ^ 14 % 4 ≡ mode_number mode → on_board (board_of execute ir a b at f rs read outside base m) w.Address
+        ≡ place mode (ir / 2 ^ 10 % 16) rs
     unfolding settled driver_of
     address_is Register g = rw g
     address_is Indirect g = rw g
@@ -121,7 +133,8 @@ module _ (ir a b at : ℕ) (f : Flags) (rs : List ℕ) (read outside base : ℕ)
     address_is PostIncrement g = rw g
 
     module _ (h : Bool) (hz : on_board (board_of execute ir a b at f rs read outside base m) w.Holds ≡ bit_of h) where
-      phase_is : (mode : Mode) (t : Bool) → h ≡ t → ir / 2 ^ 14 % 4 ≡ mode_number mode → on_board (board_of execute ir a b at f rs read outside base m) w.NextPhase ≡ past_execute t mode
+      phase_is : (mode : Mode) (t : Bool) → h ≡ t → ir / 2 ^ 14 % 4 ≡ mode_number mode
+          → on_board (board_of execute ir a b at f rs read outside base m) w.NextPhase ≡ past_execute t mode
       unfolding settled driver_of
       phase_is Register true o g = rw (hz, o, g)
       phase_is Indirect true o g = rw (hz, o, g)
@@ -132,7 +145,8 @@ module _ (ir a b at : ℕ) (f : Flags) (rs : List ℕ) (read outside base : ℕ)
       phase_is PreDecrement false o g = rw (hz, o)
       phase_is PostIncrement false o g = rw (hz, o)
 
-      write_is : (mode : Mode) (t : Bool) → h ≡ t → ir / 2 ^ 14 % 4 ≡ mode_number mode → on_board (board_of execute ir a b at f rs read outside base m) w.MemoryWrite ≡ bit_of (stores_after t mode)
+      write_is : (mode : Mode) (t : Bool) → h ≡ t → ir / 2 ^ 14 % 4 ≡ mode_number mode
+          → on_board (board_of execute ir a b at f rs read outside base m) w.MemoryWrite ≡ bit_of (stores_after t mode)
       unfolding settled driver_of
       write_is Register true o g = rw (hz, o, g)
       write_is Indirect true o g = rw (hz, o, g)
@@ -143,7 +157,9 @@ module _ (ir a b at : ℕ) (f : Flags) (rs : List ℕ) (read outside base : ℕ)
       write_is PreDecrement false o g = rw (hz, o)
       write_is PostIncrement false o g = rw (hz, o)
 
-      file_is : (mode : Mode) (t : Bool) → h ≡ t → ir / 2 ^ 14 % 4 ≡ mode_number mode → (if on_board (board_of execute ir a b at f rs read outside base m) w.FileWrite == 1 then slice_set rs (ir / 2 ^ 10 % 16) (on_board (board_of execute ir a b at f rs read outside base m) w.FileData) else rs) ≡ file_after t mode
+      file_is : (mode : Mode) (t : Bool) → h ≡ t → ir / 2 ^ 14 % 4 ≡ mode_number mode
+          → (if on_board (board_of execute ir a b at f rs read outside base m) w.FileWrite == 1
+          then slice_set rs (ir / 2 ^ 10 % 16) (on_board (board_of execute ir a b at f rs read outside base m) w.FileData) else rs) ≡ file_after t mode
       unfolding settled driver_of
       file_is Register true o g = rw (hz, o, g, (result ir a b at f rs read outside base m op p q e).word)
       file_is Indirect true o g = rw g
@@ -155,7 +171,13 @@ module _ (ir a b at : ℕ) (f : Flags) (rs : List ℕ) (read outside base : ℕ)
       file_is PostIncrement false o g = rw (g, add-zero)
 
     -- the cycle, by whether the store condition holds
-    pub at_execute : (mode : Mode) (k : Cc) (t : Bool) → ir / 2 ^ 14 % 4 ≡ mode_number mode → ir / 2 ^ 20 % 16 ≡ cc_number k → does_hold k f ≡ t → cycle (board_of execute ir a b at f rs read outside base m) ≡ board_of (past_execute t mode) ir a b (place mode (ir / 2 ^ 10 % 16) rs) flags_after (file_after t mode) (unwrap_or (word_at base m (place mode (ir / 2 ^ 10 % 16) rs)) 0) (bit_of (not (is_some (word_at base m (place mode (ir / 2 ^ 10 % 16) rs))))) base (if bit_of (stores_after t mode) == 1 && is_some (word_at base m (place mode (ir / 2 ^ 10 % 16) rs)) then with_word base m (place mode (ir / 2 ^ 10 % 16) rs) (alu_of op f.c a b).word else m)
+    pub at_execute : (mode : Mode) (k : Cc) (t : Bool) → ir / 2 ^ 14 % 4 ≡ mode_number mode → ir / 2 ^ 20 % 16 ≡ cc_number k → does_hold k f ≡ t
+        → cycle (board_of execute ir a b at f rs read outside base m) ≡ board_of (past_execute t mode) ir a b (place mode (ir / 2 ^ 10 % 16) rs)
+        flags_after (file_after t mode) (unwrap_or (word_at base m (place mode (ir / 2 ^ 10 % 16) rs)) 0)
+        (bit_of (not (is_some (word_at base m (place mode (ir / 2 ^ 10 % 16) rs))))) base
+        (if bit_of (stores_after t mode) == 1 && is_some (word_at base m (place mode (ir / 2 ^ 10 % 16) rs))
+        then with_word base m (place mode (ir / 2 ^ 10 % 16) rs) (alu_of op f.c a b).word else m)
     at_execute mode k t g c o =
         let hz = holds k c in
-        executed (past_execute t mode) (place mode (ir / 2 ^ 10 % 16) rs) (file_after t mode) (stores_after t mode) (phase_is (does_hold k f) hz mode t o g) (address_is mode g) (file_is (does_hold k f) hz mode t o g) (write_is (does_hold k f) hz mode t o g)
+        executed (past_execute t mode) (place mode (ir / 2 ^ 10 % 16) rs) (file_after t mode) (stores_after t mode)
+        (phase_is (does_hold k f) hz mode t o g) (address_is mode g) (file_is (does_hold k f) hz mode t o g) (write_is (does_hold k f) hz mode t o g)

@@ -1,5 +1,6 @@
 -- The board makes the step of its machine.
-use Rattle.std.proofs.Common.{◌≡◌, ◌≢◌, ℕ, zero, suc, ◌+◌, ◌-◌, ◌/◌, ◌%◌, ◌^◌, ◌<◌, ◌≤◌, ◌==◌, Bool, true, false, not, List, Option, Some, None, Result, Ok, Err, refl, ap, sym, subst, ◌∙◌, arith, if◌then◌else◌}
+use Rattle.std.proofs.Common.{◌≡◌, ◌≢◌, ℕ, zero, suc, ◌+◌, ◌-◌, ◌/◌, ◌%◌, ◌^◌, ◌<◌, ◌≤◌, ◌==◌, Bool, true, false, not, List, Option, Some, None, Result, Ok}
+use Rattle.std.proofs.Common.{Err, refl, ap, sym, subst, ◌∙◌, arith, if◌then◌else◌}
 use Rattle.std.proofs.lemmas.Bool.{eqb-true}
 use Rattle.std.proofs.lemmas.Bool.Decides.{nat_tests}
 use Rattle.std.proofs.lemmas.Int.{ints}
@@ -19,7 +20,8 @@ use Rattle.fm_words.specs.Alu.{alu_of, does_hold}
 use Rattle.fm_words.specs.Code.{mode_of, imm_of, flags_of, operand_of, decode_of}
 use Rattle.fm_words.specs.Encoding.{op_number, cc_number, mode_number}
 use Rattle.fm_machine.specs.State.{Fm, word_at, with_word}
-use Rattle.fm_machine.specs.Step.{then_on, found_word, read_word, with_increment, address_of, registers_after, registers_after_a, value_at, value_a, value_b, reads_b, flags_set, store_at_if, store_result, effect_of, effect_of_rest, effect_of_values, fm_step}
+use Rattle.fm_machine.specs.Step.{then_on, found_word, read_word, with_increment, address_of, registers_after, registers_after_a, value_at, value_a, value_b}
+use Rattle.fm_machine.specs.Step.{reads_b, flags_set, store_at_if, store_result, effect_of, effect_of_rest, effect_of_values, fm_step}
 use Rattle.fm_machine.specs.declared.fault.Outside.{Outside}
 use Rattle.fm_circuit.specs.Phases.{fetch, fetched, read_a, read_b, execute, stored, fault}
 use Rattle.fm_circuit.specs.Board.{Board, cycle, cycles, board_of}
@@ -43,18 +45,46 @@ record Lands (now : Board) (k : ℕ) (u : Fm) : Type 0 where
 halts_sooner : {now : Board} {address : ℕ} (p q : ℕ) → p ≤ q → Halts now p address → Halts now q address
 halts_sooner p q le h =
     let few = h.few in
-    record { count = h.count; few = omega arith; ir = h.ir; x = h.x; y = h.y; flags = h.flags; registers = h.registers; read = h.read; outside = h.outside; base = h.base; memory = h.memory; passes = h.passes }
+    record {
+      count = h.count;
+      few = omega arith;
+      ir = h.ir;
+      x = h.x;
+      y = h.y;
+      flags = h.flags;
+      registers = h.registers;
+      read = h.read;
+      outside = h.outside;
+      base = h.base;
+      memory = h.memory;
+      passes = h.passes;
+    }
 
 halts_after : {now mid : Board} {address : ℕ} (j p q : ℕ) → j + p ≤ q → Passes now j mid → Halts mid p address → Halts now q address
 halts_after j p q le first h =
     let few = h.few in
-    record { count = j + h.count; few = omega arith; ir = h.ir; x = h.x; y = h.y; flags = h.flags; registers = h.registers; read = h.read; outside = h.outside; base = h.base; memory = h.memory; passes = after j h.count first h.passes }
+    record {
+      count = j + h.count;
+      few = omega arith;
+      ir = h.ir;
+      x = h.x;
+      y = h.y;
+      flags = h.flags;
+      registers = h.registers;
+      read = h.read;
+      outside = h.outside;
+      base = h.base;
+      memory = h.memory;
+      passes = after j h.count first h.passes;
+    }
 
-comes_after : (now mid : Board) (r : Result Fm Outside) (j k p q : ℕ) → j + p ≤ q → Passes now j mid → Comes mid p (λ u. Lands mid k u) r → Comes now q (λ u. Lands now (j + k) u) r
+comes_after : (now mid : Board) (r : Result Fm Outside) (j k p q : ℕ) → j + p ≤ q → Passes now j mid → Comes mid p (λ u. Lands mid k u) r
+    → Comes now q (λ u. Lands now (j + k) u) r
 comes_after now mid (Ok u) j k p q le first l = record { board = l.board; passes = after j k first l.passes; stands = l.stands; words = l.words }
 comes_after now mid (Err e) j k p q le first h = halts_after j p q le first h
 
-then_comes : (now : Board) (P : ℕ → Type 0) (k p q : ℕ) (r : Result ℕ Outside) (go : ℕ → Result Fm Outside) → p ≤ q → Comes now p P r → ((x : ℕ) → r ≡ Ok x → P x → Comes now q (λ u. Lands now k u) (go x)) → Comes now q (λ u. Lands now k u) (then_on r go)
+then_comes : (now : Board) (P : ℕ → Type 0) (k p q : ℕ) (r : Result ℕ Outside) (go : ℕ → Result Fm Outside) → p ≤ q → Comes now p P r
+    → ((x : ℕ) → r ≡ Ok x → P x → Comes now q (λ u. Lands now k u) (go x)) → Comes now q (λ u. Lands now k u) (then_on r go)
 then_comes now P k p q (Ok x) go le first next = next x refl first
 then_comes now P k p q (Err e) go le first next = halts_sooner p q le first
 
@@ -119,11 +149,19 @@ record Second (now : Board) (k w a : ℕ) (op : Op) (f : Flags) (rs : List ℕ) 
   reaches : Reaches now k execute w a b f rs base m
 
 module _ (s : Fm) (w : ℕ) where
-  stage_b : (t : Bool) (op : Op) (mode : Mode) (a y at : ℕ) (rs : List ℕ) (read outside : ℕ) → reads_b op ≡ t → w / 2 ^ 24 % 16 ≡ op_number op → w / 2 ^ 14 % 4 ≡ mode_number mode → AreWords rs → AreWords s.memory → Comes (board_of read_b w a y at s.flags rs read outside s.base s.memory) 2 (λ x. Second (board_of read_b w a y at s.flags rs read outside s.base s.memory) (if t then place_cycles mode else 1) w a op s.flags rs s.base s.memory x) (if t then value_at s (address_of mode (w / 2 ^ 10 % 16) rs) (slice_index rs (w / 2 ^ 10 % 16)) else Ok 0)
+  stage_b : (t : Bool) (op : Op) (mode : Mode) (a y at : ℕ) (rs : List ℕ) (read outside : ℕ) → reads_b op ≡ t → w / 2 ^ 24 % 16 ≡ op_number op
+      → w / 2 ^ 14 % 4 ≡ mode_number mode → AreWords rs → AreWords s.memory → Comes (board_of read_b w a y at s.flags rs read outside s.base s.memory) 2
+      (λ x. Second (board_of read_b w a y at s.flags rs read outside s.base s.memory) (if t then place_cycles mode else 1) w a op s.flags rs s.base
+      s.memory x) (if t then value_at s (address_of mode (w / 2 ^ 10 % 16) rs) (slice_index rs (w / 2 ^ 10 % 16)) else Ok 0)
   stage_b true op mode a y at rs read outside h e g words memory =
-      with_bound (value_at s (address_of mode (w / 2 ^ 10 % 16) rs) (slice_index rs (w / 2 ^ 10 % 16))) (place_b s w s.flags mode a y at rs read outside g (reads_bit op _ e ∙ ap bit_of h)) (λ x v. value_below s (address_of mode (w / 2 ^ 10 % 16) rs) (slice_index rs (w / 2 ^ 10 % 16)) x memory (words (w / 2 ^ 10 % 16)) v)
+      with_bound (value_at s (address_of mode (w / 2 ^ 10 % 16) rs) (slice_index rs (w / 2 ^ 10 % 16)))
+      (place_b s w s.flags mode a y at rs read outside g (reads_bit op _ e ∙ ap bit_of h))
+      (λ x v. value_below s (address_of mode (w / 2 ^ 10 % 16) rs) (slice_index rs (w / 2 ^ 10 % 16)) x memory (words (w / 2 ^ 10 % 16)) v)
     where
-      with_bound : (r : Result ℕ Outside) → Comes (board_of read_b w a y at s.flags rs read outside s.base s.memory) 2 (λ x. Reaches (board_of read_b w a y at s.flags rs read outside s.base s.memory) (place_cycles mode) execute w a x s.flags rs s.base s.memory) r → ((x : ℕ) → r ≡ Ok x → x < 2 ^ 32) → Comes (board_of read_b w a y at s.flags rs read outside s.base s.memory) 2 (λ x. Second (board_of read_b w a y at s.flags rs read outside s.base s.memory) (place_cycles mode) w a op s.flags rs s.base s.memory x) r
+      with_bound : (r : Result ℕ Outside) → Comes (board_of read_b w a y at s.flags rs read outside s.base s.memory) 2
+          (λ x. Reaches (board_of read_b w a y at s.flags rs read outside s.base s.memory) (place_cycles mode) execute w a x s.flags rs s.base s.memory) r
+          → ((x : ℕ) → r ≡ Ok x → x < 2 ^ 32) → Comes (board_of read_b w a y at s.flags rs read outside s.base s.memory) 2
+          (λ x. Second (board_of read_b w a y at s.flags rs read outside s.base s.memory) (place_cycles mode) w a op s.flags rs s.base s.memory x) r
       with_bound (Ok x) reaches bound = record { b = x; below = bound x refl; same = λ c. refl; reaches = reaches }
       with_bound (Err e) halts bound = halts
   stage_b false op mode a y at rs read outside h e g words memory =
@@ -135,21 +173,29 @@ module _ (s : Fm) (w : ℕ) where
           at = place mode (w / 2 ^ 10 % 16) rs;
           read = unwrap_or (word_at s.base s.memory (place mode (w / 2 ^ 10 % 16) rs)) 0;
           outside = bit_of (not (is_some (word_at s.base s.memory (place mode (w / 2 ^ 10 % 16) rs))));
-          passes = one (board_of read_b w a y at s.flags rs read outside s.base s.memory) _ (omega arith) (at_second w a y at s.flags rs read s.base s.memory mode false outside g (reads_bit op _ e ∙ ap bit_of h));
+          passes = one (board_of read_b w a y at s.flags rs read outside s.base s.memory) _ (omega arith)
+              (at_second w a y at s.flags rs read s.base s.memory mode false outside g (reads_bit op _ e ∙ ap bit_of h));
         };
       }
 
   module _ (words : HasWords s) where
     -- a result that goes to memory
-    saved : (now : Board) (x y ad word : ℕ) (fl : Flags) (rs : List ℕ) → phase_of now ≢ fetch → AreWords rs → word < 2 ^ 32 → cycle now ≡ board_of stored w x y ad fl rs (unwrap_or (word_at s.base s.memory ad) 0) (bit_of (not (is_some (word_at s.base s.memory ad)))) s.base (if is_some (word_at s.base s.memory ad) then with_word s.base s.memory ad word else s.memory) → Comes now 2 (λ u. Lands now 2 u) (store_at_if (is_some (word_at s.base s.memory ad)) (record s { registers = rs; flags = fl }) ad word)
+    saved : (now : Board) (x y ad word : ℕ) (fl : Flags) (rs : List ℕ) → phase_of now ≢ fetch → AreWords rs → word < 2 ^ 32
+        → cycle now ≡ board_of stored w x y ad fl rs (unwrap_or (word_at s.base s.memory ad) 0) (bit_of (not (is_some (word_at s.base s.memory ad))))
+        s.base (if is_some (word_at s.base s.memory ad) then with_word s.base s.memory ad word else s.memory)
+        → Comes now 2 (λ u. Lands now 2 u) (store_at_if (is_some (word_at s.base s.memory ad)) (record s { registers = rs; flags = fl }) ad word)
     saved now x y ad word fl rs ne good fits e = by_word (word_at s.base s.memory ad) refl
       where
-        by_word : (o : Option ℕ) → word_at s.base s.memory ad ≡ o → Comes now 2 (λ u. Lands now 2 u) (store_at_if (is_some o) (record s { registers = rs; flags = fl }) ad word)
+        by_word : (o : Option ℕ) → word_at s.base s.memory ad ≡ o → Comes now 2 (λ u. Lands now 2 u)
+            (store_at_if (is_some o) (record s { registers = rs; flags = fl }) ad word)
         by_word (Some v) h =
             let mid : Board = board_of stored w x y ad fl rs v 0 s.base (with_word s.base s.memory ad word) in
             record {
               board = board_of fetch w x y ad fl rs (cycle mid).read (cycle mid).outside s.base (with_word s.base s.memory ad word);
-              passes = after 1 1 (one now mid ne (e ∙ ap (λ o. board_of stored w x y ad fl rs (unwrap_or o 0) (bit_of (not (is_some o))) s.base (if is_some o then with_word s.base s.memory ad word else s.memory)) h)) (one mid _ (omega arith) (at_stored w x y ad fl rs v s.base (with_word s.base s.memory ad word)));
+              passes = after 1 1 (one now mid ne (e ∙ ap
+                  (λ o. board_of stored w x y ad fl rs (unwrap_or o 0) (bit_of (not (is_some o))) s.base
+                  (if is_some o then with_word s.base s.memory ad word else s.memory)) h))
+                  (one mid _ (omega arith) (at_stored w x y ad fl rs v s.base (with_word s.base s.memory ad word)));
               stands = record { ir = w; x = x; y = y; at = ad; read = (cycle mid).read; outside = (cycle mid).outside; is = refl };
               words = record { registers = good; memory = words_with s.base s.memory ad word words.memory fits };
             }
@@ -167,11 +213,15 @@ module _ (s : Fm) (w : ℕ) where
               outside = (cycle mid).outside;
               base = s.base;
               memory = s.memory;
-              passes = after 1 1 (one now mid ne (e ∙ ap (λ o. board_of stored w x y ad fl rs (unwrap_or o 0) (bit_of (not (is_some o))) s.base (if is_some o then with_word s.base s.memory ad word else s.memory)) h)) (one mid _ (omega arith) (at_stored_outside w x y ad fl rs 0 s.base s.memory));
+              passes = after 1 1 (one now mid ne (e ∙ ap
+                  (λ o. board_of stored w x y ad fl rs (unwrap_or o 0) (bit_of (not (is_some o))) s.base
+                  (if is_some o then with_word s.base s.memory ad word else s.memory)) h))
+                  (one mid _ (omega arith) (at_stored_outside w x y ad fl rs 0 s.base s.memory));
             }
 
     -- the end of an instruction
-    stage_c : (t : Bool) (op : Op) (mode : Mode) (k : Cc) (a b at : ℕ) (rs : List ℕ) (read outside : ℕ) → does_hold k s.flags ≡ t → w / 2 ^ 24 % 16 ≡ op_number op → w / 2 ^ 14 % 4 ≡ mode_number mode → w / 2 ^ 20 % 16 ≡ cc_number k → a < 2 ^ 32 → b < 2 ^ 32 → AreWords rs →
+    stage_c : (t : Bool) (op : Op) (mode : Mode) (k : Cc) (a b at : ℕ) (rs : List ℕ) (read outside : ℕ) → does_hold k s.flags ≡ t
+        → w / 2 ^ 24 % 16 ≡ op_number op → w / 2 ^ 14 % 4 ≡ mode_number mode → w / 2 ^ 20 % 16 ≡ cc_number k → a < 2 ^ 32 → b < 2 ^ 32 → AreWords rs →
         let r : ℕ = w / 2 ^ 10 % 16 in
         let out : AluOut = alu_of op s.flags.c a b in
         let next : Fm = record s { registers = registers_after mode r rs; flags = flags_set (flags_of (w / 2 ^ 16 % 16)) s.flags out } in
@@ -179,24 +229,52 @@ module _ (s : Fm) (w : ℕ) where
         Comes now 2 (λ u. Lands now (if t then place_cycles mode else 1) u) (if t then store_result next (address_of mode r rs) r out.word else Ok next)
     stage_c false op mode k a b at rs read outside o e g c p q good =
         record {
-          board = asked fetch w a b (place mode (w / 2 ^ 10 % 16) rs) (flags_set (flags_of (w / 2 ^ 16 % 16)) s.flags (alu_of op s.flags.c a b)) (registers_after mode (w / 2 ^ 10 % 16) rs) s.base s.memory;
-          passes = one (board_of execute w a b at s.flags rs read outside s.base s.memory) _ (omega arith) (at_execute w a b at s.flags rs read outside s.base s.memory op p q e mode k false g c o);
-          stands = record { ir = w; x = a; y = b; at = place mode (w / 2 ^ 10 % 16) rs; read = unwrap_or (word_at s.base s.memory (place mode (w / 2 ^ 10 % 16) rs)) 0; outside = bit_of (not (is_some (word_at s.base s.memory (place mode (w / 2 ^ 10 % 16) rs)))); is = refl };
+          board = asked fetch w a b (place mode (w / 2 ^ 10 % 16) rs) (flags_set (flags_of (w / 2 ^ 16 % 16)) s.flags (alu_of op s.flags.c a b))
+              (registers_after mode (w / 2 ^ 10 % 16) rs) s.base s.memory;
+          passes = one (board_of execute w a b at s.flags rs read outside s.base s.memory) _ (omega arith)
+              (at_execute w a b at s.flags rs read outside s.base s.memory op p q e mode k false g c o);
+          stands = record {
+            ir = w;
+            x = a;
+            y = b;
+            at = place mode (w / 2 ^ 10 % 16) rs;
+            read = unwrap_or (word_at s.base s.memory (place mode (w / 2 ^ 10 % 16) rs)) 0;
+            outside =
+                bit_of (not (is_some (word_at s.base s.memory (place mode (w / 2 ^ 10 % 16) rs))));
+            is = refl;
+          };
           words = record { registers = words_after mode (w / 2 ^ 10 % 16) rs good; memory = words.memory };
         }
     stage_c true op Register k a b at rs read outside o e g c p q good =
         record {
-          board = asked fetch w a b (slice_index rs (w / 2 ^ 10 % 16)) (flags_set (flags_of (w / 2 ^ 16 % 16)) s.flags (alu_of op s.flags.c a b)) (slice_set rs (w / 2 ^ 10 % 16) (alu_of op s.flags.c a b).word) s.base s.memory;
-          passes = one (board_of execute w a b at s.flags rs read outside s.base s.memory) _ (omega arith) (at_execute w a b at s.flags rs read outside s.base s.memory op p q e Register k true g c o);
-          stands = record { ir = w; x = a; y = b; at = slice_index rs (w / 2 ^ 10 % 16); read = unwrap_or (word_at s.base s.memory (slice_index rs (w / 2 ^ 10 % 16))) 0; outside = bit_of (not (is_some (word_at s.base s.memory (slice_index rs (w / 2 ^ 10 % 16))))); is = refl };
+          board = asked fetch w a b (slice_index rs (w / 2 ^ 10 % 16)) (flags_set (flags_of (w / 2 ^ 16 % 16)) s.flags (alu_of op s.flags.c a b))
+              (slice_set rs (w / 2 ^ 10 % 16) (alu_of op s.flags.c a b).word) s.base s.memory;
+          passes = one (board_of execute w a b at s.flags rs read outside s.base s.memory) _ (omega arith)
+              (at_execute w a b at s.flags rs read outside s.base s.memory op p q e Register k true g c o);
+          stands = record {
+            ir = w;
+            x = a;
+            y = b;
+            at = slice_index rs (w / 2 ^ 10 % 16);
+            read = unwrap_or (word_at s.base s.memory (slice_index rs (w / 2 ^ 10 % 16))) 0;
+            outside =
+                bit_of (not (is_some (word_at s.base s.memory (slice_index rs (w / 2 ^ 10 % 16)))));
+            is = refl;
+          };
           words = record { registers = words_set rs (w / 2 ^ 10 % 16) _ good (result_below op s.flags.c a b p q); memory = words.memory };
         }
     stage_c true op Indirect k a b at rs read outside o e g c p q good =
-        saved (board_of execute w a b at s.flags rs read outside s.base s.memory) a b _ _ _ _ (omega arith) (words_after Indirect (w / 2 ^ 10 % 16) rs good) (result_below op s.flags.c a b p q) (at_execute w a b at s.flags rs read outside s.base s.memory op p q e Indirect k true g c o)
+        saved (board_of execute w a b at s.flags rs read outside s.base s.memory) a b _ _ _ _ (omega arith)
+        (words_after Indirect (w / 2 ^ 10 % 16) rs good) (result_below op s.flags.c a b p q)
+        (at_execute w a b at s.flags rs read outside s.base s.memory op p q e Indirect k true g c o)
     stage_c true op PreDecrement k a b at rs read outside o e g c p q good =
-        saved (board_of execute w a b at s.flags rs read outside s.base s.memory) a b _ _ _ _ (omega arith) (words_after PreDecrement (w / 2 ^ 10 % 16) rs good) (result_below op s.flags.c a b p q) (at_execute w a b at s.flags rs read outside s.base s.memory op p q e PreDecrement k true g c o)
+        saved (board_of execute w a b at s.flags rs read outside s.base s.memory) a b _ _ _ _ (omega arith)
+        (words_after PreDecrement (w / 2 ^ 10 % 16) rs good) (result_below op s.flags.c a b p q)
+        (at_execute w a b at s.flags rs read outside s.base s.memory op p q e PreDecrement k true g c o)
     stage_c true op PostIncrement k a b at rs read outside o e g c p q good =
-        saved (board_of execute w a b at s.flags rs read outside s.base s.memory) a b _ _ _ _ (omega arith) (words_after PostIncrement (w / 2 ^ 10 % 16) rs good) (result_below op s.flags.c a b p q) (at_execute w a b at s.flags rs read outside s.base s.memory op p q e PostIncrement k true g c o)
+        saved (board_of execute w a b at s.flags rs read outside s.base s.memory) a b _ _ _ _ (omega arith)
+        (words_after PostIncrement (w / 2 ^ 10 % 16) rs good) (result_below op s.flags.c a b p q)
+        (at_execute w a b at s.flags rs read outside s.base s.memory op p q e PostIncrement k true g c o)
 
     op_is : w / 2 ^ 24 % 16 ≡ op_number (decode_of w).op
     op_is = sym (op_number_back (w / 2 ^ 24 % 16) (omega arith))
@@ -226,30 +304,48 @@ module _ (s : Fm) (w : ℕ) where
     few_c : of_c ≤ 2
     few_c = second_few (does_hold (decode_of w).cc s.flags) (decode_of w).mode_b
 
-    from_read_b : (a y at : ℕ) (rs : List ℕ) (read outside : ℕ) → a < 2 ^ 32 → AreWords rs → Comes (board_of read_b w a y at s.flags rs read outside s.base s.memory) 4 (λ u. Lands (board_of read_b w a y at s.flags rs read outside s.base s.memory) (of_b + of_c) u) (effect_of_rest s (decode_of w) rs a)
+    from_read_b : (a y at : ℕ) (rs : List ℕ) (read outside : ℕ) → a < 2 ^ 32 → AreWords rs
+        → Comes (board_of read_b w a y at s.flags rs read outside s.base s.memory) 4
+        (λ u. Lands (board_of read_b w a y at s.flags rs read outside s.base s.memory) (of_b + of_c) u) (effect_of_rest s (decode_of w) rs a)
     from_read_b a y at rs read outside p good =
         let now : Board = board_of read_b w a y at s.flags rs read outside s.base s.memory in
-        then_comes now (λ x. Second now of_b w a (decode_of w).op s.flags rs s.base s.memory x) (of_b + of_c) 2 4 (value_b s (decode_of w) rs) (effect_of_values s (decode_of w) rs a) (omega arith) (stage_b (reads_b (decode_of w).op) (decode_of w).op (decode_of w).mode_b a y at rs read outside refl op_is mode_is good words.memory) (λ x v second. rest x second)
+        then_comes now (λ x. Second now of_b w a (decode_of w).op s.flags rs s.base s.memory x) (of_b + of_c) 2 4 (value_b s (decode_of w) rs)
+        (effect_of_values s (decode_of w) rs a) (omega arith)
+        (stage_b (reads_b (decode_of w).op) (decode_of w).op (decode_of w).mode_b a y at rs read outside refl op_is mode_is good words.memory)
+        (λ x v second. rest x second)
       where
-        rest : (x : ℕ) → Second (board_of read_b w a y at s.flags rs read outside s.base s.memory) of_b w a (decode_of w).op s.flags rs s.base s.memory x → Comes (board_of read_b w a y at s.flags rs read outside s.base s.memory) 4 (λ u. Lands (board_of read_b w a y at s.flags rs read outside s.base s.memory) (of_b + of_c) u) (effect_of_values s (decode_of w) rs a x)
+        rest : (x : ℕ) → Second (board_of read_b w a y at s.flags rs read outside s.base s.memory) of_b w a (decode_of w).op s.flags rs s.base s.memory
+            x → Comes (board_of read_b w a y at s.flags rs read outside s.base s.memory) 4
+            (λ u. Lands (board_of read_b w a y at s.flags rs read outside s.base s.memory) (of_b + of_c) u) (effect_of_values s (decode_of w) rs a x)
         rest x second =
             let now : Board = board_of read_b w a y at s.flags rs read outside s.base s.memory in
             let mid : Board = board_of execute w a second.b second.reaches.at s.flags rs second.reaches.read second.reaches.outside s.base s.memory in
             let le : of_b + 2 ≤ 4 = omega (arith, few_b) in
-            subst (λ out. Comes now 4 (λ u. Lands now (of_b + of_c) u) (ending s (decode_of w) rs out)) (second.same s.flags.c) (comes_after now mid (ending s (decode_of w) rs (alu_of (decode_of w).op s.flags.c a second.b)) of_b of_c 2 4 le second.reaches.passes (stage_c (does_hold (decode_of w).cc s.flags) (decode_of w).op (decode_of w).mode_b (decode_of w).cc a second.b second.reaches.at rs second.reaches.read second.reaches.outside refl op_is mode_is cc_is p second.below good))
+            subst (λ out. Comes now 4 (λ u. Lands now (of_b + of_c) u) (ending s (decode_of w) rs out)) (second.same s.flags.c)
+            (comes_after now mid (ending s (decode_of w) rs (alu_of (decode_of w).op s.flags.c a second.b)) of_b of_c 2 4 le second.reaches.passes
+            (stage_c (does_hold (decode_of w).cc s.flags) (decode_of w).op (decode_of w).mode_b (decode_of w).cc a second.b second.reaches.at rs
+            second.reaches.read second.reaches.outside refl op_is mode_is cc_is p second.below good))
 
-    from_read_a : (a y at : ℕ) (rs : List ℕ) (read outside : ℕ) → AreWords rs → Comes (board_of read_a w a y at s.flags rs read outside s.base s.memory) 6 (λ u. Lands (board_of read_a w a y at s.flags rs read outside s.base s.memory) (of_a + (of_b + of_c)) u) (effect_of s (decode_of w) rs)
+    from_read_a : (a y at : ℕ) (rs : List ℕ) (read outside : ℕ) → AreWords rs → Comes (board_of read_a w a y at s.flags rs read outside s.base s.memory)
+        6 (λ u. Lands (board_of read_a w a y at s.flags rs read outside s.base s.memory) (of_a + (of_b + of_c)) u) (effect_of s (decode_of w) rs)
     from_read_a a y at rs read outside good =
         let now : Board = board_of read_a w a y at s.flags rs read outside s.base s.memory in
-        then_comes now (λ x. Reaches now of_a read_b w x y s.flags (registers_after_a (decode_of w).a rs) s.base s.memory) (of_a + (of_b + of_c)) 2 6 (value_a s (decode_of w).a rs) (effect_of_rest s (decode_of w) (registers_after_a (decode_of w).a rs)) (omega arith) (stage_a s w s.flags (decode_of w).a a y at rs read outside (is_a w)) (λ x v reaches. rest x v reaches)
+        then_comes now (λ x. Reaches now of_a read_b w x y s.flags (registers_after_a (decode_of w).a rs) s.base s.memory) (of_a + (of_b + of_c)) 2 6
+        (value_a s (decode_of w).a rs) (effect_of_rest s (decode_of w) (registers_after_a (decode_of w).a rs)) (omega arith)
+        (stage_a s w s.flags (decode_of w).a a y at rs read outside (is_a w)) (λ x v reaches. rest x v reaches)
       where
-        rest : (x : ℕ) → value_a s (decode_of w).a rs ≡ Ok x → Reaches (board_of read_a w a y at s.flags rs read outside s.base s.memory) of_a read_b w x y s.flags (registers_after_a (decode_of w).a rs) s.base s.memory → Comes (board_of read_a w a y at s.flags rs read outside s.base s.memory) 6 (λ u. Lands (board_of read_a w a y at s.flags rs read outside s.base s.memory) (of_a + (of_b + of_c)) u) (effect_of_rest s (decode_of w) (registers_after_a (decode_of w).a rs) x)
+        rest : (x : ℕ) → value_a s (decode_of w).a rs ≡ Ok x → Reaches (board_of read_a w a y at s.flags rs read outside s.base s.memory) of_a read_b w
+            x y s.flags (registers_after_a (decode_of w).a rs) s.base s.memory → Comes (board_of read_a w a y at s.flags rs read outside s.base s.memory)
+            6 (λ u. Lands (board_of read_a w a y at s.flags rs read outside s.base s.memory) (of_a + (of_b + of_c)) u)
+            (effect_of_rest s (decode_of w) (registers_after_a (decode_of w).a rs) x)
         rest x v reaches =
             let now : Board = board_of read_a w a y at s.flags rs read outside s.base s.memory in
             let after_a : List ℕ = registers_after_a (decode_of w).a rs in
             let mid : Board = board_of read_b w x y reaches.at s.flags after_a reaches.read reaches.outside s.base s.memory in
             let le : of_a + 4 ≤ 6 = omega (arith, few_a) in
-            comes_after now mid (effect_of_rest s (decode_of w) after_a x) of_a (of_b + of_c) 4 6 le reaches.passes (from_read_b x y reaches.at after_a reaches.read reaches.outside (first_below s w (decode_of w).a rs x words.memory good (is_a w) v) (words_after_a (decode_of w).a rs good))
+            comes_after now mid (effect_of_rest s (decode_of w) after_a x) of_a (of_b + of_c) 4 6 le reaches.passes
+            (from_read_b x y reaches.at after_a reaches.read reaches.outside (first_below s w (decode_of w).a rs x words.memory good (is_a w) v)
+            (words_after_a (decode_of w).a rs good))
 
 -- from the cycle after that of the fetch
 module _ (s : Fm) (words : HasWords s) (ir x y : ℕ) where
@@ -262,14 +358,21 @@ module _ (s : Fm) (words : HasWords s) (ir x y : ℕ) where
   whole : Comes asked_word 7 (λ u. Lands asked_word (step_cycles s - 1) u) (fm_step s)
   whole = by_word (word_at s.base s.memory (slice_index s.registers 15)) refl
     where
-      by_word : (o : Option ℕ) → word_at s.base s.memory (slice_index s.registers 15) ≡ o → Comes asked_word 7 (λ u. Lands asked_word (cycles_with s.flags (found_word o (slice_index s.registers 15)) - 1) u) (then_on (found_word o (slice_index s.registers 15)) go_on)
+      by_word : (o : Option ℕ) → word_at s.base s.memory (slice_index s.registers 15) ≡ o
+          → Comes asked_word 7 (λ u. Lands asked_word (cycles_with s.flags (found_word o (slice_index s.registers 15)) - 1) u)
+          (then_on (found_word o (slice_index s.registers 15)) go_on)
       by_word (Some w) h =
           let rs : List ℕ = with_increment s.registers 15 in
           let now : Board = board_of fetched ir x y (slice_index s.registers 15) s.flags rs w 0 s.base s.memory in
           let mid : Board = board_of read_a w x y (slice_index s.registers 15) s.flags rs (cycle now).read (cycle now).outside s.base s.memory in
-          let first : Passes asked_word 1 mid = same_start (ap (λ o. answered fetched ir x y (slice_index s.registers 15) s.flags rs s.base s.memory o) h) (one now mid (omega arith) (at_fetched ir x y (slice_index s.registers 15) s.flags rs w s.base s.memory)) in
+          let first : Passes asked_word 1 mid = same_start
+          (ap (λ o. answered fetched ir x y (slice_index s.registers 15) s.flags rs s.base s.memory o) h)
+          (one now mid (omega arith) (at_fetched ir x y (slice_index s.registers 15) s.flags rs w s.base s.memory)) in
           let n : 1 + (of_a s w words + (of_b s w words + of_c s w words)) ≡ cycles_of (decode_of w) s.flags - 1 = omega arith in
-          subst (λ n. Comes asked_word 7 (λ u. Lands asked_word n u) (go_on w)) n (comes_after asked_word mid (go_on w) 1 (of_a s w words + (of_b s w words + of_c s w words)) 6 7 (omega arith) first (from_read_a s w words x y (slice_index s.registers 15) rs (cycle now).read (cycle now).outside (words_increment s.registers 15 words.registers)))
+          subst (λ n. Comes asked_word 7 (λ u. Lands asked_word n u) (go_on w)) n
+          (comes_after asked_word mid (go_on w) 1 (of_a s w words + (of_b s w words + of_c s w words)) 6 7 (omega arith) first
+          (from_read_a s w words x y (slice_index s.registers 15) rs (cycle now).read (cycle now).outside
+          (words_increment s.registers 15 words.registers)))
       by_word None h =
           let rs : List ℕ = with_increment s.registers 15 in
           let now : Board = board_of fetched ir x y (slice_index s.registers 15) s.flags rs 0 1 s.base s.memory in
@@ -285,7 +388,8 @@ module _ (s : Fm) (words : HasWords s) (ir x y : ℕ) where
             outside = (cycle now).outside;
             base = s.base;
             memory = s.memory;
-            passes = same_start (ap (λ o. answered fetched ir x y (slice_index s.registers 15) s.flags rs s.base s.memory o) h) (one now _ (omega arith) (at_fetched_outside ir x y (slice_index s.registers 15) s.flags rs 0 s.base s.memory));
+            passes = same_start (ap (λ o. answered fetched ir x y (slice_index s.registers 15) s.flags rs s.base s.memory o) h)
+                (one now _ (omega arith) (at_fetched_outside ir x y (slice_index s.registers 15) s.flags rs 0 s.base s.memory));
           }
 
 few_cycles : (s : Fm) → HasWords s → (1 ≤ step_cycles s) × (step_cycles s ≤ 8)
@@ -308,12 +412,15 @@ ends_after b c d k e p = ap (cycles k) e ∙ p.ends
 pub steps : Steps
 steps b s t stands words e =
     let now : Board = asked_word s words stands.ir stands.x stands.y in
-    let first : cycle b ≡ now = ap cycle stands.is ∙ at_fetch stands.ir stands.x stands.y stands.at s.flags s.registers stands.read s.base s.memory stands.outside in
-    let lands : Lands now (step_cycles s - 1) t = subst (λ r. Comes now 7 (λ u. Lands now (step_cycles s - 1) u) r) e (whole s words stands.ir stands.x stands.y) in
+    let first : cycle b ≡ now =
+    ap cycle stands.is ∙ at_fetch stands.ir stands.x stands.y stands.at s.flags s.registers stands.read s.base s.memory stands.outside in
+    let lands : Lands now (step_cycles s - 1) t =
+    subst (λ r. Comes now 7 (λ u. Lands now (step_cycles s - 1) u) r) e (whole s words stands.ir stands.x stands.y) in
     let few = few_cycles s words in
     let n : suc (step_cycles s - 1) ≡ step_cycles s = omega (arith, few.0) in
     record {
-      there = subst (λ c. StandsFor c t) (sym (ap (λ k. cycles k b) (sym n) ∙ ends_after b now lands.board (step_cycles s - 1) first lands.passes)) lands.stands;
+      there = subst (λ c. StandsFor c t) (sym (ap (λ k. cycles k b) (sym n) ∙ ends_after b now lands.board (step_cycles s - 1) first lands.passes))
+          lands.stands;
       busy = λ j p q. busy_after b now lands.board (step_cycles s - 1) first lands.passes j p (omega arith);
       few = few.1;
       words = lands.words;
@@ -323,7 +430,18 @@ steps b s t stands words e =
 stopped_on : (b : Board) (address : ℕ) → HasStopped b address → HasStopped (cycle b) address
 stopped_on b address h =
     let now : Board = board_of fault h.ir h.x h.y address h.flags h.registers h.read h.outside h.base h.memory in
-    record { ir = h.ir; x = h.x; y = h.y; flags = h.flags; registers = h.registers; read = (cycle now).read; outside = (cycle now).outside; base = h.base; memory = h.memory; is = ap cycle h.is ∙ at_fault h.ir h.x h.y address h.flags h.registers h.read h.base h.memory h.outside }
+    record {
+      ir = h.ir;
+      x = h.x;
+      y = h.y;
+      flags = h.flags;
+      registers = h.registers;
+      read = (cycle now).read;
+      outside = (cycle now).outside;
+      base = h.base;
+      memory = h.memory;
+      is = ap cycle h.is ∙ at_fault h.ir h.x h.y address h.flags h.registers h.read h.base h.memory h.outside;
+    }
 
 stopped_for : (n : ℕ) (b : Board) (address : ℕ) → HasStopped b address → HasStopped (cycles n b) address
 unfolding cycles
@@ -333,11 +451,25 @@ stopped_for (suc n) b address h = stopped_for n (cycle b) address (stopped_on b 
 pub faults : Faults
 faults b s e stands words r =
     let now : Board = asked_word s words stands.ir stands.x stands.y in
-    let first : cycle b ≡ now = ap cycle stands.is ∙ at_fetch stands.ir stands.x stands.y stands.at s.flags s.registers stands.read s.base s.memory stands.outside in
+    let first : cycle b ≡ now =
+    ap cycle stands.is ∙ at_fetch stands.ir stands.x stands.y stands.at s.flags s.registers stands.read s.base s.memory stands.outside in
     let halts : Halts now 7 e.address = subst (λ v. Comes now 7 (λ u. Lands now (step_cycles s - 1) u) v) r (whole s words stands.ir stands.x stands.y) in
     let few = halts.few in
-    let end : cycles (suc halts.count) b ≡ board_of fault halts.ir halts.x halts.y e.address halts.flags halts.registers halts.read halts.outside halts.base halts.memory = ends_after b now _ halts.count first halts.passes in
-    let there : HasStopped (cycles (suc halts.count) b) e.address = record { ir = halts.ir; x = halts.x; y = halts.y; flags = halts.flags; registers = halts.registers; read = halts.read; outside = halts.outside; base = halts.base; memory = halts.memory; is = end } in
+    let end : cycles (suc halts.count) b ≡ board_of fault halts.ir halts.x halts.y e.address halts.flags halts.registers halts.read halts.outside
+    halts.base halts.memory = ends_after b now _ halts.count first halts.passes in
+    let there : HasStopped (cycles (suc halts.count) b) e.address =
+    record {
+      ir = halts.ir;
+      x = halts.x;
+      y = halts.y;
+      flags = halts.flags;
+      registers = halts.registers;
+      read = halts.read;
+      outside = halts.outside;
+      base = halts.base;
+      memory = halts.memory;
+      is = end;
+    } in
     record {
       count = suc halts.count;
       few = omega arith;

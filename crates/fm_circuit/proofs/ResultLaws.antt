@@ -12,7 +12,8 @@ use Rattle.fm_circuit.specs.Circuit.{settled}
 use Rattle.fm_circuit.specs.Processor.{driver_of}
 use Rattle.fm_circuit.specs.Phases.{execute}
 use Rattle.fm_circuit.specs.Board.{on_board, board_of}
-use Rattle.fm_circuit.proofs.AdderLaws.{not_bit, overflow_bit, turned_addc, turned_add, turned_inc, turned_neg, turned_dec, turned_subb, turned_sub, carry_bit, borrow_bit, carries_inc, carries_add, borrows_neg, borrows_dec, borrows_subb, borrows_sub, word_subb, small, lowest}
+use Rattle.fm_circuit.proofs.AdderLaws.{not_bit, overflow_bit, turned_addc, turned_add, turned_inc, turned_neg, turned_dec, turned_subb, turned_sub, carry_bit}
+use Rattle.fm_circuit.proofs.AdderLaws.{borrow_bit, carries_inc, carries_add, borrows_neg, borrows_dec, borrows_subb, borrows_sub, word_subb, small, lowest}
 
 -- a result has 32 bits
 pub result_below : (op : Op) (c : Bool) (a b : ℕ) → a < 2 ^ 32 → b < 2 ^ 32 → (alu_of op c a b).word < 2 ^ 32
@@ -40,7 +41,8 @@ module _ (ir a b at : ℕ) (f : Flags) (rs : List ℕ) (read outside base : ℕ)
     pub carry : on_board (board_of execute ir a b at f rs read outside base m) w.OutC ≡ bit_of (alu_of op f.c a b).c
     pub overflow : on_board (board_of execute ir a b at f rs read outside base m) w.OutV ≡ bit_of (alu_of op f.c a b).v
 
-  by_op : (op : Op) → a < 2 ^ 32 → b < 2 ^ 32 → ir / 2 ^ 24 % 16 ≡ op_number op → ir / 2 ^ 24 % 8 ≡ op_number op % 8 → ir / 2 ^ 26 % 2 ≡ op_number op / 4 % 2 → Result op
+  by_op : (op : Op) → a < 2 ^ 32 → b < 2 ^ 32 → ir / 2 ^ 24 % 16 ≡ op_number op → ir / 2 ^ 24 % 8 ≡ op_number op % 8
+      → ir / 2 ^ 26 % 2 ≡ op_number op / 4 % 2 → Result op
   unfolding settled driver_of
   by_op Move p q e g h = record { word = rw e; carry = rw e; overflow = rw e }
   by_op Inc p q e g h = record {
@@ -71,7 +73,8 @@ module _ (ir a b at : ℕ) (f : Flags) (rs : List ℕ) (read outside base : ℕ)
   by_op Subb p q e g h = record {
     word = rw (e, g, not_bit f.c) (word_subb a b f.c p);
     carry = rw (e, g, h, not_bit f.c) (borrow_bit (2 ^ 32 - 1 - a + b + bit_of (not f.c)) _ (omega (arith, small (not f.c))) (borrows_subb a b f.c p));
-    overflow = rw (e, g, not_bit f.c) (overflow_bit (2 ^ 32 - 1 - a) b (2 ^ 32 - 1 - a + b + bit_of (not f.c)) (omega arith) q ∙ ap bit_of (turned_subb a b f.c p q));
+    overflow = rw (e, g, not_bit f.c) (overflow_bit (2 ^ 32 - 1 - a) b (2 ^ 32 - 1 - a + b + bit_of (not f.c)) (omega arith) q
+        ∙ ap bit_of (turned_subb a b f.c p q));
   }
   by_op Sub p q e g h = record {
     word = rw (e, g) (omega arith);

@@ -22,7 +22,8 @@ runs b s zero t stands words e =
     record { there = subst (λ u. StandsFor b u) same stands; few = omega arith; words = subst (λ u. HasWords u) same words }
 runs b s (suc k) t stands words e = by_step (λ c u p q r. runs c u k t p q r) (fm_step s) refl e
   where
-    by_step : ((c : Board) (u : Fm) → StandsFor c u → HasWords u → fm_run k u ≡ Ok t → Made c u k t) → (r : Result Fm Outside) → fm_step s ≡ r → then_on r (fm_run k) ≡ Ok t → Made b s (suc k) t
+    by_step : ((c : Board) (u : Fm) → StandsFor c u → HasWords u → fm_run k u ≡ Ok t → Made c u k t) → (r : Result Fm Outside) → fm_step s ≡ r
+        → then_on r (fm_run k) ≡ Ok t → Made b s (suc k) t
     by_step again (Ok u) h g =
         let made = steps b s u stands words h in
         let few = made.few in
@@ -41,7 +42,8 @@ pub at_address : (b : Board) (s : Fm) → StandsFor b s → (phase_of b ≡ fetc
 at_address b s stands = (ap phase_of stands.is, ap (λ c. slice_index c.kept.file 15) stands.is)
 
 -- before the end of a run that avoids an address the board isn't there
-pub avoided : (k : ℕ) (b : Board) (s t : Fm) (pc : ℕ) → StandsFor b s → HasWords s → fm_run k s ≡ Ok t → Avoids s pc k → (j : ℕ) → j < run_cycles k s → ¬ (IsAt pc (cycles j b))
+pub avoided : (k : ℕ) (b : Board) (s t : Fm) (pc : ℕ) → StandsFor b s → HasWords s → fm_run k s ≡ Ok t → Avoids s pc k → (j : ℕ) → j < run_cycles k s
+    → ¬ (IsAt pc (cycles j b))
 unfolding fm_run run_cycles cycles
 avoided zero b s t pc stands words e avoids j lt is = absurd (omega arith)
 avoided (suc k) b s t pc stands words e avoids j lt is = by_step (λ c u p q r a. avoided k c u t pc p q r a) (fm_step s) refl e
@@ -64,8 +66,10 @@ avoided (suc k) b s t pc stands words e avoids j lt is = by_step (λ c u p q r a
         later past =
             let n : run_cycles (suc k) s ≡ step_cycles s + run_cycles k u = ap (λ r. step_cycles s + if_ok r (run_cycles k)) h in
             let sum : step_cycles s + (j - step_cycles s) ≡ j = omega arith in
-            let same : cycles j b ≡ cycles (j - step_cycles s) (cycles (step_cycles s) b) = ap (λ n. cycles n b) (sym sum) ∙ cycles_add (step_cycles s) (j - step_cycles s) b in
-            again (cycles (step_cycles s) b) u made.there made.words g (λ i v below r. avoids (suc i) v (omega arith) (run_on i s u v h r)) (j - step_cycles s) (omega (arith, n, lt)) (subst (λ c. IsAt pc c) same is)
+            let same : cycles j b ≡ cycles (j - step_cycles s) (cycles (step_cycles s) b) =
+            ap (λ n. cycles n b) (sym sum) ∙ cycles_add (step_cycles s) (j - step_cycles s) b in
+            again (cycles (step_cycles s) b) u made.there made.words g (λ i v below r. avoids (suc i) v (omega arith) (run_on i s u v h r))
+            (j - step_cycles s) (omega (arith, n, lt)) (subst (λ c. IsAt pc c) same is)
 
 pub ends : Ends
 ends b s pc k t stands words first =

@@ -96,7 +96,8 @@ from_any s k i w.SetZ = refl
 from_any s k i w.NextZ = refl
 
 -- what drives each wire, where the wires have settled, gives its value
-pub settled_on : (kept : Kept) (inputs : List ℕ) (wire : Wire) → driven kept inputs (settled levels kept inputs) (driver_of wire) ≡ settled levels kept inputs wire
+pub settled_on : (kept : Kept) (inputs : List ℕ) (wire : Wire) → driven kept inputs (settled levels kept inputs) (driver_of wire)
+    ≡ settled levels kept inputs wire
 unfolding settled_from
 settled_on kept inputs wire =
     let first : Wire → ℕ = λ v. driven kept inputs (λ u. 0) (driver_of v) in
@@ -104,13 +105,15 @@ settled_on kept inputs wire =
     ap (λ (on : Wire → ℕ). driven kept inputs on (driver_of wire)) (sym nine) ∙ from_any first kept inputs wire
 
 -- where each wire is what drives it, nothing changes from level to level
-stays : (on : Wire → ℕ) (kept : Kept) (inputs : List ℕ) → ((wire : Wire) → on wire ≡ driven kept inputs on (driver_of wire)) → (n : ℕ) → settled_from on n kept inputs ≡ on
+stays : (on : Wire → ℕ) (kept : Kept) (inputs : List ℕ) → ((wire : Wire) → on wire ≡ driven kept inputs on (driver_of wire)) → (n : ℕ)
+    → settled_from on n kept inputs ≡ on
 unfolding settled_from
 stays on kept inputs same zero = refl
 stays on kept inputs same (suc n) = (λ j wire. driven kept inputs (stays on kept inputs same n j) (driver_of wire)) ∙ (λ j wire. sym (same wire) j)
 
 -- so they have settled
-pub only_settled : (on : Wire → ℕ) (kept : Kept) (inputs : List ℕ) → ((wire : Wire) → on wire ≡ driven kept inputs on (driver_of wire)) → (wire : Wire) → on wire ≡ settled levels kept inputs wire
+pub only_settled : (on : Wire → ℕ) (kept : Kept) (inputs : List ℕ) → ((wire : Wire) → on wire ≡ driven kept inputs on (driver_of wire)) → (wire : Wire)
+    → on wire ≡ settled levels kept inputs wire
 only_settled on kept inputs same wire = sym (ap (λ (o : Wire → ℕ). o wire) (stays on kept inputs same levels)) ∙ from_any on kept inputs wire
 
 pub settles : Settles

@@ -1,5 +1,6 @@
 -- Each value fits its wire.
-use Rattle.std.proofs.Common.{◌≡◌, ℕ, zero, suc, ◌+◌, ◌-◌, ◌*◌, ◌%◌, ◌^◌, ◌<◌, ◌==◌, ◌&&◌, Bool, true, false, List, [], ◌∷◌, length, Option, Some, None, refl, sym, subst, arith, if◌then◌else◌}
+use Rattle.std.proofs.Common.{◌≡◌, ℕ, zero, suc, ◌+◌, ◌-◌, ◌*◌, ◌%◌, ◌^◌, ◌<◌, ◌==◌, ◌&&◌, Bool, true, false, List, [], ◌∷◌, length, Option, Some, None, refl}
+use Rattle.std.proofs.Common.{sym, subst, arith, if◌then◌else◌}
 use Rattle.std.proofs.lemmas.Bool.{eqb-true, ltb-true, and_parts}
 use Rattle.std.proofs.lemmas.Nat.{pow_pos, pow-add, and_le_l, or_lt, xor_lt}
 use Rattle.std.proofs.Math.Nat.{mod-lt}
@@ -27,7 +28,8 @@ product x y m n g h = grind arith
 
 pub width_is : (width : ℕ) (p : Pin) → has_width width p ≡ true → pin_width p ≡ width
 width_is width (Whole wire) h = eqb-true (width_of wire) width h
-width_is width (Bits wire high low) h = eqb-true (high + 1 - low) width (and_parts (nat_le low high && nat_lt high (width_of wire)) (high + 1 - low == width) h).1
+width_is width (Bits wire high low) h =
+    eqb-true (high + 1 - low) width (and_parts (nat_le low high && nat_lt high (width_of wire)) (high + 1 - low == width) h).1
 width_is width (Constant own value) h = eqb-true own width (and_parts (own == width) (nat_lt value (2 ^ width)) h).0
 
 module _ (on : Wire → ℕ) (fit : (wire : Wire) → on wire < 2 ^ width_of wire) where
@@ -44,13 +46,16 @@ module _ (on : Wire → ℕ) (fit : (wire : Wire) → on wire < 2 ^ width_of wir
   one_fits width (p ∷ among) (suc i) h = one_fits width among i (and_parts (has_width width p) (list_all (has_width width) among) h).1
 
   choice_fits : (width bits : ℕ) (by : Pin) (among : List Pin) → is_choice width bits by among ≡ true → chosen on by among < 2 ^ width
-  choice_fits width bits by among h = one_fits width among (pin_of on by) (and_parts (has_width bits by && (length among == 2 ^ bits)) (list_all (has_width width) among) h).1
+  choice_fits width bits by among h =
+      one_fits width among (pin_of on by) (and_parts (has_width bits by && (length among == 2 ^ bits)) (list_all (has_width width) among) h).1
 
-  module _ (kept : Kept) (inputs : List ℕ) (registers : FitWidths register_widths kept.registers) (file : AreWords kept.file) (given : FitWidths input_widths inputs) where
+  module _ (kept : Kept) (inputs : List ℕ) (registers : FitWidths register_widths kept.registers) (file : AreWords kept.file)
+      (given : FitWidths input_widths inputs) where
     pub driven_fits : (width : ℕ) (d : Driver) → is_sized width d ≡ true → driven kept inputs on d < 2 ^ width
     driven_fits width (Register number reset next) h =
         let parts = and_parts ((slice_index register_widths number == width) && nat_lt reset (2 ^ width)) (has_width width next) h in
-        let same = eqb-true (slice_index register_widths number) width (and_parts (slice_index register_widths number == width) (nat_lt reset (2 ^ width)) parts.0).0 in
+        let same = eqb-true (slice_index register_widths number) width
+        (and_parts (slice_index register_widths number == width) (nat_lt reset (2 ^ width)) parts.0).0 in
         subst (λ n. slice_index kept.registers number < 2 ^ n) same (registers number)
     driven_fits width (Input number) h = subst (λ n. slice_index inputs number < 2 ^ n) (eqb-true (slice_index input_widths number) width h) (given number)
     driven_fits width (FileRead number) h =
@@ -69,7 +74,8 @@ module _ (on : Wire → ℕ) (fit : (wire : Wire) → on wire < 2 ^ width_of wir
     driven_fits width (Join p q) h =
         let parts = and_parts (has_width (pin_width p) p && has_width (pin_width q) q) (pin_width p + pin_width q == width) h in
         let both = and_parts (has_width (pin_width p) p) (has_width (pin_width q) q) parts.0 in
-        subst (λ n. pin_of on p * 2 ^ pin_width q + pin_of on q < 2 ^ n) (eqb-true (pin_width p + pin_width q) width parts.1) (joined (pin_of on p) (pin_of on q) (pin_width p) (pin_width q) (pin_fits (pin_width p) p both.0) (pin_fits (pin_width q) q both.1))
+        subst (λ n. pin_of on p * 2 ^ pin_width q + pin_of on q < 2 ^ n) (eqb-true (pin_width p + pin_width q) width parts.1)
+        (joined (pin_of on p) (pin_of on q) (pin_width p) (pin_width q) (pin_fits (pin_width p) p both.0) (pin_fits (pin_width q) q both.1))
       where
         joined : (x y m n : ℕ) → x < 2 ^ m → y < 2 ^ n → x * 2 ^ n + y < 2 ^ (m + n)
         joined x y m n g h = rw (pow-add 2 m n) (product x y (2 ^ m) (2 ^ n) g h)
@@ -77,12 +83,15 @@ module _ (on : Wire → ℕ) (fit : (wire : Wire) → on wire < 2 ^ width_of wir
         let parts = and_parts (has_width (pin_width p) p && has_width (pin_width p) q && has_width 1 carry) (pin_width p + 1 == width) h in
         let three = and_parts (has_width (pin_width p) p && has_width (pin_width p) q) (has_width 1 carry) parts.0 in
         let two = and_parts (has_width (pin_width p) p) (has_width (pin_width p) q) three.0 in
-        subst (λ n. pin_of on p + pin_of on q + pin_of on carry < 2 ^ n) (eqb-true (pin_width p + 1) width parts.1) (added (pin_of on p) (pin_of on q) (pin_of on carry) (pin_width p) (pin_fits (pin_width p) p two.0) (pin_fits (pin_width p) q two.1) (pin_fits 1 carry three.1))
+        subst (λ n. pin_of on p + pin_of on q + pin_of on carry < 2 ^ n) (eqb-true (pin_width p + 1) width parts.1)
+        (added (pin_of on p) (pin_of on q) (pin_of on carry) (pin_width p) (pin_fits (pin_width p) p two.0) (pin_fits (pin_width p) q two.1)
+        (pin_fits 1 carry three.1))
       where
         added : (x y c n : ℕ) → x < 2 ^ n → y < 2 ^ n → c < 2 ^ 1 → x + y + c < 2 ^ (n + 1)
         added x y c n g h k = let e : 2 ^ (n + 1) ≡ 2 ^ n * 2 ^ 1 = pow-add 2 n 1 in omega (arith, e)
     driven_fits width (Equal p q) h =
-        let same = eqb-true width 1 (and_parts (width == 1) (has_width (pin_width p) p) (and_parts ((width == 1) && has_width (pin_width p) p) (has_width (pin_width p) q) h).0).0 in
+        let same = eqb-true width 1 (and_parts (width == 1) (has_width (pin_width p) p)
+        (and_parts ((width == 1) && has_width (pin_width p) p) (has_width (pin_width p) q) h).0).0 in
         subst (λ n. bit_of (pin_of on p == pin_of on q) < 2 ^ n) (sym same) (omega (arith, small (pin_of on p == pin_of on q)))
     driven_fits width (Two by among) h = choice_fits width 1 by among h
     driven_fits width (Four by among) h = choice_fits width 2 by among h
@@ -173,10 +182,12 @@ sized w.SetZ = refl
 sized w.NextZ = refl
 
 -- each value fits its wire
-pub settled_fits : (kept : Kept) (inputs : List ℕ) → FitWidths register_widths kept.registers → AreWords kept.file → FitWidths input_widths inputs → (n : ℕ) (wire : Wire) → settled n kept inputs wire < 2 ^ width_of wire
+pub settled_fits : (kept : Kept) (inputs : List ℕ) → FitWidths register_widths kept.registers → AreWords kept.file → FitWidths input_widths inputs
+    → (n : ℕ) (wire : Wire) → settled n kept inputs wire < 2 ^ width_of wire
 unfolding settled
 settled_fits kept inputs held file given zero wire = pow_pos (width_of wire)
-settled_fits kept inputs held file given (suc n) wire = driven_fits (settled n kept inputs) (λ v. settled_fits kept inputs held file given n v) kept inputs held file given (width_of wire) (driver_of wire) (sized wire)
+settled_fits kept inputs held file given (suc n) wire = driven_fits (settled n kept inputs) (λ v. settled_fits kept inputs held file given n v) kept
+    inputs held file given (width_of wire) (driver_of wire) (sized wire)
 
 -- what the registers take
 registers_fit : (on : Wire → ℕ) → ((wire : Wire) → on wire < 2 ^ width_of wire) → FitWidths register_widths (map (λ wire. taken on (driver_of wire)) registers)
@@ -200,7 +211,8 @@ pub memory_fits : (t : Bool) (base : ℕ) (m : List ℕ) (a x : ℕ) → AreWord
 memory_fits true base m a x h p = words_with base m a x h p
 memory_fits false base m a x h p = h
 
-answer_fits : (base : ℕ) (m : List ℕ) (a : ℕ) (o : Option ℕ) → AreWords m → word_at base m a ≡ o → FitWidths input_widths (unwrap_or o 0 ∷ bit_of (not (is_some o)) ∷ [])
+answer_fits : (base : ℕ) (m : List ℕ) (a : ℕ) (o : Option ℕ) → AreWords m → word_at base m a ≡ o
+    → FitWidths input_widths (unwrap_or o 0 ∷ bit_of (not (is_some o)) ∷ [])
 answer_fits base m a (Some x) h e zero = word_found base m a x h e
 answer_fits base m a None h e zero = omega arith
 answer_fits base m a o h e (suc zero) = omega (arith, small (not (is_some o)))
@@ -224,7 +236,8 @@ module _ (b : Board) (fits : FitsBoard b) where
   fit : (wire : Wire) → on_board b wire < 2 ^ width_of wire
   fit = settled_fits b.kept (b.read ∷ b.outside ∷ []) fits.registers fits.file fits.inputs levels
 
-  answered : FitWidths input_widths (unwrap_or (word_at b.base b.memory (on_board b w.Address)) 0 ∷ bit_of (not (is_some (word_at b.base b.memory (on_board b w.Address)))) ∷ [])
+  answered : FitWidths input_widths (unwrap_or (word_at b.base b.memory (on_board b w.Address)) 0
+      ∷ bit_of (not (is_some (word_at b.base b.memory (on_board b w.Address)))) ∷ [])
   answered = answer_fits b.base b.memory (on_board b w.Address) (word_at b.base b.memory (on_board b w.Address)) fits.memory refl
 
   cycle_fits : FitsBoard (cycle b)
@@ -234,7 +247,8 @@ module _ (b : Board) (fits : FitsBoard b) where
         registers = registers_fit (on_board b) fit;
         file = file_fits (on_board b w.FileWrite == 1) b.kept.file (on_board b w.Number) (on_board b w.FileData) fits.file (fit w.FileData);
         inputs = answered;
-        memory = memory_fits (on_board b w.MemoryWrite == 1 && is_some (word_at b.base b.memory (on_board b w.Address))) b.base b.memory (on_board b w.Address) (on_board b w.Out) fits.memory (fit w.Out);
+        memory = memory_fits (on_board b w.MemoryWrite == 1 && is_some (word_at b.base b.memory (on_board b w.Address))) b.base b.memory
+            (on_board b w.Address) (on_board b w.Out) fits.memory (fit w.Out);
       }
 
   reset_fits : FitsBoard (reset_cycle b)

@@ -1,5 +1,6 @@
 -- The operands of an instruction, in the cycles that they take.
-use Rattle.std.proofs.Common.{◌≡◌, ◌≢◌, ℕ, ◌/◌, ◌%◌, ◌^◌, ◌≤◌, Bool, true, false, not, List, [], ◌∷◌, Option, Some, None, Result, Ok, Err, refl, ap, sym, subst, ◌∙◌, arith}
+use Rattle.std.proofs.Common.{◌≡◌, ◌≢◌, ℕ, ◌/◌, ◌%◌, ◌^◌, ◌≤◌, Bool, true, false, not, List, [], ◌∷◌, Option, Some, None, Result, Ok, Err, refl, ap, sym, subst}
+use Rattle.std.proofs.Common.{◌∙◌, arith}
 use Rattle.std.specs.Prelude.{is_some, unwrap_or, slice_index}
 use Rattle.std.specs.Int.{from_bool as bit_of}
 use Rattle.fm_words.specs.declared.operation.Op.{Op}
@@ -80,7 +81,8 @@ unread M15 c a b d h = refl
 
 module _ (s : Fm) (w : ℕ) (f : Flags) where
   -- the word of the first operand comes, or none
-  loaded_a : (now : Board) (a y ad : ℕ) (rs : List ℕ) → phase_of now ≢ fetch → cycle now ≡ asked got_a w a y ad f rs s.base s.memory → Comes now 2 (λ x. Reaches now 2 read_b w x y f rs s.base s.memory) (found_word (word_at s.base s.memory ad) ad)
+  loaded_a : (now : Board) (a y ad : ℕ) (rs : List ℕ) → phase_of now ≢ fetch → cycle now ≡ asked got_a w a y ad f rs s.base s.memory
+      → Comes now 2 (λ x. Reaches now 2 read_b w x y f rs s.base s.memory) (found_word (word_at s.base s.memory ad) ad)
   loaded_a now a y ad rs ne e = by_word (word_at s.base s.memory ad) refl
     where
       by_word : (o : Option ℕ) → word_at s.base s.memory ad ≡ o → Comes now 2 (λ x. Reaches now 2 read_b w x y f rs s.base s.memory) (found_word o ad)
@@ -90,7 +92,8 @@ module _ (s : Fm) (w : ℕ) (f : Flags) where
             at = ad;
             read = (cycle mid).read;
             outside = (cycle mid).outside;
-            passes = after 1 1 (one now _ ne (e ∙ ap (λ o. answered got_a w a y ad f rs s.base s.memory o) h)) (one mid _ (omega arith) (at_got_a w a y ad f rs x s.base s.memory));
+            passes = after 1 1 (one now _ ne (e ∙ ap (λ o. answered got_a w a y ad f rs s.base s.memory o) h))
+                (one mid _ (omega arith) (at_got_a w a y ad f rs x s.base s.memory));
           }
       by_word None h =
           let mid : Board = board_of got_a w a y ad f rs 0 1 s.base s.memory in
@@ -106,39 +109,55 @@ module _ (s : Fm) (w : ℕ) (f : Flags) where
             outside = (cycle mid).outside;
             base = s.base;
             memory = s.memory;
-            passes = after 1 1 (one now _ ne (e ∙ ap (λ o. answered got_a w a y ad f rs s.base s.memory o) h)) (one mid _ (omega arith) (at_got_a_outside w a y ad f rs 0 s.base s.memory));
+            passes = after 1 1 (one now _ ne (e ∙ ap (λ o. answered got_a w a y ad f rs s.base s.memory o) h))
+                (one mid _ (omega arith) (at_got_a_outside w a y ad f rs 0 s.base s.memory));
           }
 
-  place_a : (mode : Mode) (a y at : ℕ) (rs : List ℕ) (read outside : ℕ) → w / 2 ^ 9 % 2 ≡ 0 → w / 2 ^ 4 % 4 ≡ mode_number mode → Comes (board_of read_a w a y at f rs read outside s.base s.memory) 2 (λ x. Reaches (board_of read_a w a y at f rs read outside s.base s.memory) (place_cycles mode) read_b w x y f (registers_after mode (w % 16) rs) s.base s.memory) (value_at s (address_of mode (w % 16) rs) (slice_index rs (w % 16)))
+  place_a : (mode : Mode) (a y at : ℕ) (rs : List ℕ) (read outside : ℕ) → w / 2 ^ 9 % 2 ≡ 0 → w / 2 ^ 4 % 4 ≡ mode_number mode
+      → Comes (board_of read_a w a y at f rs read outside s.base s.memory) 2
+      (λ x. Reaches (board_of read_a w a y at f rs read outside s.base s.memory) (place_cycles mode) read_b w x y f (registers_after mode (w % 16) rs)
+      s.base s.memory) (value_at s (address_of mode (w % 16) rs) (slice_index rs (w % 16)))
   place_a Register a y at rs read outside e g =
       record {
         at = slice_index rs (w % 16);
         read = unwrap_or (word_at s.base s.memory (slice_index rs (w % 16))) 0;
         outside = bit_of (not (is_some (word_at s.base s.memory (slice_index rs (w % 16)))));
-        passes = one (board_of read_a w a y at f rs read outside s.base s.memory) _ (omega arith) (at_place w a y at f rs read s.base s.memory Register outside e g);
+        passes = one (board_of read_a w a y at f rs read outside s.base s.memory) _ (omega arith)
+            (at_place w a y at f rs read s.base s.memory Register outside e g);
       }
   place_a Indirect a y at rs read outside e g =
-      loaded_a (board_of read_a w a y at f rs read outside s.base s.memory) _ y _ _ (omega arith) (at_place w a y at f rs read s.base s.memory Indirect outside e g)
+      loaded_a (board_of read_a w a y at f rs read outside s.base s.memory) _ y _ _ (omega arith)
+      (at_place w a y at f rs read s.base s.memory Indirect outside e g)
   place_a PreDecrement a y at rs read outside e g =
-      loaded_a (board_of read_a w a y at f rs read outside s.base s.memory) _ y _ _ (omega arith) (at_place w a y at f rs read s.base s.memory PreDecrement outside e g)
+      loaded_a (board_of read_a w a y at f rs read outside s.base s.memory) _ y _ _ (omega arith)
+      (at_place w a y at f rs read s.base s.memory PreDecrement outside e g)
   place_a PostIncrement a y at rs read outside e g =
-      loaded_a (board_of read_a w a y at f rs read outside s.base s.memory) _ y _ _ (omega arith) (at_place w a y at f rs read s.base s.memory PostIncrement outside e g)
+      loaded_a (board_of read_a w a y at f rs read outside s.base s.memory) _ y _ _ (omega arith)
+      (at_place w a y at f rs read s.base s.memory PostIncrement outside e g)
 
   -- the first operand
-  pub stage_a : (o : OperandA) (a y at : ℕ) (rs : List ℕ) (read outside : ℕ) → IsA w o → Comes (board_of read_a w a y at f rs read outside s.base s.memory) 2 (λ x. Reaches (board_of read_a w a y at f rs read outside s.base s.memory) (cycles_of_a o) read_b w x y f (registers_after_a o rs) s.base s.memory) (value_a s o rs)
+  pub stage_a : (o : OperandA) (a y at : ℕ) (rs : List ℕ) (read outside : ℕ) → IsA w o
+      → Comes (board_of read_a w a y at f rs read outside s.base s.memory) 2
+      (λ x. Reaches (board_of read_a w a y at f rs read outside s.base s.memory) (cycles_of_a o) read_b w x y f (registers_after_a o rs) s.base
+      s.memory) (value_a s o rs)
   stage_a (Immediate n) a y at rs read outside i =
       let now : Board = board_of read_a w a y at f rs read outside s.base s.memory in
       record {
         at = slice_index rs (w % 16);
         read = (cycle now).read;
         outside = (cycle now).outside;
-        passes = one now _ (omega arith) (at_immediate w a y at f rs read s.base s.memory outside i.0 ∙ ap (λ v. board_of read_b w v y (slice_index rs (w % 16)) f rs (cycle now).read (cycle now).outside s.base s.memory) (immediate_word w ∙ sym i.1));
+        passes = one now _ (omega arith) (at_immediate w a y at f rs read s.base s.memory outside i.0
+            ∙ ap (λ v. board_of read_b w v y (slice_index rs (w % 16)) f rs (cycle now).read (cycle now).outside s.base s.memory)
+            (immediate_word w ∙ sym i.1));
       }
   stage_a (Place mode r) a y at rs read outside i =
-      subst (λ q. Comes (board_of read_a w a y at f rs read outside s.base s.memory) 2 (λ x. Reaches (board_of read_a w a y at f rs read outside s.base s.memory) (place_cycles mode) read_b w x y f (registers_after mode q rs) s.base s.memory) (value_at s (address_of mode q rs) (slice_index rs q))) (sym i.2) (place_a mode a y at rs read outside i.0 i.1)
+      subst (λ q. Comes (board_of read_a w a y at f rs read outside s.base s.memory) 2
+      (λ x. Reaches (board_of read_a w a y at f rs read outside s.base s.memory) (place_cycles mode) read_b w x y f (registers_after mode q rs)
+      s.base s.memory) (value_at s (address_of mode q rs) (slice_index rs q))) (sym i.2) (place_a mode a y at rs read outside i.0 i.1)
 
   -- the word of the second operand comes, or none
-  loaded_b : (now : Board) (a y ad : ℕ) (rs : List ℕ) → phase_of now ≢ fetch → cycle now ≡ asked got_b w a y ad f rs s.base s.memory → Comes now 2 (λ x. Reaches now 2 execute w a x f rs s.base s.memory) (found_word (word_at s.base s.memory ad) ad)
+  loaded_b : (now : Board) (a y ad : ℕ) (rs : List ℕ) → phase_of now ≢ fetch → cycle now ≡ asked got_b w a y ad f rs s.base s.memory
+      → Comes now 2 (λ x. Reaches now 2 execute w a x f rs s.base s.memory) (found_word (word_at s.base s.memory ad) ad)
   loaded_b now a y ad rs ne e = by_word (word_at s.base s.memory ad) refl
     where
       by_word : (o : Option ℕ) → word_at s.base s.memory ad ≡ o → Comes now 2 (λ x. Reaches now 2 execute w a x f rs s.base s.memory) (found_word o ad)
@@ -148,7 +167,8 @@ module _ (s : Fm) (w : ℕ) (f : Flags) where
             at = ad;
             read = (cycle mid).read;
             outside = (cycle mid).outside;
-            passes = after 1 1 (one now _ ne (e ∙ ap (λ o. answered got_b w a y ad f rs s.base s.memory o) h)) (one mid _ (omega arith) (at_got_b w a y ad f rs x s.base s.memory));
+            passes = after 1 1 (one now _ ne (e ∙ ap (λ o. answered got_b w a y ad f rs s.base s.memory o) h))
+                (one mid _ (omega arith) (at_got_b w a y ad f rs x s.base s.memory));
           }
       by_word None h =
           let mid : Board = board_of got_b w a y ad f rs 0 1 s.base s.memory in
@@ -164,21 +184,30 @@ module _ (s : Fm) (w : ℕ) (f : Flags) where
             outside = (cycle mid).outside;
             base = s.base;
             memory = s.memory;
-            passes = after 1 1 (one now _ ne (e ∙ ap (λ o. answered got_b w a y ad f rs s.base s.memory o) h)) (one mid _ (omega arith) (at_got_b_outside w a y ad f rs 0 s.base s.memory));
+            passes = after 1 1 (one now _ ne (e ∙ ap (λ o. answered got_b w a y ad f rs s.base s.memory o) h))
+                (one mid _ (omega arith) (at_got_b_outside w a y ad f rs 0 s.base s.memory));
           }
 
   -- the second operand where it is read
-  pub place_b : (mode : Mode) (a y at : ℕ) (rs : List ℕ) (read outside : ℕ) → w / 2 ^ 14 % 4 ≡ mode_number mode → slice_index (0 ∷ 0 ∷ 1 ∷ 1 ∷ 0 ∷ 0 ∷ 1 ∷ 1 ∷ 0 ∷ 0 ∷ 0 ∷ 1 ∷ 1 ∷ 1 ∷ 0 ∷ 0 ∷ []) (w / 2 ^ 24 % 16) ≡ 1 → Comes (board_of read_b w a y at f rs read outside s.base s.memory) 2 (λ x. Reaches (board_of read_b w a y at f rs read outside s.base s.memory) (place_cycles mode) execute w a x f rs s.base s.memory) (value_at s (address_of mode (w / 2 ^ 10 % 16) rs) (slice_index rs (w / 2 ^ 10 % 16)))
+  pub place_b : (mode : Mode) (a y at : ℕ) (rs : List ℕ) (read outside : ℕ) → w / 2 ^ 14 % 4 ≡ mode_number mode
+      → slice_index (0 ∷ 0 ∷ 1 ∷ 1 ∷ 0 ∷ 0 ∷ 1 ∷ 1 ∷ 0 ∷ 0 ∷ 0 ∷ 1 ∷ 1 ∷ 1 ∷ 0 ∷ 0 ∷ []) (w / 2 ^ 24 % 16) ≡ 1
+      → Comes (board_of read_b w a y at f rs read outside s.base s.memory) 2
+      (λ x. Reaches (board_of read_b w a y at f rs read outside s.base s.memory) (place_cycles mode) execute w a x f rs s.base s.memory)
+      (value_at s (address_of mode (w / 2 ^ 10 % 16) rs) (slice_index rs (w / 2 ^ 10 % 16)))
   place_b Register a y at rs read outside g h =
       record {
         at = slice_index rs (w / 2 ^ 10 % 16);
         read = unwrap_or (word_at s.base s.memory (slice_index rs (w / 2 ^ 10 % 16))) 0;
         outside = bit_of (not (is_some (word_at s.base s.memory (slice_index rs (w / 2 ^ 10 % 16)))));
-        passes = one (board_of read_b w a y at f rs read outside s.base s.memory) _ (omega arith) (at_second w a y at f rs read s.base s.memory Register true outside g h);
+        passes = one (board_of read_b w a y at f rs read outside s.base s.memory) _ (omega arith)
+            (at_second w a y at f rs read s.base s.memory Register true outside g h);
       }
   place_b Indirect a y at rs read outside g h =
-      loaded_b (board_of read_b w a y at f rs read outside s.base s.memory) a _ _ _ (omega arith) (at_second w a y at f rs read s.base s.memory Indirect true outside g h)
+      loaded_b (board_of read_b w a y at f rs read outside s.base s.memory) a _ _ _ (omega arith)
+      (at_second w a y at f rs read s.base s.memory Indirect true outside g h)
   place_b PreDecrement a y at rs read outside g h =
-      loaded_b (board_of read_b w a y at f rs read outside s.base s.memory) a _ _ _ (omega arith) (at_second w a y at f rs read s.base s.memory PreDecrement true outside g h)
+      loaded_b (board_of read_b w a y at f rs read outside s.base s.memory) a _ _ _ (omega arith)
+      (at_second w a y at f rs read s.base s.memory PreDecrement true outside g h)
   place_b PostIncrement a y at rs read outside g h =
-      loaded_b (board_of read_b w a y at f rs read outside s.base s.memory) a _ _ _ (omega arith) (at_second w a y at f rs read s.base s.memory PostIncrement true outside g h)
+      loaded_b (board_of read_b w a y at f rs read outside s.base s.memory) a _ _ _ (omega arith)
+      (at_second w a y at f rs read s.base s.memory PostIncrement true outside g h)

@@ -27,20 +27,23 @@ chosen false = refl
 
 module _ {P : Parts} {n : ℕ} {s : Fm} {f pc : ℕ} {ctrl temp areas : List ℕ} where
   -- an operation on the two words on top, whose result doesn't depend on the carry flag
-  pub two : (op : Op) (y x w : ℕ) → RunsToView P n s f pc ctrl (x ∷ y ∷ temp) areas → CodeAt P pc (two_code op) → ((c : Bool) → (alu_of op c x y).word ≡ w) → RunsToView P (n + 1) s f (pc + 1) ctrl (w ∷ temp) areas
+  pub two : (op : Op) (y x w : ℕ) → RunsToView P n s f pc ctrl (x ∷ y ∷ temp) areas → CodeAt P pc (two_code op)
+      → ((c : Bool) → (alu_of op c x y).word ≡ w) → RunsToView P (n + 1) s f (pc + 1) ctrl (w ∷ temp) areas
   two op y x w h code is =
       let words = rw (← h.r15_is) at code in
       let c1 = into_top op no_flags h.run (from_pop h.run) words.0 in
       with_temp (runs_to_view c1 refl h.r0_is (ap (λ a. a + 1) h.r15_is)) (ap (λ v. v ∷ temp) (is h.fl.c))
 
   -- an operation on the word on top
-  pub one : (op : Op) (x w : ℕ) → RunsToView P n s f pc ctrl (x ∷ temp) areas → CodeAt P pc (one_code op) → ((c : Bool) → (alu_of op c x x).word ≡ w) → RunsToView P (n + 1) s f (pc + 1) ctrl (w ∷ temp) areas
+  pub one : (op : Op) (x w : ℕ) → RunsToView P n s f pc ctrl (x ∷ temp) areas → CodeAt P pc (one_code op) → ((c : Bool) → (alu_of op c x x).word ≡ w)
+      → RunsToView P (n + 1) s f (pc + 1) ctrl (w ∷ temp) areas
   one op x w h code is =
       let words = rw (← h.r15_is) at code in
       let c1 = into_top op no_flags h.run (from_top h.run) words.0 in
       with_temp (runs_to_view c1 refl h.r0_is (ap (λ a. a + 1) h.r15_is)) (ap (λ v. v ∷ temp) (is h.fl.c))
 
-  pub not_bool : (b : Bool) → RunsToView P n s f pc ctrl (bit_of b ∷ temp) areas → CodeAt P pc not_bool_code → RunsToView P (n + 1) s f (pc + 1) ctrl (bit_of (not b) ∷ temp) areas
+  pub not_bool : (b : Bool) → RunsToView P n s f pc ctrl (bit_of b ∷ temp) areas → CodeAt P pc not_bool_code
+      → RunsToView P (n + 1) s f (pc + 1) ctrl (bit_of (not b) ∷ temp) areas
   not_bool b h code =
       let words = rw (← h.r15_is) at code in
       let c1 = into_top Xor no_flags h.run (from_immediate 1 h.run (omega arith)) words.0 in
@@ -51,7 +54,8 @@ module _ {P : Parts} {n : ℕ} {s : Fm} {f pc : ℕ} {ctrl temp areas : List ℕ
       turned false = refl
 
   -- whether the two words on top are equal
-  pub eq : (y x : ℕ) → RunsToView P n s f pc ctrl (x ∷ y ∷ temp) areas → CodeAt P pc eq_code → RunsToView P (n + 4) s f (pc + 4) ctrl (bit_of (y == x) ∷ temp) areas
+  pub eq : (y x : ℕ) → RunsToView P n s f pc ctrl (x ∷ y ∷ temp) areas → CodeAt P pc eq_code
+      → RunsToView P (n + 4) s f (pc + 4) ctrl (bit_of (y == x) ∷ temp) areas
   eq y x h code =
       let words = rw (← h.r15_is) at code in
       let c1 = into_r3 Move no_flags h.run (from_pop h.run) words.0 in
@@ -63,7 +67,8 @@ module _ {P : Parts} {n : ℕ} {s : Fm} {f pc : ℕ} {ctrl temp areas : List ℕ
       with_temp (runs_to_view c4 (omega arith) h.r0_is (omega arith)) (ap (λ v. v ∷ temp) is)
 
   -- whether the condition holds of the difference of the two words on top
-  pub lt : (k : Cc) (y x : ℕ) → RunsToView P n s f pc ctrl (x ∷ y ∷ temp) areas → CodeAt P pc (lt_code k) → RunsToView P (n + 5) s f (pc + 5) ctrl (bit_of (does_hold k (flags_of_difference y x)) ∷ temp) areas
+  pub lt : (k : Cc) (y x : ℕ) → RunsToView P n s f pc ctrl (x ∷ y ∷ temp) areas → CodeAt P pc (lt_code k)
+      → RunsToView P (n + 5) s f (pc + 5) ctrl (bit_of (does_hold k (flags_of_difference y x)) ∷ temp) areas
   lt k y x h code =
       let words = rw (← h.r15_is) at code in
       let c1 = into_r3 Move no_flags h.run (from_pop h.run) words.0 in
@@ -75,7 +80,9 @@ module _ {P : Parts} {n : ℕ} {s : Fm} {f pc : ℕ} {ctrl temp areas : List ℕ
       with_temp (runs_to_view c5 (omega arith) h.r0_is (omega arith)) (ap (λ v. v ∷ temp) (chosen (does_hold k (flags_of_difference y x))))
 
   -- a sum or a difference of the two words on top and the carry below them: the carry or overflow t, and the result
-  pub carried : (op : Op) (k : Cc) (t : Bool) (z y x : ℕ) → RunsToView P n s f pc ctrl (x ∷ y ∷ z ∷ temp) areas → CodeAt P pc (carry_code op k) → ((fl : Flags) → let out = alu_of op (z % 2 == 1) x y in does_hold k record fl { c = out.c; v = out.v } ≡ t) → RunsToView P (n + 7) s f (pc + 7) ctrl ((alu_of op (z % 2 == 1) x y).word ∷ bit_of t ∷ temp) areas
+  pub carried : (op : Op) (k : Cc) (t : Bool) (z y x : ℕ) → RunsToView P n s f pc ctrl (x ∷ y ∷ z ∷ temp) areas → CodeAt P pc (carry_code op k)
+      → ((fl : Flags) → let out = alu_of op (z % 2 == 1) x y in does_hold k record fl { c = out.c; v = out.v } ≡ t)
+      → RunsToView P (n + 7) s f (pc + 7) ctrl ((alu_of op (z % 2 == 1) x y).word ∷ bit_of t ∷ temp) areas
   carried op k t z y x h code tells =
       let laid = h.run.laid in
       let words = rw (← h.r15_is) at code in
@@ -92,7 +99,8 @@ module _ {P : Parts} {n : ℕ} {s : Fm} {f pc : ℕ} {ctrl temp areas : List ℕ
       with_temp (runs_to_view c7 (omega arith) h.r0_is (omega arith)) (ap (λ v. out.word ∷ v ∷ temp) is)
 
   -- twice the word on top, with its carry
-  pub mult2_carry : (x : ℕ) → RunsToView P n s f pc ctrl (x ∷ temp) areas → CodeAt P pc mult2_carry_code → P.temp_at + 1 + length temp < P.end → RunsToView P (n + 5) s f (pc + 5) ctrl ((x + x) % 2 ^ 32 ∷ bit_of (nat_le (2 ^ 32) (x + x)) ∷ temp) areas
+  pub mult2_carry : (x : ℕ) → RunsToView P n s f pc ctrl (x ∷ temp) areas → CodeAt P pc mult2_carry_code → P.temp_at + 1 + length temp < P.end
+      → RunsToView P (n + 5) s f (pc + 5) ctrl ((x + x) % 2 ^ 32 ∷ bit_of (nat_le (2 ^ 32) (x + x)) ∷ temp) areas
   mult2_carry x h code room =
       let laid = h.run.laid in
       let words = rw (← h.r15_is) at code in
@@ -106,7 +114,8 @@ module _ {P : Parts} {n : ℕ} {s : Fm} {f pc : ℕ} {ctrl temp areas : List ℕ
       with_temp (runs_to_view c5 (omega arith) h.r0_is (omega arith)) (ap (λ v. (x + x) % 2 ^ 32 ∷ v ∷ temp) is)
 
   -- half the word on top, with what is left
-  pub div2 : (x : ℕ) → RunsToView P n s f pc ctrl (x ∷ temp) areas → CodeAt P pc div2_code → P.temp_at + 1 + length temp < P.end → RunsToView P (n + 5) s f (pc + 5) ctrl (x % 2 ∷ x / 2 ∷ temp) areas
+  pub div2 : (x : ℕ) → RunsToView P n s f pc ctrl (x ∷ temp) areas → CodeAt P pc div2_code → P.temp_at + 1 + length temp < P.end
+      → RunsToView P (n + 5) s f (pc + 5) ctrl (x % 2 ∷ x / 2 ∷ temp) areas
   div2 x h code room =
       let laid = h.run.laid in
       let words = rw (← h.r15_is) at code in

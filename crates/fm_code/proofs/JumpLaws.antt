@@ -1,5 +1,6 @@
 -- What the words of jumps, tests, calls and returns do.
-use Rattle.std.proofs.Common.{◌≡◌, ℕ, ◌+◌, ◌-◌, ◌*◌, ◌%◌, ◌^◌, ◌<◌, ◌≤◌, ◌==◌, Some, Bool, List, [], ◌∷◌, ◌++◌, length, refl, sym, ap, ◌∙◌, arith, length-append, append_assoc}
+use Rattle.std.proofs.Common.{◌≡◌, ℕ, ◌+◌, ◌-◌, ◌*◌, ◌%◌, ◌^◌, ◌<◌, ◌≤◌, ◌==◌, Some, Bool, List, [], ◌∷◌, ◌++◌, length, refl, sym, ap, ◌∙◌, arith}
+use Rattle.std.proofs.Common.{length-append, append_assoc}
 use Rattle.std.specs.Prelude.{if◌then◌else◌, slice_get, replicate, reverse}
 use Rattle.std.proofs.lemmas.Bool.Decides.{nat_tests}
 use Rattle.std.proofs.lemmas.List.{length-replicate, length-reverse}
@@ -12,7 +13,8 @@ use Rattle.fm_machine.specs.State.{Fm}
 use Rattle.fm_words.specs.Code.{no_flags}
 use Rattle.fm_code.specs.InstructionWords.{reg, push, pop, literal, mov, all_flags, flag_z}
 use Rattle.fm_code.specs.Flags.{flags_of_word}
-use Rattle.fm_code.specs.Templates.{below_end, jump_code, jump_if_top_code, jump_case_code, pushj_code, popj_code, test_and_jump_code, call_code, pop_call_code, ret_code, temporaries_code, prelude_code}
+use Rattle.fm_code.specs.Templates.{below_end, jump_code, jump_if_top_code, jump_case_code, pushj_code, popj_code, test_and_jump_code, call_code, pop_call_code}
+use Rattle.fm_code.specs.Templates.{ret_code, temporaries_code, prelude_code}
 use Rattle.fm_code.specs.Execution.{Parts, CodeAt}
 use Rattle.fm_code.proofs.CodeLaws.{code_front, code_after, code_get}
 use Rattle.fm_code.proofs.RegisterLaws.{with_register, next}
@@ -29,7 +31,8 @@ module _ {P : Parts} {n : ℕ} {s : Fm} {f pc : ℕ} {ctrl temp areas : List ℕ
       runs_to_view c1 refl h.r0_is refl
 
   -- a jump where the top of the temporary stack is at an address
-  jump_if_top : (address target : ℕ) (t : Bool) → RunsToView P n s f pc ctrl temp areas → CodeAt P pc (jump_if_top_code address target) → ((P.end - length temp + 2 ^ 32 - address) % 2 ^ 32 == 0) ≡ t → RunsToView P (n + 3) s f (if t then target else pc + 5) ctrl temp areas
+  jump_if_top : (address target : ℕ) (t : Bool) → RunsToView P n s f pc ctrl temp areas → CodeAt P pc (jump_if_top_code address target)
+      → ((P.end - length temp + 2 ^ 32 - address) % 2 ^ 32 == 0) ≡ t → RunsToView P (n + 3) s f (if t then target else pc + 5) ctrl temp areas
   jump_if_top address target t h code is =
       let laid = h.run.laid in
       let i = h.run.is in
@@ -42,7 +45,8 @@ module _ {P : Parts} {n : ℕ} {s : Fm} {f pc : ℕ} {ctrl temp areas : List ℕ
       runs_to_view c3 (omega arith) h.r0_is (λ j. if (ap (λ v. (v + 2 ^ 32 - address) % 2 ^ 32 == 0) d ∙ is) j then target else e j)
 
   -- a jump where the temporary stack is full, and where it is empty
-  pub jump_if_temp_stk_full : (target : ℕ) → RunsToView P n s f pc ctrl temp areas → CodeAt P pc (jump_if_top_code P.temp_at target) → RunsToView P (n + 3) s f (if length temp == P.end - P.temp_at then target else pc + 5) ctrl temp areas
+  pub jump_if_temp_stk_full : (target : ℕ) → RunsToView P n s f pc ctrl temp areas → CodeAt P pc (jump_if_top_code P.temp_at target)
+      → RunsToView P (n + 3) s f (if length temp == P.end - P.temp_at then target else pc + 5) ctrl temp areas
   jump_if_temp_stk_full target h code =
       let laid = h.run.laid in
       let fits = h.run.is.fits in
@@ -53,7 +57,8 @@ module _ {P : Parts} {n : ℕ} {s : Fm} {f pc : ℕ} {ctrl temp areas : List ℕ
           let e : (b - k + 2 ^ 32 - a) % 2 ^ 32 ≡ b - k - a = omega arith in
           rw e (grind (arith, nat_tests))
 
-  pub jump_if_temp_stk_empty : (target : ℕ) → RunsToView P n s f pc ctrl temp areas → CodeAt P pc (jump_if_top_code (below_end P.end 0) target) → RunsToView P (n + 3) s f (if length temp == 0 then target else pc + 5) ctrl temp areas
+  pub jump_if_temp_stk_empty : (target : ℕ) → RunsToView P n s f pc ctrl temp areas → CodeAt P pc (jump_if_top_code (below_end P.end 0) target)
+      → RunsToView P (n + 3) s f (if length temp == 0 then target else pc + 5) ctrl temp areas
   jump_if_temp_stk_empty target h code =
       let laid = h.run.laid in
       let fits = h.run.is.fits in
@@ -65,7 +70,8 @@ module _ {P : Parts} {n : ℕ} {s : Fm} {f pc : ℕ} {ctrl temp areas : List ℕ
           rw e (grind (arith, nat_tests))
 
   -- a jump by a table
-  pub jump_case : (t target : ℕ) (targets : List ℕ) → RunsToView P n s f pc ctrl (t ∷ temp) areas → CodeAt P pc (jump_case_code pc targets) → slice_get targets t ≡ Some target → RunsToView P (n + 3) s f target ctrl temp areas
+  pub jump_case : (t target : ℕ) (targets : List ℕ) → RunsToView P n s f pc ctrl (t ∷ temp) areas → CodeAt P pc (jump_case_code pc targets)
+      → slice_get targets t ≡ Some target → RunsToView P (n + 3) s f target ctrl temp areas
   jump_case t target targets h code there =
       let i = h.run.is in
       let e15 = h.r15_is in
@@ -81,7 +87,8 @@ module _ {P : Parts} {n : ℕ} {s : Fm} {f pc : ℕ} {ctrl temp areas : List ℕ
       runs_to_view c3 (omega arith) h.r0_is refl
 
   -- an address pushed, and a jump; the top popped, and a jump there
-  pub pushj : (after target : ℕ) → RunsToView P n s f pc ctrl temp areas → CodeAt P pc (pushj_code after target) → P.temp_at + length temp < P.end → RunsToView P (n + 2) s f target ctrl (after ∷ temp) areas
+  pub pushj : (after target : ℕ) → RunsToView P n s f pc ctrl temp areas → CodeAt P pc (pushj_code after target) → P.temp_at + length temp < P.end
+      → RunsToView P (n + 2) s f target ctrl (after ∷ temp) areas
   pushj after target h code room =
       let laid = h.run.laid in
       let words = rw (← h.r15_is) at code in
@@ -96,7 +103,8 @@ module _ {P : Parts} {n : ℕ} {s : Fm} {f pc : ℕ} {ctrl temp areas : List ℕ
       runs_to_view c1 refl h.r0_is refl
 
   -- a word popped, and a jump where the condition holds of it
-  pub test_and_jump : (k : Cc) (x target : ℕ) → RunsToView P n s f pc ctrl (x ∷ temp) areas → CodeAt P pc (test_and_jump_code k target) → RunsToView P (n + 2) s f (if does_hold k (flags_of_word x) then target else pc + 3) ctrl temp areas
+  pub test_and_jump : (k : Cc) (x target : ℕ) → RunsToView P n s f pc ctrl (x ∷ temp) areas → CodeAt P pc (test_and_jump_code k target)
+      → RunsToView P (n + 2) s f (if does_hold k (flags_of_word x) then target else pc + 3) ctrl temp areas
   test_and_jump k x target h code =
       let words = rw (← h.r15_is) at code in
       let c1 = into_r3 Move all_flags h.run (from_pop h.run) words.0 in
@@ -110,7 +118,9 @@ length-temporaries [] = refl
 length-temporaries (t ∷ ts) =
     length-append (temporaries_code ts) (mov (push 1) literal ∷ t ∷ []) ∙ (let e = length-temporaries ts in omega arith)
 
-temporaries_pushed : {P : Parts} (n : ℕ) {s : Fm} {f : ℕ} (pc : ℕ) (ts : List ℕ) {ctrl temp areas : List ℕ} → RunsToView P n s f pc ctrl temp areas → CodeAt P pc (temporaries_code ts) → P.ctrl_at + length ts + length ctrl ≤ P.temp_at → RunsToView P (n + length ts) s f (pc + 2 * length ts) (ts ++ ctrl) temp areas
+temporaries_pushed : {P : Parts} (n : ℕ) {s : Fm} {f : ℕ} (pc : ℕ) (ts : List ℕ) {ctrl temp areas : List ℕ} → RunsToView P n s f pc ctrl temp areas
+    → CodeAt P pc (temporaries_code ts) → P.ctrl_at + length ts + length ctrl ≤ P.temp_at
+    → RunsToView P (n + length ts) s f (pc + 2 * length ts) (ts ++ ctrl) temp areas
 temporaries_pushed n pc [] h code room = with_count h (omega arith) (omega arith)
 temporaries_pushed {P} n {s} {f} pc (t ∷ ts) {ctrl} h code room =
     let laid = h.run.laid in
@@ -129,7 +139,9 @@ reverse_front : (x : ℕ) (xs ctrl : List ℕ) → reverse xs ++ (x ∷ ctrl) �
 reverse_front x xs ctrl =
     sym (append_assoc (reverse xs) (x ∷ []) ctrl) ∙ ap (λ ys. ys ++ ctrl) (sym (reverse_onto xs x []))
 
-formals_moved : {P : Parts} (n : ℕ) {s : Fm} {f : ℕ} (pc : ℕ) (xs : List ℕ) {ctrl temp areas : List ℕ} → RunsToView P n s f pc ctrl (xs ++ temp) areas → CodeAt P pc (replicate (length xs) (mov (push 1) (pop 2))) → P.ctrl_at + length xs + length ctrl ≤ P.temp_at → RunsToView P (n + length xs) s f (pc + length xs) (reverse xs ++ ctrl) temp areas
+formals_moved : {P : Parts} (n : ℕ) {s : Fm} {f : ℕ} (pc : ℕ) (xs : List ℕ) {ctrl temp areas : List ℕ} → RunsToView P n s f pc ctrl (xs ++ temp) areas
+    → CodeAt P pc (replicate (length xs) (mov (push 1) (pop 2))) → P.ctrl_at + length xs + length ctrl ≤ P.temp_at
+    → RunsToView P (n + length xs) s f (pc + length xs) (reverse xs ++ ctrl) temp areas
 formals_moved n pc [] h code room = with_count h (omega arith) (omega arith)
 formals_moved {P} n {s} {f} pc (x ∷ xs) {ctrl} {temp} {areas} h code room =
     let laid = h.run.laid in
@@ -142,7 +154,9 @@ formals_moved {P} n {s} {f} pc (x ∷ xs) {ctrl} {temp} {areas} h code room =
 module _ {P : Parts} {n : ℕ} {s : Fm} {f pc : ℕ} {ctrl temp areas : List ℕ} where
   -- How a program begins: r0 pushed on the control stack, its temporaries pushed, its formals moved there, and r0 the
   -- address of the first of them. The formals xs are on the temporary stack, the last one at its top.
-  pub prelude : (f' : ℕ) (xs ts : List ℕ) → RunsToView P n s f pc ctrl (xs ++ temp) areas → CodeAt P pc (prelude_code (length xs) ts) → P.ctrl_at + 1 + length xs + length ts + length ctrl ≤ P.temp_at → f' + length xs + length ts + 1 + length ctrl ≡ P.temp_at → RunsToView P (n + 2 + length xs + length ts) s f' (pc + 2 + 2 * length ts + length xs) (reverse xs ++ (ts ++ (f ∷ ctrl))) temp areas
+  pub prelude : (f' : ℕ) (xs ts : List ℕ) → RunsToView P n s f pc ctrl (xs ++ temp) areas → CodeAt P pc (prelude_code (length xs) ts)
+      → P.ctrl_at + 1 + length xs + length ts + length ctrl ≤ P.temp_at → f' + length xs + length ts + 1 + length ctrl ≡ P.temp_at
+      → RunsToView P (n + 2 + length xs + length ts) s f' (pc + 2 + 2 * length ts + length xs) (reverse xs ++ (ts ++ (f ∷ ctrl))) temp areas
   prelude f' xs ts h code room top =
       let laid = h.run.laid in
       let words = rw (← h.r15_is) at code in
@@ -158,7 +172,8 @@ module _ {P : Parts} {n : ℕ} {s : Fm} {f pc : ℕ} {ctrl temp areas : List ℕ
       let h4 = formals_moved (n + 1 + length ts) (pc + 1 + 2 * length ts) xs h3 (code_front P (pc + 1 + 2 * length ts) moves _ rest) (omega arith) in
       let last = rw many at (code_after P (pc + 1 + 2 * length ts) moves (mov (reg 0) (reg 1) ∷ []) rest) in
       let words5 = rw (← h4.r15_is) at last in
-      let c5 = into_r0 {r = h4.r} {fl = h4.fl} {x = h4.r 1} {r1 = next h4.r} Move no_flags h4.run (from_register {r = h4.r} {fl = h4.fl} 1 h4.run (omega arith)) words5.0 in
+      let c5 = into_r0 {r = h4.r} {fl = h4.fl} {x = h4.r 1} {r1 = next h4.r} Move no_flags h4.run
+      (from_register {r = h4.r} {fl = h4.fl} 1 h4.run (omega arith)) words5.0 in
       let laid4 = h4.run.laid in
       let whole = length-append (reverse xs) (ts ++ (f ∷ ctrl)) in
       let turned = length-reverse xs in
@@ -167,7 +182,10 @@ module _ {P : Parts} {n : ℕ} {s : Fm} {f pc : ℕ} {ctrl temp areas : List ℕ
 
 module _ {P : Parts} {n : ℕ} {s : Fm} {f pc : ℕ} {ctrl temp areas : List ℕ} where
   -- a call: the return address pushed on the control stack, a jump to entry, and the prelude there
-  pub call : (after entry f' : ℕ) (xs ts : List ℕ) → RunsToView P n s f pc ctrl (xs ++ temp) areas → CodeAt P pc (call_code after entry) → CodeAt P entry (prelude_code (length xs) ts) → P.ctrl_at + 2 + length xs + length ts + length ctrl ≤ P.temp_at → f' + length xs + length ts + 2 + length ctrl ≡ P.temp_at → RunsToView P (n + 4 + length xs + length ts) s f' (entry + 2 + 2 * length ts + length xs) (reverse xs ++ (ts ++ (f ∷ after ∷ ctrl))) temp areas
+  pub call : (after entry f' : ℕ) (xs ts : List ℕ) → RunsToView P n s f pc ctrl (xs ++ temp) areas → CodeAt P pc (call_code after entry)
+      → CodeAt P entry (prelude_code (length xs) ts) → P.ctrl_at + 2 + length xs + length ts + length ctrl ≤ P.temp_at
+      → f' + length xs + length ts + 2 + length ctrl ≡ P.temp_at → RunsToView P (n + 4 + length xs + length ts) s f'
+      (entry + 2 + 2 * length ts + length xs) (reverse xs ++ (ts ++ (f ∷ after ∷ ctrl))) temp areas
   call after entry f' xs ts h code begins room top =
       let laid = h.run.laid in
       let words = rw (← h.r15_is) at code in
@@ -177,7 +195,10 @@ module _ {P : Parts} {n : ℕ} {s : Fm} {f pc : ℕ} {ctrl temp areas : List ℕ
       with_count (prelude f' xs ts h2 begins (omega arith) (omega arith)) (omega arith) refl
 
   -- the same with entry on top of the temporary stack
-  pub pop_call : (after entry f' : ℕ) (xs ts : List ℕ) → RunsToView P n s f pc ctrl (entry ∷ (xs ++ temp)) areas → CodeAt P pc (pop_call_code after) → CodeAt P entry (prelude_code (length xs) ts) → P.ctrl_at + 2 + length xs + length ts + length ctrl ≤ P.temp_at → f' + length xs + length ts + 2 + length ctrl ≡ P.temp_at → RunsToView P (n + 5 + length xs + length ts) s f' (entry + 2 + 2 * length ts + length xs) (reverse xs ++ (ts ++ (f ∷ after ∷ ctrl))) temp areas
+  pub pop_call : (after entry f' : ℕ) (xs ts : List ℕ) → RunsToView P n s f pc ctrl (entry ∷ (xs ++ temp)) areas → CodeAt P pc (pop_call_code after)
+      → CodeAt P entry (prelude_code (length xs) ts) → P.ctrl_at + 2 + length xs + length ts + length ctrl ≤ P.temp_at
+      → f' + length xs + length ts + 2 + length ctrl ≡ P.temp_at → RunsToView P (n + 5 + length xs + length ts) s f'
+      (entry + 2 + 2 * length ts + length xs) (reverse xs ++ (ts ++ (f ∷ after ∷ ctrl))) temp areas
   pop_call after entry f' xs ts h code begins room top =
       let laid = h.run.laid in
       let words = rw (← h.r15_is) at code in
@@ -188,7 +209,9 @@ module _ {P : Parts} {n : ℕ} {s : Fm} {f pc : ℕ} {ctrl temp areas : List ℕ
       with_count (prelude f' xs ts h3 begins (omega arith) (omega arith)) (omega arith) refl
 
   -- a return: the locals dropped from the control stack, and the older r0 and the return address popped
-  pub ret : (older back : ℕ) (locals : List ℕ) → RunsToView P n s f pc (locals ++ (older ∷ back ∷ ctrl)) temp areas → CodeAt P pc (ret_code (length locals)) → f + length (locals ++ (older ∷ back ∷ ctrl)) ≡ P.temp_at → RunsToView P (n + 4) s older back ctrl temp areas
+  pub ret : (older back : ℕ) (locals : List ℕ) → RunsToView P n s f pc (locals ++ (older ∷ back ∷ ctrl)) temp areas
+      → CodeAt P pc (ret_code (length locals)) → f + length (locals ++ (older ∷ back ∷ ctrl)) ≡ P.temp_at
+      → RunsToView P (n + 4) s older back ctrl temp areas
   ret older back locals h code top =
       let laid = h.run.laid in
       let i = h.run.is in

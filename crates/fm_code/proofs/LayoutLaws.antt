@@ -10,9 +10,12 @@ use Rattle.fm_code.proofs.HoldsLaws.{Holds-store_below, Holds-store_above, Holds
 
 module _ (P : Parts) (is : AreParts P) (m : List ℕ) (c t : ℕ) (ctrl temp areas : List ℕ) (laid : IsLaidOut P m c t ctrl temp areas) where
   -- what a store above the areas leaves unchanged
-  below_ctrl : (a w : ℕ) → P.ctrl_at ≤ a → (Holds P.base (with_word P.base m a w) P.base (code_words P)) × Holds P.base (with_word P.base m a w) P.areas_at areas
-  below_ctrl a w h =
-      (Holds-store_above P.base m a w P.base (code_words P) (omega arith) (omega (arith, length-append P.code (halt_word ∷ []))) laid.code, Holds-store_above P.base m a w P.areas_at areas (omega arith) (omega arith) laid.areas_at)
+  below_ctrl : (a w : ℕ) → P.ctrl_at ≤ a → (Holds P.base (with_word P.base m a w) P.base (code_words P))
+      × Holds P.base (with_word P.base m a w) P.areas_at areas
+  below_ctrl a w h = (
+    Holds-store_above P.base m a w P.base (code_words P) (omega arith) (omega (arith, length-append P.code (halt_word ∷ []))) laid.code,
+    Holds-store_above P.base m a w P.areas_at areas (omega arith) (omega arith) laid.areas_at,
+  )
 
   -- a word pushed on the temporary stack
   pub laid_push : (t1 v : ℕ) → t1 + 1 ≡ t → P.temp_at ≤ t1 → IsLaidOut P (with_word P.base m t1 v) c t1 ctrl (v ∷ temp) areas
@@ -114,21 +117,47 @@ module _ (P : Parts) (is : AreParts P) (m : List ℕ) (c t : ℕ) (ctrl temp are
       }
 
 -- the top of a stack dropped
-pub laid_pop : (P : Parts) (m : List ℕ) (c t x : ℕ) (ctrl temp areas : List ℕ) → IsLaidOut P m c t ctrl (x ∷ temp) areas → IsLaidOut P m c (t + 1) ctrl temp areas
+pub laid_pop : (P : Parts) (m : List ℕ) (c t x : ℕ) (ctrl temp areas : List ℕ) → IsLaidOut P m c t ctrl (x ∷ temp) areas
+    → IsLaidOut P m c (t + 1) ctrl temp areas
 laid_pop P m c t x ctrl temp areas laid =
-    record { size = laid.size; code = laid.code; areas_at = laid.areas_at; ctrl_at = laid.ctrl_at; temp_at = laid.temp_at.1; areas_fit = laid.areas_fit; ctrl_fits = laid.ctrl_fits; ctrl_end = laid.ctrl_end; temp_fits = omega arith; temp_end = omega arith }
+    record {
+      size = laid.size;
+      code = laid.code;
+      areas_at = laid.areas_at;
+      ctrl_at = laid.ctrl_at;
+      temp_at = laid.temp_at.1;
+      areas_fit = laid.areas_fit;
+      ctrl_fits = laid.ctrl_fits;
+      ctrl_end = laid.ctrl_end;
+      temp_fits = omega arith;
+      temp_end = omega arith;
+    }
 
-pub laid_pop_ctrl : (P : Parts) (m : List ℕ) (c t x : ℕ) (ctrl temp areas : List ℕ) → IsLaidOut P m c t (x ∷ ctrl) temp areas → IsLaidOut P m (c + 1) t ctrl temp areas
+pub laid_pop_ctrl : (P : Parts) (m : List ℕ) (c t x : ℕ) (ctrl temp areas : List ℕ) → IsLaidOut P m c t (x ∷ ctrl) temp areas
+    → IsLaidOut P m (c + 1) t ctrl temp areas
 laid_pop_ctrl P m c t x ctrl temp areas laid =
-    record { size = laid.size; code = laid.code; areas_at = laid.areas_at; ctrl_at = laid.ctrl_at.1; temp_at = laid.temp_at; areas_fit = laid.areas_fit; ctrl_fits = omega arith; ctrl_end = omega arith; temp_fits = laid.temp_fits; temp_end = laid.temp_end }
+    record {
+      size = laid.size;
+      code = laid.code;
+      areas_at = laid.areas_at;
+      ctrl_at = laid.ctrl_at.1;
+      temp_at = laid.temp_at;
+      areas_fit = laid.areas_fit;
+      ctrl_fits = omega arith;
+      ctrl_end = omega arith;
+      temp_fits = laid.temp_fits;
+      temp_end = laid.temp_end;
+    }
 
-pub laid_drop_ctrl : (P : Parts) (m : List ℕ) (c t : ℕ) (xs ctrl temp areas : List ℕ) (c' : ℕ) → c' ≡ length xs + c → IsLaidOut P m c t (xs ++ ctrl) temp areas → IsLaidOut P m c' t ctrl temp areas
+pub laid_drop_ctrl : (P : Parts) (m : List ℕ) (c t : ℕ) (xs ctrl temp areas : List ℕ) (c' : ℕ) → c' ≡ length xs + c
+    → IsLaidOut P m c t (xs ++ ctrl) temp areas → IsLaidOut P m c' t ctrl temp areas
 laid_drop_ctrl P m c t [] ctrl temp areas c' e laid =
     let same : c ≡ c' = omega arith in subst (λ a. IsLaidOut P m a t ctrl temp areas) same laid
 laid_drop_ctrl P m c t (x ∷ xs) ctrl temp areas c' e laid =
     laid_drop_ctrl P m (c + 1) t xs ctrl temp areas c' (omega arith) (laid_pop_ctrl P m c t x (xs ++ ctrl) temp areas laid)
 
-pub laid_drop : (P : Parts) (m : List ℕ) (c t : ℕ) (xs ctrl temp areas : List ℕ) (t' : ℕ) → t' ≡ length xs + t → IsLaidOut P m c t ctrl (xs ++ temp) areas → IsLaidOut P m c t' ctrl temp areas
+pub laid_drop : (P : Parts) (m : List ℕ) (c t : ℕ) (xs ctrl temp areas : List ℕ) (t' : ℕ) → t' ≡ length xs + t
+    → IsLaidOut P m c t ctrl (xs ++ temp) areas → IsLaidOut P m c t' ctrl temp areas
 laid_drop P m c t [] ctrl temp areas t' e laid =
     let same : t ≡ t' = omega arith in subst (λ a. IsLaidOut P m c a ctrl temp areas) same laid
 laid_drop P m c t (x ∷ xs) ctrl temp areas t' e laid =

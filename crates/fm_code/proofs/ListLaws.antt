@@ -44,10 +44,12 @@ set_map f (y ∷ xs) (suc k) x = ap (λ zs. f y ∷ zs) (set_map f xs k x)
 pub reverse_map : {A B : Type 0} (f : A → B) (xs : List A) → reverse (map f xs) ≡ map f (reverse xs)
 reverse_map f [] = refl
 reverse_map f (x ∷ xs) =
-    reverse_onto (map f xs) (f x) [] ∙ ap (λ ys. ys ++ f x ∷ []) (reverse_map f xs) ∙ sym (map-append f (reverse xs) (x ∷ [])) ∙ ap (map f) (sym (reverse_onto xs x []))
+    reverse_onto (map f xs) (f x) [] ∙ ap (λ ys. ys ++ f x ∷ []) (reverse_map f xs) ∙ sym (map-append f (reverse xs) (x ∷ []))
+    ∙ ap (map f) (sym (reverse_onto xs x []))
 
 -- a word of an area is a word of all areas
-pub joined_get : (xss : List (List ℕ)) (a o w : ℕ) (xs : List ℕ) → slice_get xss a ≡ Some xs → slice_get xs o ≡ Some w → slice_get (joined xss) (words_before xss a + o) ≡ Some w
+pub joined_get : (xss : List (List ℕ)) (a o w : ℕ) (xs : List ℕ) → slice_get xss a ≡ Some xs → slice_get xs o ≡ Some w
+    → slice_get (joined xss) (words_before xss a + o) ≡ Some w
 joined_get [] a o w xs h g = cc
 joined_get (ys ∷ xss) zero o w xs h g =
     let e : ys ≡ xs = cc in
@@ -58,7 +60,8 @@ joined_get (ys ∷ xss) (suc a) o w xs h g =
     ap (slice_get (ys ++ joined xss)) n ∙ get_after ys (joined xss) (words_before xss a + o) ∙ joined_get xss a o w xs h g
 
 -- a word of an area set
-pub joined_set : (xss : List (List ℕ)) (a o v : ℕ) (xs : List ℕ) → slice_get xss a ≡ Some xs → o < length xs → slice_set (joined xss) (words_before xss a + o) v ≡ joined (slice_set xss a (slice_set xs o v))
+pub joined_set : (xss : List (List ℕ)) (a o v : ℕ) (xs : List ℕ) → slice_get xss a ≡ Some xs → o < length xs
+    → slice_set (joined xss) (words_before xss a + o) v ≡ joined (slice_set xss a (slice_set xs o v))
 joined_set [] a o v xs h q = cc
 joined_set (ys ∷ xss) zero o v xs h q =
     let e : ys ≡ xs = cc in

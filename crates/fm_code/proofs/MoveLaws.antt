@@ -5,7 +5,9 @@ use Rattle.std.proofs.lemmas.Option.{slice_get_within}
 use Rattle.fm_words.specs.declared.operation.Op.TheVariants.{Move, Inc, Add, Sub}
 use Rattle.fm_machine.specs.State.{Fm}
 use Rattle.fm_words.specs.Code.{no_flags}
-use Rattle.fm_code.specs.Templates.{below_end, push_constant_code, push_local_code, pop_local_code, set_local_code, push_global_code, pop_global_code, set_global_code, push_temp_stk_index_code, push_temp_stk_free_size_code, push_ctrl_stk_free_size_code, fetch_temp_stk_code, deposit_temp_stk_code, fetch_code, deposit_code, pop_code, pop_star_code, popn_code, no_op_code}
+use Rattle.fm_code.specs.Templates.{below_end, push_constant_code, push_local_code, pop_local_code, set_local_code, push_global_code, pop_global_code}
+use Rattle.fm_code.specs.Templates.{set_global_code, push_temp_stk_index_code, push_temp_stk_free_size_code, push_ctrl_stk_free_size_code, fetch_temp_stk_code}
+use Rattle.fm_code.specs.Templates.{deposit_temp_stk_code, fetch_code, deposit_code, pop_code, pop_star_code, popn_code, no_op_code}
 use Rattle.fm_code.specs.Execution.{Parts, CodeAt}
 use Rattle.fm_code.proofs.HoldsLaws.{Holds-get}
 use Rattle.fm_code.proofs.OperandLaws.{from_literal, from_register, from_address, from_top, from_pop}
@@ -14,7 +16,8 @@ use Rattle.fm_code.proofs.RunLaws.{RunsToView, runs_to_view, with_temp, ctrl_top
 
 module _ {P : Parts} {n : ℕ} {s : Fm} {f pc : ℕ} {ctrl temp areas : List ℕ} where
   -- a literal pushed
-  pub push_constant : (w : ℕ) → RunsToView P n s f pc ctrl temp areas → CodeAt P pc (push_constant_code w) → P.temp_at + length temp < P.end → RunsToView P (n + 1) s f (pc + 2) ctrl (w ∷ temp) areas
+  pub push_constant : (w : ℕ) → RunsToView P n s f pc ctrl temp areas → CodeAt P pc (push_constant_code w) → P.temp_at + length temp < P.end
+      → RunsToView P (n + 1) s f (pc + 2) ctrl (w ∷ temp) areas
   push_constant w h code room =
       let laid = h.run.laid in
       let words = rw (← h.r15_is) at code in
@@ -23,7 +26,8 @@ module _ {P : Parts} {n : ℕ} {s : Fm} {f pc : ℕ} {ctrl temp areas : List ℕ
       runs_to_view c1 refl h.r0_is (omega arith)
 
   -- a local pushed, which is the k-th word of the control stack
-  pub push_local : (k w : ℕ) → RunsToView P n s f pc ctrl temp areas → CodeAt P pc (push_local_code k) → slice_get ctrl k ≡ Some w → f + length ctrl ≡ P.temp_at → P.temp_at + length temp < P.end → RunsToView P (n + 3) s f (pc + 4) ctrl (w ∷ temp) areas
+  pub push_local : (k w : ℕ) → RunsToView P n s f pc ctrl temp areas → CodeAt P pc (push_local_code k) → slice_get ctrl k ≡ Some w
+      → f + length ctrl ≡ P.temp_at → P.temp_at + length temp < P.end → RunsToView P (n + 3) s f (pc + 4) ctrl (w ∷ temp) areas
   push_local k w h code there top room =
       let laid = h.run.laid in
       let i = h.run.is in
@@ -40,7 +44,8 @@ module _ {P : Parts} {n : ℕ} {s : Fm} {f pc : ℕ} {ctrl temp areas : List ℕ
       runs_to_view c3 (omega arith) h.r0_is (omega arith)
 
   -- a word popped into a local, and one copied into it
-  pub pop_local : (k v : ℕ) → RunsToView P n s f pc ctrl (v ∷ temp) areas → CodeAt P pc (pop_local_code k) → k < length ctrl → f + length ctrl ≡ P.temp_at → RunsToView P (n + 3) s f (pc + 4) (slice_set ctrl k v) temp areas
+  pub pop_local : (k v : ℕ) → RunsToView P n s f pc ctrl (v ∷ temp) areas → CodeAt P pc (pop_local_code k) → k < length ctrl
+      → f + length ctrl ≡ P.temp_at → RunsToView P (n + 3) s f (pc + 4) (slice_set ctrl k v) temp areas
   pop_local k v h code below top =
       let laid = h.run.laid in
       let i = h.run.is in
@@ -53,7 +58,8 @@ module _ {P : Parts} {n : ℕ} {s : Fm} {f pc : ℕ} {ctrl temp areas : List ℕ
       let e15 = h.r15_is in
       runs_to_view c3 (omega arith) h.r0_is (omega arith)
 
-  pub set_local : (k v : ℕ) → RunsToView P n s f pc ctrl (v ∷ temp) areas → CodeAt P pc (set_local_code k) → k < length ctrl → f + length ctrl ≡ P.temp_at → RunsToView P (n + 3) s f (pc + 4) (slice_set ctrl k v) (v ∷ temp) areas
+  pub set_local : (k v : ℕ) → RunsToView P n s f pc ctrl (v ∷ temp) areas → CodeAt P pc (set_local_code k) → k < length ctrl
+      → f + length ctrl ≡ P.temp_at → RunsToView P (n + 3) s f (pc + 4) (slice_set ctrl k v) (v ∷ temp) areas
   set_local k v h code below top =
       let laid = h.run.laid in
       let i = h.run.is in
@@ -67,7 +73,8 @@ module _ {P : Parts} {n : ℕ} {s : Fm} {f pc : ℕ} {ctrl temp areas : List ℕ
       runs_to_view c3 (omega arith) h.r0_is (omega arith)
 
   -- a word of the areas pushed, popped into, and copied into
-  pub push_global : (a k w : ℕ) → RunsToView P n s f pc ctrl temp areas → CodeAt P pc (push_global_code a) → a ≡ P.areas_at + k → slice_get areas k ≡ Some w → P.temp_at + length temp < P.end → RunsToView P (n + 2) s f (pc + 3) ctrl (w ∷ temp) areas
+  pub push_global : (a k w : ℕ) → RunsToView P n s f pc ctrl temp areas → CodeAt P pc (push_global_code a) → a ≡ P.areas_at + k
+      → slice_get areas k ≡ Some w → P.temp_at + length temp < P.end → RunsToView P (n + 2) s f (pc + 3) ctrl (w ∷ temp) areas
   push_global a k w h code e there room =
       let laid = h.run.laid in
       let words = rw (← h.r15_is) at code in
@@ -77,7 +84,8 @@ module _ {P : Parts} {n : ℕ} {s : Fm} {f pc : ℕ} {ctrl temp areas : List ℕ
       let e15 = h.r15_is in
       runs_to_view c2 (omega arith) h.r0_is (omega arith)
 
-  pub pop_global : (a k v : ℕ) → RunsToView P n s f pc ctrl (v ∷ temp) areas → CodeAt P pc (pop_global_code a) → a ≡ P.areas_at + k → k < length areas → RunsToView P (n + 2) s f (pc + 3) ctrl temp (slice_set areas k v)
+  pub pop_global : (a k v : ℕ) → RunsToView P n s f pc ctrl (v ∷ temp) areas → CodeAt P pc (pop_global_code a) → a ≡ P.areas_at + k → k < length areas
+      → RunsToView P (n + 2) s f (pc + 3) ctrl temp (slice_set areas k v)
   pop_global a k v h code e below =
       let words = rw (← h.r15_is) at code in
       let c1 = into_r3 Move no_flags h.run (from_literal h.run words.1.0) words.0 in
@@ -85,7 +93,8 @@ module _ {P : Parts} {n : ℕ} {s : Fm} {f pc : ℕ} {ctrl temp areas : List ℕ
       let e15 = h.r15_is in
       runs_to_view c2 (omega arith) h.r0_is (omega arith)
 
-  pub set_global : (a k v : ℕ) → RunsToView P n s f pc ctrl (v ∷ temp) areas → CodeAt P pc (set_global_code a) → a ≡ P.areas_at + k → k < length areas → RunsToView P (n + 2) s f (pc + 3) ctrl (v ∷ temp) (slice_set areas k v)
+  pub set_global : (a k v : ℕ) → RunsToView P n s f pc ctrl (v ∷ temp) areas → CodeAt P pc (set_global_code a) → a ≡ P.areas_at + k → k < length areas
+      → RunsToView P (n + 2) s f (pc + 3) ctrl (v ∷ temp) (slice_set areas k v)
   set_global a k v h code e below =
       let words = rw (← h.r15_is) at code in
       let c1 = into_r3 Move no_flags h.run (from_literal h.run words.1.0) words.0 in
@@ -94,7 +103,8 @@ module _ {P : Parts} {n : ℕ} {s : Fm} {f pc : ℕ} {ctrl temp areas : List ℕ
       runs_to_view c2 (omega arith) h.r0_is (omega arith)
 
   -- the index from the bottom of the index-th word from the top pushed
-  pub push_temp_stk_index : (index : ℕ) → RunsToView P n s f pc ctrl temp areas → CodeAt P pc (push_temp_stk_index_code P.end index) → index < length temp → P.temp_at + length temp < P.end → RunsToView P (n + 3) s f (pc + 4) ctrl ((length temp - 1 - index) ∷ temp) areas
+  pub push_temp_stk_index : (index : ℕ) → RunsToView P n s f pc ctrl temp areas → CodeAt P pc (push_temp_stk_index_code P.end index)
+      → index < length temp → P.temp_at + length temp < P.end → RunsToView P (n + 3) s f (pc + 4) ctrl ((length temp - 1 - index) ∷ temp) areas
   push_temp_stk_index index h code below room =
       let laid = h.run.laid in
       let i = h.run.is in
@@ -107,7 +117,8 @@ module _ {P : Parts} {n : ℕ} {s : Fm} {f pc : ℕ} {ctrl temp areas : List ℕ
       with_temp (runs_to_view c3 (omega arith) h.r0_is (omega arith)) (ap (λ v. v ∷ temp) is)
 
   -- the words that are free on a stack pushed
-  pub push_temp_stk_free_size : RunsToView P n s f pc ctrl temp areas → CodeAt P pc (push_temp_stk_free_size_code P.temp_at) → P.temp_at + length temp < P.end → RunsToView P (n + 3) s f (pc + 4) ctrl ((P.end - P.temp_at - length temp) ∷ temp) areas
+  pub push_temp_stk_free_size : RunsToView P n s f pc ctrl temp areas → CodeAt P pc (push_temp_stk_free_size_code P.temp_at)
+      → P.temp_at + length temp < P.end → RunsToView P (n + 3) s f (pc + 4) ctrl ((P.end - P.temp_at - length temp) ∷ temp) areas
   push_temp_stk_free_size h code room =
       let laid = h.run.laid in
       let i = h.run.is in
@@ -119,7 +130,8 @@ module _ {P : Parts} {n : ℕ} {s : Fm} {f pc : ℕ} {ctrl temp areas : List ℕ
       let e15 = h.r15_is in
       with_temp (runs_to_view c3 (omega arith) h.r0_is (omega arith)) (ap (λ v. v ∷ temp) is)
 
-  pub push_ctrl_stk_free_size : RunsToView P n s f pc ctrl temp areas → CodeAt P pc (push_ctrl_stk_free_size_code P.ctrl_at) → P.temp_at + length temp < P.end → RunsToView P (n + 3) s f (pc + 4) ctrl ((P.temp_at - P.ctrl_at - length ctrl) ∷ temp) areas
+  pub push_ctrl_stk_free_size : RunsToView P n s f pc ctrl temp areas → CodeAt P pc (push_ctrl_stk_free_size_code P.ctrl_at)
+      → P.temp_at + length temp < P.end → RunsToView P (n + 3) s f (pc + 4) ctrl ((P.temp_at - P.ctrl_at - length ctrl) ∷ temp) areas
   push_ctrl_stk_free_size h code room =
       let laid = h.run.laid in
       let i = h.run.is in
@@ -132,7 +144,8 @@ module _ {P : Parts} {n : ℕ} {s : Fm} {f pc : ℕ} {ctrl temp areas : List ℕ
       with_temp (runs_to_view c3 (omega arith) h.r0_is (omega arith)) (ap (λ v. v ∷ temp) is)
 
   -- the top, an index from the bottom, replaced by the word there
-  pub fetch_temp_stk : (t w : ℕ) → RunsToView P n s f pc ctrl (t ∷ temp) areas → CodeAt P pc (fetch_temp_stk_code P.end) → t < length temp → slice_get temp (length temp - 1 - t) ≡ Some w → RunsToView P (n + 3) s f (pc + 4) ctrl (w ∷ temp) areas
+  pub fetch_temp_stk : (t w : ℕ) → RunsToView P n s f pc ctrl (t ∷ temp) areas → CodeAt P pc (fetch_temp_stk_code P.end) → t < length temp
+      → slice_get temp (length temp - 1 - t) ≡ Some w → RunsToView P (n + 3) s f (pc + 4) ctrl (w ∷ temp) areas
   fetch_temp_stk t w h code below there =
       let laid = h.run.laid in
       let i = h.run.is in
@@ -146,7 +159,8 @@ module _ {P : Parts} {n : ℕ} {s : Fm} {f pc : ℕ} {ctrl temp areas : List ℕ
       runs_to_view c3 (omega arith) h.r0_is (omega arith)
 
   -- an index from the bottom and a word popped, and the word stored there
-  pub deposit_temp_stk : (t v : ℕ) → RunsToView P n s f pc ctrl (t ∷ v ∷ temp) areas → CodeAt P pc (deposit_temp_stk_code P.end) → t < length temp → RunsToView P (n + 3) s f (pc + 4) ctrl (slice_set temp (length temp - 1 - t) v) areas
+  pub deposit_temp_stk : (t v : ℕ) → RunsToView P n s f pc ctrl (t ∷ v ∷ temp) areas → CodeAt P pc (deposit_temp_stk_code P.end) → t < length temp
+      → RunsToView P (n + 3) s f (pc + 4) ctrl (slice_set temp (length temp - 1 - t) v) areas
   deposit_temp_stk t v h code below =
       let laid = h.run.laid in
       let i = h.run.is in
@@ -158,7 +172,8 @@ module _ {P : Parts} {n : ℕ} {s : Fm} {f pc : ℕ} {ctrl temp areas : List ℕ
       runs_to_view c3 (omega arith) h.r0_is (omega arith)
 
   -- the top, an address in the areas, replaced by the word there
-  pub fetch : (a k w : ℕ) → RunsToView P n s f pc ctrl (a ∷ temp) areas → CodeAt P pc fetch_code → a ≡ P.areas_at + k → slice_get areas k ≡ Some w → RunsToView P (n + 2) s f (pc + 2) ctrl (w ∷ temp) areas
+  pub fetch : (a k w : ℕ) → RunsToView P n s f pc ctrl (a ∷ temp) areas → CodeAt P pc fetch_code → a ≡ P.areas_at + k → slice_get areas k ≡ Some w
+      → RunsToView P (n + 2) s f (pc + 2) ctrl (w ∷ temp) areas
   fetch a k w h code e there =
       let words = rw (← h.r15_is) at code in
       let c1 = into_r3 Move no_flags h.run (from_top h.run) words.0 in
@@ -168,7 +183,8 @@ module _ {P : Parts} {n : ℕ} {s : Fm} {f pc : ℕ} {ctrl temp areas : List ℕ
       runs_to_view c2 (omega arith) h.r0_is (omega arith)
 
   -- an address in the areas and a word popped, and the word stored there
-  pub deposit : (a k v : ℕ) → RunsToView P n s f pc ctrl (a ∷ v ∷ temp) areas → CodeAt P pc deposit_code → a ≡ P.areas_at + k → k < length areas → RunsToView P (n + 2) s f (pc + 2) ctrl temp (slice_set areas k v)
+  pub deposit : (a k v : ℕ) → RunsToView P n s f pc ctrl (a ∷ v ∷ temp) areas → CodeAt P pc deposit_code → a ≡ P.areas_at + k → k < length areas
+      → RunsToView P (n + 2) s f (pc + 2) ctrl temp (slice_set areas k v)
   deposit a k v h code e below =
       let words = rw (← h.r15_is) at code in
       let c1 = into_r3 Move no_flags h.run (from_pop h.run) words.0 in
@@ -186,7 +202,8 @@ module _ {P : Parts} {n : ℕ} {s : Fm} {f pc : ℕ} {ctrl temp areas : List ℕ
       let e15 = h.r15_is in
       runs_to_view c1 refl h.r0_is (omega arith)
 
-  pub pop_star : (xs : List ℕ) → RunsToView P n s f pc ctrl (xs ++ temp) areas → CodeAt P pc (pop_star_code (length xs)) → RunsToView P (n + 1) s f (pc + 2) ctrl temp areas
+  pub pop_star : (xs : List ℕ) → RunsToView P n s f pc ctrl (xs ++ temp) areas → CodeAt P pc (pop_star_code (length xs))
+      → RunsToView P (n + 1) s f (pc + 2) ctrl temp areas
   pop_star xs h code =
       let laid = h.run.laid in
       let i = h.run.is in
@@ -196,7 +213,8 @@ module _ {P : Parts} {n : ℕ} {s : Fm} {f pc : ℕ} {ctrl temp areas : List ℕ
       let e15 = h.r15_is in
       runs_to_view c1 refl h.r0_is (omega arith)
 
-  pub popn : (xs : List ℕ) → RunsToView P n s f pc ctrl (length xs ∷ xs ++ temp) areas → CodeAt P pc popn_code → RunsToView P (n + 2) s f (pc + 2) ctrl temp areas
+  pub popn : (xs : List ℕ) → RunsToView P n s f pc ctrl (length xs ∷ xs ++ temp) areas → CodeAt P pc popn_code
+      → RunsToView P (n + 2) s f (pc + 2) ctrl temp areas
   popn xs h code =
       let laid = h.run.laid in
       let i = h.run.is in

@@ -29,7 +29,8 @@ wrapped_sum (negsuc a) (negsuc b) k p q =
     let h : b < 2 ^ 31 = grind (arith, nat_tests) in
     sym (wrapped_of (negsuc a +ℤ negsuc b +ℤ pos k) 2 (2 ^ 32 - 1 - a + (2 ^ 32 - 1 - b) + k) (grind (arith, ints)))
 
-pub wrapped_difference : (y x : ℤ) (k : ℕ) → is_int y ≡ true → is_int x ≡ true → k ≤ 1 → (word_of_int y + 2 ^ 32 - (word_of_int x + k)) % 2 ^ 32 ≡ wrapped (y -ℤ x -ℤ pos k)
+pub wrapped_difference : (y x : ℤ) (k : ℕ) → is_int y ≡ true → is_int x ≡ true → k ≤ 1
+    → (word_of_int y + 2 ^ 32 - (word_of_int x + k)) % 2 ^ 32 ≡ wrapped (y -ℤ x -ℤ pos k)
 wrapped_difference (pos a) (pos b) k p q r =
     let g : a < 2 ^ 31 = grind (arith, nat_tests) in
     let h : b < 2 ^ 31 = grind (arith, nat_tests) in
@@ -48,7 +49,8 @@ wrapped_difference (negsuc a) (negsuc b) k p q r =
     sym (wrapped_of (negsuc a -ℤ negsuc b -ℤ pos k) 1 (2 ^ 32 - 1 - a + 2 ^ 32 - (2 ^ 32 - 1 - b + k)) (grind (arith, ints)))
 
 -- the flags of a difference say which integer is less
-difference_sign : (x y : ℤ) → is_int x ≡ true → is_int y ≡ true → not (are_same (nat_le (2 ^ 31) ((word_of_int y + 2 ^ 32 - word_of_int x) % 2 ^ 32)) (not (is_int (y -ℤ x)))) ≡ int_lt y x
+difference_sign : (x y : ℤ) → is_int x ≡ true → is_int y ≡ true → not
+    (are_same (nat_le (2 ^ 31) ((word_of_int y + 2 ^ 32 - word_of_int x) % 2 ^ 32)) (not (is_int (y -ℤ x)))) ≡ int_lt y x
 difference_sign (pos a) (pos b) p q = grind (arith, nat_tests, ints)
 difference_sign (pos a) (negsuc b) p q = grind (arith, nat_tests, ints)
 difference_sign (negsuc a) (pos b) p q = grind (arith, nat_tests, ints)
@@ -134,7 +136,8 @@ sum_number x y p q h =
     let e : (word_of_int x + word_of_int y) % 2 ^ 32 ≡ (word_of_int x + word_of_int y + 0) % 2 ^ 32 = omega arith in
     e ∙ wrapped_sum x y 0 p q ∙ ap wrapped (add_zero (x +ℤ y)) ∙ wrapped-int (x +ℤ y) h
 
-pub difference_number : (y x : ℤ) → is_int y ≡ true → is_int x ≡ true → is_int (y -ℤ x) ≡ true → (word_of_int y + 2 ^ 32 - word_of_int x) % 2 ^ 32 ≡ word_of_int (y -ℤ x)
+pub difference_number : (y x : ℤ) → is_int y ≡ true → is_int x ≡ true → is_int (y -ℤ x) ≡ true
+    → (word_of_int y + 2 ^ 32 - word_of_int x) % 2 ^ 32 ≡ word_of_int (y -ℤ x)
 difference_number y x q p h =
     let e : (word_of_int y + 2 ^ 32 - word_of_int x) % 2 ^ 32 ≡ (word_of_int y + 2 ^ 32 - (word_of_int x + 0)) % 2 ^ 32 = omega arith in
     e ∙ wrapped_difference y x 0 q p (omega arith) ∙ ap wrapped (sub_zero (y -ℤ x)) ∙ wrapped-int (y -ℤ x) h
@@ -146,11 +149,13 @@ commutes (negsuc a) (pos b) = grind (arith, ints)
 commutes (negsuc a) (negsuc b) = grind (arith, ints)
 
 -- the overflow of a sum and of a difference with a carry
-pub sum_outside : (x y : ℤ) (k : ℕ) → is_int x ≡ true → is_int y ≡ true → not (is_int (signed_of (word_of_int x) +ℤ signed_of (word_of_int y) +ℤ pos k)) ≡ not (is_int (x +ℤ y +ℤ pos k))
+pub sum_outside : (x y : ℤ) (k : ℕ) → is_int x ≡ true → is_int y ≡ true → not (is_int (signed_of (word_of_int x) +ℤ signed_of (word_of_int y) +ℤ pos k))
+    ≡ not (is_int (x +ℤ y +ℤ pos k))
 sum_outside x y k p q =
     (λ i. not (is_int (signed_of-word_of_int x p i +ℤ signed_of-word_of_int y q i +ℤ pos k)))
 
-pub difference_outside : (y x : ℤ) (k : ℕ) → is_int y ≡ true → is_int x ≡ true → not (is_int (signed_of (word_of_int y) -ℤ signed_of (word_of_int x) -ℤ pos k)) ≡ not (is_int (y -ℤ x -ℤ pos k))
+pub difference_outside : (y x : ℤ) (k : ℕ) → is_int y ≡ true → is_int x ≡ true → not
+    (is_int (signed_of (word_of_int y) -ℤ signed_of (word_of_int x) -ℤ pos k)) ≡ not (is_int (y -ℤ x -ℤ pos k))
 difference_outside y x k q p =
     (λ i. not (is_int (signed_of-word_of_int y q i -ℤ signed_of-word_of_int x p i -ℤ pos k)))
 

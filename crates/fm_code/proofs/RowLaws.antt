@@ -11,7 +11,9 @@ use Rattle.fm_code.proofs.RunLaws.{RunsToView, executes, with_count, with_temp}
 use Rattle.fm_code.proofs.MoveLaws as moves
 use Rattle.fm_code.proofs.JumpLaws as jumps
 use Rattle.fm_code.proofs.ArithmeticLaws as words
-use Rattle.fm_code.proofs.NumberLaws.{same_ints, same_bools, lt_int, sum_number, difference_number, commutes, last_bit, bit_below, or_bools, and_bools, sum_outside, difference_outside, wrapped_sum, wrapped_difference, nat_sum, nat_sum_outside, nat_difference, nat_difference_outside, is_zero, is_negative, is_positive, le_is, true_word, false_word}
+use Rattle.fm_code.proofs.NumberLaws.{same_ints, same_bools, lt_int, sum_number, difference_number, commutes, last_bit, bit_below, or_bools, and_bools}
+use Rattle.fm_code.proofs.NumberLaws.{sum_outside, difference_outside, wrapped_sum, wrapped_difference, nat_sum, nat_sum_outside, nat_difference}
+use Rattle.fm_code.proofs.NumberLaws.{nat_difference_outside, is_zero, is_negative, is_positive, le_is, true_word, false_word}
 use Rattle.std.specs.Prelude.{Bool, true, not, ◌&&◌, ◌||◌, ◌==◌, nat_le, nat_lt, ℤ, pos, ◌+ℤ◌, ◌-ℤ◌, ◌*ℤ◌, bit_and, bit_or, bit_xor, ◌-◌, ◌/◌, ◌%◌, ◌^◌, ◌<◌}
 use Rattle.std.specs.Int.{from_bool as bit_of}
 use Rattle.std.proofs.lemmas.Bool.Decides.{nat_tests}
@@ -86,38 +88,56 @@ jump_rows P f pc ctrl temp areas =
 
 -- sums and differences with a carry, of integers and of numbers without a sign
 module _ {P : Parts} {n : ℕ} {s : Fm} {f pc : ℕ} {ctrl temp areas : List ℕ} where
-  added_ints : (u : Bool) (y x : ℤ) → is_int y ≡ true → is_int x ≡ true → RunsToView P n s f pc ctrl (word_of_int x ∷ word_of_int y ∷ bit_of u ∷ temp) areas → CodeAt P pc (carry_code Addc Vs) → RunsToView P (n + 7) s f (pc + 7) ctrl (wrapped (y +ℤ x +ℤ pos (bit_of u)) ∷ bit_of (not (is_int (y +ℤ x +ℤ pos (bit_of u)))) ∷ temp) areas
+  added_ints : (u : Bool) (y x : ℤ) → is_int y ≡ true → is_int x ≡ true → RunsToView P n s f pc ctrl (word_of_int x ∷ word_of_int y ∷ bit_of u ∷ temp)
+      areas → CodeAt P pc (carry_code Addc Vs) → RunsToView P (n + 7) s f (pc + 7) ctrl
+      (wrapped (y +ℤ x +ℤ pos (bit_of u)) ∷ bit_of (not (is_int (y +ℤ x +ℤ pos (bit_of u)))) ∷ temp) areas
   added_ints u y x q p h code =
       let k = bit_of u in
       let turn = commutes x y in
-      let over : not (is_int (signed_of (word_of_int x) +ℤ signed_of (word_of_int y) +ℤ pos (bit_of (k % 2 == 1)))) ≡ not (is_int (y +ℤ x +ℤ pos k)) = ap (λ b. not (is_int (signed_of (word_of_int x) +ℤ signed_of (word_of_int y) +ℤ pos (bit_of b)))) (last_bit u) ∙ sum_outside x y k p q ∙ ap (λ z. not (is_int (z +ℤ pos k))) turn in
-      let sum : (word_of_int x + word_of_int y + bit_of (k % 2 == 1)) % 2 ^ 32 ≡ wrapped (y +ℤ x +ℤ pos k) = ap (λ b. (word_of_int x + word_of_int y + bit_of b) % 2 ^ 32) (last_bit u) ∙ wrapped_sum x y k p q ∙ ap (λ z. wrapped (z +ℤ pos k)) turn in
-      with_temp (words.carried Addc Vs (not (is_int (y +ℤ x +ℤ pos k))) k (word_of_int y) (word_of_int x) h code (λ fl. over)) (ap (λ v. v ∷ bit_of (not (is_int (y +ℤ x +ℤ pos k))) ∷ temp) sum)
+      let over : not (is_int (signed_of (word_of_int x) +ℤ signed_of (word_of_int y) +ℤ pos (bit_of (k % 2 == 1)))) ≡ not (is_int (y +ℤ x +ℤ pos k)) =
+      ap (λ b. not (is_int (signed_of (word_of_int x) +ℤ signed_of (word_of_int y) +ℤ pos (bit_of b)))) (last_bit u) ∙ sum_outside x y k p q
+      ∙ ap (λ z. not (is_int (z +ℤ pos k))) turn in
+      let sum : (word_of_int x + word_of_int y + bit_of (k % 2 == 1)) % 2 ^ 32 ≡ wrapped (y +ℤ x +ℤ pos k) =
+      ap (λ b. (word_of_int x + word_of_int y + bit_of b) % 2 ^ 32) (last_bit u) ∙ wrapped_sum x y k p q ∙ ap (λ z. wrapped (z +ℤ pos k)) turn in
+      with_temp (words.carried Addc Vs (not (is_int (y +ℤ x +ℤ pos k))) k (word_of_int y) (word_of_int x) h code (λ fl. over))
+      (ap (λ v. v ∷ bit_of (not (is_int (y +ℤ x +ℤ pos k))) ∷ temp) sum)
 
-  subtracted_ints : (u : Bool) (y x : ℤ) → is_int y ≡ true → is_int x ≡ true → RunsToView P n s f pc ctrl (word_of_int x ∷ word_of_int y ∷ bit_of u ∷ temp) areas → CodeAt P pc (carry_code Subb Vs) → RunsToView P (n + 7) s f (pc + 7) ctrl (wrapped (y -ℤ x -ℤ pos (bit_of u)) ∷ bit_of (not (is_int (y -ℤ x -ℤ pos (bit_of u)))) ∷ temp) areas
+  subtracted_ints : (u : Bool) (y x : ℤ) → is_int y ≡ true → is_int x ≡ true → RunsToView P n s f pc ctrl
+      (word_of_int x ∷ word_of_int y ∷ bit_of u ∷ temp) areas → CodeAt P pc (carry_code Subb Vs)
+      → RunsToView P (n + 7) s f (pc + 7) ctrl (wrapped (y -ℤ x -ℤ pos (bit_of u)) ∷ bit_of (not (is_int (y -ℤ x -ℤ pos (bit_of u)))) ∷ temp) areas
   subtracted_ints u y x q p h code =
       let k = bit_of u in
-      let over : not (is_int (signed_of (word_of_int y) -ℤ signed_of (word_of_int x) -ℤ pos (bit_of (k % 2 == 1)))) ≡ not (is_int (y -ℤ x -ℤ pos k)) = ap (λ b. not (is_int (signed_of (word_of_int y) -ℤ signed_of (word_of_int x) -ℤ pos (bit_of b)))) (last_bit u) ∙ difference_outside y x k q p in
-      let sum : (word_of_int y + 2 ^ 32 - (word_of_int x + bit_of (k % 2 == 1))) % 2 ^ 32 ≡ wrapped (y -ℤ x -ℤ pos k) = ap (λ b. (word_of_int y + 2 ^ 32 - (word_of_int x + bit_of b)) % 2 ^ 32) (last_bit u) ∙ wrapped_difference y x k q p (bit_below u) in
-      with_temp (words.carried Subb Vs (not (is_int (y -ℤ x -ℤ pos k))) k (word_of_int y) (word_of_int x) h code (λ fl. over)) (ap (λ v. v ∷ bit_of (not (is_int (y -ℤ x -ℤ pos k))) ∷ temp) sum)
+      let over : not (is_int (signed_of (word_of_int y) -ℤ signed_of (word_of_int x) -ℤ pos (bit_of (k % 2 == 1)))) ≡ not (is_int (y -ℤ x -ℤ pos k)) =
+      ap (λ b. not (is_int (signed_of (word_of_int y) -ℤ signed_of (word_of_int x) -ℤ pos (bit_of b)))) (last_bit u) ∙ difference_outside y x k q p in
+      let sum : (word_of_int y + 2 ^ 32 - (word_of_int x + bit_of (k % 2 == 1))) % 2 ^ 32 ≡ wrapped (y -ℤ x -ℤ pos k) =
+      ap (λ b. (word_of_int y + 2 ^ 32 - (word_of_int x + bit_of b)) % 2 ^ 32) (last_bit u) ∙ wrapped_difference y x k q p (bit_below u) in
+      with_temp (words.carried Subb Vs (not (is_int (y -ℤ x -ℤ pos k))) k (word_of_int y) (word_of_int x) h code (λ fl. over))
+      (ap (λ v. v ∷ bit_of (not (is_int (y -ℤ x -ℤ pos k))) ∷ temp) sum)
 
-  added_nats : (u : Bool) (y x : ℕ) → RunsToView P n s f pc ctrl (x ∷ y ∷ bit_of u ∷ temp) areas → CodeAt P pc (carry_code Addc Cs) → RunsToView P (n + 7) s f (pc + 7) ctrl (wrapped (pos y +ℤ pos x +ℤ pos (bit_of u)) ∷ bit_of (not (is_nat (pos y +ℤ pos x +ℤ pos (bit_of u)))) ∷ temp) areas
+  added_nats : (u : Bool) (y x : ℕ) → RunsToView P n s f pc ctrl (x ∷ y ∷ bit_of u ∷ temp) areas → CodeAt P pc (carry_code Addc Cs)
+      → RunsToView P (n + 7) s f (pc + 7) ctrl
+      (wrapped (pos y +ℤ pos x +ℤ pos (bit_of u)) ∷ bit_of (not (is_nat (pos y +ℤ pos x +ℤ pos (bit_of u)))) ∷ temp) areas
   added_nats u y x h code =
       let k = bit_of u in
       let t = not (is_nat (pos y +ℤ pos x +ℤ pos k)) in
       let over : nat_le (2 ^ 32) (x + y + bit_of (k % 2 == 1)) ≡ t = ap (λ b. nat_le (2 ^ 32) (x + y + bit_of b)) (last_bit u) ∙ nat_sum_outside y x k in
-      let sum : (x + y + bit_of (k % 2 == 1)) % 2 ^ 32 ≡ wrapped (pos y +ℤ pos x +ℤ pos k) = ap (λ b. (x + y + bit_of b) % 2 ^ 32) (last_bit u) ∙ nat_sum y x k in
+      let sum : (x + y + bit_of (k % 2 == 1)) % 2 ^ 32 ≡ wrapped (pos y +ℤ pos x +ℤ pos k) =
+      ap (λ b. (x + y + bit_of b) % 2 ^ 32) (last_bit u) ∙ nat_sum y x k in
       with_temp (words.carried Addc Cs t k y x h code (λ fl. over)) (ap (λ v. v ∷ bit_of t ∷ temp) sum)
 
-  subtracted_nats : (u : Bool) (y x : ℕ) → y < 2 ^ 32 → x < 2 ^ 32 → RunsToView P n s f pc ctrl (x ∷ y ∷ bit_of u ∷ temp) areas → CodeAt P pc (carry_code Subb Cs) → RunsToView P (n + 7) s f (pc + 7) ctrl (wrapped (pos y -ℤ pos x -ℤ pos (bit_of u)) ∷ bit_of (not (is_nat (pos y -ℤ pos x -ℤ pos (bit_of u)))) ∷ temp) areas
+  subtracted_nats : (u : Bool) (y x : ℕ) → y < 2 ^ 32 → x < 2 ^ 32 → RunsToView P n s f pc ctrl (x ∷ y ∷ bit_of u ∷ temp) areas
+      → CodeAt P pc (carry_code Subb Cs) → RunsToView P (n + 7) s f (pc + 7) ctrl
+      (wrapped (pos y -ℤ pos x -ℤ pos (bit_of u)) ∷ bit_of (not (is_nat (pos y -ℤ pos x -ℤ pos (bit_of u)))) ∷ temp) areas
   subtracted_nats u y x q p h code =
       let k = bit_of u in
       let t = not (is_nat (pos y -ℤ pos x -ℤ pos k)) in
       let over : nat_lt y (x + bit_of (k % 2 == 1)) ≡ t = ap (λ b. nat_lt y (x + bit_of b)) (last_bit u) ∙ nat_difference_outside y x k q in
-      let sum : (y + 2 ^ 32 - (x + bit_of (k % 2 == 1))) % 2 ^ 32 ≡ wrapped (pos y -ℤ pos x -ℤ pos k) = ap (λ b. (y + 2 ^ 32 - (x + bit_of b)) % 2 ^ 32) (last_bit u) ∙ nat_difference y x k q p (bit_below u) in
+      let sum : (y + 2 ^ 32 - (x + bit_of (k % 2 == 1))) % 2 ^ 32 ≡ wrapped (pos y -ℤ pos x -ℤ pos k) =
+      ap (λ b. (y + 2 ^ 32 - (x + bit_of b)) % 2 ^ 32) (last_bit u) ∙ nat_difference y x k q p (bit_below u) in
       with_temp (words.carried Subb Cs t k y x h code (λ fl. over)) (ap (λ v. v ∷ bit_of t ∷ temp) sum)
 
-  doubled : (x : ℕ) → HasRoom P (x ∷ temp) → RunsToView P n s f pc ctrl (x ∷ temp) areas → CodeAt P pc mult2_carry_code → RunsToView P (n + 5) s f (pc + 5) ctrl (wrapped (pos 2 *ℤ pos x) ∷ bit_of (not (is_nat (pos 2 *ℤ pos x))) ∷ temp) areas
+  doubled : (x : ℕ) → HasRoom P (x ∷ temp) → RunsToView P n s f pc ctrl (x ∷ temp) areas → CodeAt P pc mult2_carry_code
+      → RunsToView P (n + 5) s f (pc + 5) ctrl (wrapped (pos 2 *ℤ pos x) ∷ bit_of (not (is_nat (pos 2 *ℤ pos x))) ∷ temp) areas
   doubled x room h code =
       let over : nat_le (2 ^ 32) (x + x) ≡ not (is_nat (pos 2 *ℤ pos x)) = grind (arith, nat_tests) in
       let sum : (x + x) % 2 ^ 32 ≡ wrapped (pos 2 *ℤ pos x) = omega arith in

@@ -18,7 +18,8 @@ pub record RunsToView (P : Parts) (n : ℕ) (s : Fm) (f pc : ℕ) (ctrl temp are
   pub r15_is : r 15 ≡ pc
 
 -- a run of no step, from a state with this view
-pub run_begins : {P : Parts} {s : Fm} {f pc : ℕ} {ctrl temp areas : List ℕ} → AreParts P → HasView P s (view f pc ctrl temp areas) → RunsToView P 0 s f pc ctrl temp areas
+pub run_begins : {P : Parts} {s : Fm} {f pc : ℕ} {ctrl temp areas : List ℕ} → AreParts P → HasView P s (view f pc ctrl temp areas)
+    → RunsToView P 0 s f pc ctrl temp areas
 run_begins {P} {s} is h =
     let b = h.base_is in
     let rs = sixteen_are s.registers h.sixteen in
@@ -37,7 +38,8 @@ run_begins {P} {s} is h =
     }
 
 -- the state that a run is at
-pub arrives : {P : Parts} {n : ℕ} {s : Fm} {f pc : ℕ} {ctrl temp areas : List ℕ} → RunsToView P n s f pc ctrl temp areas → Arrives P n s (view f pc ctrl temp areas)
+pub arrives : {P : Parts} {n : ℕ} {s : Fm} {f pc : ℕ} {ctrl temp areas : List ℕ} → RunsToView P n s f pc ctrl temp areas
+    → Arrives P n s (view f pc ctrl temp areas)
 arrives {P} h =
     record {
       state = state_of P.base h.r h.fl h.run.m;
@@ -47,7 +49,9 @@ arrives {P} h =
     }
 
 -- a law of runs says what code executes
-pub executes : {P : Parts} {code : List ℕ} {n n' f pc : ℕ} {ctrl temp areas : List ℕ} {u : View} → ((s : Fm) → RunsToView P 0 s f pc ctrl temp areas → CodeAt P pc code → RunsToView P n' s u.frame u.pc u.ctrl u.temp u.areas) → n' ≡ n → Executes P code n (view f pc ctrl temp areas) u
+pub executes : {P : Parts} {code : List ℕ} {n n' f pc : ℕ} {ctrl temp areas : List ℕ} {u : View}
+    → ((s : Fm) → RunsToView P 0 s f pc ctrl temp areas → CodeAt P pc code → RunsToView P n' s u.frame u.pc u.ctrl u.temp u.areas) → n' ≡ n
+    → Executes P code n (view f pc ctrl temp areas) u
 executes {P} {u = u} law e =
     record { leads = λ s is laid words. subst (λ k. Arrives P k s u) e (arrives (law s (run_begins is laid) words)) }
 
@@ -66,19 +70,23 @@ pub arrives_at_once : {P : Parts} {s : Fm} {t : View} → HasView P s t → Arri
 arrives_at_once {P} {s} h = record { state = s; runs = run_none s; avoids = avoids_none s (final_pc P); laid = h }
 
 -- a run of which only registers 0 and 15 are kept
-pub runs_to_view : {P : Parts} {n n' : ℕ} {s : Fm} {r : ℕ → ℕ} {fl : Flags} {f pc : ℕ} {ctrl temp areas : List ℕ} → RunsTo P n s r fl ctrl temp areas → n ≡ n' → r 0 ≡ f → r 15 ≡ pc → RunsToView P n' s f pc ctrl temp areas
+pub runs_to_view : {P : Parts} {n n' : ℕ} {s : Fm} {r : ℕ → ℕ} {fl : Flags} {f pc : ℕ} {ctrl temp areas : List ℕ} → RunsTo P n s r fl ctrl temp areas
+    → n ≡ n' → r 0 ≡ f → r 15 ≡ pc → RunsToView P n' s f pc ctrl temp areas
 runs_to_view {P} {s = s} {r = r} {fl = fl} {ctrl = ctrl} {temp = temp} {areas = areas} c e e0 e15 =
     record { r = r; fl = fl; run = subst (λ k. RunsTo P k s r fl ctrl temp areas) e c; r0_is = e0; r15_is = e15 }
 
 -- a run with its count, its pc or its words written another way
-pub with_count : {P : Parts} {n n' : ℕ} {s : Fm} {f pc pc' : ℕ} {ctrl temp areas : List ℕ} → RunsToView P n s f pc ctrl temp areas → n ≡ n' → pc ≡ pc' → RunsToView P n' s f pc' ctrl temp areas
+pub with_count : {P : Parts} {n n' : ℕ} {s : Fm} {f pc pc' : ℕ} {ctrl temp areas : List ℕ} → RunsToView P n s f pc ctrl temp areas → n ≡ n' → pc ≡ pc'
+    → RunsToView P n' s f pc' ctrl temp areas
 with_count h e e' = runs_to_view h.run e h.r0_is (h.r15_is ∙ e')
 
-pub with_ctrl : {P : Parts} {n : ℕ} {s : Fm} {f pc : ℕ} {ctrl ctrl' temp areas : List ℕ} → RunsToView P n s f pc ctrl temp areas → ctrl ≡ ctrl' → RunsToView P n s f pc ctrl' temp areas
+pub with_ctrl : {P : Parts} {n : ℕ} {s : Fm} {f pc : ℕ} {ctrl ctrl' temp areas : List ℕ} → RunsToView P n s f pc ctrl temp areas → ctrl ≡ ctrl'
+    → RunsToView P n s f pc ctrl' temp areas
 with_ctrl {P} {n} {s} {f} {pc} {temp = temp} {areas = areas} h e =
     subst (λ ws. RunsToView P n s f pc ws temp areas) e h
 
-pub with_temp : {P : Parts} {n : ℕ} {s : Fm} {f pc : ℕ} {ctrl temp temp' areas : List ℕ} → RunsToView P n s f pc ctrl temp areas → temp ≡ temp' → RunsToView P n s f pc ctrl temp' areas
+pub with_temp : {P : Parts} {n : ℕ} {s : Fm} {f pc : ℕ} {ctrl temp temp' areas : List ℕ} → RunsToView P n s f pc ctrl temp areas → temp ≡ temp'
+    → RunsToView P n s f pc ctrl temp' areas
 with_temp {P} {n} {s} {f} {pc} {ctrl} {areas = areas} h e =
     subst (λ ws. RunsToView P n s f pc ctrl ws areas) e h
 

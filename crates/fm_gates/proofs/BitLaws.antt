@@ -30,7 +30,8 @@ bit_of_inverse (suc w) zero x h lt =
 bit_of_inverse (suc w) (suc i) x h lt =
     let e = twice w in
     let half : (2 ^ suc w - 1 - x) / 2 ≡ 2 ^ w - 1 - x / 2 = omega (arith, e) in
-    bit_at-suc (2 ^ suc w - 1 - x) i ∙ ap (λ n. bit_at n i) half ∙ bit_of_inverse w i (x / 2) (omega (arith, e)) (omega arith) ∙ ap (λ n. 1 - n) (sym (bit_at-suc x i))
+    bit_at-suc (2 ^ suc w - 1 - x) i ∙ ap (λ n. bit_at n i) half ∙ bit_of_inverse w i (x / 2) (omega (arith, e)) (omega arith)
+    ∙ ap (λ n. 1 - n) (sym (bit_at-suc x i))
 
 -- the carry into a bit
 abbrev pub carry_into : ℕ → ℕ → ℕ → ℕ → ℕ
@@ -60,9 +61,13 @@ carry_next x y c i h =
     let n = x % 2 ^ i + y % 2 ^ i + c in
     let up : suc i ≡ 1 + i = omega arith in
     let back : i + 1 ≡ 1 + i = omega arith in
-    let split : x % 2 ^ (1 + i) + y % 2 ^ (1 + i) + c ≡ (bit_at x i + bit_at y i + n / 2 ^ i) * 2 ^ i + n % 2 ^ i = omega (arith, mod-pow-add x 1 i, mod-pow-add y 1 i, shr_split n i) in
-    let whole : (x % 2 ^ (1 + i) + y % 2 ^ (1 + i) + c) / 2 ^ i ≡ bit_at x i + bit_at y i + n / 2 ^ i = ap (λ k. k / 2 ^ i) split ∙ shr_high (bit_at x i + bit_at y i + n / 2 ^ i) i (n % 2 ^ i) (mod_below n (2 ^ i) (pow_pos i)) in
-    let halved : (x % 2 ^ (1 + i) + y % 2 ^ (1 + i) + c) / 2 ^ (1 + i) ≡ (bit_at x i + bit_at y i + n / 2 ^ i) / 2 = ap (λ k. (x % 2 ^ (1 + i) + y % 2 ^ (1 + i) + c) / 2 ^ k) (sym back) ∙ sym (shr-shr (x % 2 ^ (1 + i) + y % 2 ^ (1 + i) + c) i 1) ∙ ap (λ k. k / 2) whole in
+    let split : x % 2 ^ (1 + i) + y % 2 ^ (1 + i) + c ≡ (bit_at x i + bit_at y i + n / 2 ^ i) * 2 ^ i + n % 2 ^ i =
+    omega (arith, mod-pow-add x 1 i, mod-pow-add y 1 i, shr_split n i) in
+    let whole : (x % 2 ^ (1 + i) + y % 2 ^ (1 + i) + c) / 2 ^ i ≡ bit_at x i + bit_at y i + n / 2 ^ i =
+    ap (λ k. k / 2 ^ i) split ∙ shr_high (bit_at x i + bit_at y i + n / 2 ^ i) i (n % 2 ^ i) (mod_below n (2 ^ i) (pow_pos i)) in
+    let halved : (x % 2 ^ (1 + i) + y % 2 ^ (1 + i) + c) / 2 ^ (1 + i) ≡ (bit_at x i + bit_at y i + n / 2 ^ i) / 2 =
+    ap (λ k. (x % 2 ^ (1 + i) + y % 2 ^ (1 + i) + c) / 2 ^ k) (sym back) ∙ sym (shr-shr (x % 2 ^ (1 + i) + y % 2 ^ (1 + i) + c) i 1)
+    ∙ ap (λ k. k / 2) whole in
     ap (λ k. carry_into x y c k) up ∙ halved ∙ chosen (bit_at x i) (bit_at y i) (n / 2 ^ i) (bit_at-lt x i) (bit_at-lt y i) (carry_small x y c i h)
 
 -- a bit of a sum
@@ -70,7 +75,8 @@ pub sum_bit : (x y c i : ℕ) → bit_at (x + y + c) i ≡ ((bit_at x i + bit_at
 sum_bit x y c i =
     let n = x % 2 ^ i + y % 2 ^ i + c in
     let split : x + y + c ≡ (x / 2 ^ i + y / 2 ^ i + n / 2 ^ i) * 2 ^ i + n % 2 ^ i = omega (arith, shr_split x i, shr_split y i, shr_split n i) in
-    let whole : (x + y + c) / 2 ^ i ≡ x / 2 ^ i + y / 2 ^ i + n / 2 ^ i = ap (λ k. k / 2 ^ i) split ∙ shr_high (x / 2 ^ i + y / 2 ^ i + n / 2 ^ i) i (n % 2 ^ i) (mod_below n (2 ^ i) (pow_pos i)) in
+    let whole : (x + y + c) / 2 ^ i ≡ x / 2 ^ i + y / 2 ^ i + n / 2 ^ i =
+    ap (λ k. k / 2 ^ i) split ∙ shr_high (x / 2 ^ i + y / 2 ^ i + n / 2 ^ i) i (n % 2 ^ i) (mod_below n (2 ^ i) (pow_pos i)) in
     ap (λ k. k % 2) whole ∙ parity (x / 2 ^ i) (y / 2 ^ i) (n / 2 ^ i)
   where
     parity : (a b c : ℕ) → (a + b + c) % 2 ≡ ((a % 2 + b % 2) % 2 + c) % 2

@@ -1,5 +1,6 @@
 -- The gates of a driver give the bits of its value.
-use Rattle.std.proofs.Common.{◌≡◌, ◌≢◌, ℕ, zero, suc, ◌+◌, ◌-◌, ◌*◌, ◌%◌, ◌^◌, ◌<◌, ◌≤◌, ◌==◌, ◌&&◌, Bool, true, false, List, [], ◌∷◌, length, drop, refl, ap, sym, subst, ◌∙◌, arith, ⊎_elim, eq-eqb, if◌then◌else◌}
+use Rattle.std.proofs.Common.{◌≡◌, ◌≢◌, ℕ, zero, suc, ◌+◌, ◌-◌, ◌*◌, ◌%◌, ◌^◌, ◌<◌, ◌≤◌, ◌==◌, ◌&&◌, Bool, true, false, List, [], ◌∷◌, length, drop, refl, ap}
+use Rattle.std.proofs.Common.{sym, subst, ◌∙◌, arith, ⊎_elim, eq-eqb, if◌then◌else◌}
 use Rattle.std.proofs.lemmas.Bool.{eqb-true, ltb-true, and_parts, cases_lt, cases_eq, ne_eqb}
 use Rattle.std.proofs.lemmas.Bool.Decides.{nat_tests}
 use Rattle.std.proofs.lemmas.Nat.{mod-pow-add}
@@ -19,7 +20,8 @@ use Rattle.fm_circuit.specs.Widths.{width_of}
 use Rattle.fm_circuit.specs.Circuit.{Kept, pin_of, pin_width, above, chosen, driven}
 use Rattle.fm_circuit.specs.Sizes.{has_width, is_choice, is_sized, register_widths, input_widths}
 use Rattle.fm_circuit.proofs.SizeLaws.{pin_fits, width_is}
-use Rattle.fm_gates.specs.Gates.{Gate, Off, CarryBit, FileBit, Differ, Signals, gate_value, constant_gate, pin_gate, carry_gate, equal_gate, first_gate, choice_gate, choice_of_pins, file_numbers, driver_gate}
+use Rattle.fm_gates.specs.Gates.{Gate, Off, CarryBit, FileBit, Differ, Signals, gate_value, constant_gate, pin_gate, carry_gate, equal_gate, first_gate}
+use Rattle.fm_gates.specs.Gates.{choice_gate, choice_of_pins, file_numbers, driver_gate}
 use Rattle.fm_gates.proofs.BitLaws.{bit_of_low, bit_of_high, bit_of_inverse, carry_into, carry_next, sum_bit, sum_top}
 
 pick_path : (a a' b b' c c' : ℕ) → a ≡ a' → b ≡ b' → c ≡ c' → slice_index (a ∷ c ∷ []) ((a + b) % 2) ≡ slice_index (a' ∷ c' ∷ []) ((a' + b') % 2)
@@ -88,7 +90,8 @@ carried_value on (d.Add p q carry) i = carry_into (pin_of on p) (pin_of on q) (p
 carried_value on driver i = 0
 
 -- wires whose values fit, and whose bits are known
-module _ (kept : Kept) (inputs : List ℕ) (on : Wire → ℕ) (s : Signals) (fit : (wire : Wire) → on wire < 2 ^ width_of wire) (known : (wire : Wire) (i : ℕ) → i < width_of wire → s.wire wire i ≡ bit_at (on wire) i) where
+module _ (kept : Kept) (inputs : List ℕ) (on : Wire → ℕ) (s : Signals) (fit : (wire : Wire) → on wire < 2 ^ width_of wire)
+    (known : (wire : Wire) (i : ℕ) → i < width_of wire → s.wire wire i ≡ bit_at (on wire) i) where
   abbrev value : Gate → ℕ
   value g = gate_value s g
 
@@ -107,7 +110,8 @@ module _ (kept : Kept) (inputs : List ℕ) (on : Wire → ℕ) (s : Signals) (fi
       let parts = and_parts (nat_le low high && nat_lt high (width_of wire)) (high + 1 - low == width) h in
       let inside = ltb-true high (width_of wire) (and_parts (nat_le low high) (nat_lt high (width_of wire)) parts.0).1 in
       let size : high + 1 - low ≡ width = eqb-true (high + 1 - low) width parts.1 in
-      known wire (low + i) (omega (arith, inside, size, lt)) ∙ sym (high_part (on wire) low i) ∙ sym (bit_of_low (above (on wire) low) (high + 1 - low) i (omega (arith, size, lt)))
+      known wire (low + i) (omega (arith, inside, size, lt)) ∙ sym (high_part (on wire) low i)
+      ∙ sym (bit_of_low (above (on wire) low) (high + 1 - low) i (omega (arith, size, lt)))
   pin_bit width (Constant own v) i h lt = constant_bit (bit_at v i) (bit_at-lt v i)
 
   first_value : (gates : List Gate) (n : ℕ) → value (first_gate gates) ≡ slice_index (map value gates) (n % 2 ^ 0)
@@ -118,35 +122,47 @@ module _ (kept : Kept) (inputs : List ℕ) (on : Wire → ℕ) (s : Signals) (fi
   later_value gates j m = get_or-map value (drop j gates) m Off ∙ ap value (get_or-drop j gates m Off) ∙ sym (get_or-map value gates (j + m) Off)
 
   -- one of several gates
-  choice_value : (k : ℕ) (by : Pin) (gates : List Gate) (width : ℕ) → has_width width by ≡ true → k ≤ width → value (choice_gate k by gates) ≡ slice_index (map value gates) (pin_of on by % 2 ^ k)
+  choice_value : (k : ℕ) (by : Pin) (gates : List Gate) (width : ℕ) → has_width width by ≡ true → k ≤ width
+      → value (choice_gate k by gates) ≡ slice_index (map value gates) (pin_of on by % 2 ^ k)
   unfolding choice_gate
   choice_value zero by gates width h le = first_value gates (pin_of on by)
   choice_value (suc k) by gates width h le =
-      halves (bit_at (pin_of on by) k) (bit_at-lt (pin_of on by) k) refl (pin_bit width by k h (omega arith)) (choice_value k by gates width h (omega arith)) (choice_value k by (drop (2 ^ k) gates) width h (omega arith) ∙ later_value gates (2 ^ k) (pin_of on by % 2 ^ k))
+      halves (bit_at (pin_of on by) k) (bit_at-lt (pin_of on by) k) refl (pin_bit width by k h (omega arith))
+      (choice_value k by gates width h (omega arith))
+      (choice_value k by (drop (2 ^ k) gates) width h (omega arith) ∙ later_value gates (2 ^ k) (pin_of on by % 2 ^ k))
     where
       up : pin_of on by % 2 ^ suc k ≡ bit_at (pin_of on by) k * 2 ^ k + pin_of on by % 2 ^ k
       up = let e : suc k ≡ 1 + k = omega arith in ap (λ n. pin_of on by % 2 ^ n) e ∙ mod-pow-add (pin_of on by) 1 k
 
-      halves : (b : ℕ) → b < 2 → bit_at (pin_of on by) k ≡ b → value (pin_gate by k) ≡ bit_at (pin_of on by) k → value (choice_gate k by gates) ≡ slice_index (map value gates) (pin_of on by % 2 ^ k) → value (choice_gate k by (drop (2 ^ k) gates)) ≡ slice_index (map value gates) (2 ^ k + pin_of on by % 2 ^ k) → slice_index (value (choice_gate k by gates) ∷ value (choice_gate k by (drop (2 ^ k) gates)) ∷ []) (value (pin_gate by k)) ≡ slice_index (map value gates) (pin_of on by % 2 ^ suc k)
+      halves : (b : ℕ) → b < 2 → bit_at (pin_of on by) k ≡ b → value (pin_gate by k) ≡ bit_at (pin_of on by) k
+          → value (choice_gate k by gates) ≡ slice_index (map value gates) (pin_of on by % 2 ^ k)
+          → value (choice_gate k by (drop (2 ^ k) gates)) ≡ slice_index (map value gates) (2 ^ k + pin_of on by % 2 ^ k)
+          → slice_index (value (choice_gate k by gates) ∷ value (choice_gate k by (drop (2 ^ k) gates)) ∷ []) (value (pin_gate by k))
+          ≡ slice_index (map value gates) (pin_of on by % 2 ^ suc k)
       halves zero lt is bit low high =
           let place : pin_of on by % 2 ^ k ≡ pin_of on by % 2 ^ suc k = omega (arith, up, is, ap (λ n. n * 2 ^ k) is) in
-          ap (λ n. slice_index (value (choice_gate k by gates) ∷ value (choice_gate k by (drop (2 ^ k) gates)) ∷ []) n) (bit ∙ is) ∙ low ∙ ap (λ n. slice_index (map value gates) n) place
+          ap (λ n. slice_index (value (choice_gate k by gates) ∷ value (choice_gate k by (drop (2 ^ k) gates)) ∷ []) n) (bit ∙ is) ∙ low
+          ∙ ap (λ n. slice_index (map value gates) n) place
       halves (suc zero) lt is bit low high =
           let place : 2 ^ k + pin_of on by % 2 ^ k ≡ pin_of on by % 2 ^ suc k = omega (arith, up, is, ap (λ n. n * 2 ^ k) is) in
-          ap (λ n. slice_index (value (choice_gate k by gates) ∷ value (choice_gate k by (drop (2 ^ k) gates)) ∷ []) n) (bit ∙ is) ∙ high ∙ ap (λ n. slice_index (map value gates) n) place
+          ap (λ n. slice_index (value (choice_gate k by gates) ∷ value (choice_gate k by (drop (2 ^ k) gates)) ∷ []) n) (bit ∙ is) ∙ high
+          ∙ ap (λ n. slice_index (map value gates) n) place
       halves (suc (suc b)) lt is bit low high = absurd (omega arith)
 
-  pins_bit : (width : ℕ) (among : List Pin) (n i : ℕ) → list_all (has_width width) among ≡ true → i < width → slice_index (map value (map (λ p. pin_gate p i) among)) n ≡ bit_at (slice_index (map (pin_of on) among) n) i
+  pins_bit : (width : ℕ) (among : List Pin) (n i : ℕ) → list_all (has_width width) among ≡ true → i < width
+      → slice_index (map value (map (λ p. pin_gate p i) among)) n ≡ bit_at (slice_index (map (pin_of on) among) n) i
   pins_bit width [] n i h lt = sym (bit_at-zero i)
   pins_bit width (p ∷ among) zero i h lt = pin_bit width p i (and_parts (has_width width p) (list_all (has_width width) among) h).0 lt
   pins_bit width (p ∷ among) (suc n) i h lt = pins_bit width among n i (and_parts (has_width width p) (list_all (has_width width) among) h).1 lt
 
-  choice_bit : (width k : ℕ) (by : Pin) (among : List Pin) (i : ℕ) → is_choice width k by among ≡ true → i < width → value (choice_of_pins k by among i) ≡ bit_at (chosen on by among) i
+  choice_bit : (width k : ℕ) (by : Pin) (among : List Pin) (i : ℕ) → is_choice width k by among ≡ true → i < width
+      → value (choice_of_pins k by among i) ≡ bit_at (chosen on by among) i
   choice_bit width k by among i h lt =
       let parts = and_parts (has_width k by && (length among == 2 ^ k)) (list_all (has_width width) among) h in
       let number = (and_parts (has_width k by) (length among == 2 ^ k) parts.0).0 in
       let whole : pin_of on by % 2 ^ k ≡ pin_of on by = mod-eq_of_lt (pin_fits on fit k by number) in
-      choice_value k by (map (λ p. pin_gate p i) among) k number (omega arith) ∙ ap (λ n. slice_index (map value (map (λ p. pin_gate p i) among)) n) whole ∙ pins_bit width among (pin_of on by) i parts.1 lt
+      choice_value k by (map (λ p. pin_gate p i) among) k number (omega arith) ∙ ap (λ n. slice_index (map value (map (λ p. pin_gate p i) among)) n)
+      whole ∙ pins_bit width among (pin_of on by) i parts.1 lt
 
   -- the carry
   zero_carry : (x y c : ℕ) → c < 2 → bit_at c 0 ≡ carry_into x y c 0
@@ -154,23 +170,30 @@ module _ (kept : Kept) (inputs : List ℕ) (on : Wire → ℕ) (s : Signals) (fi
 
   module _ (p q carry : Pin) (width : ℕ) (h : is_sized width (d.Add p q carry) ≡ true) where
     sum_parts : (has_width (pin_width p) p && has_width (pin_width p) q ≡ true) × (has_width 1 carry ≡ true)
-    sum_parts = and_parts (has_width (pin_width p) p && has_width (pin_width p) q) (has_width 1 carry) (and_parts (has_width (pin_width p) p && has_width (pin_width p) q && has_width 1 carry) (pin_width p + 1 == width) h).0
+    sum_parts = and_parts (has_width (pin_width p) p && has_width (pin_width p) q) (has_width 1 carry)
+        (and_parts (has_width (pin_width p) p && has_width (pin_width p) q && has_width 1 carry) (pin_width p + 1 == width) h).0
 
     sum_pins : (has_width (pin_width p) p ≡ true) × (has_width (pin_width p) q ≡ true)
     sum_pins = and_parts (has_width (pin_width p) p) (has_width (pin_width p) q) sum_parts.0
 
     sum_size : pin_width p + 1 ≡ width
-    sum_size = eqb-true (pin_width p + 1) width (and_parts (has_width (pin_width p) p && has_width (pin_width p) q && has_width 1 carry) (pin_width p + 1 == width) h).1
+    sum_size = eqb-true (pin_width p + 1) width
+        (and_parts (has_width (pin_width p) p && has_width (pin_width p) q && has_width 1 carry) (pin_width p + 1 == width) h).1
 
     first_carry : value (pin_gate carry 0) ≡ carry_into (pin_of on p) (pin_of on q) (pin_of on carry) 0
     first_carry = pin_bit 1 carry 0 sum_parts.1 (omega arith) ∙ zero_carry (pin_of on p) (pin_of on q) (pin_of on carry) (pin_fits on fit 1 carry sum_parts.1)
 
-    later_carry : (x i : ℕ) → suc i < width → x ≡ carry_into (pin_of on p) (pin_of on q) (pin_of on carry) i → slice_index (value (pin_gate p i) ∷ x ∷ []) ((value (pin_gate p i) + value (pin_gate q i)) % 2) ≡ carry_into (pin_of on p) (pin_of on q) (pin_of on carry) (suc i)
+    later_carry : (x i : ℕ) → suc i < width → x ≡ carry_into (pin_of on p) (pin_of on q) (pin_of on carry) i
+        → slice_index (value (pin_gate p i) ∷ x ∷ []) ((value (pin_gate p i) + value (pin_gate q i)) % 2)
+        ≡ carry_into (pin_of on p) (pin_of on q) (pin_of on carry) (suc i)
     later_carry x i lt is =
-        pick_path _ _ _ _ _ _ (pin_bit (pin_width p) p i sum_pins.0 (omega (arith, sum_size))) (pin_bit (pin_width p) q i sum_pins.1 (omega (arith, sum_size))) is ∙ sym (carry_next (pin_of on p) (pin_of on q) (pin_of on carry) i (pin_fits on fit 1 carry sum_parts.1))
+        pick_path _ _ _ _ _ _ (pin_bit (pin_width p) p i sum_pins.0 (omega (arith, sum_size)))
+        (pin_bit (pin_width p) q i sum_pins.1 (omega (arith, sum_size))) is ∙ sym
+        (carry_next (pin_of on p) (pin_of on q) (pin_of on carry) i (pin_fits on fit 1 carry sum_parts.1))
 
   -- carries that are what their gates give
-  pub carries_are : (wire : Wire) (width : ℕ) (it : Driver) → is_sized width it ≡ true → ((i : ℕ) → i < width → s.carry wire i ≡ value (carry_gate wire it i)) → (i : ℕ) → i < width → s.carry wire i ≡ carried_value on it i
+  pub carries_are : (wire : Wire) (width : ℕ) (it : Driver) → is_sized width it ≡ true
+      → ((i : ℕ) → i < width → s.carry wire i ≡ value (carry_gate wire it i)) → (i : ℕ) → i < width → s.carry wire i ≡ carried_value on it i
   carries_are wire width (d.Add p q carry) h nets zero lt = nets 0 lt ∙ first_carry p q carry width h
   carries_are wire width (d.Add p q carry) h nets (suc i) lt =
       nets (suc i) lt ∙ later_carry p q carry width h (s.carry wire i) i lt (carries_are wire width (d.Add p q carry) h nets i (omega arith))
@@ -189,7 +212,8 @@ module _ (kept : Kept) (inputs : List ℕ) (on : Wire → ℕ) (s : Signals) (fi
   carries_are wire width (d.Sixteen by among) h nets i lt = nets i lt
 
   -- and the other way round
-  pub carries_hold : (wire : Wire) (width : ℕ) (it : Driver) → is_sized width it ≡ true → ((i : ℕ) → s.carry wire i ≡ carried_value on it i) → (i : ℕ) → i < width → s.carry wire i ≡ value (carry_gate wire it i)
+  pub carries_hold : (wire : Wire) (width : ℕ) (it : Driver) → is_sized width it ≡ true → ((i : ℕ) → s.carry wire i ≡ carried_value on it i) → (i : ℕ)
+      → i < width → s.carry wire i ≡ value (carry_gate wire it i)
   carries_hold wire width (d.Add p q carry) h is zero lt = is 0 ∙ sym (first_carry p q carry width h)
   carries_hold wire width (d.Add p q carry) h is (suc i) lt = is (suc i) ∙ sym (later_carry p q carry width h (s.carry wire i) i lt (is i))
   carries_hold wire width (d.Register number reset next) h is i lt = is i
@@ -206,17 +230,21 @@ module _ (kept : Kept) (inputs : List ℕ) (on : Wire → ℕ) (s : Signals) (fi
   carries_hold wire width (d.Eight by among) h is i lt = is i
   carries_hold wire width (d.Sixteen by among) h is i lt = is i
 
-  pub equal_value : (p q : Pin) (n i : ℕ) → has_width n p ≡ true → has_width n q ≡ true → i ≤ n → value (equal_gate p q i) ≡ bit_of (agrees (pin_of on p) (pin_of on q) i)
+  pub equal_value : (p q : Pin) (n i : ℕ) → has_width n p ≡ true → has_width n q ≡ true → i ≤ n
+      → value (equal_gate p q i) ≡ bit_of (agrees (pin_of on p) (pin_of on q) i)
   unfolding equal_gate agrees
   equal_value p q n zero hp hq le = refl
   equal_value p q n (suc i) hp hq le =
       let before = equal_value p q n i hp hq (omega arith) in
       let a = pin_bit n p i hp (omega arith) in
       let b = pin_bit n q i hq (omega arith) in
-      both_path _ _ _ _ before (ap (λ k. 1 - k) (differ_path _ _ _ _ a b)) ∙ one_more (agrees (pin_of on p) (pin_of on q) i) (bit_at (pin_of on p) i) (bit_at (pin_of on q) i) (bit_at-lt (pin_of on p) i) (bit_at-lt (pin_of on q) i)
+      both_path _ _ _ _ before (ap (λ k. 1 - k) (differ_path _ _ _ _ a b)) ∙ one_more (agrees (pin_of on p) (pin_of on q) i) (bit_at (pin_of on p) i)
+      (bit_at (pin_of on q) i) (bit_at-lt (pin_of on p) i) (bit_at-lt (pin_of on q) i)
 
   -- what is kept and what comes in, as bits
-  module _ (held : (k i : ℕ) → i < slice_index register_widths k → s.register k i ≡ bit_at (slice_index kept.registers k) i) (given : (k i : ℕ) → i < slice_index input_widths k → s.input k i ≡ bit_at (slice_index inputs k) i) (filed : (r i : ℕ) → r < 16 → i < 32 → s.file r i ≡ bit_at (slice_index kept.file r) i) where
+  module _ (held : (k i : ℕ) → i < slice_index register_widths k → s.register k i ≡ bit_at (slice_index kept.registers k) i)
+      (given : (k i : ℕ) → i < slice_index input_widths k → s.input k i ≡ bit_at (slice_index inputs k) i)
+      (filed : (r i : ℕ) → r < 16 → i < 32 → s.file r i ≡ bit_at (slice_index kept.file r) i) where
     file_bit : (n i : ℕ) → n < 16 → i < 32 → slice_index (map value (map (λ r. FileBit r i) file_numbers)) n ≡ bit_at (slice_index kept.file n) i
     file_bit zero i h lt = filed 0 i h lt
     file_bit (suc zero) i h lt = filed 1 i h lt
@@ -237,10 +265,12 @@ module _ (kept : Kept) (inputs : List ℕ) (on : Wire → ℕ) (s : Signals) (fi
     file_bit (suc (suc (suc (suc (suc (suc (suc (suc (suc (suc (suc (suc (suc (suc (suc (suc n)))))))))))))))) i h lt = absurd (omega arith)
 
     -- each bit of what a driver gives
-    pub driver_bit : (wire : Wire) (width : ℕ) (it : Driver) (i : ℕ) → is_sized width it ≡ true → ((j : ℕ) → j < width → s.carry wire j ≡ carried_value on it j) → i < width → value (driver_gate wire it i) ≡ bit_at (driven kept inputs on it) i
+    pub driver_bit : (wire : Wire) (width : ℕ) (it : Driver) (i : ℕ) → is_sized width it ≡ true
+        → ((j : ℕ) → j < width → s.carry wire j ≡ carried_value on it j) → i < width → value (driver_gate wire it i) ≡ bit_at (driven kept inputs on it) i
     driver_bit wire width (d.Register number reset next) i h carried lt =
         let parts = and_parts ((slice_index register_widths number == width) && nat_lt reset (2 ^ width)) (has_width width next) h in
-        let same = eqb-true (slice_index register_widths number) width (and_parts (slice_index register_widths number == width) (nat_lt reset (2 ^ width)) parts.0).0 in
+        let same = eqb-true (slice_index register_widths number) width
+        (and_parts (slice_index register_widths number == width) (nat_lt reset (2 ^ width)) parts.0).0 in
         held number i (subst (λ n. i < n) (sym same) lt)
     driver_bit wire width (d.Input number) i h carried lt = given number i (subst (λ n. i < n) (sym (eqb-true (slice_index input_widths number) width h)) lt)
     driver_bit wire width (d.FileRead number) i h carried lt =
@@ -249,10 +279,13 @@ module _ (kept : Kept) (inputs : List ℕ) (on : Wire → ℕ) (s : Signals) (fi
         let size : width ≡ 32 = eqb-true width 32 parts.0 in
         let below = pin_fits on fit 4 number four in
         let whole : pin_of on number % 2 ^ 4 ≡ pin_of on number = mod-eq_of_lt below in
-        choice_value 4 number (map (λ r. FileBit r i) file_numbers) 4 four (omega arith) ∙ ap (λ n. slice_index (map value (map (λ r. FileBit r i) file_numbers)) n) whole ∙ file_bit (pin_of on number) i below (subst (λ n. i < n) size lt)
+        choice_value 4 number (map (λ r. FileBit r i) file_numbers) 4 four (omega arith)
+        ∙ ap (λ n. slice_index (map value (map (λ r. FileBit r i) file_numbers)) n) whole
+        ∙ file_bit (pin_of on number) i below (subst (λ n. i < n) size lt)
     driver_bit wire width (d.Not p) i h carried lt =
         let same = width_is width p h in
-        ap (λ k. 1 - k) (pin_bit width p i h lt) ∙ sym (bit_of_inverse width i (pin_of on p) (pin_fits on fit width p h) lt) ∙ ap (λ n. bit_at (2 ^ n - 1 - pin_of on p) i) (sym same)
+        ap (λ k. 1 - k) (pin_bit width p i h lt) ∙ sym (bit_of_inverse width i (pin_of on p) (pin_fits on fit width p h) lt)
+        ∙ ap (λ n. bit_at (2 ^ n - 1 - pin_of on p) i) (sym same)
     driver_bit wire width (d.And p q) i h carried lt =
         let parts = and_parts (has_width width p) (has_width width q) h in
         both_path _ _ _ _ (pin_bit width p i parts.0 lt) (pin_bit width q i parts.1 lt) ∙ sym (bit_at_and (pin_of on p) (pin_of on q) i)
@@ -270,32 +303,43 @@ module _ (kept : Kept) (inputs : List ℕ) (on : Wire → ℕ) (s : Signals) (fi
         two : (has_width (pin_width p) p ≡ true) × (has_width (pin_width q) q ≡ true)
         two = and_parts (has_width (pin_width p) p) (has_width (pin_width q) q) parts.0
 
-        by_test : (t : Bool) → nat_lt i (pin_width q) ≡ t → value (if t then pin_gate q i else pin_gate p (i - pin_width q)) ≡ bit_at (pin_of on p * 2 ^ pin_width q + pin_of on q) i
+        by_test : (t : Bool) → nat_lt i (pin_width q) ≡ t → value (if t then pin_gate q i else pin_gate p (i - pin_width q))
+            ≡ bit_at (pin_of on p * 2 ^ pin_width q + pin_of on q) i
         by_test true e =
             let below = ltb-true i (pin_width q) e in
             pin_bit (pin_width q) q i two.1 below ∙ sym (bit_at_cat_low (pin_of on p) (pin_width q) (pin_of on q) i below)
         by_test false e =
             let past = not_below i (pin_width q) e in
             let size : pin_width p + pin_width q ≡ width = eqb-true (pin_width p + pin_width q) width parts.1 in
-            pin_bit (pin_width p) p (i - pin_width q) two.0 (omega arith) ∙ sym (bit_at_cat_high (pin_of on p) (pin_width q) (pin_of on q) i (pin_fits on fit (pin_width q) q two.1) past)
+            pin_bit (pin_width p) p (i - pin_width q) two.0 (omega arith) ∙ sym
+            (bit_at_cat_high (pin_of on p) (pin_width q) (pin_of on q) i (pin_fits on fit (pin_width q) q two.1) past)
     driver_bit wire width (d.Add p q carry) i h carried lt = by_test (nat_lt i (pin_width p)) refl
       where
-        by_test : (t : Bool) → nat_lt i (pin_width p) ≡ t → value (if t then Differ (Differ (pin_gate p i) (pin_gate q i)) (CarryBit wire i) else CarryBit wire i) ≡ bit_at (pin_of on p + pin_of on q + pin_of on carry) i
+        by_test : (t : Bool) → nat_lt i (pin_width p) ≡ t → value
+            (if t then Differ (Differ (pin_gate p i) (pin_gate q i)) (CarryBit wire i) else CarryBit wire i)
+            ≡ bit_at (pin_of on p + pin_of on q + pin_of on carry) i
         by_test true e =
             let below = ltb-true i (pin_width p) e in
             let both = sum_pins p q carry width h in
-            sum_path _ _ _ _ _ _ (pin_bit (pin_width p) p i both.0 below) (pin_bit (pin_width p) q i both.1 below) (carried i lt) ∙ sym (sum_bit (pin_of on p) (pin_of on q) (pin_of on carry) i)
+            sum_path _ _ _ _ _ _ (pin_bit (pin_width p) p i both.0 below) (pin_bit (pin_width p) q i both.1 below) (carried i lt)
+            ∙ sym (sum_bit (pin_of on p) (pin_of on q) (pin_of on carry) i)
         by_test false e =
             let past = not_below i (pin_width p) e in
             let both = sum_pins p q carry width h in
             let top : pin_width p ≡ i = omega (arith, sum_size p q carry width h) in
-            carried i lt ∙ subst (λ k. carry_into (pin_of on p) (pin_of on q) (pin_of on carry) k ≡ bit_at (pin_of on p + pin_of on q + pin_of on carry) k) top (sym (sum_top (pin_of on p) (pin_of on q) (pin_of on carry) (pin_width p) (pin_fits on fit (pin_width p) p both.0) (pin_fits on fit (pin_width p) q both.1) (pin_fits on fit 1 carry (sum_parts p q carry width h).1)))
+            carried i lt ∙ subst (λ k. carry_into (pin_of on p) (pin_of on q) (pin_of on carry) k
+            ≡ bit_at (pin_of on p + pin_of on q + pin_of on carry) k) top
+            (sym (sum_top (pin_of on p) (pin_of on q) (pin_of on carry) (pin_width p) (pin_fits on fit (pin_width p) p both.0)
+            (pin_fits on fit (pin_width p) q both.1) (pin_fits on fit 1 carry (sum_parts p q carry width h).1)))
     driver_bit wire width (d.Equal p q) i h carried lt =
         let first = and_parts ((width == 1) && has_width (pin_width p) p) (has_width (pin_width p) q) h in
         let second = and_parts (width == 1) (has_width (pin_width p) p) first.0 in
         let one : width ≡ 1 = eqb-true width 1 second.0 in
         let zero_at : 0 ≡ i = omega arith in
-        equal_value p q (pin_width p) (pin_width p) second.1 first.1 (omega arith) ∙ ap bit_of (agrees_is (pin_of on p) (pin_of on q) (pin_width p) (pin_fits on fit (pin_width p) p second.1) (pin_fits on fit (pin_width p) q first.1)) ∙ sym (bit_of_bit (pin_of on p == pin_of on q)) ∙ ap (λ k. bit_at (bit_of (pin_of on p == pin_of on q)) k) zero_at
+        equal_value p q (pin_width p) (pin_width p) second.1 first.1 (omega arith)
+        ∙ ap bit_of (agrees_is (pin_of on p) (pin_of on q) (pin_width p) (pin_fits on fit (pin_width p) p second.1)
+        (pin_fits on fit (pin_width p) q first.1)) ∙ sym (bit_of_bit (pin_of on p == pin_of on q))
+        ∙ ap (λ k. bit_at (bit_of (pin_of on p == pin_of on q)) k) zero_at
       where
         bit_of_bit : (t : Bool) → bit_at (bit_of t) 0 ≡ bit_of t
         bit_of_bit true = refl

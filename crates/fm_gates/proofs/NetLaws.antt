@@ -1,5 +1,6 @@
 -- A cycle of the netlist is a cycle of the circuit.
-use Rattle.std.proofs.Common.{◌≡◌, ℕ, zero, suc, ◌-◌, ◌^◌, ◌<◌, ◌==◌, ◌&&◌, Bool, true, false, not, List, [], ◌∷◌, Option, Some, None, refl, ap, sym, subst, ◌∙◌, arith, if◌then◌else◌}
+use Rattle.std.proofs.Common.{◌≡◌, ℕ, zero, suc, ◌-◌, ◌^◌, ◌<◌, ◌==◌, ◌&&◌, Bool, true, false, not, List, [], ◌∷◌, Option, Some, None, refl, ap, sym, subst}
+use Rattle.std.proofs.Common.{◌∙◌, arith, if◌then◌else◌}
 use Rattle.std.proofs.lemmas.Bool.{lt-ltb}
 use Rattle.std.proofs.lemmas.Nat.Bits.{bit_at-lt, bit_at-zero, same_from_bits_below}
 use Rattle.std.specs.Prelude.{map, min, get_or, is_some, unwrap_or, slice_index}
@@ -19,7 +20,8 @@ use Rattle.fm_circuit.proofs.SettledLaws.{settled_on, only_settled}
 use Rattle.fm_circuit.proofs.SizeLaws.{driven_fits, settled_fits, sized, memory_fits}
 use Rattle.fm_circuit.proofs.WordsLaws.{word_found}
 use Rattle.fm_gates.specs.Gates.{Signals, gate_value, constant_gate, equal_gate, next_gate, file_gate, file_numbers, write_gate}
-use Rattle.fm_gates.specs.Netlist.{BitBoard, HasBits, AreNets, Lowered, GoesOn, Runs, word_of_bits, words_of, register_numbers, input_bit, signals_of, carried_word, next_bits}
+use Rattle.fm_gates.specs.Netlist.{BitBoard, HasBits, AreNets, Lowered, GoesOn, Runs, word_of_bits, words_of, register_numbers, input_bit, signals_of}
+use Rattle.fm_gates.specs.Netlist.{carried_word, next_bits}
 use Rattle.fm_gates.proofs.GateLaws.{carried_value, carries_are, carries_hold, driver_bit, equal_value, agrees_is}
 use Rattle.fm_gates.proofs.WordLaws.{word_below, bit_of_word, word_of_own, zero_word, picked_word, file_words, write_bit, file_bit, is_one}
 
@@ -94,10 +96,14 @@ module _ (b : BitBoard) (has : HasBits b) where
   filed (suc (suc (suc (suc (suc (suc (suc (suc (suc zero))))))))) i h lt = sym (bit_of_word 32 (b.file 9) i (λ j below. has.file 9 j h below) lt)
   filed (suc (suc (suc (suc (suc (suc (suc (suc (suc (suc zero)))))))))) i h lt = sym (bit_of_word 32 (b.file 10) i (λ j below. has.file 10 j h below) lt)
   filed (suc (suc (suc (suc (suc (suc (suc (suc (suc (suc (suc zero))))))))))) i h lt = sym (bit_of_word 32 (b.file 11) i (λ j below. has.file 11 j h below) lt)
-  filed (suc (suc (suc (suc (suc (suc (suc (suc (suc (suc (suc (suc zero)))))))))))) i h lt = sym (bit_of_word 32 (b.file 12) i (λ j below. has.file 12 j h below) lt)
-  filed (suc (suc (suc (suc (suc (suc (suc (suc (suc (suc (suc (suc (suc zero))))))))))))) i h lt = sym (bit_of_word 32 (b.file 13) i (λ j below. has.file 13 j h below) lt)
-  filed (suc (suc (suc (suc (suc (suc (suc (suc (suc (suc (suc (suc (suc (suc zero)))))))))))))) i h lt = sym (bit_of_word 32 (b.file 14) i (λ j below. has.file 14 j h below) lt)
-  filed (suc (suc (suc (suc (suc (suc (suc (suc (suc (suc (suc (suc (suc (suc (suc zero))))))))))))))) i h lt = sym (bit_of_word 32 (b.file 15) i (λ j below. has.file 15 j h below) lt)
+  filed (suc (suc (suc (suc (suc (suc (suc (suc (suc (suc (suc (suc zero)))))))))))) i h lt =
+      sym (bit_of_word 32 (b.file 12) i (λ j below. has.file 12 j h below) lt)
+  filed (suc (suc (suc (suc (suc (suc (suc (suc (suc (suc (suc (suc (suc zero))))))))))))) i h lt =
+      sym (bit_of_word 32 (b.file 13) i (λ j below. has.file 13 j h below) lt)
+  filed (suc (suc (suc (suc (suc (suc (suc (suc (suc (suc (suc (suc (suc (suc zero)))))))))))))) i h lt =
+      sym (bit_of_word 32 (b.file 14) i (λ j below. has.file 14 j h below) lt)
+  filed (suc (suc (suc (suc (suc (suc (suc (suc (suc (suc (suc (suc (suc (suc (suc zero))))))))))))))) i h lt =
+      sym (bit_of_word 32 (b.file 15) i (λ j below. has.file 15 j h below) lt)
   filed (suc (suc (suc (suc (suc (suc (suc (suc (suc (suc (suc (suc (suc (suc (suc (suc r)))))))))))))))) i h lt = absurd (omega arith)
 
   filed_fit : AreWords (words_of b).kept.file
@@ -113,10 +119,14 @@ module _ (b : BitBoard) (has : HasBits b) where
   filed_fit (suc (suc (suc (suc (suc (suc (suc (suc (suc zero))))))))) = word_below 32 (b.file 9) (λ j below. has.file 9 j (omega arith) below)
   filed_fit (suc (suc (suc (suc (suc (suc (suc (suc (suc (suc zero)))))))))) = word_below 32 (b.file 10) (λ j below. has.file 10 j (omega arith) below)
   filed_fit (suc (suc (suc (suc (suc (suc (suc (suc (suc (suc (suc zero))))))))))) = word_below 32 (b.file 11) (λ j below. has.file 11 j (omega arith) below)
-  filed_fit (suc (suc (suc (suc (suc (suc (suc (suc (suc (suc (suc (suc zero)))))))))))) = word_below 32 (b.file 12) (λ j below. has.file 12 j (omega arith) below)
-  filed_fit (suc (suc (suc (suc (suc (suc (suc (suc (suc (suc (suc (suc (suc zero))))))))))))) = word_below 32 (b.file 13) (λ j below. has.file 13 j (omega arith) below)
-  filed_fit (suc (suc (suc (suc (suc (suc (suc (suc (suc (suc (suc (suc (suc (suc zero)))))))))))))) = word_below 32 (b.file 14) (λ j below. has.file 14 j (omega arith) below)
-  filed_fit (suc (suc (suc (suc (suc (suc (suc (suc (suc (suc (suc (suc (suc (suc (suc zero))))))))))))))) = word_below 32 (b.file 15) (λ j below. has.file 15 j (omega arith) below)
+  filed_fit (suc (suc (suc (suc (suc (suc (suc (suc (suc (suc (suc (suc zero)))))))))))) =
+      word_below 32 (b.file 12) (λ j below. has.file 12 j (omega arith) below)
+  filed_fit (suc (suc (suc (suc (suc (suc (suc (suc (suc (suc (suc (suc (suc zero))))))))))))) =
+      word_below 32 (b.file 13) (λ j below. has.file 13 j (omega arith) below)
+  filed_fit (suc (suc (suc (suc (suc (suc (suc (suc (suc (suc (suc (suc (suc (suc zero)))))))))))))) =
+      word_below 32 (b.file 14) (λ j below. has.file 14 j (omega arith) below)
+  filed_fit (suc (suc (suc (suc (suc (suc (suc (suc (suc (suc (suc (suc (suc (suc (suc zero))))))))))))))) =
+      word_below 32 (b.file 15) (λ j below. has.file 15 j (omega arith) below)
   filed_fit (suc (suc (suc (suc (suc (suc (suc (suc (suc (suc (suc (suc (suc (suc (suc (suc r)))))))))))))))) = omega arith
 
   -- the words of wires
@@ -136,22 +146,30 @@ module _ (b : BitBoard) (has : HasBits b) where
     -- each is what drives it
     driven_on : (wire : Wire) → on wire ≡ driven (words_of b).kept inputs on (driver_of wire)
     driven_on wire =
-        same_from_bits_below (width_of wire) (on wire) (driven (words_of b).kept inputs on (driver_of wire)) (fit wire) (driven_fits on fit (words_of b).kept inputs held_fit filed_fit given_fit (width_of wire) (driver_of wire) (sized wire)) (λ i lt.
-        sym (known wire i lt) ∙ nets.wires wire i lt ∙ driver_bit (words_of b).kept inputs on s fit known held given filed wire (width_of wire) (driver_of wire) i (sized wire) (carries_are (words_of b).kept inputs on s fit known wire (width_of wire) (driver_of wire) (sized wire) (nets.carries wire)) lt)
+        same_from_bits_below (width_of wire) (on wire) (driven (words_of b).kept inputs on (driver_of wire)) (fit wire)
+        (driven_fits on fit (words_of b).kept inputs held_fit filed_fit given_fit (width_of wire) (driver_of wire) (sized wire)) (λ i lt.
+        sym (known wire i lt) ∙ nets.wires wire i lt ∙ driver_bit (words_of b).kept inputs on s fit known held given filed wire (width_of wire)
+        (driver_of wire) i (sized wire) (carries_are (words_of b).kept inputs on s fit known wire (width_of wire) (driver_of wire) (sized wire)
+        (nets.carries wire)) lt)
 
     -- so they are those of the board of words
     on_is : (wire : Wire) → on wire ≡ on_board (words_of b) wire
     on_is wire = only_settled on (words_of b).kept inputs driven_on wire
 
     -- what a register takes
-    register_word : (t : Bool) (wire : Wire) → word_of_bits (width_of wire) (λ i. slice_index (wires wire i ∷ gate_value s (constant_gate (bit_at 0 i)) ∷ []) (bit_of t)) ≡ (if t then 0 else on_board (words_of b) wire)
-    register_word true wire = zero_word (width_of wire) (λ i. gate_value s (constant_gate (bit_at 0 i))) (λ i. ap (λ n. gate_value s (constant_gate n)) (bit_at-zero i))
+    register_word : (t : Bool) (wire : Wire) → word_of_bits (width_of wire)
+        (λ i. slice_index (wires wire i ∷ gate_value s (constant_gate (bit_at 0 i)) ∷ []) (bit_of t)) ≡ (if t then 0 else on_board (words_of b) wire)
+    register_word true wire =
+        zero_word (width_of wire) (λ i. gate_value s (constant_gate (bit_at 0 i))) (λ i. ap (λ n. gate_value s (constant_gate n)) (bit_at-zero i))
     register_word false wire = on_is wire
 
-    registers_are : map (λ k. word_of_bits (slice_index register_widths k) (λ i. gate_value s (next_gate (driver_of (get_or registers k w.Phase)) i))) register_numbers ≡ (cycle_with reset (words_of b)).kept.registers
+    registers_are : map (λ k. word_of_bits (slice_index register_widths k) (λ i. gate_value s (next_gate (driver_of (get_or registers k w.Phase)) i)))
+        register_numbers ≡ (cycle_with reset (words_of b)).kept.registers
     unfolding driver_of
     registers_are =
-        λ j. register_word reset w.NextPhase j ∷ register_word reset w.NextIr j ∷ register_word reset w.NextA j ∷ register_word reset w.NextB j ∷ register_word reset w.NextAt j ∷ register_word reset w.NextC j ∷ register_word reset w.NextV j ∷ register_word reset w.NextN j ∷ register_word reset w.NextZ j ∷ []
+        λ j. register_word reset w.NextPhase j ∷ register_word reset w.NextIr j ∷ register_word reset w.NextA j ∷ register_word reset w.NextB j
+        ∷ register_word reset w.NextAt j ∷ register_word reset w.NextC j ∷ register_word reset w.NextV j ∷ register_word reset w.NextN j
+        ∷ register_word reset w.NextZ j ∷ []
 
     low_bit : (wire : Wire) → width_of wire ≡ 1 → wires wire 0 ≡ on_board (words_of b) wire
     low_bit wire one =
@@ -164,21 +182,33 @@ module _ (b : BitBoard) (has : HasBits b) where
     bit_below wire one = subst (λ x. x < 2) (low_bit wire one) (nets.bits wire 0 (omega (arith, one)))
 
     -- what a word of the file takes
-    word_takes : (r : ℕ) → r < 16 → word_of_bits 32 (λ i. gate_value s (file_gate r i)) ≡ (if (not reset && (on_board (words_of b) w.FileWrite == 1)) && (on_board (words_of b) w.Number == r) then on_board (words_of b) w.FileData else word_of_bits 32 (b.file r))
+    word_takes : (r : ℕ) → r < 16 → word_of_bits 32 (λ i. gate_value s (file_gate r i))
+        ≡ (if (not reset && (on_board (words_of b) w.FileWrite == 1)) && (on_board (words_of b) w.Number == r) then on_board (words_of b) w.FileData
+        else word_of_bits 32 (b.file r))
     word_takes r lt =
-        let equal : gate_value s (equal_gate (Whole w.Number) (Constant 4 r) 4) ≡ bit_of (on w.Number == r) = equal_value (words_of b).kept inputs on s fit known (Whole w.Number) (Constant 4 r) 4 4 refl (lt-ltb r 16 lt) (omega arith) ∙ ap bit_of (agrees_is (on w.Number) r 4 (fit w.Number) lt) in
-        let chosen : gate_value s (equal_gate (Whole w.Number) (Constant 4 r) 4) ≡ bit_of (on_board (words_of b) w.Number == r) = equal ∙ ap (λ n. bit_of (n == r)) (on_is w.Number) in
-        let by = write_path (1 - bit_of reset) _ _ _ _ (low_bit w.FileWrite refl) chosen ∙ file_bit reset (on_board (words_of b) w.Number == r) (on_board (words_of b) w.FileWrite) (bit_below w.FileWrite refl) in
-        picked_word ((not reset && (on_board (words_of b) w.FileWrite == 1)) && (on_board (words_of b) w.Number == r)) 32 _ (b.file r) (wires w.FileData) by ∙ ap (λ x. if (not reset && (on_board (words_of b) w.FileWrite == 1)) && (on_board (words_of b) w.Number == r) then x else word_of_bits 32 (b.file r)) (on_is w.FileData)
+        let equal : gate_value s (equal_gate (Whole w.Number) (Constant 4 r) 4) ≡ bit_of (on w.Number == r) =
+        equal_value (words_of b).kept inputs on s fit known (Whole w.Number) (Constant 4 r) 4 4 refl (lt-ltb r 16 lt) (omega arith)
+        ∙ ap bit_of (agrees_is (on w.Number) r 4 (fit w.Number) lt) in
+        let chosen : gate_value s (equal_gate (Whole w.Number) (Constant 4 r) 4) ≡ bit_of (on_board (words_of b) w.Number == r) =
+        equal ∙ ap (λ n. bit_of (n == r)) (on_is w.Number) in
+        let by = write_path (1 - bit_of reset) _ _ _ _ (low_bit w.FileWrite refl) chosen
+        ∙ file_bit reset (on_board (words_of b) w.Number == r) (on_board (words_of b) w.FileWrite) (bit_below w.FileWrite refl) in
+        picked_word ((not reset && (on_board (words_of b) w.FileWrite == 1)) && (on_board (words_of b) w.Number == r)) 32 _ (b.file r)
+        (wires w.FileData) by ∙ ap (λ x. if (not reset && (on_board (words_of b) w.FileWrite == 1)) && (on_board (words_of b) w.Number == r) then x
+        else word_of_bits 32 (b.file r)) (on_is w.FileData)
 
     file_is : map (λ r. word_of_bits 32 (λ i. gate_value s (file_gate r i))) file_numbers ≡ (cycle_with reset (words_of b)).kept.file
-    file_is = file_words (not reset && (on_board (words_of b) w.FileWrite == 1)) (on_board (words_of b) w.Number) (on_board (words_of b) w.FileData) (λ r. word_of_bits 32 (b.file r)) (λ r. word_of_bits 32 (λ i. gate_value s (file_gate r i))) word_takes
+    file_is = file_words (not reset && (on_board (words_of b) w.FileWrite == 1)) (on_board (words_of b) w.Number) (on_board (words_of b) w.FileData)
+        (λ r. word_of_bits 32 (b.file r)) (λ r. word_of_bits 32 (λ i. gate_value s (file_gate r i))) word_takes
 
     write_is : (gate_value s write_gate == 1) ≡ (not reset && (on_board (words_of b) w.MemoryWrite == 1))
-    write_is = ap (λ n. min (1 - bit_of reset) n == 1) (low_bit w.MemoryWrite refl) ∙ ap (λ n. n == 1) (write_bit reset (on_board (words_of b) w.MemoryWrite) (bit_below w.MemoryWrite refl)) ∙ is_one (not reset && (on_board (words_of b) w.MemoryWrite == 1))
+    write_is = ap (λ n. min (1 - bit_of reset) n == 1) (low_bit w.MemoryWrite refl)
+        ∙ ap (λ n. n == 1) (write_bit reset (on_board (words_of b) w.MemoryWrite) (bit_below w.MemoryWrite refl))
+        ∙ is_one (not reset && (on_board (words_of b) w.MemoryWrite == 1))
 
     read_is : (address : ℕ) → word_of_bits 32 (bit_at (unwrap_or (word_at b.base b.memory address) 0)) ≡ unwrap_or (word_at b.base b.memory address) 0
-    read_is address = word_of_own 32 (unwrap_or (word_at b.base b.memory address) 0) (option_word b.base b.memory address (word_at b.base b.memory address) has.memory refl)
+    read_is address = word_of_own 32 (unwrap_or (word_at b.base b.memory address) 0)
+        (option_word b.base b.memory address (word_at b.base b.memory address) has.memory refl)
 
     words_then : words_of (next_bits b s (word_at b.base b.memory (on_board (words_of b) w.Address))) ≡ cycle_with reset (words_of b)
     words_then =
@@ -187,7 +217,8 @@ module _ (b : BitBoard) (has : HasBits b) where
           read = read_is (on_board (words_of b) w.Address) j;
           outside = bit_of (not (is_some (word_at b.base b.memory (on_board (words_of b) w.Address))));
           base = b.base;
-          memory = if write_is j && is_some (word_at b.base b.memory (on_board (words_of b) w.Address)) then with_word b.base b.memory (on_is w.Address j) (on_is w.Out j) else b.memory;
+          memory = if write_is j && is_some (word_at b.base b.memory (on_board (words_of b) w.Address))
+              then with_word b.base b.memory (on_is w.Address j) (on_is w.Out j) else b.memory;
         }
 
     words_are : words_of (next_bits b s (word_at b.base b.memory (on w.Address))) ≡ cycle_with reset (words_of b)
@@ -195,7 +226,8 @@ module _ (b : BitBoard) (has : HasBits b) where
 
     -- what the cycle leaves
     register_bits : (wire : Wire) (i : ℕ) → i < width_of wire → slice_index (wires wire i ∷ gate_value s (constant_gate (bit_at 0 i)) ∷ []) (bit_of reset) < 2
-    register_bits wire i lt = pick_small (wires wire i) (gate_value s (constant_gate (bit_at 0 i))) (bit_of reset) (nets.bits wire i lt) (constant_small s (bit_at 0 i) (bit_at-lt 0 i))
+    register_bits wire i lt = pick_small (wires wire i) (gate_value s (constant_gate (bit_at 0 i))) (bit_of reset) (nets.bits wire i lt)
+        (constant_small s (bit_at 0 i) (bit_at-lt 0 i))
 
     leaves_bits : (k i : ℕ) → i < slice_index register_widths k → gate_value s (next_gate (driver_of (get_or registers k w.Phase)) i) < 2
     unfolding driver_of
@@ -217,7 +249,8 @@ module _ (b : BitBoard) (has : HasBits b) where
           file = λ r i below lt. pick_small (b.file r i) (wires w.FileData i) _ (has.file r i below lt) (nets.bits w.FileData i lt);
           read = λ i lt. bit_at-lt (unwrap_or (word_at b.base b.memory (on w.Address)) 0) i;
           outside = omega (arith, small (not (is_some (word_at b.base b.memory (on w.Address)))));
-          memory = memory_fits (gate_value s write_gate == 1 && is_some (word_at b.base b.memory (on w.Address))) b.base b.memory (on w.Address) (on w.Out) has.memory (fit w.Out);
+          memory = memory_fits (gate_value s write_gate == 1 && is_some (word_at b.base b.memory (on w.Address))) b.base b.memory (on w.Address)
+              (on w.Out) has.memory (fit w.Out);
         }
 
   -- the bits of the words are nets
@@ -232,13 +265,18 @@ module _ (b : BitBoard) (has : HasBits b) where
     own_nets =
         record {
           bits = λ wire i lt. bit_at-lt (on_board (words_of b) wire) i;
-          wires = λ wire i lt. ap (λ x. bit_at x i) (sym (settled_on (words_of b).kept inputs wire)) ∙ sym (driver_bit (words_of b).kept inputs (on_board (words_of b)) own fits (λ v j below. refl) held given filed wire (width_of wire) (driver_of wire) i (sized wire) (λ j below. refl) lt);
-          carries = λ wire i lt. carries_hold (words_of b).kept inputs (on_board (words_of b)) own fits (λ v j below. refl) wire (width_of wire) (driver_of wire) (sized wire) (λ j. refl) i lt;
+          wires = λ wire i lt. ap (λ x. bit_at x i) (sym (settled_on (words_of b).kept inputs wire))
+              ∙ sym (driver_bit (words_of b).kept inputs (on_board (words_of b)) own fits (λ v j below. refl) held given filed wire (width_of wire)
+              (driver_of wire) i (sized wire) (λ j below. refl) lt);
+          carries = λ wire i lt. carries_hold (words_of b).kept inputs (on_board (words_of b)) own fits (λ v j below. refl) wire (width_of wire)
+              (driver_of wire) (sized wire) (λ j. refl) i lt;
         }
 
 pub lowered : Lowered
-lowered reset b c has cycles =
-    (ap words_of cycles.next ∙ words_are b has reset cycles.wires cycles.carries cycles.nets, subst HasBits (sym cycles.next) (bits_left b has reset cycles.wires cycles.carries cycles.nets))
+lowered reset b c has cycles = (
+  ap words_of cycles.next ∙ words_are b has reset cycles.wires cycles.carries cycles.nets,
+  subst HasBits (sym cycles.next) (bits_left b has reset cycles.wires cycles.carries cycles.nets),
+)
 
 pub goes_on : GoesOn
 goes_on reset b has =

@@ -1,5 +1,6 @@
 -- Words of bits, and the words of the register file.
-use Rattle.std.proofs.Common.{◌≡◌, ◌≢◌, ℕ, zero, suc, ◌+◌, ◌-◌, ◌*◌, ◌/◌, ◌%◌, ◌^◌, ◌<◌, ◌≤◌, ◌==◌, ◌&&◌, Bool, true, false, not, List, [], ◌∷◌, refl, ap, ◌∙◌, arith, eq-eqb, pow-suc, if◌then◌else◌}
+use Rattle.std.proofs.Common.{◌≡◌, ◌≢◌, ℕ, zero, suc, ◌+◌, ◌-◌, ◌*◌, ◌/◌, ◌%◌, ◌^◌, ◌<◌, ◌≤◌, ◌==◌, ◌&&◌, Bool, true, false, not, List, [], ◌∷◌, refl, ap, ◌∙◌}
+use Rattle.std.proofs.Common.{arith, eq-eqb, pow-suc, if◌then◌else◌}
 use Rattle.std.proofs.lemmas.Bool.{ne_eqb}
 use Rattle.std.proofs.lemmas.Nat.Bits.{bit_at-suc, bit_at_lowest, bit_at-lt, same_from_bits_below}
 use Rattle.std.specs.Prelude.{map, min, slice_index, slice_set}
@@ -27,12 +28,14 @@ bit_of_word (suc n) f zero h lt =
 bit_of_word (suc n) f (suc i) h lt =
     let first = h 0 (omega arith) in
     let high : (f 0 + 2 * word_of_bits n (λ i. f (suc i))) / 2 ≡ word_of_bits n (λ i. f (suc i)) = omega (arith, first) in
-    bit_at-suc (f 0 + 2 * word_of_bits n (λ i. f (suc i))) i ∙ ap (λ x. bit_at x i) high ∙ bit_of_word n (λ i. f (suc i)) i (λ j below. h (suc j) (omega arith)) (omega arith)
+    bit_at-suc (f 0 + 2 * word_of_bits n (λ i. f (suc i))) i ∙ ap (λ x. bit_at x i) high
+    ∙ bit_of_word n (λ i. f (suc i)) i (λ j below. h (suc j) (omega arith)) (omega arith)
 
 -- a word is that of its bits
 pub word_of_own : (n x : ℕ) → x < 2 ^ n → word_of_bits n (bit_at x) ≡ x
 word_of_own n x lt =
-    same_from_bits_below n (word_of_bits n (bit_at x)) x (word_below n (bit_at x) (λ i below. bit_at-lt x i)) lt (λ i below. bit_of_word n (bit_at x) i (λ j less. bit_at-lt x j) below)
+    same_from_bits_below n (word_of_bits n (bit_at x)) x (word_below n (bit_at x) (λ i below. bit_at-lt x i)) lt
+    (λ i below. bit_of_word n (bit_at x) i (λ j less. bit_at-lt x j) below)
 
 pub zero_word : (n : ℕ) (f : ℕ → ℕ) → ((i : ℕ) → f i ≡ 0) → word_of_bits n f ≡ 0
 unfolding word_of_bits
@@ -43,7 +46,8 @@ zero_word (suc n) f h =
     omega (arith, first, rest)
 
 -- one of two words, bit by bit
-pub picked_word : (t : Bool) (n by : ℕ) (f g : ℕ → ℕ) → by ≡ bit_of t → word_of_bits n (λ i. slice_index (f i ∷ g i ∷ []) by) ≡ (if t then word_of_bits n g else word_of_bits n f)
+pub picked_word : (t : Bool) (n by : ℕ) (f g : ℕ → ℕ) → by ≡ bit_of t → word_of_bits n (λ i. slice_index (f i ∷ g i ∷ []) by)
+    ≡ (if t then word_of_bits n g else word_of_bits n f)
 picked_word true n by f g e = ap (λ k. word_of_bits n (λ i. slice_index (f i ∷ g i ∷ []) k)) e
 picked_word false n by f g e = ap (λ k. word_of_bits n (λ i. slice_index (f i ∷ g i ∷ []) k)) e
 
@@ -80,7 +84,8 @@ same_from f g k zero le same = refl
 same_from f g k (suc m) le same = λ j. same k (omega arith) j ∷ same_from f g (suc k) m (omega arith) same j
 
 -- the register file, of which one word is written or none
-pub file_words : (write : Bool) (n x : ℕ) (f g : ℕ → ℕ) → ((r : ℕ) → r < 16 → g r ≡ (if write && (n == r) then x else f r)) → map g file_numbers ≡ (if write then slice_set (map f file_numbers) n x else map f file_numbers)
+pub file_words : (write : Bool) (n x : ℕ) (f g : ℕ → ℕ) → ((r : ℕ) → r < 16 → g r ≡ (if write && (n == r) then x else f r))
+    → map g file_numbers ≡ (if write then slice_set (map f file_numbers) n x else map f file_numbers)
 file_words true n x f g same = set_from n x f g same 0 16 n (omega arith) (omega arith)
 file_words false n x f g same = same_from f g 0 16 (omega arith) same
 

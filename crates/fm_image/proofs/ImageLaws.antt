@@ -1,5 +1,6 @@
 -- The laws of the whole image: what is read is spelled so, and what is spelled so is read.
-use Rattle.std.proofs.Common.{◌≡◌, ℕ, ◌+◌, ◌^◌, ◌<◌, ◌≤◌, Bool, true, false, cond, ◌&&◌, leb, eqb, List, [], ◌∷◌, ◌++◌, length, map, Option, Result, Ok, Err, refl, sym, ap, subst, ◌∙◌, append_assoc, arith}
+use Rattle.std.proofs.Common.{◌≡◌, ℕ, ◌+◌, ◌^◌, ◌<◌, ◌≤◌, Bool, true, false, cond, ◌&&◌, leb, eqb, List, [], ◌∷◌, ◌++◌, length, map, Option, Result, Ok, Err}
+use Rattle.std.proofs.Common.{refl, sym, ap, subst, ◌∙◌, append_assoc, arith}
 use Rattle.std.specs.Prelude.{IsTrue, IfOk}
 use Rattle.std.proofs.lemmas.Bool.{leb-true, and_parts, and_from, eqb-true, eq-eqb}
 use Rattle.std.proofs.lemmas.List.{append-nil, nil_from_length}
@@ -11,11 +12,13 @@ use Rattle.fm_image.specs.declared.window.Window.{Window}
 use Rattle.fm_image.specs.Image.{ImageOf}
 use Rattle.fm_image.specs.Limits.{Tables, tables_of, window_of, is_version, is_size, is_inside, is_window, is_condition_address}
 use Rattle.fm_image.specs.Limits.{is_condition, is_count, most_conditions, is_slot, is_tables, all_after, is_image}
-use Rattle.fm_image.specs.Spelling.{number_bytes, numbers_bytes, name_bytes, counted_bytes, window_bytes, flags_bytes, condition_address_bytes, slot_bytes, opening_bytes, tables_bytes, spelling, are_words, Spelled}
+use Rattle.fm_image.specs.Spelling.{number_bytes, numbers_bytes, name_bytes, counted_bytes, window_bytes, flags_bytes, condition_address_bytes, slot_bytes}
+use Rattle.fm_image.specs.Spelling.{opening_bytes, tables_bytes, spelling, are_words, Spelled}
 use Rattle.stack_text.specs.Results.{◌>>=◌}
 use Rattle.fm_image.specs.Rules.{Fault, GivesImageUnless}
 use Rattle.fm_image.specs.Fields.{place, number_at}
-use Rattle.fm_image.specs.Reading.{opening_at, window_at, numbers_at, flags_at, condition_address_at, conditions_at, slot_at, slots_at, words_at, tables_at, image_at, read_of, error_of, ReportsFault}
+use Rattle.fm_image.specs.Reading.{opening_at, window_at, numbers_at, flags_at, condition_address_at, conditions_at, slot_at, slots_at, words_at, tables_at}
+use Rattle.fm_image.specs.Reading.{image_at, read_of, error_of, ReportsFault}
 use Rattle.fm_image.proofs.LimitLaws.{Limits, limits_of, from_limits}
 use Rattle.stack_text.proofs.ResultLaws.{bind_ok, bind_at}
 use Rattle.fm_image.proofs.ReaderLaws.{IsBytes, ok_is, guard_passed, Took, Took-then, Reads, is_word, number_reads, items_take, items_again, counted_reads}
@@ -33,12 +36,15 @@ words_same earlier (n ∷ numbers) = ap (λ (b : Bool). is_word n && b) (words_s
 
 -- ---- the counted fields
 
-slots_reads : (end : ℕ) (window : Window) → is_window window ≡ true → Reads (slots_at end window) (counted_bytes slot_bytes) (λ slots. is_count 200 (length slots) && all_after (is_slot window) [] slots)
+slots_reads : (end : ℕ) (window : Window) → is_window window ≡ true → Reads (slots_at end window) (counted_bytes slot_bytes)
+    (λ slots. is_count 200 (length slots) && all_after (is_slot window) [] slots)
 unfolding slots_at
 slots_reads end window sized =
-    counted_reads (λ earlier. slot_at end window (map (λ slot. slot.name) earlier)) slot_bytes (is_slot window) (slot_reads end window sized) (is_count 200) end (small_count 200 (omega arith))
+    counted_reads (λ earlier. slot_at end window (map (λ slot. slot.name) earlier)) slot_bytes (is_slot window) (slot_reads end window sized)
+    (is_count 200) end (small_count 200 (omega arith))
 
-words_reads : (end : ℕ) (window : Window) → is_window window ≡ true → Reads (words_at end window) (counted_bytes number_bytes) (λ words. is_count window.size (length words) && all_after is_number [] words)
+words_reads : (end : ℕ) (window : Window) → is_window window ≡ true → Reads (words_at end window) (counted_bytes number_bytes)
+    (λ words. is_count window.size (length words) && all_after is_number [] words)
 unfolding words_at
 words_reads end window sized =
     let p = and_parts (is_size window.base window.size) (is_inside window.base window.size window.final_pc) sized in
@@ -70,16 +76,20 @@ ended end version w registers flags address conditions slots words tables =
     cond (eqb (length tables.1) 0) (Ok (made version w registers flags address conditions slots words tables.0)) (Err (4, place end tables.1))
 
 abbrev after_words : ℕ → ℕ → Window → List ℕ → Flags → Option ℕ → List (List ℕ) → List Slot → List ℕ × List ℕ → Result ImageOf Fault
-after_words end version w registers flags address conditions slots words = tables_at version end w words.1 >>= ended end version w registers flags address conditions slots words.0
+after_words end version w registers flags address conditions slots words =
+    tables_at version end w words.1 >>= ended end version w registers flags address conditions slots words.0
 
 abbrev after_slots : ℕ → ℕ → Window → List ℕ → Flags → Option ℕ → List (List ℕ) → List Slot × List ℕ → Result ImageOf Fault
-after_slots end version w registers flags address conditions slots = words_at end w slots.1 >>= after_words end version w registers flags address conditions slots.0
+after_slots end version w registers flags address conditions slots =
+    words_at end w slots.1 >>= after_words end version w registers flags address conditions slots.0
 
 abbrev after_conditions : ℕ → ℕ → Window → List ℕ → Flags → Option ℕ → List (List ℕ) × List ℕ → Result ImageOf Fault
-after_conditions end version w registers flags address conditions = slots_at end w conditions.1 >>= after_slots end version w registers flags address conditions.0
+after_conditions end version w registers flags address conditions =
+    slots_at end w conditions.1 >>= after_slots end version w registers flags address conditions.0
 
 abbrev after_address : ℕ → ℕ → Window → List ℕ → Flags → Option ℕ × List ℕ → Result ImageOf Fault
-after_address end version w registers flags address = conditions_at (most_conditions version) end address.1 >>= after_conditions end version w registers flags address.0
+after_address end version w registers flags address =
+    conditions_at (most_conditions version) end address.1 >>= after_conditions end version w registers flags address.0
 
 abbrev after_flags : ℕ → ℕ → Window → List ℕ → Flags × List ℕ → Result ImageOf Fault
 after_flags end version w registers flags = condition_address_at end w flags.1 >>= after_address end version w registers flags.0
@@ -97,7 +107,8 @@ few_conditions : (one : Bool) → cond one 200 201 < 2 ^ 32
 few_conditions true = omega arith
 few_conditions false = omega arith
 
-all_conditions_reads : (version end : ℕ) → Reads (conditions_at (most_conditions version) end) (counted_bytes name_bytes) (λ names. is_count (most_conditions version) (length names) && all_after is_condition [] names)
+all_conditions_reads : (version end : ℕ) → Reads (conditions_at (most_conditions version) end) (counted_bytes name_bytes)
+    (λ names. is_count (most_conditions version) (length names) && all_after is_condition [] names)
 all_conditions_reads version end = conditions_reads (most_conditions version) end (few_conditions (eqb version 1))
 
 -- ---- the two laws
@@ -109,7 +120,8 @@ record Read (bytes : List ℕ) (image : ImageOf) : Type 0 where
   fields : bytes ≡ spelling image
 
 -- the fields behind the conditions
-record Rest (version : ℕ) (w : Window) (registers : List ℕ) (flags : Flags) (address : Option ℕ) (conditions : List (List ℕ)) (left : List ℕ) (image : ImageOf) : Type 0 where
+record Rest (version : ℕ) (w : Window) (registers : List ℕ) (flags : Flags) (address : Option ℕ) (conditions : List (List ℕ)) (left : List ℕ)
+    (image : ImageOf) : Type 0 where
   slots : List Slot
   words : List ℕ
   tables : Tables
@@ -119,7 +131,8 @@ record Rest (version : ℕ) (w : Window) (registers : List ℕ) (flags : Flags) 
   tables_fit : is_tables version w tables ≡ true
   text : left ≡ counted_bytes slot_bytes slots ++ counted_bytes number_bytes words ++ tables_bytes version tables
 
-rest_takes : (end version : ℕ) (w : Window) (registers : List ℕ) (flags : Flags) (address : Option ℕ) (conditions : List (List ℕ)) (left : List ℕ) (image : ImageOf) → is_window w ≡ true → IsBytes left
+rest_takes : (end version : ℕ) (w : Window) (registers : List ℕ) (flags : Flags) (address : Option ℕ) (conditions : List (List ℕ)) (left : List ℕ)
+    (image : ImageOf) → is_window w ≡ true → IsBytes left
     → after_conditions end version w registers flags address (conditions, left) ≡ Ok image → Rest version w registers flags address conditions left image
 rest_takes end version w registers flags address conditions left image sized ok e =
     let a = bind_ok (slots_at end w left) (after_slots end version w registers flags address conditions) image e in
@@ -131,7 +144,8 @@ rest_takes end version w registers flags address conditions left image sized ok 
     let v = (tables_reads version end w sized).takes b.0.1 c.0.0 c.0.1 u.0.rest_fits c.1 in
     let nothing : c.0.1 ≡ [] = nil_from_length c.0.1 (eqb-true _ _ g.0) in
     let all : List ℕ = counted_bytes slot_bytes a.0.0 ++ counted_bytes number_bytes b.0.0 ++ tables_bytes version c.0.0 in
-    let took = Took-then left (counted_bytes slot_bytes a.0.0 ++ counted_bytes number_bytes b.0.0) b.0.1 (tables_bytes version c.0.0) c.0.1 (Took-then left (counted_bytes slot_bytes a.0.0) a.0.1 (counted_bytes number_bytes b.0.0) b.0.1 t.0 u.0) v.0 in
+    let took = Took-then left (counted_bytes slot_bytes a.0.0 ++ counted_bytes number_bytes b.0.0) b.0.1 (tables_bytes version c.0.0) c.0.1
+    (Took-then left (counted_bytes slot_bytes a.0.0) a.0.1 (counted_bytes number_bytes b.0.0) b.0.1 t.0 u.0) v.0 in
     record {
       slots = a.0.0;
       words = b.0.0;
@@ -147,22 +161,37 @@ grouped : (x a b c : List ℕ) → x ++ (a ++ b ++ c) ≡ x ++ a ++ b ++ c
 grouped x a b c = sym (append_assoc x (a ++ b) c) ∙ ap (λ (t : List ℕ). t ++ c) (sym (append_assoc x a b))
 
 -- all fields, from those before the conditions' end and those behind it
-whole_read : (bytes : List ℕ) (version : ℕ) (w : Window) (registers : List ℕ) (flags : Flags) (address : Option ℕ) (conditions : List (List ℕ)) (left : List ℕ) (image : ImageOf)
+whole_read : (bytes : List ℕ) (version : ℕ) (w : Window) (registers : List ℕ) (flags : Flags) (address : Option ℕ) (conditions : List (List ℕ))
+    (left : List ℕ) (image : ImageOf)
     → is_version version ≡ true → is_window w ≡ true → length registers ≡ 16 → all_after is_number [] registers ≡ true → is_condition_address w address ≡ true
     → (is_count (most_conditions version) (length conditions) && all_after is_condition [] conditions) ≡ true
-    → bytes ≡ (opening_bytes version ++ window_bytes w ++ numbers_bytes registers ++ flags_bytes flags ++ condition_address_bytes address ++ counted_bytes name_bytes conditions) ++ left
+    → bytes ≡ (opening_bytes version ++ window_bytes w ++ numbers_bytes registers ++ flags_bytes flags ++ condition_address_bytes address
+    ++ counted_bytes name_bytes conditions) ++ left
     → Rest version w registers flags address conditions left image → Read bytes image
 unfolding spelling
 whole_read bytes version w registers flags address conditions left image is sized count numbers inside named text r =
     let p = and_parts (is_count (most_conditions version) (length conditions)) (all_after is_condition [] conditions) named in
     let q = and_parts (is_count 200 (length r.slots)) (all_after (is_slot w) [] r.slots) r.slots_fit in
     let k = and_parts (is_count w.size (length r.words)) (all_after is_number [] r.words) r.words_fit in
-    let front : List ℕ = opening_bytes version ++ window_bytes w ++ numbers_bytes registers ++ flags_bytes flags ++ condition_address_bytes address ++ counted_bytes name_bytes conditions in
+    let front : List ℕ = opening_bytes version ++ window_bytes w ++ numbers_bytes registers ++ flags_bytes flags ++ condition_address_bytes address
+    ++ counted_bytes name_bytes conditions in
     subst (λ (i : ImageOf). Read bytes i) r.is (record {
-      limits = record { version = is; window = sized; registers = eq-eqb _ _ count; condition_address = inside; condition_count = p.0; conditions = p.1; slot_count = q.0; slots = q.1; words = k.0; tables = r.tables_fit };
+      limits = record {
+        version = is;
+        window = sized;
+        registers = eq-eqb _ _ count;
+        condition_address = inside;
+        condition_count = p.0;
+        conditions = p.1;
+        slot_count = q.0;
+        slots = q.1;
+        words = k.0;
+        tables = r.tables_fit;
+      };
       registers = sym (words_same [] registers) ∙ numbers;
       words = sym (words_same [] r.words) ∙ k.1;
-      fields = text ∙ ap (λ (t : List ℕ). front ++ t) r.text ∙ grouped front (counted_bytes slot_bytes r.slots) (counted_bytes number_bytes r.words) (tables_bytes version r.tables);
+      fields = text ∙ ap (λ (t : List ℕ). front ++ t) r.text ∙ grouped front (counted_bytes slot_bytes r.slots) (counted_bytes number_bytes r.words)
+          (tables_bytes version r.tables);
     })
 
 image_takes : (end : ℕ) (bytes : List ℕ) (image : ImageOf) → IsBytes bytes → image_at end bytes ≡ Ok image → Read bytes image
@@ -194,7 +223,8 @@ image_takes end bytes image ok e =
 regrouped : (a b c d e f g h k : List ℕ) → a ++ b ++ c ++ d ++ e ++ f ++ g ++ h ++ k ≡ a ++ (b ++ (c ++ (d ++ (e ++ (f ++ (g ++ (h ++ (k ++ []))))))))
 regrouped a b c d e f g h k = simp (append_assoc, append-nil)
 
-image_again : (end : ℕ) (image : ImageOf) → Limits image → are_words image.registers ≡ true → are_words image.words ≡ true → image_at end (spelling image) ≡ Ok image
+image_again : (end : ℕ) (image : ImageOf) → Limits image → are_words image.registers ≡ true → are_words image.words ≡ true
+    → image_at end (spelling image) ≡ Ok image
 unfolding image_at spelling
 image_again end i l registers words =
     let w = window_of i in
@@ -203,19 +233,43 @@ image_again end i l registers words =
     let r7 : List ℕ = counted_bytes number_bytes i.words ++ (tables_bytes i.version (tables_of i) ++ []) in
     let r6 : List ℕ = counted_bytes slot_bytes i.slots ++ (counted_bytes number_bytes i.words ++ (tables_bytes i.version (tables_of i) ++ [])) in
     let count : length i.registers ≡ 16 = eqb-true _ _ l.registers in
-    let numbers : numbers_at end 16 (numbers_bytes i.registers ++ (flags_bytes i.flags ++ (condition_address_bytes i.condition_address ++ (counted_bytes name_bytes i.conditions ++ r6)))) ≡ Ok (i.registers, flags_bytes i.flags ++ (condition_address_bytes i.condition_address ++ (counted_bytes name_bytes i.conditions ++ r6))) =
-    ap (λ n. numbers_at end n (numbers_bytes i.registers ++ (flags_bytes i.flags ++ (condition_address_bytes i.condition_address ++ (counted_bytes name_bytes i.conditions ++ r6))))) (sym count)
-    ∙ items_again (λ earlier. number_at end) number_bytes is_number (λ earlier. number_reads end) i.registers [] (flags_bytes i.flags ++ (condition_address_bytes i.condition_address ++ (counted_bytes name_bytes i.conditions ++ r6))) (words_same [] i.registers ∙ registers) in
-    ap (image_at end) (regrouped (opening_bytes i.version) (window_bytes w) (numbers_bytes i.registers) (flags_bytes i.flags) (condition_address_bytes i.condition_address) (counted_bytes name_bytes i.conditions) (counted_bytes slot_bytes i.slots) (counted_bytes number_bytes i.words) (tables_bytes i.version (tables_of i)))
-    ∙ bind_at _ (after_opening end) (i.version, window_bytes w ++ (numbers_bytes i.registers ++ (flags_bytes i.flags ++ (condition_address_bytes i.condition_address ++ (counted_bytes name_bytes i.conditions ++ r6))))) ((opening_reads end).again i.version _ l.version)
-    ∙ bind_at _ (after_window end i.version) (w, numbers_bytes i.registers ++ (flags_bytes i.flags ++ (condition_address_bytes i.condition_address ++ (counted_bytes name_bytes i.conditions ++ r6)))) ((window_reads end).again w _ l.window)
-    ∙ bind_at _ (after_registers end i.version w) (i.registers, flags_bytes i.flags ++ (condition_address_bytes i.condition_address ++ (counted_bytes name_bytes i.conditions ++ r6))) numbers
-    ∙ bind_at _ (after_flags end i.version w i.registers) (i.flags, condition_address_bytes i.condition_address ++ (counted_bytes name_bytes i.conditions ++ r6)) ((flags_reads end).again i.flags _ refl)
-    ∙ bind_at _ (after_address end i.version w i.registers i.flags) (i.condition_address, counted_bytes name_bytes i.conditions ++ r6) ((address_reads end w l.window).again i.condition_address _ l.condition_address)
-    ∙ bind_at _ (after_conditions end i.version w i.registers i.flags i.condition_address) (i.conditions, r6) ((all_conditions_reads i.version end).again i.conditions _ (and_from _ _ l.condition_count l.conditions))
-    ∙ bind_at _ (after_slots end i.version w i.registers i.flags i.condition_address i.conditions) (i.slots, r7) ((slots_reads end w l.window).again i.slots _ (and_from _ _ l.slot_count l.slots))
-    ∙ bind_at _ (after_words end i.version w i.registers i.flags i.condition_address i.conditions i.slots) (i.words, r8) ((words_reads end w l.window).again i.words _ (and_from _ _ l.words (words_same [] i.words ∙ words)))
-    ∙ bind_at _ (ended end i.version w i.registers i.flags i.condition_address i.conditions i.slots i.words) (tables_of i, []) ((tables_reads i.version end w l.window).again (tables_of i) [] l.tables)
+    let numbers : numbers_at end 16 (numbers_bytes i.registers
+    ++ (flags_bytes i.flags ++ (condition_address_bytes i.condition_address ++ (counted_bytes name_bytes i.conditions ++ r6))))
+    ≡ Ok (i.registers, flags_bytes i.flags ++ (condition_address_bytes i.condition_address ++ (counted_bytes name_bytes i.conditions ++ r6))) =
+    ap (λ n. numbers_at end n (numbers_bytes i.registers
+    ++ (flags_bytes i.flags ++ (condition_address_bytes i.condition_address ++ (counted_bytes name_bytes i.conditions ++ r6))))) (sym count)
+    ∙ items_again (λ earlier. number_at end) number_bytes is_number (λ earlier. number_reads end) i.registers []
+    (flags_bytes i.flags ++ (condition_address_bytes i.condition_address ++ (counted_bytes name_bytes i.conditions ++ r6)))
+    (words_same [] i.registers ∙ registers) in
+    ap (image_at end) (regrouped (opening_bytes i.version) (window_bytes w) (numbers_bytes i.registers) (flags_bytes i.flags)
+    (condition_address_bytes i.condition_address) (counted_bytes name_bytes i.conditions) (counted_bytes slot_bytes i.slots)
+    (counted_bytes number_bytes i.words) (tables_bytes i.version (tables_of i)))
+    ∙ bind_at _ (after_opening end) (
+      i.version,
+      window_bytes w
+          ++ (numbers_bytes i.registers ++ (flags_bytes i.flags
+          ++ (condition_address_bytes i.condition_address ++ (counted_bytes name_bytes i.conditions ++ r6)))),
+    )
+    ((opening_reads end).again i.version _ l.version)
+    ∙ bind_at _ (after_window end i.version) (
+      w,
+      numbers_bytes i.registers ++ (flags_bytes i.flags
+          ++ (condition_address_bytes i.condition_address ++ (counted_bytes name_bytes i.conditions ++ r6))),
+    ) ((window_reads end).again w _ l.window)
+    ∙ bind_at _ (after_registers end i.version w)
+    (i.registers, flags_bytes i.flags ++ (condition_address_bytes i.condition_address ++ (counted_bytes name_bytes i.conditions ++ r6))) numbers
+    ∙ bind_at _ (after_flags end i.version w i.registers)
+    (i.flags, condition_address_bytes i.condition_address ++ (counted_bytes name_bytes i.conditions ++ r6)) ((flags_reads end).again i.flags _ refl)
+    ∙ bind_at _ (after_address end i.version w i.registers i.flags) (i.condition_address, counted_bytes name_bytes i.conditions ++ r6)
+    ((address_reads end w l.window).again i.condition_address _ l.condition_address)
+    ∙ bind_at _ (after_conditions end i.version w i.registers i.flags i.condition_address) (i.conditions, r6)
+    ((all_conditions_reads i.version end).again i.conditions _ (and_from _ _ l.condition_count l.conditions))
+    ∙ bind_at _ (after_slots end i.version w i.registers i.flags i.condition_address i.conditions) (i.slots, r7)
+    ((slots_reads end w l.window).again i.slots _ (and_from _ _ l.slot_count l.slots))
+    ∙ bind_at _ (after_words end i.version w i.registers i.flags i.condition_address i.conditions i.slots) (i.words, r8)
+    ((words_reads end w l.window).again i.words _ (and_from _ _ l.words (words_same [] i.words ∙ words)))
+    ∙ bind_at _ (ended end i.version w i.registers i.flags i.condition_address i.conditions i.slots i.words) (tables_of i, [])
+    ((tables_reads i.version end w l.window).again (tables_of i) [] l.tables)
 
 -- What is read is spelled so.
 pub read_spells : (bytes : List ℕ) (image : ImageOf) → IsBytes bytes → read_of bytes ≡ Ok image → Spelled bytes image
@@ -239,7 +293,8 @@ one_spelling a b image s t = s.fields ∙ sym t.fields
 pub limits_hold : (end : ℕ) (bytes : List ℕ) (image : ImageOf) → IsBytes bytes → image_at end bytes ≡ Ok image → IsTrue (is_image image)
 limits_hold end bytes image ok e = from_limits image (image_takes end bytes image ok e).limits
 
-pub is_found : (R : Type 0) (bytes : List ℕ) (r : Result ImageOf ImageFault) → IsBytes bytes → GivesImageUnless R (λ image. image) r (read_of bytes) → IfOk r (λ image. Spelled bytes image)
+pub is_found : (R : Type 0) (bytes : List ℕ) (r : Result ImageOf ImageFault) → IsBytes bytes → GivesImageUnless R (λ image. image) r (read_of bytes)
+    → IfOk r (λ image. Spelled bytes image)
 is_found R bytes (Ok image) ok given = read_spells bytes image ok given
 is_found R bytes (Err e) ok given = tt
 
@@ -248,13 +303,19 @@ tells R bytes (Ok image) given = ap error_of given
 tells R bytes (Err (Refused rule place)) given = ap error_of given
 tells R bytes (Err Memory) given = tt
 
-pub is_read_again : (image : ImageOf) → IsTrue (is_image image) → IsTrue (are_words image.registers) → IsTrue (are_words image.words) → read_of (spelling image) ≡ Ok image
-is_read_again image limits registers words = spelled_reads (spelling image) image (record { limits = limits; registers = registers; words = words; fields = refl })
+pub is_read_again : (image : ImageOf) → IsTrue (is_image image) → IsTrue (are_words image.registers) → IsTrue (are_words image.words)
+    → read_of (spelling image) ≡ Ok image
+is_read_again image limits registers words =
+    spelled_reads (spelling image) image (record { limits = limits; registers = registers; words = words; fields = refl })
 
 -- The limits hold of the fields that were read one after the other.
-pub fields_hold : (end : ℕ) (bytes : List ℕ) (o : ℕ × List ℕ) (w : Window × List ℕ) (registers : List ℕ × List ℕ) (flags : Flags × List ℕ) (address : Option ℕ × List ℕ) (conditions : List (List ℕ) × List ℕ) (slots : List Slot × List ℕ) (words : List ℕ × List ℕ) (tables : Tables × List ℕ)
-    → IsBytes bytes → opening_at end bytes ≡ Ok o → window_at end o.1 ≡ Ok w → numbers_at end 16 w.1 ≡ Ok registers → flags_at end registers.1 ≡ Ok flags → condition_address_at end w.0 flags.1 ≡ Ok address
-    → conditions_at (most_conditions o.0) end address.1 ≡ Ok conditions → slots_at end w.0 conditions.1 ≡ Ok slots → words_at end w.0 slots.1 ≡ Ok words → tables_at o.0 end w.0 words.1 ≡ Ok tables → length tables.1 ≡ 0
+pub fields_hold : (end : ℕ) (bytes : List ℕ) (o : ℕ × List ℕ) (w : Window × List ℕ) (registers : List ℕ × List ℕ) (flags : Flags × List ℕ)
+    (address : Option ℕ × List ℕ) (conditions : List (List ℕ) × List ℕ) (slots : List Slot × List ℕ) (words : List ℕ × List ℕ)
+    (tables : Tables × List ℕ)
+    → IsBytes bytes → opening_at end bytes ≡ Ok o → window_at end o.1 ≡ Ok w → numbers_at end 16 w.1 ≡ Ok registers
+    → flags_at end registers.1 ≡ Ok flags → condition_address_at end w.0 flags.1 ≡ Ok address
+    → conditions_at (most_conditions o.0) end address.1 ≡ Ok conditions → slots_at end w.0 conditions.1 ≡ Ok slots → words_at end w.0 slots.1 ≡ Ok words
+    → tables_at o.0 end w.0 words.1 ≡ Ok tables → length tables.1 ≡ 0
     → IsTrue (is_image (made o.0 w.0 registers.0 flags.0 address.0 conditions.0 slots.0 words.0 tables.0))
 unfolding image_at
 fields_hold end bytes o w registers flags address conditions slots words tables ok e0 e1 e2 e3 e4 e5 e6 e7 e8 nothing =

@@ -6,8 +6,10 @@ use Rattle.fm_image.specs.Rules.{Fault, Parser, FailsUnless}
 use Rattle.fm_image.specs.Fields.{items_at}
 
 -- one item more
-pub goes_on : {A : Type 0} (item : List A → Parser A) (earlier : List A) (count i : ℕ) (left : List ℕ) (x : A) (rest : List ℕ) (all : Result (List A × List ℕ) Fault)
-    → i < count → item earlier left ≡ Ok (x, rest) → items_at item (count - i) earlier left ≡ all → items_at item (count - (i + 1)) (earlier ++ x ∷ []) rest ≡ all
+pub goes_on : {A : Type 0} (item : List A → Parser A) (earlier : List A) (count i : ℕ) (left : List ℕ) (x : A) (rest : List ℕ)
+    (all : Result (List A × List ℕ) Fault)
+    → i < count → item earlier left ≡ Ok (x, rest) → items_at item (count - i) earlier left ≡ all
+    → items_at item (count - (i + 1)) (earlier ++ x ∷ []) rest ≡ all
 unfolding items_at
 goes_on {A} item earlier count i left x rest all lt read so_far =
     let k : count - i ≡ suc (count - (i + 1)) = omega arith in
@@ -24,7 +26,8 @@ stops item earlier count i left fault all lt read so_far =
     sym so_far ∙ one
 
 -- an item is refused, or memory ran out
-pub ends : {A : Type 0} (R : Type 0) (e : ImageFault) (item : List A → Parser A) (earlier : List A) (count i : ℕ) (left : List ℕ) (all : Result (List A × List ℕ) Fault)
+pub ends : {A : Type 0} (R : Type 0) (e : ImageFault) (item : List A → Parser A) (earlier : List A) (count i : ℕ) (left : List ℕ)
+    (all : Result (List A × List ℕ) Fault)
     → i < count → FailsUnless R e (item earlier left) → items_at item (count - i) earlier left ≡ all → FailsUnless R e all
 unfolding items_at
 ends R Memory item earlier count i left all lt read so_far = read

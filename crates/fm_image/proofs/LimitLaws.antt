@@ -37,7 +37,18 @@ limits_of image h =
     let g = and_parts _ _ f.0 in
     let v = and_parts _ _ g.0 in
     let w = and_parts _ _ v.0 in
-    record { version = w.0; window = w.1; registers = v.1; condition_address = g.1; condition_count = f.1; conditions = e.1; slot_count = d.1; slots = c.1; words = b.1; tables = a.1 }
+    record {
+      version = w.0;
+      window = w.1;
+      registers = v.1;
+      condition_address = g.1;
+      condition_count = f.1;
+      conditions = e.1;
+      slot_count = d.1;
+      slots = c.1;
+      words = b.1;
+      tables = a.1;
+    }
 
 pub from_limits : (image : ImageOf) → Limits image → IsTrue (is_image image)
 unfolding is_image
@@ -111,14 +122,20 @@ all_small earlier (p ∷ procedures) h =
     let variables = and_parts (is_count 200 (length p.variables)) (all_after is_variable [] p.variables) b.1 in
     and_from _ _ (and_from _ _ conditions.0 variables.0) (all_small (earlier ++ p ∷ []) procedures a.1)
 
-small_tables : (one : Bool) (window : Window) (tables : Tables) → cond one (eqb (length tables.procedures) 0 && eqb (length tables.marks) 0) (are_tables window tables) ≡ true → SmallTables tables
+small_tables : (one : Bool) (window : Window) (tables : Tables) → cond one (eqb (length tables.procedures) 0 && eqb (length tables.marks) 0)
+    (are_tables window tables) ≡ true → SmallTables tables
 small_tables true window tables h =
     let p = and_parts (eqb (length tables.procedures) 0) (eqb (length tables.marks) 0) h in
     let procedures : length tables.procedures ≡ 0 = eqb-true _ _ p.0 in
     let marks : length tables.marks ≡ 0 = eqb-true _ _ p.1 in
-    record { procedures = omega (arith, procedures); small = ap (list_all is_small) (nil_from_length tables.procedures procedures); marks = omega (arith, marks) }
+    record {
+      procedures = omega (arith, procedures);
+      small = ap (list_all is_small) (nil_from_length tables.procedures procedures);
+      marks = omega (arith, marks);
+    }
 small_tables false window tables h =
-    let p = and_parts (is_count 1000 (length tables.procedures) && all_after is_procedure [] tables.procedures) (is_count (2 ^ 20) (length tables.marks) && all_after (is_mark window (length tables.procedures)) [] tables.marks) h in
+    let p = and_parts (is_count 1000 (length tables.procedures) && all_after is_procedure [] tables.procedures)
+    (is_count (2 ^ 20) (length tables.marks) && all_after (is_mark window (length tables.procedures)) [] tables.marks) h in
     let q = and_parts (is_count 1000 (length tables.procedures)) (all_after is_procedure [] tables.procedures) p.0 in
     let r = and_parts (is_count (2 ^ 20) (length tables.marks)) (all_after (is_mark window (length tables.procedures)) [] tables.marks) p.1 in
     record { procedures = leb-true _ _ q.0; small = all_small [] tables.procedures q.1; marks = leb-true _ _ r.0 }
@@ -142,7 +159,8 @@ unfolding all_after
 no_marks window count [] e = refl
 no_marks window count (m ∷ marks) e = absurd (omega (arith, e))
 
-more_tables : (one : Bool) (window : Window) (tables : Tables) → cond one (eqb (length tables.procedures) 0 && eqb (length tables.marks) 0) (are_tables window tables) ≡ true → are_tables window tables ≡ true
+more_tables : (one : Bool) (window : Window) (tables : Tables) → cond one (eqb (length tables.procedures) 0 && eqb (length tables.marks) 0)
+    (are_tables window tables) ≡ true → are_tables window tables ≡ true
 more_tables true window tables h =
     let p = and_parts (eqb (length tables.procedures) 0) (eqb (length tables.marks) 0) h in
     let procedures : length tables.procedures ≡ 0 = eqb-true _ _ p.0 in

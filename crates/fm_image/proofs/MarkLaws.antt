@@ -1,5 +1,6 @@
 -- The marks of an image have addresses that ascend.
-use Rattle.std.proofs.Common.{◌≡◌, ◌<◌, ◌≤◌, ◌+◌, ◌-◌, ◌&&◌, ℕ, zero, suc, Bool, true, false, cond, eqb, List, [], ◌∷◌, ◌++◌, length, get_or, Option, Some, None, refl, sym, ap, ◌∙◌, arith, length-append}
+use Rattle.std.proofs.Common.{◌≡◌, ◌<◌, ◌≤◌, ◌+◌, ◌-◌, ◌&&◌, ℕ, zero, suc, Bool, true, false, cond, eqb, List, [], ◌∷◌, ◌++◌, length, get_or, Option, Some}
+use Rattle.std.proofs.Common.{None, refl, sym, ap, ◌∙◌, arith, length-append}
 use Rattle.std.specs.Prelude.{IsTrue, ◌^◌, nat_lt, slice_get}
 use Rattle.std.specs.List.{Contains, list_all}
 use Rattle.std.proofs.lemmas.Bool.{and_parts, and_from, eqb-true, ltb-true, lt-ltb}
@@ -32,15 +33,18 @@ last_pushed earlier m =
 module _ (window : Window) (procedures : ℕ) where
   behind_last : (earlier : List Mark) (last m : Mark) → last_mark earlier ≡ Some last → is_mark window procedures earlier m ≡ true → last.address < m.address
   behind_last earlier last m is h =
-      let a = and_parts ((is_inside window.base window.size m.address && is_after (last_mark earlier) m.address) && nat_lt m.procedure procedures) (is_place m.place) h in
+      let a = and_parts ((is_inside window.base window.size m.address && is_after (last_mark earlier) m.address) && nat_lt m.procedure procedures)
+      (is_place m.place) h in
       let b = and_parts (is_inside window.base window.size m.address && is_after (last_mark earlier) m.address) (nat_lt m.procedure procedures) a.0 in
       let c = and_parts (is_inside window.base window.size m.address) (is_after (last_mark earlier) m.address) b.0 in
       ltb-true last.address m.address (sym (ap (λ (o : Option Mark). is_after o m.address) is) ∙ c.1)
 
-  all_behind : (earlier ms : List Mark) (last : Mark) → last_mark earlier ≡ Some last → all_after (is_mark window procedures) earlier ms ≡ true → (k : ℕ) → k < length ms → last.address < address_at ms k
+  all_behind : (earlier ms : List Mark) (last : Mark) → last_mark earlier ≡ Some last → all_after (is_mark window procedures) earlier ms ≡ true
+      → (k : ℕ) → k < length ms → last.address < address_at ms k
   unfolding all_after
   all_behind earlier [] last is h k lt = absurd (omega (arith, lt))
-  all_behind earlier (m ∷ ms) last is h zero lt = behind_last earlier last m is (and_parts (is_mark window procedures earlier m) (all_after (is_mark window procedures) (earlier ++ m ∷ []) ms) h).0
+  all_behind earlier (m ∷ ms) last is h zero lt =
+      behind_last earlier last m is (and_parts (is_mark window procedures earlier m) (all_after (is_mark window procedures) (earlier ++ m ∷ []) ms) h).0
   all_behind earlier (m ∷ ms) last is h (suc k) lt =
       let p = and_parts (is_mark window procedures earlier m) (all_after (is_mark window procedures) (earlier ++ m ∷ []) ms) h in
       omega (arith, behind_last earlier last m is p.0, all_behind (earlier ++ m ∷ []) ms m (last_pushed earlier m) p.1 k (omega (arith, lt)))
@@ -50,16 +54,20 @@ module _ (window : Window) (procedures : ℕ) where
   ascend earlier [] h i j lt below = absurd (omega (arith, below))
   ascend earlier (m ∷ ms) h i zero lt below = absurd (omega (arith, lt))
   ascend earlier (m ∷ ms) h zero (suc j) lt below =
-      all_behind (earlier ++ m ∷ []) ms m (last_pushed earlier m) (and_parts (is_mark window procedures earlier m) (all_after (is_mark window procedures) (earlier ++ m ∷ []) ms) h).1 j (omega (arith, below))
+      all_behind (earlier ++ m ∷ []) ms m (last_pushed earlier m)
+      (and_parts (is_mark window procedures earlier m) (all_after (is_mark window procedures) (earlier ++ m ∷ []) ms) h).1 j (omega (arith, below))
   ascend earlier (m ∷ ms) h (suc i) (suc j) lt below =
-      ascend (earlier ++ m ∷ []) ms (and_parts (is_mark window procedures earlier m) (all_after (is_mark window procedures) (earlier ++ m ∷ []) ms) h).1 i j (omega (arith, lt)) (omega (arith, below))
+      ascend (earlier ++ m ∷ []) ms (and_parts (is_mark window procedures earlier m) (all_after (is_mark window procedures) (earlier ++ m ∷ []) ms) h).1
+      i j (omega (arith, lt)) (omega (arith, below))
 
-tables_ascend : (one : Bool) (window : Window) (tables : Tables) → cond one (eqb (length tables.procedures) 0 && eqb (length tables.marks) 0) (are_tables window tables) ≡ true → Ascending tables.marks
+tables_ascend : (one : Bool) (window : Window) (tables : Tables) → cond one (eqb (length tables.procedures) 0 && eqb (length tables.marks) 0)
+    (are_tables window tables) ≡ true → Ascending tables.marks
 tables_ascend true window tables h =
     let none : length tables.marks ≡ 0 = eqb-true _ _ (and_parts (eqb (length tables.procedures) 0) (eqb (length tables.marks) 0) h).1 in
     λ i j lt below. absurd (omega (arith, none, below))
 tables_ascend false window tables h =
-    let p = and_parts (is_count 1000 (length tables.procedures) && all_after is_procedure [] tables.procedures) (is_count (2 ^ 20) (length tables.marks) && all_after (is_mark window (length tables.procedures)) [] tables.marks) h in
+    let p = and_parts (is_count 1000 (length tables.procedures) && all_after is_procedure [] tables.procedures)
+    (is_count (2 ^ 20) (length tables.marks) && all_after (is_mark window (length tables.procedures)) [] tables.marks) h in
     let r = and_parts (is_count (2 ^ 20) (length tables.marks)) (all_after (is_mark window (length tables.procedures)) [] tables.marks) p.1 in
     ascend window (length tables.procedures) [] tables.marks r.1
 
@@ -85,7 +93,8 @@ marks_fit window procedures earlier (m ∷ ms) low fit up behind =
     let p = and_parts (fits_mark window procedures m) (list_all (fits_mark window procedures) ms) fit in
     let q = and_parts (is_inside window.base window.size m.address) (nat_lt m.procedure procedures && is_place m.place) p.0 in
     let r = and_parts (nat_lt m.procedure procedures) (is_place m.place) q.1 in
-    let after : is_after (last_mark earlier) m.address ≡ true = by_last (last_mark earlier) (λ x e. let lt : x.address < low = behind x e in omega (arith, lt, up.0)) in
+    let after : is_after (last_mark earlier) m.address ≡ true =
+    by_last (last_mark earlier) (λ x e. let lt : x.address < low = behind x e in omega (arith, lt, up.0)) in
     and_from _ _ (and_from _ _ (and_from _ _ (and_from _ _ q.0 after) r.0) r.1)
     (marks_fit window procedures (earlier ++ m ∷ []) ms (m.address + 1) p.1 up.1 (λ x e.
     let same : m ≡ x = some_is m x (sym (last_pushed earlier m) ∙ e) in

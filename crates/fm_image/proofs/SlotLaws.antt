@@ -1,5 +1,6 @@
 -- The laws of flags, addresses, shapes and slots.
-use Rattle.std.proofs.Common.{◌≡◌, ℕ, ◌+◌, ◌^◌, ◌<◌, ◌≤◌, Bool, true, false, cond, ◌&&◌, ltb, leb, eqb, List, ◌++◌, map, Option, Some, None, Result, Ok, refl, sym, ap, subst, ◌∙◌, append_assoc, arith, inl, inr}
+use Rattle.std.proofs.Common.{◌≡◌, ℕ, ◌+◌, ◌^◌, ◌<◌, ◌≤◌, Bool, true, false, cond, ◌&&◌, ltb, leb, eqb, List, ◌++◌, map, Option, Some, None, Result, Ok, refl}
+use Rattle.std.proofs.Common.{sym, ap, subst, ◌∙◌, append_assoc, arith, inl, inr}
 use Rattle.std.proofs.lemmas.Bool.{lt-ltb, le-leb, ltb-true, leb-true, and_parts, and_from, eqb-true, ne_eqb, cases_Bool, agree_below_at}
 use Rattle.stack_text.specs.declared.shape.Kind.{Kind}
 use Rattle.stack_text.specs.declared.shape.Kind.TheVariants.{Integer, Boolean, Character}
@@ -15,11 +16,13 @@ use Rattle.fm_image.specs.declared.slot.Slot.{Slot}
 use Rattle.fm_image.specs.declared.window.Window.{Window}
 use Rattle.fm_image.specs.Limits.{is_size, is_inside, is_window, is_condition_address, is_condition, is_slot, is_slot_address, is_offset}
 use Rattle.fm_image.specs.Limits.{is_variable}
-use Rattle.fm_image.specs.Spelling.{number_bytes, name_bytes, flags_bytes, address_number, condition_address_bytes, kind_number, kind_bytes, shape_bytes, slot_bytes, variable_bytes}
+use Rattle.fm_image.specs.Spelling.{number_bytes, name_bytes, flags_bytes, address_number, condition_address_bytes, kind_number, kind_bytes, shape_bytes}
+use Rattle.fm_image.specs.Spelling.{slot_bytes, variable_bytes}
 use Rattle.stack_text.specs.Results.{◌>>=◌}
 use Rattle.fm_image.specs.Rules.{Fault}
 use Rattle.fm_image.specs.Fields.{number_at, passing}
-use Rattle.fm_image.specs.Reading.{is_flags, flags_at, address_from, condition_address_at, new_name_at, is_kind, kind_of, kind_at, is_length, shape_at, slot_at, variable_at}
+use Rattle.fm_image.specs.Reading.{is_flags, flags_at, address_from, condition_address_at, new_name_at, is_kind, kind_of, kind_at, is_length, shape_at, slot_at}
+use Rattle.fm_image.specs.Reading.{variable_at}
 use Rattle.stack_text.proofs.ResultLaws.{bind_ok, bind_at}
 use Rattle.fm_image.proofs.ReaderLaws.{IsBytes, ok_is, Took, Took-then, Reads, is_word, coded_reads, three_reads}
 use Rattle.fm_image.proofs.FieldLaws.{limited_reads, both, small_reads, new_name_reads}
@@ -39,7 +42,8 @@ flags_back n h =
 
 pub flags_reads : (end : ℕ) → Reads (flags_at end) flags_bytes (λ flags. true)
 flags_reads end =
-    coded_reads flags_of flags_number (passing is_flags rules.Limit end (number_at end)) number_bytes (λ n. is_word n && is_flags n) (λ flags. true) (limited_reads is_flags rules.Limit end)
+    coded_reads flags_of flags_number (passing is_flags rules.Limit end (number_at end)) number_bytes (λ n. is_word n && is_flags n) (λ flags. true)
+    (limited_reads is_flags rules.Limit end)
     flags_back (λ f h. flags_there f)
 
 -- ---- the condition address
@@ -58,15 +62,19 @@ address_there window sized (Some a) h =
     let p = and_parts (is_size window.base window.size) (is_inside window.base window.size window.final_pc) sized in
     let q = and_parts (leb 1 window.size && leb window.size 1048576) (leb (window.base + window.size) 4294967295) p.0 in
     let last : window.base + window.size ≤ 4294967295 = leb-true (window.base + window.size) 4294967295 q.1 in
-    let inside : a < window.base + window.size = ltb-true a (window.base + window.size) (and_parts (leb window.base a) (ltb a (window.base + window.size)) h).1 in
+    let inside : a < window.base + window.size =
+    ltb-true a (window.base + window.size) (and_parts (leb window.base a) (ltb a (window.base + window.size)) h).1 in
     let other : eqb a 4294967295 ≡ false = ne_eqb a 4294967295 (λ e. omega (arith, e, last, inside)) in
     let same : address_from a ≡ Some a = ap (λ (b : Bool). cond b None (Some a)) other in
     (same, and_from _ _ (lt-ltb a (2 ^ 32) (omega (arith, last, inside))) (ap (is_condition_address window) same ∙ h))
 
-pub address_reads : (end : ℕ) (window : Window) → is_window window ≡ true → Reads (condition_address_at end window) condition_address_bytes (is_condition_address window)
+pub address_reads : (end : ℕ) (window : Window) → is_window window ≡ true → Reads (condition_address_at end window) condition_address_bytes
+    (is_condition_address window)
 address_reads end window sized =
-    coded_reads address_from address_number (passing (λ n. is_condition_address window (address_from n)) rules.Address end (number_at end)) number_bytes (λ n. is_word n && is_condition_address window (address_from n)) (is_condition_address window)
-    (limited_reads (λ n. is_condition_address window (address_from n)) rules.Address end) (λ n h. (address_back n, (and_parts (is_word n) (is_condition_address window (address_from n)) h).1)) (address_there window sized)
+    coded_reads address_from address_number (passing (λ n. is_condition_address window (address_from n)) rules.Address end (number_at end)) number_bytes
+    (λ n. is_word n && is_condition_address window (address_from n)) (is_condition_address window)
+    (limited_reads (λ n. is_condition_address window (address_from n)) rules.Address end)
+    (λ n h. (address_back n, (and_parts (is_word n) (is_condition_address window (address_from n)) h).1)) (address_there window sized)
 
 -- ---- shapes
 
@@ -82,15 +90,18 @@ kind_back n h =
 
 kind_reads : (end : ℕ) → Reads (kind_at end) kind_bytes (λ kind. true)
 kind_reads end =
-    coded_reads kind_of kind_number (passing is_kind rules.Limit end (number_at end)) number_bytes (λ n. is_word n && is_kind n) (λ kind. true) (limited_reads is_kind rules.Limit end) kind_back kind_there
+    coded_reads kind_of kind_number (passing is_kind rules.Limit end (number_at end)) number_bytes (λ n. is_word n && is_kind n) (λ kind. true)
+    (limited_reads is_kind rules.Limit end) kind_back kind_there
 
 abbrev length_after : ℕ → Kind × List ℕ → Result (Shape × List ℕ) Fault
 length_after end kind = passing is_length rules.Limit end (number_at end) kind.1 >>= λ count. Ok (record { kind = kind.0; length = count.0 }, count.1)
 
-shape_takes : (end : ℕ) (bytes : List ℕ) (s : Shape) (rest : List ℕ) → IsBytes bytes → shape_at end bytes ≡ Ok (s, rest) → Took bytes (shape_bytes s) rest × (is_length s.length ≡ true)
+shape_takes : (end : ℕ) (bytes : List ℕ) (s : Shape) (rest : List ℕ) → IsBytes bytes → shape_at end bytes ≡ Ok (s, rest)
+    → Took bytes (shape_bytes s) rest × (is_length s.length ≡ true)
 shape_takes end bytes s rest ok e =
     let a = bind_ok (kind_at end bytes) (length_after end) (s, rest) e in
-    let b = bind_ok (passing is_length rules.Limit end (number_at end) a.0.1) (λ count. Ok (record { kind = a.0.0; length = count.0 }, count.1)) (s, rest) a.2 in
+    let b = bind_ok (passing is_length rules.Limit end (number_at end) a.0.1) (λ count. Ok (record { kind = a.0.0; length = count.0 }, count.1))
+    (s, rest) a.2 in
     let t0 = (kind_reads end).takes bytes a.0.0 a.0.1 ok a.1 in
     let t1 = (limited_reads is_length rules.Limit end).takes a.0.1 b.0.0 b.0.1 t0.0.rest_fits b.1 in
     let made : Shape × List ℕ = (record { kind = a.0.0; length = b.0.0 }, b.0.1) in
@@ -101,8 +112,10 @@ shape_again : (end : ℕ) (s : Shape) (rest : List ℕ) → is_length s.length �
 shape_again end s rest h =
     let le : s.length ≤ 4096 = leb-true s.length 4096 h in
     ap (shape_at end) (append_assoc (kind_bytes s.kind) (number_bytes s.length) rest)
-    ∙ bind_at (kind_at end (kind_bytes s.kind ++ (number_bytes s.length ++ rest))) (length_after end) (s.kind, number_bytes s.length ++ rest) ((kind_reads end).again s.kind (number_bytes s.length ++ rest) refl)
-    ∙ bind_at (passing is_length rules.Limit end (number_at end) (number_bytes s.length ++ rest)) (λ count. Ok (record { kind = s.kind; length = count.0 }, count.1)) (s.length, rest)
+    ∙ bind_at (kind_at end (kind_bytes s.kind ++ (number_bytes s.length ++ rest))) (length_after end) (s.kind, number_bytes s.length ++ rest)
+    ((kind_reads end).again s.kind (number_bytes s.length ++ rest) refl)
+    ∙ bind_at (passing is_length rules.Limit end (number_at end) (number_bytes s.length ++ rest))
+    (λ count. Ok (record { kind = s.kind; length = count.0 }, count.1)) (s.length, rest)
     ((limited_reads is_length rules.Limit end).again s.length rest (both s.length 4096 (is_length s.length) le (omega arith) h))
 
 shape_reads : (end : ℕ) → Reads (shape_at end) shape_bytes (λ s. is_length s.length)
@@ -115,16 +128,21 @@ address_small window sized shape n h =
     let w = and_parts (is_size window.base window.size) (is_inside window.base window.size window.final_pc) sized in
     let v = and_parts (leb 1 window.size && leb window.size 1048576) (leb (window.base + window.size) 4294967295) w.0 in
     let last : window.base + window.size ≤ 4294967295 = leb-true (window.base + window.size) 4294967295 v.1 in
-    let inside : n < window.base + window.size = ltb-true n (window.base + window.size) (and_parts (leb (window.base + item_count shape) (n + 1)) (ltb n (window.base + window.size)) h).1 in
+    let inside : n < window.base + window.size =
+    ltb-true n (window.base + window.size) (and_parts (leb (window.base + item_count shape) (n + 1)) (ltb n (window.base + window.size)) h).1 in
     omega (arith, last, inside)
 
-pub slot_reads : (end : ℕ) (window : Window) → is_window window ≡ true → (earlier : List Slot) → Reads (slot_at end window (map (λ slot. slot.name) earlier)) slot_bytes (is_slot window earlier)
+pub slot_reads : (end : ℕ) (window : Window) → is_window window ≡ true → (earlier : List Slot)
+    → Reads (slot_at end window (map (λ slot. slot.name) earlier)) slot_bytes (is_slot window earlier)
 unfolding slot_at
 slot_reads end window sized earlier =
     three_reads (λ name shape address. record { name = name; shape = shape; address = address }) (λ s. s.name) (λ s. s.shape) (λ s. s.address)
-    (new_name_at end (map (λ slot. slot.name) earlier)) (λ name. shape_at end) (λ name shape. passing (is_slot_address window shape) rules.Address end (number_at end))
-    name_bytes shape_bytes number_bytes slot_bytes (is_condition (map (λ slot. slot.name) earlier)) (λ name s. is_length s.length) (λ name s. is_slot_address window s) (is_slot window earlier)
-    (new_name_reads end (map (λ slot. slot.name) earlier)) (λ name. shape_reads end) (λ name s. small_reads (is_slot_address window s) rules.Address end (address_small window sized s))
+    (new_name_at end (map (λ slot. slot.name) earlier)) (λ name. shape_at end)
+    (λ name shape. passing (is_slot_address window shape) rules.Address end (number_at end))
+    name_bytes shape_bytes number_bytes slot_bytes (is_condition (map (λ slot. slot.name) earlier)) (λ name s. is_length s.length)
+    (λ name s. is_slot_address window s) (is_slot window earlier)
+    (new_name_reads end (map (λ slot. slot.name) earlier)) (λ name. shape_reads end)
+    (λ name s. small_reads (is_slot_address window s) rules.Address end (address_small window sized s))
     (λ name shape address. refl) (λ name shape address. refl) (λ s. refl)
 
 -- ---- variables
@@ -137,6 +155,7 @@ unfolding variable_at
 variable_reads end earlier =
     three_reads (λ name shape offset. record { name = name; shape = shape; offset = offset }) (λ v. v.name) (λ v. v.shape) (λ v. v.offset)
     (new_name_at end (map (λ variable. variable.name) earlier)) (λ name. shape_at end) (λ name shape. passing is_offset rules.Limit end (number_at end))
-    name_bytes shape_bytes number_bytes variable_bytes (is_condition (map (λ variable. variable.name) earlier)) (λ name s. is_length s.length) (λ name s. is_offset) (is_variable earlier)
+    name_bytes shape_bytes number_bytes variable_bytes (is_condition (map (λ variable. variable.name) earlier)) (λ name s. is_length s.length)
+    (λ name s. is_offset) (is_variable earlier)
     (new_name_reads end (map (λ variable. variable.name) earlier)) (λ name. shape_reads end) (λ name s. small_reads is_offset rules.Limit end offset_small)
     (λ name shape offset. refl) (λ name shape offset. refl) (λ v. refl)

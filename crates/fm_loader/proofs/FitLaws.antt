@@ -19,9 +19,11 @@ there_is_item kind None h = cc
 there_is_item kind (Some number) h = h
 
 scalar_is_item : (kind : Kind) (scalar : Scalar) → same_kind kind scalar.kind ≡ true → is_within scalar ≡ true → is_item kind (number_of scalar) ≡ true
-scalar_is_item kind scalar same within = subst (λ (k : Kind). is_item k (number_of scalar) ≡ true) (sym (kind_same kind scalar.kind same)) (there_is_item scalar.kind scalar.number within)
+scalar_is_item kind scalar same within =
+    subst (λ (k : Kind). is_item k (number_of scalar) ≡ true) (sym (kind_same kind scalar.kind same)) (there_is_item scalar.kind scalar.number within)
 
-are_items : (kind : Kind) (scalars : List Scalar) → list_all (λ scalar. same_kind kind scalar.kind) scalars ≡ true → list_all is_within scalars ≡ true → list_all (λ item. is_item kind item) (map number_of scalars) ≡ true
+are_items : (kind : Kind) (scalars : List Scalar) → list_all (λ scalar. same_kind kind scalar.kind) scalars ≡ true → list_all is_within scalars ≡ true
+    → list_all (λ item. is_item kind item) (map number_of scalars) ≡ true
 are_items kind [] same within = refl
 are_items kind (scalar ∷ scalars) same within =
     let p = and_parts _ _ same in
@@ -45,7 +47,8 @@ fits_is_value shape (Single scalar) h =
     let r = passes (is_within scalar) rules.Range None p.1 in
     rw (q.0, scalar_is_item shape.kind scalar q.1 r.0) refl
 fits_is_value shape (Several scalars) h =
-    let p = either_passes (eqb shape.length 0) (list_all (λ scalar. same_kind shape.kind scalar.kind) scalars) rules.Kind (cond (not (eqb (length scalars) shape.length)) (Some rules.Length) (cond (not (list_all is_within scalars)) (Some rules.Range) None)) h in
+    let p = either_passes (eqb shape.length 0) (list_all (λ scalar. same_kind shape.kind scalar.kind) scalars) rules.Kind
+    (cond (not (eqb (length scalars) shape.length)) (Some rules.Length) (cond (not (list_all is_within scalars)) (Some rules.Range) None)) h in
     let q = passes (eqb (length scalars) shape.length) rules.Length (cond (not (list_all is_within scalars)) (Some rules.Range) None) p.2 in
     let r = passes (list_all is_within scalars) rules.Range None q.1 in
     rw p.0 (and_from _ _ (eq-eqb _ _ (length-map scalars number_of ∙ eqb-true _ _ q.0)) (are_items shape.kind scalars p.1 r.0))

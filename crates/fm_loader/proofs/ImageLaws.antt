@@ -25,7 +25,8 @@ unfolding all_after
 room_after window earlier [] h = refl
 room_after window earlier (slot ∷ slots) h =
     let p = and_parts (is_slot window earlier slot) (all_after (is_slot window) (earlier ++ slot ∷ []) slots) h in
-    let q = and_parts ((is_name slot.name && is_new (map (λ other. other.name) earlier) slot.name) && leb slot.shape.length 4096) (is_slot_address window slot.shape slot.address) p.0 in
+    let q = and_parts ((is_name slot.name && is_new (map (λ other. other.name) earlier) slot.name) && leb slot.shape.length 4096)
+    (is_slot_address window slot.shape slot.address) p.0 in
     let r = and_parts (leb (window.base + item_count slot.shape) (slot.address + 1)) (ltb slot.address (window.base + window.size)) q.1 in
     and_from _ _ r.0 (room_after window (earlier ++ slot ∷ []) slots p.1)
 

@@ -1,5 +1,6 @@
 -- Names of slots that all differ.
-use Rattle.std.proofs.Common.{◌≡◌, Bor, Some, None, not, ℕ, zero, suc, ◌+◌, ◌<◌, ◌≤◌, List, [], ◌∷◌, ◌++◌, map, length, get_or, take, Bool, true, false, cond, refl, sym, ap, ◌∙◌, arith}
+use Rattle.std.proofs.Common.{◌≡◌, Bor, Some, None, not, ℕ, zero, suc, ◌+◌, ◌<◌, ◌≤◌, List, [], ◌∷◌, ◌++◌, map, length, get_or, take, Bool, true, false, cond}
+use Rattle.std.proofs.Common.{refl, sym, ap, ◌∙◌, arith}
 use Rattle.std.specs.Prelude.{nat_lt}
 use Rattle.std.specs.List.{list_any, position, position_or_len, prefix_len, slice_get}
 use Rattle.std.proofs.lemmas.Bool.{ltb-true, ltb-false}
@@ -13,23 +14,29 @@ use Rattle.fm_image.specs.declared.slot.Slot.{Slot}
 use Rattle.fm_loader.specs.Values.{HaveOwnNames, slot_named}
 
 -- the name of the slot in a place is the one in that place among the names
-get_or-name : (slots : List Slot) (i : ℕ) (slot : Slot) → i < length slots → slot ≡ get_or slots i slot → slot.name ≡ get_or (map (λ s. s.name) slots) i slot.name
+get_or-name : (slots : List Slot) (i : ℕ) (slot : Slot) → i < length slots → slot ≡ get_or slots i slot
+    → slot.name ≡ get_or (map (λ s. s.name) slots) i slot.name
 get_or-name [] i slot lt is = absurd (omega arith)
 get_or-name (s ∷ slots) zero slot lt is = ap (λ (s : Slot). s.name) is
 get_or-name (s ∷ slots) (suc i) slot lt is = get_or-name slots i slot (omega arith) is
 
 -- one more name among the keys
-pub names_next : (slots : List Slot) (i : ℕ) (slot : Slot) (key : Bor (List ℕ)) (keys new : List (Bor (List ℕ))) → i < length slots → slot ≡ get_or slots i slot → key.now ≡ slot.name → HaveOwnNames slots
-    → new ≡ cond (list_any (λ other. bytes_eq key.now other.now) keys) keys (keys ++ key ∷ []) → map (λ k. k.now) keys ≡ map (λ s. s.name) (take i slots) → map (λ k. k.now) new ≡ map (λ s. s.name) (take (i + 1) slots)
+pub names_next : (slots : List Slot) (i : ℕ) (slot : Slot) (key : Bor (List ℕ)) (keys new : List (Bor (List ℕ))) → i < length slots
+    → slot ≡ get_or slots i slot → key.now ≡ slot.name → HaveOwnNames slots
+    → new ≡ cond (list_any (λ other. bytes_eq key.now other.now) keys) keys (keys ++ key ∷ [])
+    → map (λ k. k.now) keys ≡ map (λ s. s.name) (take i slots) → map (λ k. k.now) new ≡ map (λ s. s.name) (take (i + 1) slots)
 names_next slots i slot key keys new lt is same own added so_far =
-    let first = no_earlier (map (λ s. s.name) slots) i slot.name (omega (arith, length-map slots (λ (s : Slot). s.name))) (get_or-name slots i slot lt is) own in
+    let first =
+    no_earlier (map (λ s. s.name) slots) i slot.name (omega (arith, length-map slots (λ (s : Slot). s.name))) (get_or-name slots i slot lt is) own in
     let absent : list_any (λ other. bytes_eq key.now other.now) keys ≡ false =
-    any_now key.now keys ∙ ap (λ (ns : List (List ℕ)). list_any (bytes_eq key.now) ns) so_far ∙ ap (λ (n : List ℕ). list_any (bytes_eq n) (map (λ (s : Slot). s.name) (take i slots))) same
+    any_now key.now keys ∙ ap (λ (ns : List (List ℕ)). list_any (bytes_eq key.now) ns) so_far
+    ∙ ap (λ (n : List ℕ). list_any (bytes_eq n) (map (λ (s : Slot). s.name) (take i slots))) same
     ∙ ap (λ (ns : List (List ℕ)). list_any (bytes_eq slot.name) ns) (sym (take-map (λ (s : Slot). s.name) i slots)) ∙ first in
     let new_is : new ≡ keys ++ key ∷ [] = added ∙ ap (λ (b : Bool). cond b keys (keys ++ key ∷ [])) absent in
     ap (λ (ks : List (Bor (List ℕ))). map (λ k. k.now) ks) new_is ∙ map_push (λ (k : Bor (List ℕ)). k.now) keys key
     ∙ ap (λ (ns : List (List ℕ)). ns ++ key.now ∷ []) so_far ∙ ap (λ (n : List ℕ). map (λ (s : Slot). s.name) (take i slots) ++ n ∷ []) same
-    ∙ sym (map_push (λ (s : Slot). s.name) (take i slots) slot) ∙ ap (λ (ss : List Slot). map (λ (s : Slot). s.name) ss) (sym (take_more slots i slot lt ∙ ap (λ (s : Slot). take i slots ++ s ∷ []) (sym is)))
+    ∙ sym (map_push (λ (s : Slot). s.name) (take i slots) slot) ∙ ap (λ (ss : List Slot). map (λ (s : Slot). s.name) ss)
+    (sym (take_more slots i slot lt ∙ ap (λ (s : Slot). take i slots ++ s ∷ []) (sym is)))
 
 -- ---- the slot of a name
 
@@ -41,15 +48,18 @@ position_map : {X Y : Type 0} (f : X → Y) (p : Y → Bool) (xs : List X) → p
 position_map f p xs = rw (prefix_map f (λ y. not (p y)) xs, length-map xs f) refl
 
 -- the position of a name among keys is that of its slot
-pub same_position : (name : List ℕ) (keys : List (Bor (List ℕ))) (slots : List Slot) → map (λ k. k.now) keys ≡ map (λ s. s.name) slots → position (λ k. bytes_eq name k.now) keys ≡ position (λ s. bytes_eq name s.name) slots
+pub same_position : (name : List ℕ) (keys : List (Bor (List ℕ))) (slots : List Slot) → map (λ k. k.now) keys ≡ map (λ s. s.name) slots
+    → position (λ k. bytes_eq name k.now) keys ≡ position (λ s. bytes_eq name s.name) slots
 same_position name keys slots same =
-    sym (position_map (λ (k : Bor (List ℕ)). k.now) (bytes_eq name) keys) ∙ ap (position (bytes_eq name)) same ∙ position_map (λ (s : Slot). s.name) (bytes_eq name) slots
+    sym (position_map (λ (k : Bor (List ℕ)). k.now) (bytes_eq name) keys) ∙ ap (position (bytes_eq name)) same
+    ∙ position_map (λ (s : Slot). s.name) (bytes_eq name) slots
 
 pub named_same : (name : List ℕ) (slots : List Slot) (slot : Slot) → Some slot ≡ slot_named name slots → name ≡ slot.name
 named_same name [] slot h = cc
 named_same name (s ∷ slots) slot h = by_test (bytes_eq name s.name) refl h (named_same name slots slot)
   where
-    by_test : (b : Bool) → bytes_eq name s.name ≡ b → Some slot ≡ cond b (Some s) (slot_named name slots) → (Some slot ≡ slot_named name slots → name ≡ slot.name) → name ≡ slot.name
+    by_test : (b : Bool) → bytes_eq name s.name ≡ b → Some slot ≡ cond b (Some s) (slot_named name slots)
+        → (Some slot ≡ slot_named name slots → name ≡ slot.name) → name ≡ slot.name
     by_test true e h later = let same : slot ≡ s = cc in (bytes_eq-Decides name s.name).0 e ∙ ap (λ (s : Slot). s.name) (sym same)
     by_test false e h later = later h
 
@@ -68,12 +78,14 @@ some_below n m i h = by_test (nat_lt n m) refl h
     by_test true e h = (cc, ltb-true n m e)
     by_test false e h = cc
 
-pub no_slot : (name : List ℕ) (keys : List (Bor (List ℕ))) (slots : List Slot) → map (λ k. k.now) keys ≡ map (λ s. s.name) slots → None ≡ position (λ k. bytes_eq name k.now) keys → None ≡ slot_named name slots
+pub no_slot : (name : List ℕ) (keys : List (Bor (List ℕ))) (slots : List Slot) → map (λ k. k.now) keys ≡ map (λ s. s.name) slots
+    → None ≡ position (λ k. bytes_eq name k.now) keys → None ≡ slot_named name slots
 no_slot name keys slots same none =
     let past = none_below (position_or_len (λ s. bytes_eq name s.name) slots) (length slots) (sym (none ∙ same_position name keys slots same)) in
     sym (find_at (λ (s : Slot). bytes_eq name s.name) slots ∙ slice_get_past slots (position_or_len (λ s. bytes_eq name s.name) slots) past)
 
-pub the_slot : (name : List ℕ) (keys : List (Bor (List ℕ))) (slots : List Slot) (index : ℕ) → map (λ k. k.now) keys ≡ map (λ s. s.name) slots → Some index ≡ position (λ k. bytes_eq name k.now) keys → slot_named name slots ≡ slice_get slots index
+pub the_slot : (name : List ℕ) (keys : List (Bor (List ℕ))) (slots : List Slot) (index : ℕ) → map (λ k. k.now) keys ≡ map (λ s. s.name) slots
+    → Some index ≡ position (λ k. bytes_eq name k.now) keys → slot_named name slots ≡ slice_get slots index
 the_slot name keys slots index same found =
     let at = some_below (position_or_len (λ s. bytes_eq name s.name) slots) (length slots) index (sym (found ∙ same_position name keys slots same)) in
     find_at (λ (s : Slot). bytes_eq name s.name) slots ∙ ap (slice_get slots) at.0

@@ -1,5 +1,6 @@
 -- What the values that a text gives the slots keep.
-use Rattle.std.proofs.Common.{◌≡◌, Vec, Global, IfOk, ℕ, ℤ, zero, suc, pos, ◌<◌, List, [], ◌∷◌, ◌++◌, map, length, Bool, true, false, cond, ◌&&◌, eqb, Option, Some, None, Result, Ok, Err, option_map, refl, sym, ap, subst, ◌∙◌, arith}
+use Rattle.std.proofs.Common.{◌≡◌, Vec, Global, IfOk, ℕ, ℤ, zero, suc, pos, ◌<◌, List, [], ◌∷◌, ◌++◌, map, length, Bool, true, false, cond, ◌&&◌, eqb, Option}
+use Rattle.std.proofs.Common.{Some, None, Result, Ok, Err, option_map, refl, sym, ap, subst, ◌∙◌, arith}
 use Rattle.std.specs.Prelude.{unwrap_or, codes}
 use Rattle.std.specs.Option.{option_or, ok_or}
 use Rattle.std.specs.List.{list_all, slice_get}
@@ -30,7 +31,8 @@ use Rattle.stack_text.proofs.OptionLaws.{bind_some}
 use Rattle.stack_text.proofs.SharedLaws.{get_below, bytes_apart}
 use Rattle.fm_words.specs.Word.{is_int}
 use Rattle.fm_loader.specs.Parsed.{in_32_bits, character_of, scalar_of, scalar_at, scalars_of, parsed_value, name_at, pair_of, entry_of}
-use Rattle.fm_loader.specs.Values.{entry_at, entries_of, mismatch, rule_broken, slot_named, is_named, rule_of, fault_at, entry_fault, number_of, numbers_of, numbers_for, value_with, value_for, found_in, all_found, values_at, values_on, values_in, HaveOwnNames}
+use Rattle.fm_loader.specs.Values.{entry_at, entries_of, mismatch, rule_broken, slot_named, is_named, rule_of, fault_at, entry_fault, number_of, numbers_of}
+use Rattle.fm_loader.specs.Values.{numbers_for, value_with, value_for, found_in, all_found, values_at, values_on, values_in, HaveOwnNames}
 use Rattle.fm_loader.specs.Rules.{rule_number, Fault, GivesValuesUnless}
 use Rattle.fm_loader.specs.Loaded.{Fits}
 use Rattle.fm_loader.proofs.FoundLaws.{at_slot}
@@ -58,7 +60,8 @@ pub record Given (slots : List Slot) (trees : Nodes) (values : List ValueOf) : T
   pub right : entry_fault slots [] entries ≡ None
   pub values_are : map (value_for entries) slots ≡ map Some values
 
-pub given_at : (slots : List Slot) (place : ℕ) (trees : Nodes) (values : List ValueOf) → values_at slots (list place trees) ≡ Ok values → Given slots trees values
+pub given_at : (slots : List Slot) (place : ℕ) (trees : Nodes) (values : List ValueOf) → values_at slots (list place trees) ≡ Ok values
+    → Given slots trees values
 unfolding values_at
 given_at slots place trees values h =
     let p = bind_ok (entries_of trees) (λ entries. found_in slots entries >>= λ found. all_found place found) values h in
@@ -70,7 +73,8 @@ no_atom : (slots : List Slot) (place : ℕ) (word : List ℕ) (values : List Val
 unfolding values_at
 no_atom slots place word values h = cc
 
-pub given_on : (slots : List Slot) (r : Result Node (TextRule × ℕ)) (values : List ValueOf) → values_on slots r ≡ Ok values → (trees : Nodes) × Given slots trees values
+pub given_on : (slots : List Slot) (r : Result Node (TextRule × ℕ)) (values : List ValueOf) → values_on slots r ≡ Ok values → (trees : Nodes)
+    × Given slots trees values
 given_on slots (Err fault) values h = cc
 given_on slots (Ok (atom place word)) values h = absurd (no_atom slots place word values h)
 given_on slots (Ok (list place trees)) values h = (trees, given_at slots place trees values h)
@@ -109,7 +113,8 @@ fits_if_ok memory slots tree (Err fault) h = tt
 -- ---- each value is one of its shape
 
 -- the slot that an entry is judged by, and that its value fits
-judged_by : (o : Option Slot) (b : Bool) (value : ParsedValue) → rule_broken o b value ≡ None → (slot : Slot) × (o ≡ Some slot) × (mismatch slot.shape value ≡ None)
+judged_by : (o : Option Slot) (b : Bool) (value : ParsedValue) → rule_broken o b value ≡ None → (slot : Slot) × (o ≡ Some slot)
+    × (mismatch slot.shape value ≡ None)
 judged_by None b value h = cc
 judged_by (Some slot) true value h = cc
 judged_by (Some slot) false value h = (slot, refl, h)
@@ -130,7 +135,8 @@ pub record Fitting (slots : List Slot) (name : List ℕ) (numbers : List ℤ) : 
   pub fits : mismatch slot.shape value ≡ None
   pub numbers_are : numbers_of value ≡ numbers
 
-pub entry_fits : (slots : List Slot) (earlier entries : List Entry) (name : List ℕ) (numbers : List ℤ) → entry_fault slots earlier entries ≡ None → numbers_for name entries ≡ Some numbers → Fitting slots name numbers
+pub entry_fits : (slots : List Slot) (earlier entries : List Entry) (name : List ℕ) (numbers : List ℤ) → entry_fault slots earlier entries ≡ None
+    → numbers_for name entries ≡ Some numbers → Fitting slots name numbers
 unfolding entry_fault
 entry_fits slots earlier [] name numbers right given = cc
 entry_fits slots earlier (entry ∷ entries) name numbers right given =
@@ -138,9 +144,17 @@ entry_fits slots earlier (entry ∷ entries) name numbers right given =
     let j = judged_by (slot_named entry.name slots) (is_named entry.name earlier) entry.value (no_rule (rule_of slots earlier entry) entry.place p.0) in
     by_name (bytes_eq name entry.name) refl j given (λ later. entry_fits slots (earlier ++ entry ∷ []) entries name numbers p.1 later)
   where
-    by_name : (b : Bool) → bytes_eq name entry.name ≡ b → (slot : Slot) × (slot_named entry.name slots ≡ Some slot) × (mismatch slot.shape entry.value ≡ None) → cond b (Some (numbers_of entry.value)) (numbers_for name entries) ≡ Some numbers
+    by_name : (b : Bool) → bytes_eq name entry.name ≡ b → (slot : Slot) × (slot_named entry.name slots ≡ Some slot)
+        × (mismatch slot.shape entry.value ≡ None) → cond b (Some (numbers_of entry.value)) (numbers_for name entries) ≡ Some numbers
         → (numbers_for name entries ≡ Some numbers → Fitting slots name numbers) → Fitting slots name numbers
-    by_name true e j given later = record { slot = j.0; value = entry.value; named = ap (λ (n : List ℕ). slot_named n slots) ((bytes_eq-Decides name entry.name).0 e) ∙ j.1; fits = j.2; numbers_are = cc }
+    by_name true e j given later = record {
+      slot = j.0;
+      value = entry.value;
+      named = ap (λ (n : List ℕ). slot_named n slots)
+          ((bytes_eq-Decides name entry.name).0 e) ∙ j.1;
+      fits = j.2;
+      numbers_are = cc;
+    }
     by_name false e j given later = later given
 
 pub named_itself : (slots : List Slot) (i : ℕ) (slot : Slot) → HaveOwnNames slots → slice_get slots i ≡ Some slot → slot_named slot.name slots ≡ Some slot
@@ -161,26 +175,31 @@ pub record Paired (entries : List Entry) (slots : List Slot) (i : ℕ) (value : 
   pub at : slice_get slots i ≡ Some slot
   pub is : value_for entries slot ≡ Some value
 
-pub paired : (entries : List Entry) (slots : List Slot) (values : List ValueOf) (i : ℕ) (value : ValueOf) → map (value_for entries) slots ≡ map Some values → slice_get values i ≡ Some value → Paired entries slots i value
+pub paired : (entries : List Entry) (slots : List Slot) (values : List ValueOf) (i : ℕ) (value : ValueOf)
+    → map (value_for entries) slots ≡ map Some values → slice_get values i ≡ Some value → Paired entries slots i value
 paired entries [] [] i value h at = cc
 paired entries [] (v ∷ values) i value h at = cc
 paired entries (s ∷ slots) [] i value h at = cc
-paired entries (s ∷ slots) (v ∷ values) zero value h at = let first : value_for entries s ≡ Some v = cc in let is : v ≡ value = cc in record { slot = s; at = refl; is = first ∙ ap Some is }
+paired entries (s ∷ slots) (v ∷ values) zero value h at =
+    let first : value_for entries s ≡ Some v = cc in let is : v ≡ value = cc in record { slot = s; at = refl; is = first ∙ ap Some is }
 paired entries (s ∷ slots) (v ∷ values) (suc i) value h at =
     let rest : map (value_for entries) slots ≡ map Some values = cc in
     let p = paired entries slots values i value rest at in
     record { slot = p.slot; at = p.at; is = p.is }
 
-value_numbers : (shape : Shape) (numbers : Option (List ℤ)) (value : ValueOf) → option_map (value_with shape) numbers ≡ Some value → (numbers ≡ Some value.items) × (value.shape ≡ shape)
+value_numbers : (shape : Shape) (numbers : Option (List ℤ)) (value : ValueOf) → option_map (value_with shape) numbers ≡ Some value
+    → (numbers ≡ Some value.items) × (value.shape ≡ shape)
 value_numbers shape None value h = cc
-value_numbers shape (Some numbers) value h = let k : value_with shape numbers ≡ value = cc in (ap (λ (v : ValueOf). Some v.items) k, ap (λ (v : ValueOf). v.shape) (sym k))
+value_numbers shape (Some numbers) value h =
+    let k : value_with shape numbers ≡ value = cc in (ap (λ (v : ValueOf). Some v.items) k, ap (λ (v : ValueOf). v.shape) (sym k))
 
 all_from_gets : {X : Type 0} (test : X → Bool) (xs : List X) → ((i : ℕ) (x : X) → slice_get xs i ≡ Some x → test x ≡ true) → list_all test xs ≡ true
 all_from_gets test [] h = refl
 all_from_gets test (x ∷ xs) h = and_from _ _ (h 0 x refl) (all_from_gets test xs (λ i y at. h (suc i) y at))
 
 -- each value has its shape's number of items, each of its kind
-pub values_are : (slots : List Slot) (text : List ℕ) (values : List ValueOf) → HaveOwnNames slots → values_in slots text ≡ Ok values → list_all (λ value. is_value value.shape value.items) values ≡ true
+pub values_are : (slots : List Slot) (text : List ℕ) (values : List ValueOf) → HaveOwnNames slots → values_in slots text ≡ Ok values
+    → list_all (λ value. is_value value.shape value.items) values ≡ true
 values_are slots text values own h =
     let g = (given_in slots text values h).1 in
     all_from_gets (λ value. is_value value.shape value.items) values (λ i value at.
@@ -211,16 +230,21 @@ character_bits (mark ∷ digits) s h =
     let is = where_true (eqb mark 35 && is_digits digits) (record { kind = Character; number = in_32_bits (numeral_value digits) }) s h in
     subst (λ (t : Scalar). is_int (number_of t) ≡ true) is (in_bits (numeral_value digits))
 
-first_or : (b : Bool) (s t : Scalar) (o : Option Scalar) → cond b (Some s) o ≡ Some t → is_int (number_of s) ≡ true → (o ≡ Some t → is_int (number_of t) ≡ true) → is_int (number_of t) ≡ true
+first_or : (b : Bool) (s t : Scalar) (o : Option Scalar) → cond b (Some s) o ≡ Some t → is_int (number_of s) ≡ true
+    → (o ≡ Some t → is_int (number_of t) ≡ true) → is_int (number_of t) ≡ true
 first_or true s t o h fits later = let is : s ≡ t = cc in subst (λ (u : Scalar). is_int (number_of u) ≡ true) is fits
 first_or false s t o h fits later = later h
 
 scalar_bits : (word : List ℕ) (s : Scalar) → scalar_of word ≡ Some s → is_int (number_of s) ≡ true
 unfolding scalar_of
 scalar_bits word s h =
-    first_or (bytes_eq word (codes "true")) (record { kind = Boolean; number = Some (pos 1) }) s (cond (bytes_eq word (codes "false")) (Some (record { kind = Boolean; number = Some (pos 0) })) (cond (is_numeral word) (Some (record { kind = Integer; number = in_32_bits (numeral_value word) })) (character_of word))) h refl (λ h.
-    first_or (bytes_eq word (codes "false")) (record { kind = Boolean; number = Some (pos 0) }) s (cond (is_numeral word) (Some (record { kind = Integer; number = in_32_bits (numeral_value word) })) (character_of word)) h refl (λ h.
-    first_or (is_numeral word) (record { kind = Integer; number = in_32_bits (numeral_value word) }) s (character_of word) h (in_bits (numeral_value word)) (character_bits word s)))
+    first_or (bytes_eq word (codes "true")) (record { kind = Boolean; number = Some (pos 1) }) s
+    (cond (bytes_eq word (codes "false")) (Some (record { kind = Boolean; number = Some (pos 0) }))
+    (cond (is_numeral word) (Some (record { kind = Integer; number = in_32_bits (numeral_value word) })) (character_of word))) h refl (λ h.
+    first_or (bytes_eq word (codes "false")) (record { kind = Boolean; number = Some (pos 0) }) s
+    (cond (is_numeral word) (Some (record { kind = Integer; number = in_32_bits (numeral_value word) })) (character_of word)) h refl (λ h.
+    first_or (is_numeral word) (record { kind = Integer; number = in_32_bits (numeral_value word) }) s (character_of word) h
+    (in_bits (numeral_value word)) (character_bits word s)))
 
 scalar_at_bits : (tree : Node) (s : Scalar) → scalar_at tree ≡ Some s → is_int (number_of s) ≡ true
 scalar_at_bits (atom place word) s h = scalar_bits word s h
@@ -238,11 +262,14 @@ scalars_bits (more tree trees) scalars h =
     let is : p.0 ∷ q.0 ≡ scalars = cc (q.2) in
     subst (λ (ss : List Scalar). are_bits (map number_of ss) ≡ true) is (and_from _ _ (scalar_at_bits tree p.0 p.1) (scalars_bits trees q.0 q.1))
 
-single_bits : (o : Option Scalar) (value : ParsedValue) → ((s : Scalar) → o ≡ Some s → is_int (number_of s) ≡ true) → option_map Single o ≡ Some value → are_bits (numbers_of value) ≡ true
+single_bits : (o : Option Scalar) (value : ParsedValue) → ((s : Scalar) → o ≡ Some s → is_int (number_of s) ≡ true) → option_map Single o ≡ Some value
+    → are_bits (numbers_of value) ≡ true
 single_bits None value fits h = cc
-single_bits (Some s) value fits h = let is : Single s ≡ value = cc in subst (λ (w : ParsedValue). are_bits (numbers_of w) ≡ true) is (and_from _ _ (fits s refl) refl)
+single_bits (Some s) value fits h =
+    let is : Single s ≡ value = cc in subst (λ (w : ParsedValue). are_bits (numbers_of w) ≡ true) is (and_from _ _ (fits s refl) refl)
 
-several_bits : (o : Option (List Scalar)) (value : ParsedValue) → ((ss : List Scalar) → o ≡ Some ss → are_bits (map number_of ss) ≡ true) → option_map Several o ≡ Some value → are_bits (numbers_of value) ≡ true
+several_bits : (o : Option (List Scalar)) (value : ParsedValue) → ((ss : List Scalar) → o ≡ Some ss → are_bits (map number_of ss) ≡ true)
+    → option_map Several o ≡ Some value → are_bits (numbers_of value) ≡ true
 several_bits None value fits h = cc
 several_bits (Some ss) value fits h = let is : Several ss ≡ value = cc in subst (λ (w : ParsedValue). are_bits (numbers_of w) ≡ true) is (fits ss refl)
 
@@ -255,8 +282,10 @@ entry_bits : (tree : Node) (entry : Entry) → entry_of tree ≡ Some entry → 
 unfolding entry_of
 entry_bits (atom place word) entry h = cc
 entry_bits (list place trees) entry h =
-    let p = bind_some (pair_of trees) (λ pair. options.◌>>=◌ (name_at pair.0) (λ name. options.◌>>=◌ (parsed_value pair.1) (λ value. Some (record { place = place; name = name; value = value })))) entry h in
-    let q = bind_some (name_at p.0.0) (λ name. options.◌>>=◌ (parsed_value p.0.1) (λ value. Some (record { place = place; name = name; value = value }))) entry p.2 in
+    let p = bind_some (pair_of trees) (λ pair. options.◌>>=◌ (name_at pair.0)
+    (λ name. options.◌>>=◌ (parsed_value pair.1) (λ value. Some (record { place = place; name = name; value = value })))) entry h in
+    let q = bind_some (name_at p.0.0) (λ name. options.◌>>=◌ (parsed_value p.0.1)
+    (λ value. Some (record { place = place; name = name; value = value }))) entry p.2 in
     let r = bind_some (parsed_value p.0.1) (λ value. Some (record { place = place; name = q.0; value = value })) entry q.2 in
     let made : Entry = record { place = place; name = q.0; value = r.0 } in
     let is : made ≡ entry = cc (r.2) in
@@ -276,18 +305,22 @@ entries_bits (more tree trees) entries h =
     let p = bind_ok (entry_at tree) (λ entry. entries_of trees >>= λ others. Ok (entry ∷ others)) entries h in
     let q = bind_ok (entries_of trees) (λ others. Ok (p.0 ∷ others)) entries p.2 in
     let is : p.0 ∷ q.0 ≡ entries = cc (q.2) in
-    subst (λ (es : List Entry). are_entries_bits es ≡ true) is (and_from _ _ (entry_bits tree p.0 (entry_ok (entry_of tree) (rule_number rules.Form, place_of tree) p.0 p.1)) (entries_bits trees q.0 q.1))
+    subst (λ (es : List Entry). are_entries_bits es ≡ true) is
+    (and_from _ _ (entry_bits tree p.0 (entry_ok (entry_of tree) (rule_number rules.Form, place_of tree) p.0 p.1)) (entries_bits trees q.0 q.1))
 
-numbers_bits : (name : List ℕ) (entries : List Entry) (numbers : List ℤ) → are_entries_bits entries ≡ true → numbers_for name entries ≡ Some numbers → are_bits numbers ≡ true
+numbers_bits : (name : List ℕ) (entries : List Entry) (numbers : List ℤ) → are_entries_bits entries ≡ true → numbers_for name entries ≡ Some numbers
+    → are_bits numbers ≡ true
 numbers_bits name [] numbers fit h = cc
 numbers_bits name (entry ∷ entries) numbers fit h =
     let p = and_parts _ _ fit in by_name (bytes_eq name entry.name) p.0 h (numbers_bits name entries numbers p.1)
   where
-    by_name : (b : Bool) → are_bits (numbers_of entry.value) ≡ true → cond b (Some (numbers_of entry.value)) (numbers_for name entries) ≡ Some numbers → (numbers_for name entries ≡ Some numbers → are_bits numbers ≡ true) → are_bits numbers ≡ true
+    by_name : (b : Bool) → are_bits (numbers_of entry.value) ≡ true → cond b (Some (numbers_of entry.value)) (numbers_for name entries) ≡ Some numbers
+        → (numbers_for name entries ≡ Some numbers → are_bits numbers ≡ true) → are_bits numbers ≡ true
     by_name true fits h later = let is : numbers_of entry.value ≡ numbers = cc in subst (λ (ns : List ℤ). are_bits ns ≡ true) is fits
     by_name false fits h later = later h
 
-pub values_have_32_bits : (slots : List Slot) (text : List ℕ) (values : List ValueOf) → values_in slots text ≡ Ok values → list_all (λ value. list_all is_int value.items) values ≡ true
+pub values_have_32_bits : (slots : List Slot) (text : List ℕ) (values : List ValueOf) → values_in slots text ≡ Ok values
+    → list_all (λ value. list_all is_int value.items) values ≡ true
 values_have_32_bits slots text values h =
     let given = given_in slots text values h in
     let g = given.1 in

@@ -1,5 +1,6 @@
 -- An instruction can be read back from its text.
-use Rattle.std.proofs.Common.{◌≡◌, ℕ, ◌+◌, ◌/◌, ◌%◌, ◌^◌, ◌<◌, ◌≤◌, ◌==◌, Bool, true, false, not, ◌&&◌, ◌||◌, List, [], ◌∷◌, ◌++◌, refl, sym, ap, ◌∙◌, arith, append_assoc, append-nil, get_or, codes, unwrap_or}
+use Rattle.std.proofs.Common.{◌≡◌, ℕ, ◌+◌, ◌/◌, ◌%◌, ◌^◌, ◌<◌, ◌≤◌, ◌==◌, Bool, true, false, not, ◌&&◌, ◌||◌, List, [], ◌∷◌, ◌++◌, refl, sym, ap, ◌∙◌, arith}
+use Rattle.std.proofs.Common.{append_assoc, append-nil, get_or, codes, unwrap_or}
 use Rattle.std.specs.Prelude.{find, ℤ, pos, negsuc, ◌↔◌}
 use Rattle.std.specs.List.{list_any}
 use Rattle.std.specs.Str.{bytes_eq}
@@ -257,7 +258,8 @@ same_place m n r s hr hs e =
     let whole : opening m ++ (register_name r ++ closing m) ≡ opening n ++ (register_name s ++ closing n) =
     sym (place_around m r) ∙ e ∙ place_around n s in
     let outer = same_parts before_register (opening m) (opening n) _ _ am.opens an.opens refl refl whole in
-    let inner = same_parts in_register (register_name r) (register_name s) (closing m) (closing n) (register_whole r hr) (register_whole s hs) am.closes an.closes outer.rest in
+    let inner = same_parts in_register (register_name r) (register_name s) (closing m) (closing n) (register_whole r hr) (register_whole s hs) am.closes
+    an.closes outer.rest in
     let names : decimal r ≡ decimal s = tail_of inner.front in
     let around : opening m ++ closing m ≡ opening n ++ closing n = ap (λ t. t ++ closing m) outer.front ∙ ap (λ t. opening n ++ t) inner.rest in
     record {
@@ -310,7 +312,8 @@ same_operands : (i j : Instr) → IsInstr i → IsInstr j → operands_text i �
 unfolding operands_text stops in_place
 same_operands i j hi hj e =
     let tail : place_text i.mode_b i.reg_b ++ (44 ∷ operand_text i.a) ≡ place_text j.mode_b j.reg_b ++ (44 ∷ operand_text j.a) = cc in
-    let parts = same_parts in_place (place_text i.mode_b i.reg_b) (place_text j.mode_b j.reg_b) (44 ∷ operand_text i.a) (44 ∷ operand_text j.a) (place_whole i.mode_b i.reg_b hi.0) (place_whole j.mode_b j.reg_b hj.0) refl refl tail in
+    let parts = same_parts in_place (place_text i.mode_b i.reg_b) (place_text j.mode_b j.reg_b) (44 ∷ operand_text i.a) (44 ∷ operand_text j.a)
+    (place_whole i.mode_b i.reg_b hi.0) (place_whole j.mode_b j.reg_b hj.0) refl refl tail in
     let rest = parts.rest in
     let operand : operand_text i.a ≡ operand_text j.a = cc in
     (same_place i.mode_b j.mode_b i.reg_b j.reg_b hi.0 hj.0 parts.front, same_operand i.a j.a hi.1 hj.1 operand)
@@ -342,7 +345,8 @@ same_instruction i j hi hj e =
 
     after_name : (i : Instr) → IsBracketed i.cc → IsBraced i.set → stops in_name (condition_text i.cc ++ (flags_text i.set ++ operands_text i)) ≡ true
     after_name i k f =
-        stops-append in_name (condition_text i.cc) (flags_text i.set ++ operands_text i) k.after_name (stops-append in_name (flags_text i.set) (operands_text i) f.after_name refl)
+        stops-append in_name (condition_text i.cc) (flags_text i.set ++ operands_text i) k.after_name
+        (stops-append in_name (flags_text i.set) (operands_text i) f.after_name refl)
 
 -- what a word is decoded to keeps to the limits of instructions
 immediate_limits : (n : ℕ) → n < 512 → IsOperand (Immediate (imm_of n))

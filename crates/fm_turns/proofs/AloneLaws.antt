@@ -1,5 +1,6 @@
 -- A turn on the memory of all is what the task goes on with alone.
-use Rattle.std.proofs.Common.{◌≡◌, ◌≢◌, ℕ, ◌+◌, ◌-◌, ◌<◌, ◌≤◌, ◌||◌, List, [], ◌∷◌, ◌++◌, length, Bool, true, false, if◌then◌else◌, Result, Ok, Err, eqb, leb, ltb, refl, sym, ap, subst, ◌∙◌, arith, length-append, ⊎_elim}
+use Rattle.std.proofs.Common.{◌≡◌, ◌≢◌, ℕ, ◌+◌, ◌-◌, ◌<◌, ◌≤◌, ◌||◌, List, [], ◌∷◌, ◌++◌, length, Bool, true, false, if◌then◌else◌, Result, Ok, Err, eqb, leb}
+use Rattle.std.proofs.Common.{ltb, refl, sym, ap, subst, ◌∙◌, arith, length-append, ⊎_elim}
 use Rattle.std.specs.Prelude.{min, sum}
 use Rattle.std.proofs.lemmas.Bool.{cases_lt, leb-false, ltb-true, ltb-false, eqb-true, eqb-false, le-leb, lt-leb, eq-eqb, ne_eqb}
 use Rattle.std.proofs.lemmas.List.Sums.{sum_by-cons, sum_by_push}
@@ -19,7 +20,8 @@ use Rattle.fm_turns.specs.declared.round.Round.{Round}
 use Rattle.fm_turns.specs.Windows.{widened_words, IsBehind, IsInside, StaysInsideFrom}
 use Rattle.fm_turns.specs.Starting.{machine_of}
 use Rattle.fm_turns.specs.Turns.{turn_length, running_or_spent, state_after, AfterTurn, after_run, after_turn_in, after_turn}
-use Rattle.fm_turns.specs.Alone.{round_reaching, round_of_end, running_or_spent_alone, state_alone, context_after, count_of, alone, AloneIsCounted, AloneIsLeast, AloneIsWhole}
+use Rattle.fm_turns.specs.Alone.{round_reaching, round_of_end, running_or_spent_alone, state_alone, context_after, count_of, alone, AloneIsCounted}
+use Rattle.fm_turns.specs.Alone.{AloneIsLeast, AloneIsWhole}
 use Rattle.fm_turns.proofs.WindowLaws.{KeepsWindow}
 use Rattle.fm_turns.proofs.OutcomeLaws.{outcome_kept, later_run, outcome_later, outcome_ended, ended_within, not_at_once, outcome_wider, stays_within}
 
@@ -32,12 +34,14 @@ sum_push : (xs : List ℕ) (x : ℕ) → sum (xs ++ x ∷ []) ≡ sum xs + x
 sum_push xs x = sum_by_push (λ n. n) xs x
 
 -- a further round doesn't change it, where they came to it before
-round_kept : (count turn : ℕ) (lengths : List ℕ) → 1 ≤ count + length lengths → count ≤ sum lengths → round_reaching count (lengths ++ turn ∷ []) ≡ round_reaching count lengths
+round_kept : (count turn : ℕ) (lengths : List ℕ) → 1 ≤ count + length lengths → count ≤ sum lengths
+    → round_reaching count (lengths ++ turn ∷ []) ≡ round_reaching count lengths
 round_kept count turn [] some within = absurd (omega arith)
 round_kept count turn (x ∷ xs) some within =
     by (λ some within. round_kept (count - x) turn xs some within) (leb count x) refl
   where
-    by : (1 ≤ (count - x) + length xs → count - x ≤ sum xs → round_reaching (count - x) (xs ++ turn ∷ []) ≡ round_reaching (count - x) xs) → (b : Bool) → leb count x ≡ b
+    by : (1 ≤ (count - x) + length xs → count - x ≤ sum xs → round_reaching (count - x) (xs ++ turn ∷ []) ≡ round_reaching (count - x) xs) → (b : Bool)
+        → leb count x ≡ b
         → (if b then 1 else 1 + round_reaching (count - x) (xs ++ turn ∷ [])) ≡ (if b then 1 else 1 + round_reaching (count - x) xs)
     by on true e = refl
     by on false e =
@@ -46,7 +50,8 @@ round_kept count turn (x ∷ xs) some within =
         ap (λ n. 1 + n) (on (omega arith) (omega arith))
 
 -- it is this round, where they come to it only now
-round_last : (count turn : ℕ) (lengths : List ℕ) → (1 ≤ length lengths → sum lengths < count) → count ≤ sum lengths + turn → round_reaching count (lengths ++ turn ∷ []) ≡ length lengths + 1
+round_last : (count turn : ℕ) (lengths : List ℕ) → (1 ≤ length lengths → sum lengths < count) → count ≤ sum lengths + turn
+    → round_reaching count (lengths ++ turn ∷ []) ≡ length lengths + 1
 round_last count turn [] before within =
     let here : leb count turn ≡ true = le-leb count turn (omega arith) in
     ap (λ (b : Bool). if b then 1 else 1 + 0) here
@@ -64,10 +69,12 @@ round_of_end_kept count turn lengths within = by (eqb count 0) refl
     by true e = refl
     by false e = let ne = eqb-false count 0 e in round_kept count turn lengths (omega arith) within
 
-round_of_end_last : (count turn : ℕ) (lengths : List ℕ) → sum lengths < count → count ≤ sum lengths + turn → round_of_end count (lengths ++ turn ∷ []) ≡ length lengths + 1
+round_of_end_last : (count turn : ℕ) (lengths : List ℕ) → sum lengths < count → count ≤ sum lengths + turn
+    → round_of_end count (lengths ++ turn ∷ []) ≡ length lengths + 1
 round_of_end_last count turn lengths before within =
     let some : count ≢ 0 = λ e. omega arith in
-    ap (λ (b : Bool). if b then 0 else round_reaching count (lengths ++ turn ∷ [])) (ne_eqb count 0 some) ∙ round_last count turn lengths (λ some. before) within
+    ap (λ (b : Bool). if b then 0 else round_reaching count (lengths ++ turn ∷ [])) (ne_eqb count 0 some)
+    ∙ round_last count turn lengths (λ some. before) within
 
 -- ---- how a task stands that isn't at its final pc
 
@@ -121,17 +128,20 @@ short budget lengths = by (eqb (length lengths) 0) (ltb (sum lengths) budget) re
         }
 
 -- after a round, by whether its turns have come to the budget
-short_running : (budget turn : ℕ) (lengths : List ℕ) → sum lengths + turn < budget → running_or_spent_alone budget (lengths ++ turn ∷ []) ≡ Running (sum lengths + turn)
+short_running : (budget turn : ℕ) (lengths : List ℕ) → sum lengths + turn < budget
+    → running_or_spent_alone budget (lengths ++ turn ∷ []) ≡ Running (sum lengths + turn)
 short_running budget turn lengths less = by (short budget (lengths ++ turn ∷ []))
   where
     by : Short budget (lengths ++ turn ∷ []) → running_or_spent_alone budget (lengths ++ turn ∷ []) ≡ Running (sum lengths + turn)
     by (runs r) = r.state ∙ ap Running (sum_push lengths turn)
     by (spent r) = let within = r.within in absurd (omega (arith, sum_push lengths turn))
 
-short_spent : (budget turn : ℕ) (lengths : List ℕ) → budget ≤ sum lengths + turn → running_or_spent_alone budget (lengths ++ turn ∷ []) ≡ Spent budget (round_reaching budget (lengths ++ turn ∷ []))
+short_spent : (budget turn : ℕ) (lengths : List ℕ) → budget ≤ sum lengths + turn
+    → running_or_spent_alone budget (lengths ++ turn ∷ []) ≡ Spent budget (round_reaching budget (lengths ++ turn ∷ []))
 short_spent budget turn lengths le = by (short budget (lengths ++ turn ∷ []))
   where
-    by : Short budget (lengths ++ turn ∷ []) → running_or_spent_alone budget (lengths ++ turn ∷ []) ≡ Spent budget (round_reaching budget (lengths ++ turn ∷ []))
+    by : Short budget (lengths ++ turn ∷ []) → running_or_spent_alone budget (lengths ++ turn ∷ [])
+        ≡ Spent budget (round_reaching budget (lengths ++ turn ∷ []))
     by (spent r) = r.state
     by (runs r) =
         let n = length-append lengths (turn ∷ []) in
@@ -165,41 +175,51 @@ left_at before after image t state = record { memory = widened_words before afte
 abbrev turn_run : ℕ → ℕ → List ℕ → ℕ → Fm → RunOutcome
 turn_run budget turn lengths pc s = outcome (turn_length (round_after budget turn lengths) (sum lengths)) pc s
 
-module _ (base : ℕ) (before after : List ℕ) (image : ImageOf) (start : Fm) (budget turn : ℕ) (lengths : List ℕ) (at : IsBehind base before start) (stays : StaysInsideFrom start image.final_pc) where
+module _ (base : ℕ) (before after : List ℕ) (image : ImageOf) (start : Fm) (budget turn : ℕ) (lengths : List ℕ) (at : IsBehind base before start)
+    (stays : StaysInsideFrom start image.final_pc) where
   -- a running task goes on as alone
-  ran : (s : Fm) (p : RunOutcome) → Runs budget lengths → outcome (min (sum lengths) budget) image.final_pc start ≡ record { run = run.Spent; state = s } → turn_run budget turn lengths image.final_pc s ≡ p
+  ran : (s : Fm) (p : RunOutcome) → Runs budget lengths → outcome (min (sum lengths) budget) image.final_pc start
+      ≡ record { run = run.Spent; state = s } → turn_run budget turn lengths image.final_pc s ≡ p
       → (o : RunOutcome) → o ≡ record { run = later_run (min (sum lengths) budget) p.run; state = p.state } → IsInside p.run
       → state_after (round_after budget turn lengths) (sum lengths) p.run ≡ state_alone budget (lengths ++ turn ∷ []) o.run
   ran s p r e is o later inside = by p.run refl inside
     where
-      unreached : (b : Bool) → ltb (sum lengths + turn) budget ≡ b → running_or_spent (round_after budget turn lengths) (sum lengths + turn_length (round_after budget turn lengths) (sum lengths)) ≡ running_or_spent_alone budget (lengths ++ turn ∷ [])
+      unreached : (b : Bool) → ltb (sum lengths + turn) budget ≡ b → running_or_spent (round_after budget turn lengths)
+          (sum lengths + turn_length (round_after budget turn lengths) (sum lengths)) ≡ running_or_spent_alone budget (lengths ++ turn ∷ [])
       unreached true e =
           let less = ltb-true (sum lengths + turn) budget e in
           let count : sum lengths + min turn (budget - sum lengths) ≡ sum lengths + turn = omega arith in
           let ne : eqb (sum lengths + turn) budget ≡ false = ne_eqb (sum lengths + turn) budget (λ same. omega arith) in
-          ap (running_or_spent (round_after budget turn lengths)) count ∙ ap (λ (b : Bool). if b then Spent (sum lengths + turn) (length lengths + 1) else Running (sum lengths + turn)) ne
+          ap (running_or_spent (round_after budget turn lengths)) count ∙ ap
+          (λ (b : Bool). if b then Spent (sum lengths + turn) (length lengths + 1) else Running (sum lengths + turn)) ne
           ∙ sym (short_running budget turn lengths less)
       unreached false e =
           let le = ltb-false (sum lengths + turn) budget e in
           let within = r.within in
           let count : sum lengths + min turn (budget - sum lengths) ≡ budget = omega arith in
           let round = round_last budget turn lengths r.before le in
-          ap (running_or_spent (round_after budget turn lengths)) count ∙ ap (λ (b : Bool). if b then Spent budget (length lengths + 1) else Running budget) (eq-eqb budget budget refl)
+          ap (running_or_spent (round_after budget turn lengths)) count ∙ ap
+          (λ (b : Bool). if b then Spent budget (length lengths + 1) else Running budget) (eq-eqb budget budget refl)
           ∙ ap (λ n. Spent budget n) (sym round) ∙ sym (short_spent budget turn lengths le)
 
-      by : (q : Run) → p.run ≡ q → IsInside q → state_after (round_after budget turn lengths) (sum lengths) p.run ≡ state_alone budget (lengths ++ turn ∷ []) o.run
+      by : (q : Run) → p.run ≡ q → IsInside q → state_after (round_after budget turn lengths) (sum lengths) p.run
+          ≡ state_alone budget (lengths ++ turn ∷ []) o.run
       by (run.Ended k) ends inside =
           let within = r.within in
-          let made : k ≤ turn_length (round_after budget turn lengths) (sum lengths) = ended_within s image.final_pc (turn_length (round_after budget turn lengths) (sum lengths)) k (ap (λ (x : RunOutcome). x.run) is ∙ ends) in
-          let some : 0 < k = not_at_once start s image.final_pc (min (sum lengths) budget) (turn_length (round_after budget turn lengths) (sum lengths)) k e (ap (λ (x : RunOutcome). x.run) is ∙ ends) in
+          let made : k ≤ turn_length (round_after budget turn lengths) (sum lengths) =
+          ended_within s image.final_pc (turn_length (round_after budget turn lengths) (sum lengths)) k (ap (λ (x : RunOutcome). x.run) is ∙ ends) in
+          let some : 0 < k = not_at_once start s image.final_pc (min (sum lengths) budget) (turn_length (round_after budget turn lengths) (sum lengths))
+          k e (ap (λ (x : RunOutcome). x.run) is ∙ ends) in
           let count : min (sum lengths) budget + k ≡ sum lengths + k = omega arith in
           let round = round_of_end_last (sum lengths + k) turn lengths (omega arith) (omega arith) in
           ap (state_after (round_after budget turn lengths) (sum lengths)) ends ∙ ap (λ n. Ended (sum lengths + k) n) (sym round)
           ∙ ap (λ n. Ended n (round_of_end n (lengths ++ turn ∷ []))) (sym count)
-          ∙ sym (ap (λ (x : RunOutcome). state_alone budget (lengths ++ turn ∷ []) x.run) later ∙ ap (λ (x : Run). state_alone budget (lengths ++ turn ∷ []) (later_run (min (sum lengths) budget) x)) ends)
+          ∙ sym (ap (λ (x : RunOutcome). state_alone budget (lengths ++ turn ∷ []) x.run) later
+          ∙ ap (λ (x : Run). state_alone budget (lengths ++ turn ∷ []) (later_run (min (sum lengths) budget) x)) ends)
       by run.Spent ends inside =
           ap (state_after (round_after budget turn lengths) (sum lengths)) ends ∙ unreached (ltb (sum lengths + turn) budget) refl
-          ∙ sym (ap (λ (x : RunOutcome). state_alone budget (lengths ++ turn ∷ []) x.run) later ∙ ap (λ (x : Run). state_alone budget (lengths ++ turn ∷ []) (later_run (min (sum lengths) budget) x)) ends)
+          ∙ sym (ap (λ (x : RunOutcome). state_alone budget (lengths ++ turn ∷ []) x.run) later
+          ∙ ap (λ (x : Run). state_alone budget (lengths ++ turn ∷ []) (later_run (min (sum lengths) budget) x)) ends)
       by (run.Outside a k) ends inside = absurd inside
 
   turns_so : (r : Run) (s : Fm) → outcome (min (sum lengths) budget) image.final_pc start ≡ record { run = r; state = s }
@@ -211,7 +231,8 @@ module _ (base : ℕ) (before after : List ℕ) (image : ImageOf) (start : Fm) (
       let made : k ≤ min (sum lengths) budget = ended_within start image.final_pc (min (sum lengths) budget) k (ap (λ (o : RunOutcome). o.run) e) in
       let next = outcome_ended start s image.final_pc (min (sum lengths) budget) (min (sum (lengths ++ turn ∷ [])) budget) k (omega arith) e in
       let round = round_of_end_kept k turn lengths (omega arith) in
-      ap (λ n. left_at before after image s (Ended k n)) (sym round) ∙ ap (λ (o : RunOutcome). left_at before after image o.state (state_alone budget (lengths ++ turn ∷ []) o.run)) (sym next)
+      ap (λ n. left_at before after image s (Ended k n)) (sym round) ∙ ap
+      (λ (o : RunOutcome). left_at before after image o.state (state_alone budget (lengths ++ turn ∷ []) o.run)) (sym next)
   turns_so (run.Outside a k) s e =
       absurd (subst (λ (o : RunOutcome). IsInside o.run) e (stays_within start image.final_pc (min (sum lengths) budget) stays))
   turns_so run.Spent s e = by (short budget lengths)
@@ -224,10 +245,14 @@ module _ (base : ℕ) (before after : List ℕ) (image : ImageOf) (start : Fm) (
           let some = h.some in
           let more = sum_push lengths turn in
           let same : min (sum lengths) budget ≡ min (sum (lengths ++ turn ∷ [])) budget = omega arith in
-          let next : outcome (min (sum (lengths ++ turn ∷ [])) budget) image.final_pc start ≡ record { run = run.Spent; state = s } = ap (λ n. outcome n image.final_pc start) (sym same) ∙ e in
+          let next : outcome (min (sum (lengths ++ turn ∷ [])) budget) image.final_pc start ≡ record { run = run.Spent; state = s } =
+          ap (λ n. outcome n image.final_pc start) (sym same) ∙ e in
           let round = round_kept budget turn lengths (omega arith) within in
-          subst (λ (state : Task). TurnsTo (round_after budget turn lengths) base before after image s state (outcome (min (sum (lengths ++ turn ∷ [])) budget) image.final_pc start).state (state_alone budget (lengths ++ turn ∷ []) (outcome (min (sum (lengths ++ turn ∷ [])) budget) image.final_pc start).run)) (sym h.state)
-          (ap (λ n. left_at before after image s (Spent budget n)) (sym round) ∙ ap (left_at before after image s) (sym (short_spent budget turn lengths (omega arith)))
+          subst (λ (state : Task). TurnsTo (round_after budget turn lengths) base before after image s state
+          (outcome (min (sum (lengths ++ turn ∷ [])) budget) image.final_pc start).state
+          (state_alone budget (lengths ++ turn ∷ []) (outcome (min (sum (lengths ++ turn ∷ [])) budget) image.final_pc start).run)) (sym h.state)
+          (ap (λ n. left_at before after image s (Spent budget n)) (sym round) ∙ ap (left_at before after image s)
+          (sym (short_spent budget turn lengths (omega arith)))
           ∙ ap (λ (o : RunOutcome). left_at before after image o.state (state_alone budget (lengths ++ turn ∷ []) o.run)) (sym next))
       by (runs h) =
           let within = h.within in
@@ -237,19 +262,27 @@ module _ (base : ℕ) (before after : List ℕ) (image : ImageOf) (start : Fm) (
           let p : RunOutcome = outcome n image.final_pc s in
           let all : m + n ≡ min (sum (lengths ++ turn ∷ [])) budget = omega arith in
           let later : outcome (m + n) image.final_pc start ≡ record { run = later_run m p.run; state = p.state } = outcome_later start s image.final_pc m n e in
-          let next : outcome (min (sum (lengths ++ turn ∷ [])) budget) image.final_pc start ≡ record { run = later_run m p.run; state = p.state } = ap (λ k. outcome k image.final_pc start) (sym all) ∙ later in
-          let inside : IsInside p.run = inside_before m p.run (subst (λ (o : RunOutcome). IsInside o.run) later (stays_within start image.final_pc (m + n) stays)) in
+          let next : outcome (min (sum (lengths ++ turn ∷ [])) budget) image.final_pc start ≡ record { run = later_run m p.run; state = p.state } =
+          ap (λ k. outcome k image.final_pc start) (sym all) ∙ later in
+          let inside : IsInside p.run =
+          inside_before m p.run (subst (λ (o : RunOutcome). IsInside o.run) later (stays_within start image.final_pc (m + n) stays)) in
           let kept : KeepsWindow start s = subst (λ (o : RunOutcome). KeepsWindow start o.state) e (outcome_kept m image.final_pc start) in
           let wider = outcome_wider base before after image.final_pc n s (kept.base ∙ at) inside in
           let stands = ran s p h e refl (outcome (min (sum (lengths ++ turn ∷ [])) budget) image.final_pc start) next inside in
-          subst (λ (state : Task). TurnsTo (round_after budget turn lengths) base before after image s state (outcome (min (sum (lengths ++ turn ∷ [])) budget) image.final_pc start).state (state_alone budget (lengths ++ turn ∷ []) (outcome (min (sum (lengths ++ turn ∷ [])) budget) image.final_pc start).run)) (sym h.state)
+          subst (λ (state : Task). TurnsTo (round_after budget turn lengths) base before after image s state
+          (outcome (min (sum (lengths ++ turn ∷ [])) budget) image.final_pc start).state
+          (state_alone budget (lengths ++ turn ∷ []) (outcome (min (sum (lengths ++ turn ∷ [])) budget) image.final_pc start).run)) (sym h.state)
           (ap (after_run (round_after budget turn lengths) (context_at image s (Running (sum lengths))) (sum lengths)) wider
           ∙ ap (left_at before after image p.state) stands
-          ∙ ap (λ (o : RunOutcome). left_at before after image o.state (state_alone budget (lengths ++ turn ∷ []) (outcome (min (sum (lengths ++ turn ∷ [])) budget) image.final_pc start).run)) (sym next))
+          ∙ ap (λ (o : RunOutcome). left_at before after image o.state
+          (state_alone budget (lengths ++ turn ∷ []) (outcome (min (sum (lengths ++ turn ∷ [])) budget) image.final_pc start).run)) (sym next))
 
   -- a turn on the memory of all does to a task what it goes on with alone, and leaves the words before and after
-  pub turn_alone : after_turn (round_after budget turn lengths) base (widened_words before after (outcome (min (sum lengths) budget) image.final_pc start).state.memory) (context_after budget lengths image (outcome (min (sum lengths) budget) image.final_pc start))
-      ≡ left_at before after image (outcome (min (sum (lengths ++ turn ∷ [])) budget) image.final_pc start).state (state_alone budget (lengths ++ turn ∷ []) (outcome (min (sum (lengths ++ turn ∷ [])) budget) image.final_pc start).run)
+  pub turn_alone : after_turn (round_after budget turn lengths) base
+      (widened_words before after (outcome (min (sum lengths) budget) image.final_pc start).state.memory)
+      (context_after budget lengths image (outcome (min (sum lengths) budget) image.final_pc start))
+      ≡ left_at before after image (outcome (min (sum (lengths ++ turn ∷ [])) budget) image.final_pc start).state
+      (state_alone budget (lengths ++ turn ∷ []) (outcome (min (sum (lengths ++ turn ∷ [])) budget) image.final_pc start).run)
   turn_alone = turns_so (outcome (min (sum lengths) budget) image.final_pc start).run (outcome (min (sum lengths) budget) image.final_pc start).state refl
 
 -- ---- as many steps as were made
@@ -277,13 +310,15 @@ alone_is_counted budget lengths task =
 
 first_once : (s : Fm) (pc j k : ℕ) (t u : Fm) → IsFirst s pc j t → IsFirst s pc k u → j ≡ k
 first_once s pc j k t u h g =
-    ⊎_elim (λ lt. absurd (g.before j t lt h.reached h.there)) (λ le. ⊎_elim (λ lt. absurd (h.before k u lt g.reached g.there)) (λ back. omega (arith, le, back)) (cases_lt k j)) (cases_lt j k)
+    ⊎_elim (λ lt. absurd (g.before j t lt h.reached h.there))
+    (λ le. ⊎_elim (λ lt. absurd (h.before k u lt g.reached g.there)) (λ back. omega (arith, le, back)) (cases_lt k j)) (cases_lt j k)
 
 -- no run is longer than one that was refused
 refused_before : (s t u : Fm) (k n : ℕ) (e : Outside) → fm_run k s ≡ Ok t → fm_step t ≡ Err e → k < n → fm_run n s ≡ Ok u → ⊥
 refused_before s t u k n e h step lt g =
     let rest : k + 1 + (n - (k + 1)) ≡ n = omega arith in
-    let stops : fm_run n s ≡ Err e = ap (λ i. fm_run i s) (sym rest) ∙ run_add (k + 1) (n - (k + 1)) s ∙ ap (λ (r : Result Fm Outside). then_on r (fm_run (n - (k + 1)))) (run_more k s t (Err e) h step) in
+    let stops : fm_run n s ≡ Err e = ap (λ i. fm_run i s) (sym rest) ∙ run_add (k + 1) (n - (k + 1)) s
+    ∙ ap (λ (r : Result Fm Outside). then_on r (fm_run (n - (k + 1)))) (run_more k s t (Err e) h step) in
     not_both (fm_run n s) e u stops g
 
 pub alone_is_least : AloneIsLeast

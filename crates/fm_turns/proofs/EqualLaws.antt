@@ -1,5 +1,6 @@
 -- Turns of one length, until no task runs any more.
-use Rattle.std.proofs.Common.{◌≡◌, ◌≢◌, ◌⊎◌, inl, inr, ℕ, zero, suc, ◌+◌, ◌-◌, ◌*◌, ◌<◌, ◌≤◌, List, [], ◌∷◌, length, map, replicate, Bool, true, false, if◌then◌else◌, Ok, eqb, leb, refl, sym, ap, subst, ◌∙◌, arith}
+use Rattle.std.proofs.Common.{◌≡◌, ◌≢◌, ◌⊎◌, inl, inr, ℕ, zero, suc, ◌+◌, ◌-◌, ◌*◌, ◌<◌, ◌≤◌, List, [], ◌∷◌, length, map, replicate, Bool, true, false}
+use Rattle.std.proofs.Common.{if◌then◌else◌, Ok, eqb, leb, refl, sym, ap, subst, ◌∙◌, arith}
 use Rattle.std.specs.Prelude.{min, sum, All, ◌^◌}
 use Rattle.std.specs.Int.{div_ceil}
 use Rattle.std.specs.List.{list_any}
@@ -40,7 +41,8 @@ reaching : (turn : ℕ) → 1 ≤ turn → (n count : ℕ) → 1 ≤ count → c
 reaching turn some zero count one le = absurd (omega arith)
 reaching turn some (suc n) count one le = by (λ one le. reaching turn some n (count - turn) one le) (leb count turn) refl
   where
-    by : (1 ≤ count - turn → count - turn ≤ n * turn → Reaches turn (count - turn) (round_reaching (count - turn) (replicate n turn))) → (b : Bool) → leb count turn ≡ b
+    by : (1 ≤ count - turn → count - turn ≤ n * turn → Reaches turn (count - turn) (round_reaching (count - turn) (replicate n turn))) → (b : Bool)
+        → leb count turn ≡ b
         → Reaches turn count (if b then 1 else 1 + round_reaching (count - turn) (replicate n turn))
     by on true e = let few = leb-true count turn e in record { has = omega arith; least = omega arith }
     by on false e =
@@ -108,11 +110,13 @@ module _ (turn budget rounds : ℕ) (some : 1 ≤ turn) (needed : rounds * turn 
   abbrev IsOver : Task → Type 0
   IsOver state = (budget ≤ rounds * turn) ⊎ (is_running state ≡ false)
 
-  still_running : (task : NewTask) (s : Fm) → alone budget lengths task ≡ record { run = run.Spent; state = s } → Runs budget lengths → IsOver (running_or_spent_alone budget lengths) → EndsSo turn budget lengths task
+  still_running : (task : NewTask) (s : Fm) → alone budget lengths task ≡ record { run = run.Spent; state = s } → Runs budget lengths
+      → IsOver (running_or_spent_alone budget lengths) → EndsSo turn budget lengths task
   still_running task s is r (inr over) = absurd (let on : true ≡ false = sym (ap is_running r.state) ∙ over in cc)
   still_running task s is r (inl enough) =
       let within = r.within in
-      let none : rounds ≡ 0 = no_rounds rounds (λ one. let less : sum lengths < budget = r.before (omega (arith, one, length_is)) in omega (arith, less, enough, sum_is)) in
+      let none : rounds ≡ 0 =
+      no_rounds rounds (λ one. let less : sum lengths < budget = r.before (omega (arith, one, length_is)) in omega (arith, less, enough, sum_is)) in
       let nothing : rounds * turn ≡ 0 = ap (λ n. n * turn) none ∙ omega arith in
       let empty : budget ≡ 0 = omega (arith, enough, nothing) in
       let least : min (sum lengths) budget ≡ budget = omega (arith, within, empty) in
@@ -129,7 +133,8 @@ module _ (turn budget rounds : ℕ) (some : 1 ≤ turn) (needed : rounds * turn 
       no_rounds zero h = refl
       no_rounds (suc n) h = absurd (h (omega arith))
 
-  now_spent : (task : NewTask) (s : Fm) → alone budget lengths task ≡ record { run = run.Spent; state = s } → IsSpent budget lengths → EndsSo turn budget lengths task
+  now_spent : (task : NewTask) (s : Fm) → alone budget lengths task ≡ record { run = run.Spent; state = s } → IsSpent budget lengths
+      → EndsSo turn budget lengths task
   now_spent task s is r =
       let within = r.within in
       let one : 1 ≤ rounds = omega (arith, r.some, length_is) in
@@ -146,10 +151,13 @@ module _ (turn budget rounds : ℕ) (some : 1 ≤ turn) (needed : rounds * turn 
         machine = ap (λ (o : RunOutcome). o.state) is ∙ sym (ap (λ (o : RunOutcome). o.state) whole);
       }
 
-  ends_by : (task : NewTask) → StaysInside task → (r : Run) (s : Fm) → alone budget lengths task ≡ record { run = r; state = s } → IsOver (state_alone budget lengths r) → EndsSo turn budget lengths task
+  ends_by : (task : NewTask) → StaysInside task → (r : Run) (s : Fm) → alone budget lengths task ≡ record { run = r; state = s }
+      → IsOver (state_alone budget lengths r) → EndsSo turn budget lengths task
   ends_by task stays (run.Ended k) s is over =
-      let made : k ≤ min (sum lengths) budget = ended_within (machine_of task) task.image.final_pc (min (sum lengths) budget) k (ap (λ (o : RunOutcome). o.run) is) in
-      let whole : whole_run budget task ≡ record { run = run.Ended k; state = s } = outcome_ended (machine_of task) s task.image.final_pc (min (sum lengths) budget) budget k (omega arith) is in
+      let made : k ≤ min (sum lengths) budget =
+      ended_within (machine_of task) task.image.final_pc (min (sum lengths) budget) k (ap (λ (o : RunOutcome). o.run) is) in
+      let whole : whole_run budget task ≡ record { run = run.Ended k; state = s } =
+      outcome_ended (machine_of task) s task.image.final_pc (min (sum lengths) budget) budget k (omega arith) is in
       record {
         state = ap (λ (o : RunOutcome). state_alone budget lengths o.run) is ∙ ap (Ended k) (quotient k (omega (arith, made, sum_is)))
             ∙ sym (ap (λ (o : RunOutcome). state_at_end turn budget o.run) whole);
@@ -175,20 +183,23 @@ module _ (turn budget rounds : ℕ) (some : 1 ≤ turn) (needed : rounds * turn 
   AreOver : List NewTask → Type 0
   AreOver tasks = (budget ≤ rounds * turn) ⊎ (list_any is_running (states_alone tasks) ≡ false)
 
-  parts : (task : NewTask) (others : List NewTask) → AreOver (task ∷ others) → IsOver (state_alone budget lengths (alone budget lengths task).run) × AreOver others
+  parts : (task : NewTask) (others : List NewTask) → AreOver (task ∷ others) → IsOver (state_alone budget lengths (alone budget lengths task).run)
+      × AreOver others
   unfolding AreOver
   parts task others (inl enough) = (inl enough, inl enough)
   parts task others (inr none) =
       let p = or_parts (is_running (state_alone budget lengths (alone budget lengths task).run)) (list_any is_running (states_alone others)) none in
       (inr p.0, inr p.1)
 
-  states_end : (tasks : List NewTask) → All StaysInside tasks → AreOver tasks → states_alone tasks ≡ map (λ task. state_at_end turn budget (whole_run budget task).run) tasks
+  states_end : (tasks : List NewTask) → All StaysInside tasks → AreOver tasks → states_alone tasks
+      ≡ map (λ task. state_at_end turn budget (whole_run budget task).run) tasks
   states_end [] stay over = refl
   states_end (task ∷ others) stay over =
       let p = parts task others over in
       let one = task_ends task (All-head StaysInside task others stay) p.0 in
       let rest = states_end others (All-tail StaysInside task others stay) p.1 in
-      ap (λ (state : Task). state ∷ states_alone others) one.state ∙ ap (λ (states : List Task). state_at_end turn budget (whole_run budget task).run ∷ states) rest
+      ap (λ (state : Task). state ∷ states_alone others) one.state ∙ ap
+      (λ (states : List Task). state_at_end turn budget (whole_run budget task).run ∷ states) rest
 
   readings_end : (tasks : List NewTask) → All StaysInside tasks → AreOver tasks
       → map (λ task. reading task.image (alone budget lengths task).state) tasks ≡ map (λ task. reading task.image (whole_run budget task).state) tasks
@@ -201,7 +212,8 @@ module _ (turn budget rounds : ℕ) (some : 1 ≤ turn) (needed : rounds * turn 
       ∙ ap (λ (reads : List ReadingOf). reading task.image (whole_run budget task).state ∷ reads) rest
 
   all_end : (tasks : List NewTask) (turns : TurnsOf) → started tasks ≡ Ok turns → All StaysInside tasks → rounds < 2 ^ 64
-      → (budget ≤ rounds * turn) ⊎ (has_running (rounds_of budget (replicate rounds turn) turns) ≡ false) → EndAsAlone turn budget tasks (rounds_of budget (replicate rounds turn) turns)
+      → (budget ≤ rounds * turn) ⊎ (has_running (rounds_of budget (replicate rounds turn) turns) ≡ false)
+      → EndAsAlone turn budget tasks (rounds_of budget (replicate rounds turn) turns)
   unfolding lengths AreOver
   all_end tasks turns start stay few enough =
       let r = each_as_alone tasks turns budget (replicate rounds turn) start stay (subst (λ n. n < 2 ^ 64) (sym length_is) few) in

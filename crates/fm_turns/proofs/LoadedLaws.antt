@@ -1,5 +1,6 @@
 -- The memory of a machine as it is loaded, and tasks loaded side by side.
-use Rattle.std.proofs.Common.{◌≡◌, ℕ, ◌+◌, ◌-◌, ◌≤◌, ℤ, List, [], ◌∷◌, ◌++◌, length, take, drop, true, eqb, refl, sym, ap, ◌∙◌, arith, append_assoc, length-append}
+use Rattle.std.proofs.Common.{◌≡◌, ℕ, ◌+◌, ◌-◌, ◌≤◌, ℤ, List, [], ◌∷◌, ◌++◌, length, take, drop, true, eqb, refl, sym, ap, ◌∙◌, arith, append_assoc}
+use Rattle.std.proofs.Common.{length-append}
 use Rattle.std.specs.Prelude.{flat_map, replicate, slice_set}
 use Rattle.std.proofs.lemmas.Bool.{and_parts, eqb-true}
 use Rattle.std.proofs.lemmas.List.{length-replicate, length-drop, append-nil, take_all, drop_all}
@@ -46,14 +47,16 @@ loaded_words task =
 
 -- ---- words stored in a row
 
-stored_one : (base a word old : ℕ) (before memory : List ℕ) → a ≡ base + length before → with_word base (before ++ old ∷ memory) a word ≡ before ++ word ∷ memory
+stored_one : (base a word old : ℕ) (before memory : List ℕ) → a ≡ base + length before
+    → with_word base (before ++ old ∷ memory) a word ≡ before ++ word ∷ memory
 unfolding with_word
 stored_one base a word old before memory at =
     let place : a - base ≡ length before = omega arith in
     ap (λ k. slice_set (before ++ old ∷ memory) k word) place ∙ set-append_seam before old memory word
 
 -- words stored behind the words before them take the place of as many
-stored_behind : (base a : ℕ) (before words memory : List ℕ) → a ≡ base + length before → length words ≤ length memory → with_words base a words (before ++ memory) ≡ before ++ (words ++ drop (length words) memory)
+stored_behind : (base a : ℕ) (before words memory : List ℕ) → a ≡ base + length before → length words ≤ length memory
+    → with_words base a words (before ++ memory) ≡ before ++ (words ++ drop (length words) memory)
 stored_behind base a before [] memory at fit = refl
 stored_behind base a before (word ∷ words) [] at fit = absurd (omega arith)
 stored_behind base a before (word ∷ words) (old ∷ memory) at fit =
@@ -73,7 +76,8 @@ stored_whole base words memory size =
 -- ---- tasks loaded side by side
 
 -- the rest of the window of all, filled by the tasks that are left
-pub with_tasks_laid : (base from : ℕ) (before rest : List ℕ) (tasks : List NewTask) → from ≡ base + length before → adjoin_from from tasks ≡ true → length rest ≡ total_size tasks
+pub with_tasks_laid : (base from : ℕ) (before rest : List ℕ) (tasks : List NewTask) → from ≡ base + length before → adjoin_from from tasks ≡ true
+    → length rest ≡ total_size tasks
     → with_tasks base tasks (before ++ rest) ≡ before ++ flat_map (λ task. (machine_of task).memory) tasks
 with_tasks_laid base from before [] [] at adjoin size = refl
 with_tasks_laid base from before (x ∷ rest) [] at adjoin size = absurd (omega arith)
@@ -85,7 +89,8 @@ with_tasks_laid base from before rest (task ∷ others) at adjoin size =
     let whole : total_size (task ∷ others) ≡ task.image.size + total_size others = sum_by-cons (λ task. task.image.size) task others in
     let left = length-drop (length own) rest in
     let longer = length-append before own in
-    ap (with_tasks base others) (stored_behind base task.image.base before own rest (omega arith) (omega arith) ∙ sym (append_assoc before own (drop (length own) rest)))
+    ap (with_tasks base others) (stored_behind base task.image.base before own rest (omega arith) (omega arith)
+    ∙ sym (append_assoc before own (drop (length own) rest)))
     ∙ with_tasks_laid base (from + task.image.size) (before ++ own) (drop (length own) rest) others (omega arith) p.1 (omega arith)
     ∙ append_assoc before own (flat_map (λ task. (machine_of task).memory) others)
 
@@ -98,7 +103,8 @@ length-with_tasks_laid (task ∷ others) =
     omega (arith, loaded_size task, length-append (machine_of task).memory (flat_map (λ task. (machine_of task).memory) others))
 
 -- the words of a task's own machine, copied into a machine
-pub context_copied : (task : NewTask) (base size : ℕ) (own s t : Fm) → base ≡ task.image.base → size ≡ task.image.size → own ≡ machine_of task → t ≡ record s { memory = with_words s.base base (words_in base size own) s.memory }
+pub context_copied : (task : NewTask) (base size : ℕ) (own s t : Fm) → base ≡ task.image.base → size ≡ task.image.size → own ≡ machine_of task
+    → t ≡ record s { memory = with_words s.base base (words_in base size own) s.memory }
     → t ≡ record s { memory = with_words s.base task.image.base (machine_of task).memory s.memory }
 context_copied task base size own s t base_is size_is own_is copied =
     copied ∙ ap (λ b. record s { memory = with_words s.base b (words_in b size own) s.memory }) base_is

@@ -46,23 +46,37 @@ fewer : (s : Fm) (pc j k : ℕ) → j ≤ k → Avoids s pc k → Avoids s pc j
 fewer s pc j k le h i u lt g = h i u (omega arith) g
 
 is_later : (s t u : Fm) (pc m n : ℕ) (r : Run) → IsOutcome s pc m run.Spent t → IsOutcome t pc n r u → IsOutcome s pc (m + n) (later_run m r) u
-is_later s t u pc m n (run.Ended k) h g =
-    (omega (arith, g.0), record { reached = run_then m k s t u h.0 g.1.reached; there = g.1.there; before = avoids_then s t pc m k h.0 (fewer s pc m (m + 1) (omega arith) h.1) g.1.before })
+is_later s t u pc m n (run.Ended k) h g = (
+  omega (arith, g.0),
+  record {
+    reached = run_then m k s t u h.0 g.1.reached;
+    there = g.1.there;
+    before = avoids_then s t pc m k h.0 (fewer s pc m (m + 1) (omega arith) h.1) g.1.before;
+  },
+)
 is_later s t u pc m n run.Spent h g =
     let more : m + (n + 1) ≡ m + n + 1 = omega arith in
     (run_then m n s t u h.0 g.0, subst (Avoids s pc) more (avoids_then s t pc m (n + 1) h.0 (fewer s pc m (m + 1) (omega arith) h.1) g.1))
 is_later s t u pc m n (run.Outside a k) h g =
-    let more : m + (k + 1) ≡ m + k + 1 = omega arith in
-    (omega (arith, g.0), run_then m k s t u h.0 g.1, g.2, subst (Avoids s pc) more (avoids_then s t pc m (k + 1) h.0 (fewer s pc m (m + 1) (omega arith) h.1) g.3))
+    let more : m + (k + 1) ≡ m + k + 1 = omega arith in (
+      omega (arith, g.0),
+      run_then m k s t u h.0 g.1,
+      g.2,
+      subst (Avoids s pc) more
+          (avoids_then s t pc m (k + 1) h.0 (fewer s pc m (m + 1) (omega arith) h.1) g.3),
+    )
 
 -- where a run was spent, a run with a larger budget goes on from its state
-pub outcome_later : (s t : Fm) (pc m n : ℕ) → outcome m pc s ≡ record { run = run.Spent; state = t } → outcome (m + n) pc s ≡ record { run = later_run m (outcome n pc t).run; state = (outcome n pc t).state }
+pub outcome_later : (s t : Fm) (pc m n : ℕ) → outcome m pc s ≡ record { run = run.Spent; state = t }
+    → outcome (m + n) pc s ≡ record { run = later_run m (outcome n pc t).run; state = (outcome n pc t).state }
 outcome_later s t pc m n e =
     let h : IsOutcome s pc m run.Spent t = subst (λ (o : RunOutcome). IsOutcome s pc m o.run o.state) e (outcome_is s pc m) in
-    outcome_only s pc (m + n) (later_run m (outcome n pc t).run) (outcome n pc t).state (is_later s t (outcome n pc t).state pc m n (outcome n pc t).run h (outcome_is t pc n))
+    outcome_only s pc (m + n) (later_run m (outcome n pc t).run) (outcome n pc t).state
+    (is_later s t (outcome n pc t).state pc m n (outcome n pc t).run h (outcome_is t pc n))
 
 -- where a run ended, it ends so with every larger budget
-pub outcome_ended : (s t : Fm) (pc m n k : ℕ) → m ≤ n → outcome m pc s ≡ record { run = run.Ended k; state = t } → outcome n pc s ≡ record { run = run.Ended k; state = t }
+pub outcome_ended : (s t : Fm) (pc m n k : ℕ) → m ≤ n → outcome m pc s ≡ record { run = run.Ended k; state = t }
+    → outcome n pc s ≡ record { run = run.Ended k; state = t }
 outcome_ended s t pc m n k le e =
     let h : IsOutcome s pc m (run.Ended k) t = subst (λ (o : RunOutcome). IsOutcome s pc m o.run o.state) e (outcome_is s pc m) in
     outcome_only s pc n (run.Ended k) t (omega (arith, h.0), h.1)
@@ -70,7 +84,8 @@ outcome_ended s t pc m n k le e =
 -- a run that ended was made within its budget
 pub ended_within : (s : Fm) (pc budget k : ℕ) → (outcome budget pc s).run ≡ run.Ended k → k ≤ budget
 ended_within s pc budget k e =
-    let h : IsOutcome s pc budget (run.Ended k) (outcome budget pc s).state = subst (λ (r : Run). IsOutcome s pc budget r (outcome budget pc s).state) e (outcome_is s pc budget) in
+    let h : IsOutcome s pc budget (run.Ended k) (outcome budget pc s).state =
+    subst (λ (r : Run). IsOutcome s pc budget r (outcome budget pc s).state) e (outcome_is s pc budget) in
     h.0
 
 -- where a run was spent, the next one doesn't end at once
@@ -94,19 +109,23 @@ at_once s = record { run = run.Ended 0; state = s }
 
 module _ (base : ℕ) (before after : List ℕ) (pc : ℕ) where
   -- a run that stays in the window is the same run in the wider one, and leaves the words before and after
-  pub outcome_wider : (budget : ℕ) (s : Fm) → IsBehind base before s → IsInside (outcome budget pc s).run → outcome budget pc (widened base before after s) ≡ widened_end base before after (outcome budget pc s)
+  pub outcome_wider : (budget : ℕ) (s : Fm) → IsBehind base before s → IsInside (outcome budget pc s).run
+      → outcome budget pc (widened base before after s) ≡ widened_end base before after (outcome budget pc s)
   unfolding outcome
   outcome_wider zero s at h = by (pc_of s == pc)
     where
       by : (b : Bool) → let at_end : RunOutcome = record { run = run.Ended 0; state = s } in let at_none : RunOutcome = record { run = run.Spent; state = s } in
-          (if b then widened_end base before after at_end else widened_end base before after at_none) ≡ widened_end base before after (if b then at_end else at_none)
+          (if b then widened_end base before after at_end else widened_end base before after at_none)
+          ≡ widened_end base before after (if b then at_end else at_none)
       by true = refl
       by false = refl
   outcome_wider (suc budget) s at h = by (λ t. outcome_wider budget t) (pc_of s == pc) (fm_step s) refl h
     where
-      by : ((t : Fm) → IsBehind base before t → IsInside (outcome budget pc t).run → outcome budget pc (widened base before after t) ≡ widened_end base before after (outcome budget pc t))
+      by : ((t : Fm) → IsBehind base before t → IsInside (outcome budget pc t).run
+          → outcome budget pc (widened base before after t) ≡ widened_end base before after (outcome budget pc t))
           → (b : Bool) (r : Result Fm Outside) → fm_step s ≡ r → IsInside (if b then at_once s else stepped_on s r (outcome budget pc)).run
-          → (if b then at_once (widened base before after s) else stepped_on (widened base before after s) (fm_step (widened base before after s)) (outcome budget pc)) ≡ widened_end base before after (if b then at_once s else stepped_on s r (outcome budget pc))
+          → (if b then at_once (widened base before after s) else stepped_on (widened base before after s) (fm_step (widened base before after s))
+          (outcome budget pc)) ≡ widened_end base before after (if b then at_once s else stepped_on s r (outcome budget pc))
       by on true r e g = refl
       by on false (Ok t) e g =
           let kept = step_kept s t e in

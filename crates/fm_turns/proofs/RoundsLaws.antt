@@ -1,5 +1,6 @@
 -- Rounds of tasks that keep to their own windows, beside each of them alone.
-use Rattle.std.proofs.Common.{◌≡◌, ℕ, ◌+◌, ◌<◌, ◌==◌, ◌^◌, ◌&&◌, List, [], ◌∷◌, ◌++◌, length, map, Bool, true, false, not, if◌then◌else◌, eqb, leb, ltb, Result, Ok, Err, refl, sym, ap, ◌∙◌, arith, append_assoc, length-append}
+use Rattle.std.proofs.Common.{◌≡◌, ℕ, ◌+◌, ◌<◌, ◌==◌, ◌^◌, ◌&&◌, List, [], ◌∷◌, ◌++◌, length, map, Bool, true, false, not, if◌then◌else◌, eqb, leb, ltb, Result}
+use Rattle.std.proofs.Common.{Ok, Err, refl, sym, ap, ◌∙◌, arith, append_assoc, length-append}
 use Rattle.std.specs.Prelude.{flat_map, min, sum, All}
 use Rattle.std.proofs.lemmas.Bool.{and_parts, eqb-true}
 use Rattle.std.proofs.lemmas.List.{append-nil}
@@ -14,7 +15,8 @@ use Rattle.fm_turns.specs.declared.context.TaskContext.{TaskContext}
 use Rattle.fm_turns.specs.declared.fault.TurnsFault.{TurnsFault}
 use Rattle.fm_turns.specs.declared.fault.TurnsFault.TheVariants.{Count, Apart, Size}
 use Rattle.fm_turns.specs.Turns.{TurnsOf, AfterTurn, AfterTurns, in_front, after_turns, round_of, rounds_of}
-use Rattle.fm_turns.specs.Starting.{NewTask, machine_of, context_of, first_base, adjoin_from, adjoin, total_size, side_by_side, window_size, started_in, started}
+use Rattle.fm_turns.specs.Starting.{NewTask, machine_of, context_of, first_base, adjoin_from, adjoin, total_size, side_by_side, window_size, started_in}
+use Rattle.fm_turns.specs.Starting.{started}
 use Rattle.fm_turns.specs.Alone.{StaysInside, alone, state_alone, context_alone, all_alone, RoundsAsAlone}
 use Rattle.fm_turns.proofs.OutcomeLaws.{outcome_kept}
 use Rattle.fm_turns.proofs.AloneLaws.{round_after, turn_alone}
@@ -41,7 +43,8 @@ starts tasks size h = by (not (leb 1 (length tasks) && leb (length tasks) 8)) (a
         let is : total_size tasks ≡ size = cc in
         (sym is, record { adjoin_is = side; size_is = rw (few, side, small) refl })
 
-started_is : (r : Result ℕ TurnsFault) (tasks : List NewTask) (turns : TurnsOf) → started_in r tasks ≡ Ok turns → (size : ℕ) × (r ≡ Ok size) × (side_by_side tasks ≡ turns)
+started_is : (r : Result ℕ TurnsFault) (tasks : List NewTask) (turns : TurnsOf) → started_in r tasks ≡ Ok turns → (size : ℕ) × (r ≡ Ok size)
+    × (side_by_side tasks ≡ turns)
 started_is (Ok size) tasks turns h = (size, refl, cc)
 started_is (Err fault) tasks turns h = absurd cc
 
@@ -74,9 +77,11 @@ context_at_start budget task =
     let b : Bool = pc_of (machine_of task) == task.image.final_pc in
     let is = alone_at_start budget task in
     let at : Fm → Task → TaskContext = λ s state. record { image = task.image; registers = s.registers; flags = s.flags; state = state } in
-    sym (ap (λ (o : RunOutcome). at o.state (state_alone budget [] o.run)) is ∙ ap (λ (s : Fm). at s (state_alone budget [] (at_start task b).run)) (same_state task b) ∙ ap (at (machine_of task)) (same_task_state budget task b))
+    sym (ap (λ (o : RunOutcome). at o.state (state_alone budget [] o.run)) is ∙ ap (λ (s : Fm). at s (state_alone budget [] (at_start task b).run))
+    (same_state task b) ∙ ap (at (machine_of task)) (same_task_state budget task b))
 
-memories_at_start : (budget : ℕ) (tasks : List NewTask) → flat_map (λ task. (machine_of task).memory) tasks ≡ flat_map (λ task. (alone budget [] task).state.memory) tasks
+memories_at_start : (budget : ℕ) (tasks : List NewTask) → flat_map (λ task. (machine_of task).memory) tasks
+    ≡ flat_map (λ task. (alone budget [] task).state.memory) tasks
 memories_at_start budget [] = refl
 memories_at_start budget (task ∷ others) =
     ap (λ (m : List ℕ). m ++ flat_map (λ task. (machine_of task).memory) others) (memory_at_start budget task)
@@ -105,7 +110,8 @@ pub alone_size : (budget : ℕ) (lengths : List ℕ) (task : NewTask) → length
 alone_size budget lengths task =
     (outcome_kept (min (sum lengths) budget) task.image.final_pc (machine_of task)).memory ∙ loaded_size task
 
-round_alone : (base from budget turn : ℕ) (lengths before : List ℕ) (tasks : List NewTask) → from ≡ base + length before → adjoin_from from tasks ≡ true → All StaysInside tasks
+round_alone : (base from budget turn : ℕ) (lengths before : List ℕ) (tasks : List NewTask) → from ≡ base + length before → adjoin_from from tasks ≡ true
+    → All StaysInside tasks
     → after_turns (round_after budget turn lengths) base (before ++ memories budget lengths tasks) (map (context_alone budget lengths) tasks)
     ≡ record { memory = before ++ memories budget (lengths ++ turn ∷ []) tasks; contexts = map (context_alone budget (lengths ++ turn ∷ [])) tasks }
 unfolding after_turns
@@ -123,9 +129,11 @@ round_alone base from budget turn lengths before (task ∷ others) at adjoin sta
     let one = turn_alone base before rest task.image (machine_of task) budget turn lengths place (All-head StaysInside task others stay) in
     let after = round_alone base (from + task.image.size) budget turn lengths (before ++ own) others more p.1 (All-tail StaysInside task others stay) in
     ap (λ (t : AfterTurn). in_front t.context (after_turns round base t.memory (map (context_alone budget lengths) others))) one
-    ∙ ap (λ (m : List ℕ). in_front (context_alone budget longer task) (after_turns round base m (map (context_alone budget lengths) others))) (sym (append_assoc before own rest))
+    ∙ ap (λ (m : List ℕ). in_front (context_alone budget longer task) (after_turns round base m (map (context_alone budget lengths) others)))
+    (sym (append_assoc before own rest))
     ∙ ap (in_front (context_alone budget longer task)) after
-    ∙ ap (λ (m : List ℕ). in_front (context_alone budget longer task) record { memory = m; contexts = map (context_alone budget longer) others }) (append_assoc before own (memories budget longer others))
+    ∙ ap (λ (m : List ℕ). in_front (context_alone budget longer task) record { memory = m; contexts = map (context_alone budget longer) others })
+    (append_assoc before own (memories budget longer others))
 
 -- a round takes tasks from where each is as it is alone to where each is so
 pub next_alone : (budget turn : ℕ) (lengths : List ℕ) (tasks : List NewTask) → adjoin tasks ≡ true → All StaysInside tasks → length lengths + 1 < 2 ^ 64
@@ -136,9 +144,13 @@ next_alone budget turn lengths tasks adjoin stay few =
     let longer : length lengths + 1 ≡ length (lengths ++ turn ∷ []) = omega (arith, length-append lengths (turn ∷ [])) in
     let turns_are = round_alone (first_base tasks) (first_base tasks) budget turn lengths [] tasks at adjoin stay in
     let made : ℕ → AfterTurns → TurnsOf = λ rounds t. record { rounds = rounds; base = first_base tasks; memory = t.memory; contexts = t.contexts } in
-    ap (λ rounds. made rounds (after_turns record { number = rounds; turn = turn; budget = budget } (first_base tasks) (memories budget lengths tasks) (map (context_alone budget lengths) tasks))) number
+    ap (λ rounds. made rounds (after_turns record { number = rounds; turn = turn; budget = budget } (first_base tasks) (memories budget lengths tasks)
+    (map (context_alone budget lengths) tasks))) number
     ∙ ap (made (length lengths + 1)) turns_are
-    ∙ ap (λ rounds. made rounds record { memory = memories budget (lengths ++ turn ∷ []) tasks; contexts = map (context_alone budget (lengths ++ turn ∷ [])) tasks }) longer
+    ∙ ap (λ rounds. made rounds record {
+      memory = memories budget (lengths ++ turn ∷ []) tasks;
+      contexts = map (context_alone budget (lengths ++ turn ∷ [])) tasks;
+    }) longer
 
 -- ---- rounds
 

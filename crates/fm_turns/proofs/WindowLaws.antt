@@ -1,5 +1,6 @@
 -- A step inside a window is the same step in a wider one, and leaves all other words.
-use Rattle.std.proofs.Common.{◌≡◌, ℕ, zero, suc, ◌+◌, ◌-◌, ◌<◌, List, [], ◌∷◌, ◌++◌, length, Bool, true, false, if◌then◌else◌, Option, Some, None, Result, Ok, Err, refl, ap, subst, ◌∙◌, arith}
+use Rattle.std.proofs.Common.{◌≡◌, ℕ, zero, suc, ◌+◌, ◌-◌, ◌<◌, List, [], ◌∷◌, ◌++◌, length, Bool, true, false, if◌then◌else◌, Option, Some, None, Result, Ok}
+use Rattle.std.proofs.Common.{Err, refl, ap, subst, ◌∙◌, arith}
 use Rattle.std.specs.Prelude.{slice_get, slice_set, slice_index, nat_lt, is_some}
 use Rattle.std.proofs.lemmas.Bool.{le-ltb}
 use Rattle.fm_words.specs.declared.instruction.OperandA.{OperandA}
@@ -8,7 +9,8 @@ use Rattle.fm_words.specs.declared.instruction.Instr.{Instr}
 use Rattle.fm_words.specs.Alu.{alu_of, does_hold}
 use Rattle.fm_words.specs.Code.{decode_of}
 use Rattle.fm_machine.specs.State.{Fm, word_at, with_word}
-use Rattle.fm_machine.specs.Step.{then_on, found_word, read_word, with_increment, address_of, registers_after, value_at, value_a, registers_after_a, reads_b, value_b, flags_set, store_at_if, store_at, store_result, effect_of_values, effect_of_rest, effect_of, fm_step}
+use Rattle.fm_machine.specs.Step.{then_on, found_word, read_word, with_increment, address_of, registers_after, value_at, value_a, registers_after_a, reads_b}
+use Rattle.fm_machine.specs.Step.{value_b, flags_set, store_at_if, store_at, store_result, effect_of_values, effect_of_rest, effect_of, fm_step}
 use Rattle.fm_machine.specs.declared.fault.Outside.{Outside}
 use Rattle.fm_machine.proofs.WindowLaws.{inside, length-with_word}
 use Rattle.fm_turns.specs.Windows.{widened_words, widened, IsBehind}
@@ -36,7 +38,8 @@ set-behind (x ∷ xs) ys i zero w e = absurd (omega arith)
 set-behind (x ∷ xs) ys i (suc j) w e = ap (λ (l : List ℕ). x ∷ l) (set-behind xs ys i j w (omega arith))
 
 -- a word of the window is the same word in the wider one
-pub read_between : (base b a w : ℕ) (before m after : List ℕ) → b ≡ base + length before → word_at b m a ≡ Some w → word_at base (widened_words before after m) a ≡ Some w
+pub read_between : (base b a w : ℕ) (before m after : List ℕ) → b ≡ base + length before → word_at b m a ≡ Some w
+    → word_at base (widened_words before after m) a ≡ Some w
 unfolding word_at
 read_between base b a w before m after at h =
     let p = (inside b m a w h).0 in
@@ -47,7 +50,8 @@ read_between base b a w before m after at h =
     rw e (get-behind before (m ++ after) (a - b) (a - base) place ∙ get-front m after (a - b) w own)
 
 -- a word stored in the window leaves the words before and after it
-pub store_between : (base b a w u : ℕ) (before m after : List ℕ) → b ≡ base + length before → word_at b m a ≡ Some u → with_word base (widened_words before after m) a w ≡ widened_words before after (with_word b m a w)
+pub store_between : (base b a w u : ℕ) (before m after : List ℕ) → b ≡ base + length before → word_at b m a ≡ Some u
+    → with_word base (widened_words before after m) a w ≡ widened_words before after (with_word b m a w)
 unfolding word_at with_word
 store_between base b a w u before m after at h =
     let p = inside b m a u h in
@@ -60,7 +64,8 @@ store_between base b a w u before m after at h =
 -- ---- one step
 
 -- what a chain that goes on has on its way
-went_on : {A B : Type 0} (r r' : Result A Outside) (f f' : A → Result B Outside) (t t' : B) → ((x : A) → r ≡ Ok x → r' ≡ Ok x) → ((x : A) → f x ≡ Ok t → f' x ≡ Ok t') → then_on r f ≡ Ok t → then_on r' f' ≡ Ok t'
+went_on : {A B : Type 0} (r r' : Result A Outside) (f f' : A → Result B Outside) (t t' : B) → ((x : A) → r ≡ Ok x → r' ≡ Ok x)
+    → ((x : A) → f x ≡ Ok t → f' x ≡ Ok t') → then_on r f ≡ Ok t → then_on r' f' ≡ Ok t'
 went_on (Ok x) r' f f' t t' same on h = ap (λ q. then_on q f') (same x refl) ∙ on x h
 went_on (Err e) r' f f' t t' same on h = absurd cc
 
@@ -73,7 +78,8 @@ module _ (base : ℕ) (before after : List ℕ) where
   read_wider s at a w h =
       ap (λ o. found_word o a) (read_between base s.base a w before s.memory after at (found (word_at s.base s.memory a) a w h))
 
-  value_wider : (s : Fm) → IsBehind base before s → (place : Option ℕ) (own w : ℕ) → value_at s place own ≡ Ok w → value_at (widened base before after s) place own ≡ Ok w
+  value_wider : (s : Fm) → IsBehind base before s → (place : Option ℕ) (own w : ℕ) → value_at s place own ≡ Ok w
+      → value_at (widened base before after s) place own ≡ Ok w
   value_wider s at None own w h = h
   value_wider s at (Some a) own w h = read_wider s at a w h
 
@@ -81,45 +87,58 @@ module _ (base : ℕ) (before after : List ℕ) where
   a_wider s at (Immediate n) rs w h = h
   a_wider s at (Place mode r) rs w h = value_wider s at (address_of mode r rs) (slice_index rs r) w h
 
-  b_wider : (s : Fm) → IsBehind base before s → (reads : Bool) (place : Option ℕ) (own w : ℕ) → (if reads then value_at s place own else Ok 0) ≡ Ok w → (if reads then value_at (widened base before after s) place own else Ok 0) ≡ Ok w
+  b_wider : (s : Fm) → IsBehind base before s → (reads : Bool) (place : Option ℕ) (own w : ℕ) → (if reads then value_at s place own else Ok 0) ≡ Ok w
+      → (if reads then value_at (widened base before after s) place own else Ok 0) ≡ Ok w
   b_wider s at true place own w h = value_wider s at place own w h
   b_wider s at false place own w h = h
 
-  stored_wider : (s t : Fm) → IsBehind base before s → (a word : ℕ) → store_at s a word ≡ Ok t → store_at (widened base before after s) a word ≡ Ok (widened base before after t)
+  stored_wider : (s t : Fm) → IsBehind base before s → (a word : ℕ) → store_at s a word ≡ Ok t
+      → store_at (widened base before after s) a word ≡ Ok (widened base before after t)
   stored_wider s t at a word h = by (word_at s.base s.memory a) refl h
     where
-      by : (o : Option ℕ) → word_at s.base s.memory a ≡ o → store_at_if (is_some o) s a word ≡ Ok t → store_at (widened base before after s) a word ≡ Ok (widened base before after t)
+      by : (o : Option ℕ) → word_at s.base s.memory a ≡ o → store_at_if (is_some o) s a word ≡ Ok t
+          → store_at (widened base before after s) a word ≡ Ok (widened base before after t)
       by (Some u) there h =
           let is : record s { memory = with_word s.base s.memory a word } ≡ t = cc in
           let wider = read_between base s.base a u before s.memory after at there in
           let new = store_between base s.base a word u before s.memory after at there in
-          ap (λ o. store_at_if (is_some o) (widened base before after s) a word) wider ∙ ap (λ (m : List ℕ). Ok record (widened base before after s) { memory = m }) new ∙ ap (λ (v : Fm). Ok (widened base before after v)) is
+          ap (λ o. store_at_if (is_some o) (widened base before after s) a word) wider
+          ∙ ap (λ (m : List ℕ). Ok record (widened base before after s) { memory = m }) new ∙ ap (λ (v : Fm). Ok (widened base before after v)) is
       by None there h = absurd cc
 
-  result_wider : (s t : Fm) → IsBehind base before s → (place : Option ℕ) (r word : ℕ) → store_result s place r word ≡ Ok t → store_result (widened base before after s) place r word ≡ Ok (widened base before after t)
+  result_wider : (s t : Fm) → IsBehind base before s → (place : Option ℕ) (r word : ℕ) → store_result s place r word ≡ Ok t
+      → store_result (widened base before after s) place r word ≡ Ok (widened base before after t)
   result_wider s t at None r word h =
       let is : record s { registers = slice_set s.registers r word } ≡ t = cc in
       ap (λ (v : Fm). Ok (widened base before after v)) is
   result_wider s t at (Some a) r word h = stored_wider s t at a word h
 
-  end_wider : (s t : Fm) → IsBehind base before s → (stores : Bool) (place : Option ℕ) (r word : ℕ) → (if stores then store_result s place r word else Ok s) ≡ Ok t → (if stores then store_result (widened base before after s) place r word else Ok (widened base before after s)) ≡ Ok (widened base before after t)
+  end_wider : (s t : Fm) → IsBehind base before s → (stores : Bool) (place : Option ℕ) (r word : ℕ)
+      → (if stores then store_result s place r word else Ok s) ≡ Ok t
+      → (if stores then store_result (widened base before after s) place r word else Ok (widened base before after s))
+      ≡ Ok (widened base before after t)
   end_wider s t at true place r word h = result_wider s t at place r word h
   end_wider s t at false place r word h = let is : s ≡ t = cc in ap (λ (v : Fm). Ok (widened base before after v)) is
 
-  values_wider : (s t : Fm) → IsBehind base before s → (i : Instr) (rs : List ℕ) (a b : ℕ) → effect_of_values s i rs a b ≡ Ok t → effect_of_values (widened base before after s) i rs a b ≡ Ok (widened base before after t)
+  values_wider : (s t : Fm) → IsBehind base before s → (i : Instr) (rs : List ℕ) (a b : ℕ) → effect_of_values s i rs a b ≡ Ok t
+      → effect_of_values (widened base before after s) i rs a b ≡ Ok (widened base before after t)
   values_wider s t at i rs a b h =
       let next : Fm = record s { registers = registers_after i.mode_b i.reg_b rs; flags = flags_set i.set s.flags (alu_of i.op s.flags.c a b) } in
       end_wider next t at (does_hold i.cc s.flags) (address_of i.mode_b i.reg_b rs) i.reg_b (alu_of i.op s.flags.c a b).word h
 
-  rest_wider : (s t : Fm) → IsBehind base before s → (i : Instr) (rs : List ℕ) (a : ℕ) → effect_of_rest s i rs a ≡ Ok t → effect_of_rest (widened base before after s) i rs a ≡ Ok (widened base before after t)
+  rest_wider : (s t : Fm) → IsBehind base before s → (i : Instr) (rs : List ℕ) (a : ℕ) → effect_of_rest s i rs a ≡ Ok t
+      → effect_of_rest (widened base before after s) i rs a ≡ Ok (widened base before after t)
   rest_wider s t at i rs a h =
-      went_on (value_b s i rs) (value_b (widened base before after s) i rs) (effect_of_values s i rs a) (effect_of_values (widened base before after s) i rs a) t (widened base before after t)
+      went_on (value_b s i rs) (value_b (widened base before after s) i rs) (effect_of_values s i rs a)
+      (effect_of_values (widened base before after s) i rs a) t (widened base before after t)
       (b_wider s at (reads_b i.op) (address_of i.mode_b i.reg_b rs) (slice_index rs i.reg_b))
       (λ b. values_wider s t at i rs a b) h
 
-  effect_wider : (s t : Fm) → IsBehind base before s → (i : Instr) (rs : List ℕ) → effect_of s i rs ≡ Ok t → effect_of (widened base before after s) i rs ≡ Ok (widened base before after t)
+  effect_wider : (s t : Fm) → IsBehind base before s → (i : Instr) (rs : List ℕ) → effect_of s i rs ≡ Ok t
+      → effect_of (widened base before after s) i rs ≡ Ok (widened base before after t)
   effect_wider s t at i rs h =
-      went_on (value_a s i.a rs) (value_a (widened base before after s) i.a rs) (effect_of_rest s i (registers_after_a i.a rs)) (effect_of_rest (widened base before after s) i (registers_after_a i.a rs)) t (widened base before after t)
+      went_on (value_a s i.a rs) (value_a (widened base before after s) i.a rs) (effect_of_rest s i (registers_after_a i.a rs))
+      (effect_of_rest (widened base before after s) i (registers_after_a i.a rs)) t (widened base before after t)
       (a_wider s at i.a rs) (λ a. rest_wider s t at i (registers_after_a i.a rs) a) h
 
   -- a step that stays in the window is the same step in the wider one, and leaves the words before and after
@@ -137,7 +156,8 @@ pub record KeepsWindow (s t : Fm) : Type 0 where
   pub base : t.base ≡ s.base
   pub memory : length t.memory ≡ length s.memory
 
-then_kept : {A : Type 0} (r : Result A Outside) (f : A → Result Fm Outside) (s t : Fm) → ((x : A) → f x ≡ Ok t → KeepsWindow s t) → then_on r f ≡ Ok t → KeepsWindow s t
+then_kept : {A : Type 0} (r : Result A Outside) (f : A → Result Fm Outside) (s t : Fm) → ((x : A) → f x ≡ Ok t → KeepsWindow s t) → then_on r f ≡ Ok t
+    → KeepsWindow s t
 then_kept (Ok x) f s t on h = on x h
 then_kept (Err e) f s t on h = absurd cc
 
@@ -168,5 +188,6 @@ step_kept s t h =
     let rs = with_increment s.registers 15 in
     then_kept (read_word s (slice_index s.registers 15)) (λ word. effect_of s (decode_of word) rs) s t
     (λ word. then_kept (value_a s (decode_of word).a rs) (effect_of_rest s (decode_of word) (registers_after_a (decode_of word).a rs)) s t
-    (λ a. then_kept (value_b s (decode_of word) (registers_after_a (decode_of word).a rs)) (effect_of_values s (decode_of word) (registers_after_a (decode_of word).a rs) a) s t
+    (λ a. then_kept (value_b s (decode_of word) (registers_after_a (decode_of word).a rs))
+    (effect_of_values s (decode_of word) (registers_after_a (decode_of word).a rs) a) s t
     (λ b. values_kept s t (decode_of word) (registers_after_a (decode_of word).a rs) a b))) h

@@ -12,7 +12,8 @@ within (x ∷ xs) zero d e h = refl
 within (x ∷ xs) (suc i) d e h = within xs i d e (omega arith)
 
 -- one row more
-pub rows_next : (by : Pin) (pins : List Pin) (i : ℕ) (pin : Pin) (old new all : List ℕ) → i < length pins → pin ≡ get_or pins i pin → new ≡ old ++ row_text by i pin → old ++ rows_text by i (drop i pins) ≡ all → new ++ rows_text by (i + 1) (drop (i + 1) pins) ≡ all
+pub rows_next : (by : Pin) (pins : List Pin) (i : ℕ) (pin : Pin) (old new all : List ℕ) → i < length pins → pin ≡ get_or pins i pin
+    → new ≡ old ++ row_text by i pin → old ++ rows_text by i (drop i pins) ≡ all → new ++ rows_text by (i + 1) (drop (i + 1) pins) ≡ all
 unfolding rows_text
 rows_next by pins i pin old new all lt is more so_far =
     rw more (append_assoc old (row_text by i pin) (rows_text by (i + 1) (drop (i + 1) pins)))

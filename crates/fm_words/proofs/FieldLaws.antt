@@ -71,7 +71,8 @@ record Fields (w o c f m r a : ℕ) : Type 0 where
   r_is : w / 2 ^ 10 % 16 ≡ r
   a_is : w % 1024 ≡ a
 
-fields : (w o c f m r a : ℕ) → w ≡ 2 ^ 24 * o + 2 ^ 20 * c + 2 ^ 16 * f + 2 ^ 14 * m + 2 ^ 10 * r + a → o < 16 → c < 16 → f < 16 → m < 4 → r < 16 → a < 1024 → Fields w o c f m r a
+fields : (w o c f m r a : ℕ) → w ≡ 2 ^ 24 * o + 2 ^ 20 * c + 2 ^ 16 * f + 2 ^ 14 * m + 2 ^ 10 * r + a → o < 16 → c < 16 → f < 16 → m < 4 → r < 16
+    → a < 1024 → Fields w o c f m r a
 fields w o c f m r a e ho hc hf hm hr ha =
     record { o_is = omega arith; c_is = omega arith; f_is = omega arith; m_is = omega arith; r_is = omega arith; a_is = omega arith }
 
@@ -187,7 +188,8 @@ operand_zero w h =
     low : 16 * (w / 16 % 4) + w % 16 + w / 64 % 8 * 64 ≡ w % 1024
     low = omega arith
 
-sum_is : (w o c f m a low : ℕ) → o ≡ w / 2 ^ 24 % 16 → c ≡ w / 2 ^ 20 % 16 → f ≡ w / 2 ^ 16 % 16 → m ≡ w / 2 ^ 14 % 4 → a + low ≡ w % 1024 → 2 ^ 24 * o + 2 ^ 20 * c + 2 ^ 16 * f + 2 ^ 14 * m + 2 ^ 10 * (w / 2 ^ 10 % 16) + a ≡ w % 2 ^ 28 - low
+sum_is : (w o c f m a low : ℕ) → o ≡ w / 2 ^ 24 % 16 → c ≡ w / 2 ^ 20 % 16 → f ≡ w / 2 ^ 16 % 16 → m ≡ w / 2 ^ 14 % 4 → a + low ≡ w % 1024
+    → 2 ^ 24 * o + 2 ^ 20 * c + 2 ^ 16 * f + 2 ^ 14 * m + 2 ^ 10 * (w / 2 ^ 10 % 16) + a ≡ w % 2 ^ 28 - low
 sum_is w o c f m a low p q r s t = omega arith
 
 -- the six fields of a word make its significant bits
@@ -196,7 +198,8 @@ encode_decode w = by_bit (w / 512 % 2) refl (omega arith)
   where
     sum : (low : ℕ) → operand_number (operand_of w) + low ≡ w % 1024 → encode_of (decode_of w) ≡ w % 2 ^ 28 - low
     sum low e =
-        sum_is w _ _ _ _ _ low (op_there (w / 2 ^ 24 % 16) (omega arith)) (cc_there (w / 2 ^ 20 % 16) (omega arith)) (flags_number_back (w / 2 ^ 16 % 16) (omega arith)) (mode_there (w / 2 ^ 14 % 4) (omega arith)) e
+        sum_is w _ _ _ _ _ low (op_there (w / 2 ^ 24 % 16) (omega arith)) (cc_there (w / 2 ^ 20 % 16) (omega arith))
+        (flags_number_back (w / 2 ^ 16 % 16) (omega arith)) (mode_there (w / 2 ^ 14 % 4) (omega arith)) e
 
     by_bit : (t : ℕ) → w / 512 % 2 ≡ t → t < 2 → encode_of (decode_of w) ≡ significant w
     by_bit zero e h = sum (w / 64 % 8 * 64) (operand_zero w e) ∙ rw e refl

@@ -7,7 +7,8 @@ use Rattle.stack_text.specs.declared.shape.Kind.TheVariants.{Integer}
 use Rattle.stack_text.specs.declared.shape.Shape.{Shape}
 use Rattle.gypsy_syntax.specs.declared.literal.TypeText.{TypeText}
 use Rattle.gypsy_syntax.specs.Sources.{LiteralOf, ArgOf, variable, constant, arg_place, ProcOf, SourceOf}
-use Rattle.gypsy_syntax.specs.Resolved.{place_among, variable_names, variable_types, length_of, shape_of, literal_kind, literal_value, variable_of, argument_of, procedure_of}
+use Rattle.gypsy_syntax.specs.Resolved.{place_among, variable_names, variable_types, length_of, shape_of, literal_kind, literal_value, variable_of, argument_of}
+use Rattle.gypsy_syntax.specs.Resolved.{procedure_of}
 use Rattle.gypsy_syntax.specs.declared.slot.Form.{Form}
 use Rattle.gypsy_syntax.specs.declared.slot.Form.TheVariants.{Simple, Array, Literal}
 use Rattle.gypsy_syntax.specs.declared.slot.Slot.{Slot}
@@ -29,7 +30,8 @@ type_kept types None t e h = cc
 type_kept types (Some i) t e h = rule_holds (has_length t.length) t.place 7 (at_place type_breaches types i t e h)
 
 -- each variable's type has a length
-pub type_good : (p : ProcOf) (name : List ℕ) (t : TypeText) → flat_map type_breaches (variable_types p) ≡ [] → type_of p name ≡ Some t → has_length t.length ≡ true
+pub type_good : (p : ProcOf) (name : List ℕ) (t : TypeText) → flat_map type_breaches (variable_types p) ≡ [] → type_of p name ≡ Some t
+    → has_length t.length ≡ true
 type_good p name t e h = type_kept (variable_types p) (place_among name (variable_names p)) t e h
 
 simple_shape : (k j : Kind) (n : Option ℤ) → (if is_none n then Some k else None) ≡ Some j → record { kind = k; length = length_of n } ≡ simple j
@@ -39,14 +41,17 @@ simple_shape k j (Some n) e = cc
 abbrev sized : Kind → ℕ → Shape
 sized k n = record { kind = k; length = n }
 
-array_shape : (k j : Kind) (n : Option ℤ) → has_length n ≡ true → (if is_none n then None else Some k) ≡ Some j → (m : ℕ) × (0 < m) × (m ≤ 4096) × (sized k (length_of n) ≡ sized j m)
+array_shape : (k j : Kind) (n : Option ℤ) → has_length n ≡ true → (if is_none n then None else Some k) ≡ Some j → (m : ℕ) × (0 < m) × (m ≤ 4096)
+    × (sized k (length_of n) ≡ sized j m)
 array_shape k j None g e = cc
 array_shape k j (Some (pos n)) g e =
     let r = array_length n g in let same : k ≡ j = cc in (n, r.0, r.1, ap (λ i. sized i n) same)
 array_shape k j (Some (negsuc n)) g e = cc
 
 -- a variable of the form
-variable_fits : (shapes : List Shape) (i : ℕ) (form : Form) (o : Option TypeText) (j : Kind) → ((t : TypeText) → o ≡ Some t → (has_length t.length ≡ true) × (slice_get shapes i ≡ Some (shape_of t))) → kind_of_type form o ≡ Some j → ArgFits shapes form j (Var i)
+variable_fits : (shapes : List Shape) (i : ℕ) (form : Form) (o : Option TypeText) (j : Kind)
+    → ((t : TypeText) → o ≡ Some t → (has_length t.length ≡ true) × (slice_get shapes i ≡ Some (shape_of t))) → kind_of_type form o ≡ Some j
+    → ArgFits shapes form j (Var i)
 variable_fits shapes i form None j h e = cc
 variable_fits shapes i Simple (Some t) j h e = (h t refl).1 ∙ ap Some (simple_shape t.kind j t.length e)
 variable_fits shapes i Array (Some t) j h e =
@@ -56,7 +61,8 @@ variable_fits shapes i Array (Some t) j h e =
 variable_fits shapes i Literal (Some t) j h e = cc
 
 -- a literal of the form
-constant_fits : (shapes : List Shape) (form : Form) (l : LiteralOf) (j : Kind) → literal_breaches l ≡ [] → kind_of_literal form l ≡ Some j → ArgFits shapes form j (Lit (literal_value l))
+constant_fits : (shapes : List Shape) (form : Form) (l : LiteralOf) (j : Kind) → literal_breaches l ≡ [] → kind_of_literal form l ≡ Some j
+    → ArgFits shapes form j (Lit (literal_value l))
 constant_fits shapes Simple l j h e = cc
 constant_fits shapes Array l j h e = cc
 constant_fits shapes Literal l j h e =
@@ -65,9 +71,11 @@ constant_fits shapes Literal l j h e =
     let P : Kind → Type 0 = λ k. ValueFits record { shape = simple k; items = (literal_value l).items } in
     (ap simple kind_is, subst P (sym kind_is) (literal_fits j l good h))
 
-argument_fits : (s : SourceOf) (p : ProcOf) (form : Form) (a : ArgOf) (j : Kind) → flat_map type_breaches (variable_types p) ≡ [] → argument_breaches p a ≡ [] → kind_of p form a ≡ Some j → ArgFits (shapes_of (procedure_of s p)) form j (argument_of p a)
+argument_fits : (s : SourceOf) (p : ProcOf) (form : Form) (a : ArgOf) (j : Kind) → flat_map type_breaches (variable_types p) ≡ []
+    → argument_breaches p a ≡ [] → kind_of p form a ≡ Some j → ArgFits (shapes_of (procedure_of s p)) form j (argument_of p a)
 argument_fits s p form (variable n) j g h e =
-    variable_fits (shapes_of (procedure_of s p)) (variable_of p n) form (type_of p n.name) j (λ t is. (type_good p n.name t g is, shape_found s p n.name t is)) e
+    variable_fits (shapes_of (procedure_of s p)) (variable_of p n) form (type_of p n.name) j
+    (λ t is. (type_good p n.name t g is, shape_found s p n.name t is)) e
 argument_fits s p form (constant l) j g h e = constant_fits (shapes_of (procedure_of s p)) form l j h e
 
 -- the kind that is shared is the one that is settled
@@ -76,7 +84,8 @@ Agrees None k = Unit {0}
 Agrees (Some j) k = j ≡ k
 
 -- what a wanted argument says
-wanted : (settled slot o : Option Kind) → is_wanted settled slot o ≡ true → (j : Kind) × (o ≡ Some j) × ((k : Kind) → Agrees (settled_by settled slot o) k → Agrees settled k × (j ≡ slot_kind k slot))
+wanted : (settled slot o : Option Kind) → is_wanted settled slot o ≡ true → (j : Kind) × (o ≡ Some j)
+    × ((k : Kind) → Agrees (settled_by settled slot o) k → Agrees settled k × (j ≡ slot_kind k slot))
 wanted settled slot None e = cc
 wanted None None (Some j) e = (j, refl, λ k a. (tt, a))
 wanted None (Some c) (Some j) e = (j, refl, λ k a. (tt, kind_same j c e))
@@ -90,7 +99,9 @@ agrees : (settled : Option Kind) → Agrees settled (default settled)
 agrees None = tt
 agrees (Some k) = refl
 
-slots_fit : (s : SourceOf) (p : ProcOf) (settled : Option Kind) (slots : List Slot) (args : List ArgOf) → flat_map type_breaches (variable_types p) ≡ [] → flat_map (argument_breaches p) args ≡ [] → length args ≡ length slots → slots_breaches p settled slots args ≡ [] → (k : Kind) × Agrees settled k × ArgsFit (shapes_of (procedure_of s p)) k slots (map (argument_of p) args)
+slots_fit : (s : SourceOf) (p : ProcOf) (settled : Option Kind) (slots : List Slot) (args : List ArgOf) → flat_map type_breaches (variable_types p) ≡ []
+    → flat_map (argument_breaches p) args ≡ [] → length args ≡ length slots → slots_breaches p settled slots args ≡ [] → (k : Kind) × Agrees settled k
+    × ArgsFit (shapes_of (procedure_of s p)) k slots (map (argument_of p) args)
 slots_fit s p settled [] [] g h n e = (default settled, agrees settled, tt)
 slots_fit s p settled [] (a ∷ args) g h n e = absurd (omega (arith, n))
 slots_fit s p settled (slot ∷ slots) [] g h n e = absurd (omega (arith, n))
@@ -112,7 +123,8 @@ all_declared p (variable n ∷ args) e =
 all_declared p (constant l ∷ args) e =
     all_declared p args (append_none (argument_breaches p (constant l)) (flat_map (argument_breaches p) args) e).1
 
-pub predef_fits : (s : SourceOf) (p : ProcOf) (place : ℕ) (slots : List Slot) (args : List ArgOf) → flat_map type_breaches (variable_types p) ≡ [] → predef_breaches p place slots args ≡ [] → (k : Kind) × ArgsFit (shapes_of (procedure_of s p)) k slots (map (argument_of p) args)
+pub predef_fits : (s : SourceOf) (p : ProcOf) (place : ℕ) (slots : List Slot) (args : List ArgOf) → flat_map type_breaches (variable_types p) ≡ []
+    → predef_breaches p place slots args ≡ [] → (k : Kind) × ArgsFit (shapes_of (procedure_of s p)) k slots (map (argument_of p) args)
 predef_fits s p place slots args g e =
     let parts = append_none (flat_map (argument_breaches p) args) (number_breaches p place slots args) e in
     let c = chosen (length args == length slots) (declared_breaches p slots args) (record { place = place; rule = 22 }) parts.1 in

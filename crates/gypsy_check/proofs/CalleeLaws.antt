@@ -1,5 +1,6 @@
 -- The procedures of a source by their names, one procedure after the other.
-use Rattle.std.proofs.Common.{◌≡◌, Bor, ℕ, ◌+◌, ◌<◌, length, List, [], ◌∷◌, ◌++◌, map, get_or, take, find, Option, Some, None, Bool, true, false, cond, ◌||◌, is_some, option_map, bytes_eq, refl, sym, ap, ◌∙◌}
+use Rattle.std.proofs.Common.{◌≡◌, Bor, ℕ, ◌+◌, ◌<◌, length, List, [], ◌∷◌, ◌++◌, map, get_or, take, find, Option, Some, None, Bool, true, false, cond, ◌||◌}
+use Rattle.std.proofs.Common.{is_some, option_map, bytes_eq, refl, sym, ap, ◌∙◌}
 use Rattle.std.proofs.lemmas.List.{take_more}
 use Rattle.gypsy_syntax.specs.declared.proc.Proc.{Proc}
 use Rattle.gypsy_check.specs.Tables.{is_named}
@@ -20,7 +21,8 @@ find-push test [] x = by_test (test x)
     by_test false = refl
 find-push test (y ∷ xs) x = by_test (test y) (find-push test xs x)
   where
-    by_test : (b : Bool) → find test (xs ++ x ∷ []) ≡ first_or (find test xs) (test x) x → cond b (Some y) (find test (xs ++ x ∷ [])) ≡ first_or (cond b (Some y) (find test xs)) (test x) x
+    by_test : (b : Bool) → find test (xs ++ x ∷ []) ≡ first_or (find test xs) (test x) x
+        → cond b (Some y) (find test (xs ++ x ∷ [])) ≡ first_or (cond b (Some y) (find test xs)) (test x) x
     by_test true h = refl
     by_test false h = h
 
@@ -35,7 +37,8 @@ some_find name (p ∷ ps) = by_test (bytes_eq name p.name.name) (some_find name 
 
 -- the table has those so far, and one more
 pub known_next : (ps : List Proc) (i : ℕ) (p : Proc) (old new : List ℕ → Option Proc) → i < length ps → p ≡ get_or ps i p →
-    ((name : List ℕ) → old name ≡ find (λ (q : Proc). bytes_eq name q.name.name) (take i ps)) → ((name : List ℕ) → new name ≡ first_or (old name) (bytes_eq name p.name.name) p) →
+    ((name : List ℕ) → old name ≡ find (λ (q : Proc). bytes_eq name q.name.name) (take i ps))
+    → ((name : List ℕ) → new name ≡ first_or (old name) (bytes_eq name p.name.name) p) →
     (name : List ℕ) → new name ≡ find (λ (q : Proc). bytes_eq name q.name.name) (take (i + 1) ps)
 known_next ps i p old new lt is so_far entered_is name =
     entered_is name ∙ ap (λ (o : Option Proc). first_or o (bytes_eq name p.name.name) p) (so_far name)
@@ -43,6 +46,7 @@ known_next ps i p old new lt is so_far entered_is name =
     ∙ ap (find (λ (q : Proc). bytes_eq name q.name.name)) (sym (take_more ps i p lt ∙ ap (λ (q : Proc). take i ps ++ q ∷ []) (sym is)))
 
 -- a name is known where a procedure so far has it
-pub known_name : (ps : List Proc) (i : ℕ) (old : List ℕ → Option Proc) → ((name : List ℕ) → old name ≡ find (λ (q : Proc). bytes_eq name q.name.name) (take i ps)) →
+pub known_name : (ps : List Proc) (i : ℕ) (old : List ℕ → Option Proc)
+    → ((name : List ℕ) → old name ≡ find (λ (q : Proc). bytes_eq name q.name.name) (take i ps)) →
     (name : List ℕ) → is_some (old name) ≡ is_named name ([] ++ map (λ (q : Proc). q.name) (take i ps))
 known_name ps i old so_far name = ap (λ (o : Option Proc). is_some o) (so_far name) ∙ some_find name (take i ps)

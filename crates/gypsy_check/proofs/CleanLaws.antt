@@ -42,7 +42,8 @@ get_or_map g (y ∷ xs) zero x d h = let same : y ≡ x = cc in ap g same
 get_or_map g (y ∷ xs) (suc i) x d h = get_or_map g xs i x d h
 
 -- each of a list, and what stands past its end
-pub each_place : {X Y : Type 0} (f : X → List Breach) (g : X → Y) (P : Y → Type 0) (d : Y) (xs : List X) (i : ℕ) → ((x : X) → f x ≡ [] → P (g x)) → P d → flat_map f xs ≡ [] → P (get_or (map g xs) i d)
+pub each_place : {X Y : Type 0} (f : X → List Breach) (g : X → Y) (P : Y → Type 0) (d : Y) (xs : List X) (i : ℕ) → ((x : X) → f x ≡ [] → P (g x)) → P d
+    → flat_map f xs ≡ [] → P (get_or (map g xs) i d)
 each_place f g P d [] i h past e = past
 each_place f g P d (x ∷ xs) zero h past e = h x (append_none (f x) (flat_map f xs) e).0
 each_place f g P d (x ∷ xs) (suc i) h past e = each_place f g P d xs i h past (append_none (f x) (flat_map f xs) e).1

@@ -1,5 +1,6 @@
 -- Declarations: the values that suit a type, the types of variables, and the words that these take.
-use Rattle.std.proofs.Common.{◌≡◌, ℕ, ◌+◌, ℤ, pos, List, [], ◌∷◌, ◌++◌, map, length, min, nat_lt, ◌&&◌, Some, refl, ap, ap₂, sym, ◌∙◌, ⊎_elim, arith, lt-ltb, le-ltb}
+use Rattle.std.proofs.Common.{◌≡◌, ℕ, ◌+◌, ℤ, pos, List, [], ◌∷◌, ◌++◌, map, length, min, nat_lt, ◌&&◌, Some, refl, ap, ap₂, sym, ◌∙◌, ⊎_elim, arith, lt-ltb}
+use Rattle.std.proofs.Common.{le-ltb}
 use Rattle.std.specs.List.{flat_map, list_all}
 use Rattle.std.specs.Ordering.{int_eq}
 use Rattle.std.proofs.lemmas.Bool.{cases_lt}
@@ -25,7 +26,9 @@ all_kinds : (k : Kind) (ls : List Literal) → are_of_kind k (items_of_list ls) 
 all_kinds k [] = refl
 all_kinds k (l ∷ ls) = ap (λ b. is_of_kind k (literal_kind (literal_of l)) && b) (all_kinds k ls)
 
-pub list_suits : (k : Kind) (n : ℤ) (place : ℕ) (items : _) → suits k (Some n) (literal_of (Rattle.gypsy_syntax.specs.declared.literal.Literal.TheVariants.List place items)) ≡ (int_eq n (pos (length items.items)) && list_all (λ l. is_of_kind k (literal_kind (literal_of l))) items.items)
+pub list_suits : (k : Kind) (n : ℤ) (place : ℕ) (items : _) → suits k (Some n)
+    (literal_of (Rattle.gypsy_syntax.specs.declared.literal.Literal.TheVariants.List place items))
+    ≡ (int_eq n (pos (length items.items)) && list_all (λ l. is_of_kind k (literal_kind (literal_of l))) items.items)
 list_suits k n place items =
     ap (suits k (Some n)) (literal_of-list place items) ∙
     ap₂ (λ m b. int_eq n (pos m) && b) (item_count_is items.items) (all_kinds k items.items)
@@ -41,7 +44,8 @@ flat_type : {X : Type 0} (type : X → TypeText) (xs : List X) → flat_map type
 flat_type type [] = refl
 flat_type type (x ∷ xs) = ap (λ vs. type_breaches (type x) ++ vs) (flat_type type xs)
 
-pub types_flat : (p : Proc) → flat_map type_breaches (variable_types (proc_of p)) ≡ flat_map (λ (d : Decl). type_breaches d.shape) p.formals.items ++ flat_map (λ (x : Local). type_breaches x.decl.shape) p.locals.items
+pub types_flat : (p : Proc) → flat_map type_breaches (variable_types (proc_of p)) ≡ flat_map (λ (d : Decl). type_breaches d.shape) p.formals.items
+    ++ flat_map (λ (x : Local). type_breaches x.decl.shape) p.locals.items
 types_flat p =
     ap (flat_map type_breaches) (types_are p) ∙
     flat_append type_breaches (map (λ (d : Decl). d.shape) p.formals.items) (map (λ (x : Local). x.decl.shape) p.locals.items) ∙
@@ -58,7 +62,10 @@ over w f l t e h =
     (λ le. rw (le-ltb 65536 w le, le-ltb 65536 (t + l) (omega (arith, e, h, le))) refl)
     (cases_lt 65536 w)
 
-pub is_over : (p : Proc) (w f : ℕ) → min w 65537 ≡ min (f + words_of_types (map (λ (x : Local). x.decl.shape) p.locals.items)) 65537 → min f 65537 ≡ min (words_of_types (map (λ (d : Decl). d.shape) p.formals.items)) 65537 → nat_lt 65536 w ≡ nat_lt 65536 (words_of_types (variable_types (proc_of p)))
+pub is_over : (p : Proc) (w f : ℕ) → min w 65537 ≡ min (f + words_of_types (map (λ (x : Local). x.decl.shape) p.locals.items)) 65537
+    → min f 65537 ≡ min (words_of_types (map (λ (d : Decl). d.shape) p.formals.items)) 65537
+    → nat_lt 65536 w ≡ nat_lt 65536 (words_of_types (variable_types (proc_of p)))
 is_over p w f e h =
     over w f (words_of_types (map (λ (x : Local). x.decl.shape) p.locals.items)) (words_of_types (map (λ (d : Decl). d.shape) p.formals.items)) e h ∙
-    ap (nat_lt 65536) (sym (ap words_of_types (types_are p) ∙ words_append (map (λ (d : Decl). d.shape) p.formals.items) (map (λ (x : Local). x.decl.shape) p.locals.items)))
+    ap (nat_lt 65536) (sym (ap words_of_types (types_are p) ∙ words_append (map (λ (d : Decl). d.shape) p.formals.items)
+    (map (λ (x : Local). x.decl.shape) p.locals.items)))

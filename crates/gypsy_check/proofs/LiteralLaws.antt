@@ -80,7 +80,8 @@ alone : (k : Kind) (z : ℤ) → is_in_range k z ≡ true → list_all (is_in_ra
 alone k z e = and_from (is_in_range k z) true e refl
 
 -- a literal of a simple kind
-pub literal_fits : (k : Kind) (l : LiteralOf) → is_of_kind k (literal_kind l) ≡ true → literal_breaches l ≡ [] → ValueFits record { shape = simple k; items = value_items l }
+pub literal_fits : (k : Kind) (l : LiteralOf) → is_of_kind k (literal_kind l) ≡ true → literal_breaches l ≡ []
+    → ValueFits record { shape = simple k; items = value_items l }
 literal_fits k l e h = record {
   few = omega arith;
   number = ap length (one_item k l e);
@@ -93,7 +94,8 @@ array_length n e = let k = and_parts (nat_lt 0 n) (nat_le n 4096) e in (ltb-true
 count_of : (n : ℕ) → 0 < n → (if n == 0 then 1 else n) ≡ n
 count_of n h = rw (ne_eqb n 0 (λ e. omega arith)) refl
 
-value_fits : (k : Kind) (n : Option ℤ) (l : LiteralOf) → has_length n ≡ true → suits k n l ≡ true → literal_breaches l ≡ [] → ValueFits record { shape = shape_with k n; items = value_items l }
+value_fits : (k : Kind) (n : Option ℤ) (l : LiteralOf) → has_length n ≡ true → suits k n l ≡ true → literal_breaches l ≡ []
+    → ValueFits record { shape = shape_with k n; items = value_items l }
 value_fits k None l g e h = literal_fits k l e h
 value_fits k (Some (negsuc n)) l g e h = cc
 value_fits k (Some (pos n)) (integer place z) g e h = cc

@@ -19,7 +19,8 @@ use Rattle.gypsy_check.specs.Declarations.{type_at, type_of, is_among, repeats}
 abbrev pub Found : List (List ℕ) → List ℕ → Type 0
 Found names name = is_none (place_among name names) ≡ false
 
-at_position : (name : List ℕ) (names : List (List ℕ)) (o : Option ℕ) → place_among name names ≡ o → is_none o ≡ false → (unwrap_or o 0 < length names) × (get_or names (unwrap_or o 0) [] ≡ name)
+at_position : (name : List ℕ) (names : List (List ℕ)) (o : Option ℕ) → place_among name names ≡ o → is_none o ≡ false → (unwrap_or o 0 < length names)
+    × (get_or names (unwrap_or o 0) [] ≡ name)
 unfolding place_among
 at_position name names None e h = cc
 at_position name names (Some i) e h =
@@ -65,7 +66,8 @@ Covers earlier name = (m : List ℕ) → bytes_eq m name ≡ true → is_among m
 abbrev positions : List (List ℕ) → List Named → List ℕ
 positions names xs = map (λ n. position_of n.name names) xs
 
-misses : (names : List (List ℕ)) (rule : ℕ) (earlier : List (List ℕ)) (name : List ℕ) (xs : List Named) → Covers earlier name → Found names name → repeats rule earlier xs ≡ [] → Each (λ (n : Named). Found names n.name) xs → Misses (position_of name names) (positions names xs)
+misses : (names : List (List ℕ)) (rule : ℕ) (earlier : List (List ℕ)) (name : List ℕ) (xs : List Named) → Covers earlier name → Found names name
+    → repeats rule earlier xs ≡ [] → Each (λ (n : Named). Found names n.name) xs → Misses (position_of name names) (positions names xs)
 misses names rule earlier name [] c h e found = tt
 misses names rule earlier name (x ∷ xs) c h e found =
     let k = append_none (when (is_among x.name earlier) x.place rule) (repeats rule (x.name ∷ earlier) xs) e in
@@ -74,7 +76,8 @@ misses names rule earlier name (x ∷ xs) c h e found =
       misses names rule (x.name ∷ earlier) name xs (λ m is. or_right (bytes_eq m x.name) (is_among m earlier) (c m is)) h k.1 found.1,
     )
 
-pub distinct : (names : List (List ℕ)) (rule : ℕ) (earlier : List (List ℕ)) (xs : List Named) → repeats rule earlier xs ≡ [] → Each (λ (n : Named). Found names n.name) xs → Distinct (positions names xs)
+pub distinct : (names : List (List ℕ)) (rule : ℕ) (earlier : List (List ℕ)) (xs : List Named) → repeats rule earlier xs ≡ []
+    → Each (λ (n : Named). Found names n.name) xs → Distinct (positions names xs)
 distinct names rule earlier [] e found = tt
 distinct names rule earlier (x ∷ xs) e found =
     let k = append_none (when (is_among x.name earlier) x.place rule) (repeats rule (x.name ∷ earlier) xs) e in (
@@ -88,19 +91,22 @@ locals_shapes : (locals : List LocalOf) → map (λ v. v.shape) (map local_value
 locals_shapes [] = refl
 locals_shapes (l ∷ locals) = ap (λ shapes. shape_of l.decl.shape ∷ shapes) (locals_shapes locals)
 
-all_shapes : (formals : List Decl) (locals : List LocalOf) → map (λ d. shape_of d.shape) formals ++ map (λ v. v.shape) (map local_value locals) ≡ map shape_of (map (λ d. d.shape) formals ++ map (λ l. l.decl.shape) locals)
+all_shapes : (formals : List Decl) (locals : List LocalOf) → map (λ d. shape_of d.shape) formals ++ map (λ v. v.shape) (map local_value locals)
+    ≡ map shape_of (map (λ d. d.shape) formals ++ map (λ l. l.decl.shape) locals)
 all_shapes [] locals = locals_shapes locals
 all_shapes (d ∷ formals) locals = ap (λ shapes. shape_of d.shape ∷ shapes) (all_shapes formals locals)
 
 pub shapes_are : (s : SourceOf) (p : ProcOf) → shapes_of (procedure_of s p) ≡ map shape_of (variable_types p)
 shapes_are s p = all_shapes p.formals p.locals
 
-type_shape : (types : List TypeText) (o : Option ℕ) (t : TypeText) → type_at types o ≡ Some t → slice_get (map shape_of types) (unwrap_or o 0) ≡ Some (shape_of t)
+type_shape : (types : List TypeText) (o : Option ℕ) (t : TypeText) → type_at types o ≡ Some t
+    → slice_get (map shape_of types) (unwrap_or o 0) ≡ Some (shape_of t)
 type_shape types None t e = cc
 type_shape types (Some i) t e = get_map shape_of types i t e
 
 -- a variable's shape is that of its type
-pub shape_found : (s : SourceOf) (p : ProcOf) (name : List ℕ) (t : TypeText) → type_of p name ≡ Some t → slice_get (shapes_of (procedure_of s p)) (position_of name (variable_names p)) ≡ Some (shape_of t)
+pub shape_found : (s : SourceOf) (p : ProcOf) (name : List ℕ) (t : TypeText) → type_of p name ≡ Some t
+    → slice_get (shapes_of (procedure_of s p)) (position_of name (variable_names p)) ≡ Some (shape_of t)
 shape_found s p name t e =
     ap (λ shapes. slice_get shapes (position_of name (variable_names p))) (shapes_are s p) ∙
     type_shape (variable_types p) (place_among name (variable_names p)) t e

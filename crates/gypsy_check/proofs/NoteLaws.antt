@@ -24,7 +24,8 @@ use Rattle.gypsy_syntax.proofs.ViewLaws.{literal_of-list, stmt_of-seq}
 use Rattle.gypsy_check.specs.Declarations.{type_of}
 use Rattle.gypsy_check.specs.Types.{same_type}
 use Rattle.gypsy_check.specs.Arguments.{kind_of, is_wanted, settled_by, is_undeclared}
-use Rattle.gypsy_check.specs.Rules.{literal_breaches, items_breaches, is_of_type, actuals_breaches, slots_breaches, argument_breaches, statement_breaches, parts_breaches, declared_breaches, predef_breaches}
+use Rattle.gypsy_check.specs.Rules.{literal_breaches, items_breaches, is_of_type, actuals_breaches, slots_breaches, argument_breaches, statement_breaches}
+use Rattle.gypsy_check.specs.Rules.{parts_breaches, declared_breaches, predef_breaches}
 
 -- the least with these
 abbrev pub noted : Option Breach → List Breach → Option Breach
@@ -48,7 +49,8 @@ items_each : (ls : List Literal) → items_breaches (items_of_list ls) ≡ flat_
 items_each [] = refl
 items_each (l ∷ ls) = ap (λ vs. literal_breaches (literal_of l) ++ vs) (items_each ls)
 
-pub list_each : (place : ℕ) (items : _) → literal_breaches (literal_of (Rattle.gypsy_syntax.specs.declared.literal.Literal.TheVariants.List place items)) ≡ flat_map literal_breaks items.items
+pub list_each : (place : ℕ) (items : _) → literal_breaches
+    (literal_of (Rattle.gypsy_syntax.specs.declared.literal.Literal.TheVariants.List place items)) ≡ flat_map literal_breaks items.items
 list_each place items = ap literal_breaches (literal_of-list place items) ∙ items_each items.items
 
 or_false : (b : Bool) → (b || false) ≡ b
@@ -66,7 +68,10 @@ no_actuals : (p : ProcOf) (ts : List TypeText) → actuals_breaches p ts [] ≡ 
 no_actuals p [] = refl
 no_actuals p (t ∷ ts) = refl
 
-pub actuals_step : (p : ProcOf) (old next all : Option Breach) (fs : List Decl) (xs : List Named) (i : ℕ) (f : Decl) (x : Named) (ok : Bool) → i < length xs → i < length fs → x ≡ get_or xs i x → f ≡ get_or fs i f → ok ≡ is_of_type (same_type f.shape) (type_of p x.name) → noted old (actuals_breaches p (types_from fs i) (drop i xs)) ≡ all → next ≡ noted old (when (not ok) x.place 21) → noted next (actuals_breaches p (types_from fs (i + 1)) (drop (i + 1) xs)) ≡ all
+pub actuals_step : (p : ProcOf) (old next all : Option Breach) (fs : List Decl) (xs : List Named) (i : ℕ) (f : Decl) (x : Named) (ok : Bool)
+    → i < length xs → i < length fs → x ≡ get_or xs i x → f ≡ get_or fs i f → ok ≡ is_of_type (same_type f.shape) (type_of p x.name)
+    → noted old (actuals_breaches p (types_from fs i) (drop i xs)) ≡ all → next ≡ noted old (when (not ok) x.place 21)
+    → noted next (actuals_breaches p (types_from fs (i + 1)) (drop (i + 1) xs)) ≡ all
 actuals_step p old next all fs xs i f x ok lt ltf x_is f_is ok_is before noted_is =
     let rest : drop i xs ≡ x ∷ drop (i + 1) xs = drop_more xs i x lt ∙ ap (λ y. y ∷ drop (i + 1) xs) (sym x_is) in
     let types : drop i fs ≡ f ∷ drop (i + 1) fs = drop_more fs i f ltf ∙ ap (λ y. y ∷ drop (i + 1) fs) (sym f_is) in
@@ -76,21 +81,30 @@ actuals_step p old next all fs xs i f x ok lt ltf x_is f_is ok_is before noted_i
     ap₂ (λ ds ys. noted old (actuals_breaches p (map (λ (d : Decl). d.shape) ds) ys)) (sym types) (sym rest) ∙
     before
 
-pub actuals_done : (p : ProcOf) (old all : Option Breach) (fs : List Decl) (xs : List Named) (i : ℕ) → length xs ≤ i → noted old (actuals_breaches p (types_from fs i) (drop i xs)) ≡ all → old ≡ all
+pub actuals_done : (p : ProcOf) (old all : Option Breach) (fs : List Decl) (xs : List Named) (i : ℕ) → length xs ≤ i
+    → noted old (actuals_breaches p (types_from fs i) (drop i xs)) ≡ all → old ≡ all
 actuals_done p old all fs xs i le before =
-    sym (ap (λ ys. noted old (actuals_breaches p (types_from fs i) ys)) (drop_all i xs le) ∙ ap (noted old) (no_actuals p (types_from fs i)) ∙ noted_none old) ∙ before
+    sym (ap (λ ys. noted old (actuals_breaches p (types_from fs i) ys)) (drop_all i xs le) ∙ ap (noted old) (no_actuals p (types_from fs i))
+    ∙ noted_none old) ∙ before
 
 abbrev pub statement_breaks : SourceOf → ProcOf → Bool → Stmt → List Breach
 statement_breaks s p in_loop b = statement_breaches s p in_loop (stmt_of b)
 
-parts_each : (s : SourceOf) (p : ProcOf) (in_loop : Bool) (bs : List Stmt) → parts_breaches s p in_loop (parts_of_list bs) ≡ flat_map (statement_breaks s p in_loop) bs
+parts_each : (s : SourceOf) (p : ProcOf) (in_loop : Bool) (bs : List Stmt) → parts_breaches s p in_loop (parts_of_list bs)
+    ≡ flat_map (statement_breaks s p in_loop) bs
 parts_each s p in_loop [] = refl
 parts_each s p in_loop (b ∷ bs) = ap (λ vs. statement_breaks s p in_loop b ++ vs) (parts_each s p in_loop bs)
 
-pub seq_each : (s : SourceOf) (p : ProcOf) (in_loop : Bool) (place : ℕ) (parts : _) → statement_breaches s p in_loop (stmt_of (Rattle.gypsy_syntax.specs.declared.statement.Stmt.TheVariants.Seq place parts)) ≡ flat_map (statement_breaks s p in_loop) parts.items
+pub seq_each : (s : SourceOf) (p : ProcOf) (in_loop : Bool) (place : ℕ) (parts : _)
+    → statement_breaches s p in_loop (stmt_of (Rattle.gypsy_syntax.specs.declared.statement.Stmt.TheVariants.Seq place parts))
+    ≡ flat_map (statement_breaks s p in_loop) parts.items
 seq_each s p in_loop place parts = ap (statement_breaches s p in_loop) (stmt_of-seq place parts) ∙ parts_each s p in_loop parts.items
 
-pub slots_step : (p : ProcOf) (old next all : Option Breach) (slots : List Slot) (args : List Arg) (i : ℕ) (slot : Slot) (a : Arg) (settled after kind : Option Kind) (ok : Bool) (place : ℕ) → i < length args → i < length slots → a ≡ get_or args i a → slot ≡ get_or slots i slot → kind ≡ kind_of p slot.form (arg_of a) → ok ≡ is_wanted settled slot.kind kind → place ≡ arg_place (arg_of a) → after ≡ settled_by settled slot.kind kind → noted old (slots_breaches p settled (drop i slots) (map arg_of (drop i args))) ≡ all → next ≡ noted old (when (not ok) place 23) → noted next (slots_breaches p after (drop (i + 1) slots) (map arg_of (drop (i + 1) args))) ≡ all
+pub slots_step : (p : ProcOf) (old next all : Option Breach) (slots : List Slot) (args : List Arg) (i : ℕ) (slot : Slot) (a : Arg)
+    (settled after kind : Option Kind) (ok : Bool) (place : ℕ) → i < length args → i < length slots → a ≡ get_or args i a → slot ≡ get_or slots i slot
+    → kind ≡ kind_of p slot.form (arg_of a) → ok ≡ is_wanted settled slot.kind kind → place ≡ arg_place (arg_of a)
+    → after ≡ settled_by settled slot.kind kind → noted old (slots_breaches p settled (drop i slots) (map arg_of (drop i args))) ≡ all
+    → next ≡ noted old (when (not ok) place 23) → noted next (slots_breaches p after (drop (i + 1) slots) (map arg_of (drop (i + 1) args))) ≡ all
 slots_step p old next all slots args i slot a settled after kind ok place lt lts a_is slot_is kind_is ok_is place_is after_is before noted_is =
     let rest : drop i args ≡ a ∷ drop (i + 1) args = drop_more args i a lt ∙ ap (λ y. y ∷ drop (i + 1) args) (sym a_is) in
     let wanted : drop i slots ≡ slot ∷ drop (i + 1) slots = drop_more slots i slot lts ∙ ap (λ y. y ∷ drop (i + 1) slots) (sym slot_is) in
@@ -108,9 +122,11 @@ no_slots : (p : ProcOf) (settled : Option Kind) (slots : List Slot) → slots_br
 no_slots p settled [] = refl
 no_slots p settled (s ∷ slots) = refl
 
-pub slots_done : (p : ProcOf) (old all : Option Breach) (slots : List Slot) (args : List Arg) (i : ℕ) (settled : Option Kind) → length args ≤ i → noted old (slots_breaches p settled (drop i slots) (map arg_of (drop i args))) ≡ all → old ≡ all
+pub slots_done : (p : ProcOf) (old all : Option Breach) (slots : List Slot) (args : List Arg) (i : ℕ) (settled : Option Kind) → length args ≤ i
+    → noted old (slots_breaches p settled (drop i slots) (map arg_of (drop i args))) ≡ all → old ≡ all
 slots_done p old all slots args i settled le before =
-    sym (ap (λ ys. noted old (slots_breaches p settled (drop i slots) (map arg_of ys))) (drop_all i args le) ∙ ap (noted old) (no_slots p settled (drop i slots)) ∙ noted_none old) ∙ before
+    sym (ap (λ ys. noted old (slots_breaches p settled (drop i slots) (map arg_of ys))) (drop_all i args le)
+    ∙ ap (noted old) (no_slots p settled (drop i slots)) ∙ noted_none old) ∙ before
 
 pub flat_args : (p : ProcOf) (args : List Arg) → flat_map (argument_breaches p) (map arg_of args) ≡ flat_map (λ a. argument_breaches p (arg_of a)) args
 flat_args p [] = refl
@@ -150,10 +166,12 @@ flat_over g f [] = refl
 flat_over g f (x ∷ xs) = ap (λ vs. f (g x) ++ vs) (flat_over g f xs)
 
 -- one of the arguments isn't declared, or all are
-pub lacking : (p : ProcOf) (slots : List Slot) (args : List Arg) → list_any (λ a. is_undeclared p (arg_of a)) args ≡ true → declared_breaches p slots (map arg_of args) ≡ []
+pub lacking : (p : ProcOf) (slots : List Slot) (args : List Arg) → list_any (λ a. is_undeclared p (arg_of a)) args ≡ true
+    → declared_breaches p slots (map arg_of args) ≡ []
 lacking p slots args h = ap (λ b. if b then [] else slots_breaches p None slots (map arg_of args)) (any_args p args ∙ h)
 
-pub all_declared_here : (p : ProcOf) (slots : List Slot) (args : List Arg) → list_any (λ a. is_undeclared p (arg_of a)) args ≡ false → declared_breaches p slots (map arg_of args) ≡ slots_breaches p None slots (map arg_of args)
+pub all_declared_here : (p : ProcOf) (slots : List Slot) (args : List Arg) → list_any (λ a. is_undeclared p (arg_of a)) args ≡ false
+    → declared_breaches p slots (map arg_of args) ≡ slots_breaches p None slots (map arg_of args)
 all_declared_here p slots args h = ap (λ b. if b then [] else slots_breaches p None slots (map arg_of args)) (any_args p args ∙ h)
 
 any_push : {X : Type 0} (f : X → Bool) (xs : List X) (x : X) → list_any f (xs ++ x ∷ []) ≡ (list_any f xs || f x)

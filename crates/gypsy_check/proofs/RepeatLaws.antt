@@ -1,5 +1,6 @@
 -- Names that stand earlier, one name after the other.
-use Rattle.std.proofs.Common.{◌≡◌, Bor, ℕ, ◌+◌, ◌<◌, length, List, [], ◌∷◌, ◌++◌, map, get_or, take, Option, Bool, true, false, cond, ◌||◌, bytes_eq, refl, ap, sym, ◌∙◌, append_assoc}
+use Rattle.std.proofs.Common.{◌≡◌, Bor, ℕ, ◌+◌, ◌<◌, length, List, [], ◌∷◌, ◌++◌, map, get_or, take, Option, Bool, true, false, cond, ◌||◌, bytes_eq, refl, ap}
+use Rattle.std.proofs.Common.{sym, ◌∙◌, append_assoc}
 use Rattle.std.specs.List.{list_any}
 use Rattle.std.proofs.lemmas.List.{append-nil, map_push, take_more}
 use Rattle.std.proofs.lemmas.Slice.Eq.{bytes_eq-Decides}
@@ -23,14 +24,16 @@ or_false false = refl
 
 pub is_named-push : (name : List ℕ) (ns : List Named) (n : Named) → is_named name (ns ++ n ∷ []) ≡ (bytes_eq name n.name || is_named name ns)
 is_named-push name [] n = refl
-is_named-push name (m ∷ ns) n = ap (λ b. bytes_eq name m.name || b) (is_named-push name ns n) ∙ swap_or (bytes_eq name m.name) (bytes_eq name n.name) (is_named name ns)
+is_named-push name (m ∷ ns) n =
+    ap (λ b. bytes_eq name m.name || b) (is_named-push name ns n) ∙ swap_or (bytes_eq name m.name) (bytes_eq name n.name) (is_named name ns)
 
 repeats-push : (rule : ℕ) (earlier : List (List ℕ)) (ns : List Named) (n : Named) →
     repeats rule earlier (ns ++ n ∷ []) ≡ repeats rule earlier ns ++ when (is_named n.name ns || is_among n.name earlier) n.place rule
 repeats-push rule earlier [] n = append-nil _
 repeats-push rule earlier (m ∷ ns) n =
     ap (λ (bs : List Breach). when (is_among m.name earlier) m.place rule ++ bs) (repeats-push rule (m.name ∷ earlier) ns n)
-    ∙ sym (append_assoc (when (is_among m.name earlier) m.place rule) (repeats rule (m.name ∷ earlier) ns) (when (is_named n.name ns || (bytes_eq n.name m.name || is_among n.name earlier)) n.place rule))
+    ∙ sym (append_assoc (when (is_among m.name earlier) m.place rule) (repeats rule (m.name ∷ earlier) ns)
+    (when (is_named n.name ns || (bytes_eq n.name m.name || is_among n.name earlier)) n.place rule))
     ∙ ap (λ (b : Bool). (when (is_among m.name earlier) m.place rule ++ repeats rule (m.name ∷ earlier) ns) ++ when b n.place rule)
     (first (is_named n.name ns) (bytes_eq n.name m.name) (is_among n.name earlier))
   where
@@ -54,13 +57,15 @@ list_more {X} front xs i x lt is =
 
 -- the set has those so far, and one more
 pub known_more : (before after : List Named) (n : Named) (old new : List ℕ → Bool) → after ≡ before ++ n ∷ [] →
-    ((name : List ℕ) → old name ≡ is_named name before) → ((name : List ℕ) → new name ≡ (bytes_eq name n.name || old name)) → (name : List ℕ) → new name ≡ is_named name after
+    ((name : List ℕ) → old name ≡ is_named name before) → ((name : List ℕ) → new name ≡ (bytes_eq name n.name || old name)) → (name : List ℕ)
+    → new name ≡ is_named name after
 known_more before after n old new more so_far entered name =
     entered name ∙ ap (λ (b : Bool). bytes_eq name n.name || b) (so_far name) ∙ sym (is_named-push name before n) ∙ ap (is_named name) (sym more)
 
 -- the repetitions so far, and one more
 pub noted_more : (rule : ℕ) (before after : List Named) (n : Named) (a b c : Option Breach) (old : List ℕ → Bool) → after ≡ before ++ n ∷ [] →
-    ((name : List ℕ) → old name ≡ is_named name before) → Notes a (repeats rule [] before) b → Notes b (when (old n.name) n.place rule) c → Notes a (repeats rule [] after) c
+    ((name : List ℕ) → old name ≡ is_named name before) → Notes a (repeats rule [] before) b → Notes b (when (old n.name) n.place rule) c
+    → Notes a (repeats rule [] after) c
 noted_more rule before after n a b c old more so_far h k =
     let known : old n.name ≡ (is_named n.name before || false) = so_far n.name ∙ sym (or_false (is_named n.name before)) in
     notes_more a b c (repeats rule [] before) (when (old n.name) n.place rule) h k

@@ -1,5 +1,6 @@
 -- What is generated where no limit is passed.
-use Rattle.std.proofs.Common.{◌≡◌, ℕ, suc, ◌+◌, ◌<◌, ◌≤◌, ◌^◌, List, [], ◌∷◌, length, Bool, true, false, cond, Some, None, Option, refl, sym, ap, subst, ◌∙◌, arith}
+use Rattle.std.proofs.Common.{◌≡◌, ℕ, suc, ◌+◌, ◌<◌, ◌≤◌, ◌^◌, List, [], ◌∷◌, length, Bool, true, false, cond, Some, None, Option, refl, sym, ap, subst, ◌∙◌}
+use Rattle.std.proofs.Common.{arith}
 use Rattle.std.specs.Prelude.{not, nat_lt, nat_le, ◌&&◌, Ok}
 use Rattle.std.proofs.lemmas.Bool.{leb-true, ltb-true, ltb-false, lt-ltb, and_parts}
 use Rattle.std.proofs.lemmas.List.{length-map}
@@ -95,17 +96,22 @@ limits_fit q sizes base low none = by_sizes (are_sizes sizes) refl none
     by_words false e h = ltb-false (2 ^ 20) (total_words q) e
 
     by_temp : are_sizes sizes ≡ true → (main_need q).ctrl ≤ sizes.ctrl → (b : Bool) → nat_lt sizes.temp (main_need q).temp ≡ b →
-        cond b (Some (Temporary (main_need q).temp)) (cond (nat_lt (2 ^ 20) (total_words q)) (Some (TooManyWords (total_words q))) None) ≡ None → LimitsFit q sizes base
+        cond b (Some (Temporary (main_need q).temp)) (cond (nat_lt (2 ^ 20) (total_words q)) (Some (TooManyWords (total_words q))) None) ≡ None
+        → LimitsFit q sizes base
     by_temp e ctrl true f h = absurd (none_is _ h)
     by_temp e ctrl false f h = with_all e ctrl (ltb-false sizes.temp (main_need q).temp f) (by_words (nat_lt (2 ^ 20) (total_words q)) refl h)
 
     by_ctrl : are_sizes sizes ≡ true → (b : Bool) → nat_lt sizes.ctrl (main_need q).ctrl ≡ b →
-        cond b (Some (Control (main_need q).ctrl)) (cond (nat_lt sizes.temp (main_need q).temp) (Some (Temporary (main_need q).temp)) (cond (nat_lt (2 ^ 20) (total_words q)) (Some (TooManyWords (total_words q))) None)) ≡ None → LimitsFit q sizes base
+        cond b (Some (Control (main_need q).ctrl))
+        (cond (nat_lt sizes.temp (main_need q).temp) (Some (Temporary (main_need q).temp))
+        (cond (nat_lt (2 ^ 20) (total_words q)) (Some (TooManyWords (total_words q))) None)) ≡ None → LimitsFit q sizes base
     by_ctrl e true f h = absurd (none_is _ h)
     by_ctrl e false f h = by_temp e (ltb-false sizes.ctrl (main_need q).ctrl f) (nat_lt sizes.temp (main_need q).temp) refl h
 
     by_sizes : (b : Bool) → are_sizes sizes ≡ b →
-        cond (not b) (Some Size) (cond (nat_lt sizes.ctrl (main_need q).ctrl) (Some (Control (main_need q).ctrl)) (cond (nat_lt sizes.temp (main_need q).temp) (Some (Temporary (main_need q).temp)) (cond (nat_lt (2 ^ 20) (total_words q)) (Some (TooManyWords (total_words q))) None))) ≡ None → LimitsFit q sizes base
+        cond (not b) (Some Size) (cond (nat_lt sizes.ctrl (main_need q).ctrl) (Some (Control (main_need q).ctrl))
+        (cond (nat_lt sizes.temp (main_need q).temp) (Some (Temporary (main_need q).temp))
+        (cond (nat_lt (2 ^ 20) (total_words q)) (Some (TooManyWords (total_words q))) None))) ≡ None → LimitsFit q sizes base
     by_sizes false e h = absurd (none_is _ h)
     by_sizes true e h = by_ctrl e (nat_lt sizes.ctrl (main_need q).ctrl) refl h
 
@@ -116,7 +122,8 @@ not_less a b le = by (nat_lt a b) refl
     by true e = let lt = ltb-true a b e in absurd (omega (arith, lt, le))
     by false e = refl
 
-module _ (q : Program) (sizes : StackSizes) (n : ℕ) (all : are_sizes sizes ≡ true) (ctrl : (main_need q).ctrl ≤ sizes.ctrl) (temp : (main_need q).temp ≤ sizes.temp) (words : n ≡ total_words q) where
+module _ (q : Program) (sizes : StackSizes) (n : ℕ) (all : are_sizes sizes ≡ true) (ctrl : (main_need q).ctrl ≤ sizes.ctrl)
+    (temp : (main_need q).temp ≤ sizes.temp) (words : n ≡ total_words q) where
   pub words_fault : 2 ^ 20 < n → Some (TooManyWords n) ≡ size_fault q sizes
   unfolding size_fault
   words_fault more =
@@ -138,7 +145,8 @@ not_some None h = refl
 not_some (Some x) h = absurd (h x refl)
 
 -- no limit is passed, where the program is the source's
-pub none_of : (q r : Program) (sizes : StackSizes) (o : Option GenFault) → q ≡ r → o ≡ size_fault q sizes → ((f : GenFault) → o ≡ Some f → ⊥) → size_fault r sizes ≡ None
+pub none_of : (q r : Program) (sizes : StackSizes) (o : Option GenFault) → q ≡ r → o ≡ size_fault q sizes → ((f : GenFault) → o ≡ Some f → ⊥)
+    → size_fault r sizes ≡ None
 none_of q r sizes o e f h = ap (λ (p : Program). size_fault p sizes) (sym e) ∙ sym f ∙ not_some o h
 
 -- ---- the checked system

@@ -35,7 +35,8 @@ use Rattle.gypsy_predef.specs.Bodies.{lengths_of}
 use Rattle.gypsy_predef.specs.Runs as runs
 use Rattle.gypsy_predef.specs.Runs.{Argument, length_words, words_of_value, with_elements}
 use Rattle.gypsy_predef.specs.Calls.{argument_code, arguments_code, test_code, predef_code, argument_of, VariableHolds, IsAtCode, after_code}
-use Rattle.gypsy_codegen.specs.Generated.{Scope, target, offset, push_args, length_code, test_size, predef_position, size, code_of, generated_program, generated_view}
+use Rattle.gypsy_codegen.specs.Generated.{Scope, target, offset, push_args, length_code, test_size, predef_position, size, code_of, generated_program}
+use Rattle.gypsy_codegen.specs.Generated.{generated_view}
 use Rattle.gypsy_codegen.specs.Memory.{stack_of, index_of, frame_of, index_words}
 use Rattle.gypsy_codegen.specs.Showing.{HasAt, Stands}
 use Rattle.gypsy_codegen.specs.Law.{Follows}
@@ -87,7 +88,8 @@ module _ (q : Program) (p : ℕ) (fs : List Frame) (x : List ValueOf) (shapes : 
   first_of_row r args f = slots_first (slots_of r) args (row_begins r) f
 
   -- the code that pushes them
-  arg_pushed : (form : Form) (j : Kind) (g : Arg) (args : List Arg) → ArgFits shapes form j g → push_args q p (g ∷ args) ≡ argument_code form (argument_of (offset q p) (index_of q p fs) x g) ∷ push_args q p args
+  arg_pushed : (form : Form) (j : Kind) (g : Arg) (args : List Arg) → ArgFits shapes form j g
+      → push_args q p (g ∷ args) ≡ argument_code form (argument_of (offset q p) (index_of q p fs) x g) ∷ push_args q p args
   arg_pushed Simple j (Var b) args f = refl
   arg_pushed Array j (Var b) args f = refl
   arg_pushed Literal j (Var b) args f = absurd f
@@ -104,7 +106,8 @@ module _ (q : Program) (p : ℕ) (fs : List Frame) (x : List ValueOf) (shapes : 
       arg_pushed slot.form (slot_kind k slot.kind) g args f.0 ∙ ap (λ l. argument_code slot.form e ∷ l) (args_pushed slots args f.1)
 
   -- the length that is pushed
-  same_length : (b n : ℕ) → 0 < n → VarsFit shapes x → slice_get shapes b ≡ Some record { kind = k; length = n } → (get_or shapes b (simple Integer)).length ≡ item_count (value_at x b).shape
+  same_length : (b n : ℕ) → 0 < n → VarsFit shapes x → slice_get shapes b ≡ Some record { kind = k; length = n }
+      → (get_or shapes b (simple Integer)).length ≡ item_count (value_at x b).shape
   same_length b n some v e =
       let s : Shape = record { kind = k; length = n } in
       let count : item_count s ≡ n = if_no (n == 0) 1 n (ne_eqb n 0 (λ z. omega (arith, z, some))) in
@@ -113,13 +116,15 @@ module _ (q : Program) (p : ℕ) (fs : List Frame) (x : List ValueOf) (shapes : 
   abbrev length_pushes : Predef → List Arg → List Instruction
   length_pushes r args = map i.PushConstant (length_words r (runs.values_of (arguments q p fs x args)))
 
-  array_at_1 : (s : Slot) (slots : List Slot) (args : List Arg) → VarsFit shapes x → ArgsFit shapes k (s ∷ shared Array ∷ slots) args → length_code shapes row.MgIndexArray args ≡ length_pushes row.MgIndexArray args
+  array_at_1 : (s : Slot) (slots : List Slot) (args : List Arg) → VarsFit shapes x → ArgsFit shapes k (s ∷ shared Array ∷ slots) args
+      → length_code shapes row.MgIndexArray args ≡ length_pushes row.MgIndexArray args
   array_at_1 s slots [] v f = absurd f
   array_at_1 s slots (a ∷ []) v f = absurd f.1
   array_at_1 s slots (a ∷ Lit u ∷ args) v f = absurd f.1.0
   array_at_1 s slots (a ∷ Var b ∷ args) v f = ap (λ n. i.PushConstant (Int (pos n)) ∷ []) (same_length b f.1.0.0 f.1.0.1 v f.1.0.3)
 
-  array_at_0 : (slots : List Slot) (args : List Arg) → VarsFit shapes x → ArgsFit shapes k (shared Array ∷ slots) args → length_code shapes row.MgArrayElementAssignment args ≡ length_pushes row.MgArrayElementAssignment args
+  array_at_0 : (slots : List Slot) (args : List Arg) → VarsFit shapes x → ArgsFit shapes k (shared Array ∷ slots) args
+      → length_code shapes row.MgArrayElementAssignment args ≡ length_pushes row.MgArrayElementAssignment args
   array_at_0 slots [] v f = absurd f
   array_at_0 slots (Lit u ∷ args) v f = absurd f.0
   array_at_0 slots (Var b ∷ args) v f = ap (λ n. i.PushConstant (Int (pos n)) ∷ []) (same_length b f.0.0 f.0.1 v f.0.3)
@@ -130,14 +135,17 @@ module _ (q : Program) (p : ℕ) (fs : List Frame) (x : List ValueOf) (shapes : 
   length_pushed r args v f = refl
 
   -- the whole code is a predefined call's
-  code_is : (r : Predef) (to : ℕ) (args : List Arg) → VarsFit shapes x → ArgsFit shapes k (slots_of r) args → push_args q p args ++ (length_code shapes r args ++ i.Call (predef_position q r) ∷ test_code r to) ≡ predef_code r (predef_position q r) to (arguments q p fs x args)
+  code_is : (r : Predef) (to : ℕ) (args : List Arg) → VarsFit shapes x → ArgsFit shapes k (slots_of r) args
+      → push_args q p args ++ (length_code shapes r args ++ i.Call (predef_position q r) ∷ test_code r to)
+      ≡ predef_code r (predef_position q r) to (arguments q p fs x args)
   code_is r to args v f =
       let rest = i.Call (predef_position q r) ∷ test_code r to in
       ap (λ l. l ++ (length_code shapes r args ++ rest)) (args_pushed (slots_of r) args f)
       ∙ ap (λ l. arguments_code (slots_of r) (arguments q p fs x args) ++ (l ++ rest)) (length_pushed r args v f)
 
 -- code that stands is found
-found_at : (code : List Instruction) (at : ℕ) (is : List Instruction) (j : ℕ) (x : Instruction) → HasAt code at is → slice_get is j ≡ Some x → slice_get code (at + j) ≡ Some x
+found_at : (code : List Instruction) (at : ℕ) (is : List Instruction) (j : ℕ) (x : Instruction) → HasAt code at is → slice_get is j ≡ Some x
+    → slice_get code (at + j) ≡ Some x
 found_at code at [] j x h e = cc
 found_at code at (y ∷ is) zero x h e = let n : at + 0 ≡ at = omega arith in ap (slice_get code) n ∙ h.0 ∙ e
 found_at code at (y ∷ is) (suc j) x h e =
@@ -151,9 +159,11 @@ values_as : (x : List ValueOf) (args : List Arg) → map (value_of x) args ≡ v
 unfolding values_of
 values_as x args = refl
 
-module _ {q : Program} {sizes : StackSizes} {base p : ℕ} {fs : List Frame} {fr : List piton.Frame} (a : Live q sizes base p fs fr) (x : List ValueOf) (s : List Word) (es : s ≡ stack_of q p x fs) (v : VarsFit (shapes_of (proc_at q p)) x) where
+module _ {q : Program} {sizes : StackSizes} {base p : ℕ} {fs : List Frame} {fr : List piton.Frame} (a : Live q sizes base p fs fr) (x : List ValueOf)
+    (s : List Word) (es : s ≡ stack_of q p x fs) (v : VarsFit (shapes_of (proc_at q p)) x) where
   -- each variable is held by its words and by its local
-  held : (b : ℕ) (t : Shape) → slice_get (shapes_of (proc_at q p)) b ≡ Some t → VariableHolds s (index_words (frame_of q p fs)) (offset q p b) (index_of q p fs b) (value_at x b) t
+  held : (b : ℕ) (t : Shape) → slice_get (shapes_of (proc_at q p)) b ≡ Some t → VariableHolds s (index_words (frame_of q p fs)) (offset q p b)
+      (index_of q p fs b) (value_at x b) t
   held b t e =
       let fit = value_fits (shapes_of (proc_at q p)) x b t v e in
       record {
@@ -163,7 +173,11 @@ module _ {q : Program} {sizes : StackSizes} {base p : ℕ} {fs : List Frame} {fr
         local_holds = frame_at q p fs b a.frames_fit (get_below (shapes_of (proc_at q p)) b t e);
       }
 
-  applies : (k : Kind) (at : ℕ) (r : Predef) (args : List Arg) (e : Effect) (to : ℕ) → ArgsFit (shapes_of (proc_at q p)) k (slots_of r) args → predef_effect r (values_of x args) ≡ e → predef_temp r ≤ temp_need (proc_at q p) → predef_ctrl r ≤ ctrl_need (proc_at q p) → HasAt (code_of q p) at (push_args q p args ++ (length_code (shapes_of (proc_at q p)) r args ++ i.Call (predef_position q r) ∷ test_code r to)) → Steps (generated_view q sizes base) (predef_cost r e).1 (predef_cost r e).0 (state_at p at 2 s fr) (after_code (state_at p at 2 s fr) to (length args + (lengths_of r + (test_size r + 1))) (arguments q p fs x args) e)
+  applies : (k : Kind) (at : ℕ) (r : Predef) (args : List Arg) (e : Effect) (to : ℕ) → ArgsFit (shapes_of (proc_at q p)) k (slots_of r) args
+      → predef_effect r (values_of x args) ≡ e → predef_temp r ≤ temp_need (proc_at q p) → predef_ctrl r ≤ ctrl_need (proc_at q p)
+      → HasAt (code_of q p) at (push_args q p args ++ (length_code (shapes_of (proc_at q p)) r args ++ i.Call (predef_position q r) ∷ test_code r to))
+      → Steps (generated_view q sizes base) (predef_cost r e).1 (predef_cost r e).0 (state_at p at 2 s fr)
+      (after_code (state_at p at 2 s fr) to (length args + (lengths_of r + (test_size r + 1))) (arguments q p fs x args) e)
   applies k at r args e to f eff ct cr h0 =
       let S = generated_view q sizes base in
       let shapes = shapes_of (proc_at q p) in
@@ -190,16 +204,25 @@ module _ {q : Program} {sizes : StackSizes} {base p : ℕ} {fs : List Frame} {fr
       ap (predef_effect r) (a.bodies.values x (offset q p) (index_of q p fs) (value_of x) args (λ b. refl) (λ u. refl) ∙ values_as x args) ∙ eff in
       let size_is : length code ≡ length args + (lengths_of r + (test_size r + 1)) = ap length (sym same) ∙ apply_size q p r args to in
       subst (λ n. Steps S (predef_cost r e).1 (predef_cost r e).0 (state_at p at 2 s fr) (after_code (state_at p at 2 s fr) to n given e)) size_is
-      (subst (λ z. Steps S (predef_cost r z).1 (predef_cost r z).0 (state_at p at 2 s fr) (after_code (state_at p at 2 s fr) to (length code) given z)) effect run)
+      (subst (λ z. Steps S (predef_cost r z).1 (predef_cost r z).0 (state_at p at 2 s fr) (after_code (state_at p at 2 s fr) to (length code) given z))
+      effect run)
 
-  goes_to : (r : Predef) (e : Effect) (at cc to : ℕ) (st : List Word) (u : Tally) → Steps (generated_view q sizes base) (predef_cost r e).1 (predef_cost r e).0 (state_at p at 2 s fr) (state_at p to cc st fr) → Goes (generated_view q sizes base) (Pt p at 2 s fr u) (Pt p to cc st fr (predef_spend r e u))
+  goes_to : (r : Predef) (e : Effect) (at cc to : ℕ) (st : List Word) (u : Tally)
+      → Steps (generated_view q sizes base) (predef_cost r e).1 (predef_cost r e).0 (state_at p at 2 s fr) (state_at p to cc st fr)
+      → Goes (generated_view q sizes base) (Pt p at 2 s fr u) (Pt p to cc st fr (predef_spend r e u))
   goes_to r e at cc to st u h = record { steps = (predef_cost r e).1; cost = (predef_cost r e).0; runs = h; tally = sym (predef_spent r e u) }
 
-  failed_leads : (place : ℕ) (r : Predef) (args : List Arg) (e : Effect) (env : List Scope) (at : ℕ) (w : List Item) (u t : Tally) → Goes (generated_view q sizes base) (Pt p at 2 s fr u) (Pt p (target q p (size q (body_of q p)) env Routine) 1 s fr (predef_spend r e u)) → u ≡ t → Stands q p env (at + size q (Apply place r args)) w → Comes q (generated_view q sizes base) (Pt p at 2 s fr u) (raise Routine p x w fs (predef_spend r e t))
+  failed_leads : (place : ℕ) (r : Predef) (args : List Arg) (e : Effect) (env : List Scope) (at : ℕ) (w : List Item) (u t : Tally)
+      → Goes (generated_view q sizes base) (Pt p at 2 s fr u) (Pt p (target q p (size q (body_of q p)) env Routine) 1 s fr (predef_spend r e u)) → u ≡ t
+      → Stands q p env (at + size q (Apply place r args)) w → Comes q (generated_view q sizes base) (Pt p at 2 s fr u)
+      (raise Routine p x w fs (predef_spend r e t))
   failed_leads place r args e env at w u t goes h st =
       comes_on goes (raise_leads a x s es v Routine w env (at + size q (Apply place r args)) _ (predef_spend r e t) (ap (predef_spend r e) h) st)
 
-  pub apply_follows : (place : ℕ) (k : Kind) (r : Predef) (args : List Arg) (e : Effect) (env : List Scope) (at : ℕ) (w : List Item) (u t : Tally) → ArgsFit (shapes_of (proc_at q p)) k (slots_of r) args → predef_effect r (values_of x args) ≡ e → predef_temp r ≤ temp_need (proc_at q p) → predef_ctrl r ≤ ctrl_need (proc_at q p) → u ≡ t → Stands q p env at (Do (Apply place r args) ∷ w) → Follows q (generated_view q sizes base) (state (Pt p at 2 s fr u)) u (apply_step r args e p x w fs t)
+  pub apply_follows : (place : ℕ) (k : Kind) (r : Predef) (args : List Arg) (e : Effect) (env : List Scope) (at : ℕ) (w : List Item) (u t : Tally)
+      → ArgsFit (shapes_of (proc_at q p)) k (slots_of r) args → predef_effect r (values_of x args) ≡ e → predef_temp r ≤ temp_need (proc_at q p)
+      → predef_ctrl r ≤ ctrl_need (proc_at q p) → u ≡ t → Stands q p env at (Do (Apply place r args) ∷ w)
+      → Follows q (generated_view q sizes base) (state (Pt p at 2 s fr u)) u (apply_step r args e p x w fs t)
   apply_follows place k r args (Normal n) env at w u t f eff ct cr h st =
       let S = generated_view q sizes base in
       let shapes = shapes_of (proc_at q p) in
@@ -216,10 +239,13 @@ module _ {q : Program} {sizes : StackSizes} {base p : ℕ} {fs : List Frame} {fr
       let shape : slice_get shapes b ≡ Some n.shape = first.there ∙ ap Some (sym fit.0 ∙ ap (λ (z : ValueOf). z.shape) set) in
       let fits : ValueFits n = subst ValueFits set fit.1 in
       let s' = with_elements s (index_of q p fs b) (words_of_value n) in
-      let es' : s' ≡ stack_of q p x' fs = ap (λ z. with_elements z (index_of q p fs b) (words_of_value n)) es ∙ writes_at q p x fs b n v a.frames_fit shape fits in
+      let es' : s' ≡ stack_of q p x' fs =
+      ap (λ z. with_elements z (index_of q p fs b) (words_of_value n)) es ∙ writes_at q p x fs b n v a.frames_fit shape fits in
       let to = at + size q (Apply place r args) in
-      let run' = subst (λ z. Steps S (predef_cost r (Normal n)).1 (predef_cost r (Normal n)).0 (state_at p at 2 s fr) (state_at p to 2 (with_elements s z (words_of_value n)) fr)) first.index run in
-      leads (comes_on (goes_to r (Normal n) at 2 to s' u run') (lands a x' s' to (settle w) _ (predef_spend r (Normal n) t) es' (ap (predef_spend r (Normal n)) h) (settle_stands q p env to w st.1)))
+      let run' = subst (λ z. Steps S (predef_cost r (Normal n)).1 (predef_cost r (Normal n)).0 (state_at p at 2 s fr)
+      (state_at p to 2 (with_elements s z (words_of_value n)) fr)) first.index run in
+      leads (comes_on (goes_to r (Normal n) at 2 to s' u run')
+      (lands a x' s' to (settle w) _ (predef_spend r (Normal n) t) es' (ap (predef_spend r (Normal n)) h) (settle_stands q p env to w st.1)))
   apply_follows place k r args Fault env at w u t f eff ct cr h st =
       let aim = target q p (size q (body_of q p)) env Routine in
       leads (failed_leads place r args Fault env at w u t (goes_to r Fault at 1 aim s u (applies k at r args Fault aim f eff ct cr st.0)) h st.1)

@@ -65,11 +65,16 @@ pub before_is : (n : Names) (q : Program) (p c : ℕ) (xs : List ℕ) (d : Proc)
     last ≡ mid ++ map (written n) (unmarked (push_actuals q p xs)) → new ≡ last ++ written n (Plain (i.Call c)) ∷ [] →
     new ≡ old ++ map (written n) (unmarked (before_code q p c xs))
 before_is n q p c xs d old mid last new is e f g =
-    subst (λ (z : Proc). new ≡ old ++ map (written n) (unmarked (push_words (words_of_values z.locals) ++ (push_indices (local_words z) 0 0 (local_shapes z) ++ (push_actuals q p xs ++ i.Call c ∷ []))))) is
-    (let parts : map (written n) (unmarked (push_words (words_of_values d.locals) ++ (push_indices (local_words d) 0 0 (local_shapes d) ++ (push_actuals q p xs ++ i.Call c ∷ [])))) ≡
-    local_constants d.locals ++ (index_text (local_words d) 0 0 (local_shapes d) ++ (map (written n) (unmarked (push_actuals q p xs)) ++ written n (Plain (i.Call c)) ∷ [])) =
+    subst (λ (z : Proc). new ≡ old ++ map (written n)
+    (unmarked (push_words (words_of_values z.locals)
+    ++ (push_indices (local_words z) 0 0 (local_shapes z) ++ (push_actuals q p xs ++ i.Call c ∷ []))))) is
+    (let parts : map (written n) (unmarked (push_words (words_of_values d.locals)
+    ++ (push_indices (local_words d) 0 0 (local_shapes d) ++ (push_actuals q p xs ++ i.Call c ∷ [])))) ≡
+    local_constants d.locals ++ (index_text (local_words d) 0 0 (local_shapes d)
+    ++ (map (written n) (unmarked (push_actuals q p xs)) ++ written n (Plain (i.Call c)) ∷ [])) =
     plain_both n (push_words (words_of_values d.locals)) _
-    ∙ ap (λ z. z ++ map (written n) (unmarked (push_indices (local_words d) 0 0 (local_shapes d) ++ (push_actuals q p xs ++ i.Call c ∷ [])))) (constants_are n d.locals)
+    ∙ ap (λ z. z ++ map (written n) (unmarked (push_indices (local_words d) 0 0 (local_shapes d) ++ (push_actuals q p xs ++ i.Call c ∷ []))))
+    (constants_are n d.locals)
     ∙ ap (λ z. local_constants d.locals ++ z)
     (plain_both n (push_indices (local_words d) 0 0 (local_shapes d)) _
     ∙ ap (λ z. z ++ map (written n) (unmarked (push_actuals q p xs ++ i.Call c ∷ []))) (indices_are n (local_words d) 0 0 (local_shapes d))
@@ -89,7 +94,8 @@ after_is n rs l old a b c d m e new x y z r g ea eb ec ed em ee en =
     ec ∙ ap (λ w. w ++ z ∷ []) (eb ∙ ap (λ w. w ++ y ∷ []) ea ∙ append_assoc old (x ∷ []) (y ∷ [])) ∙ append_assoc old (x ∷ y ∷ []) (z ∷ []) in
     let d_is : d ≡ old ++ x ∷ y ∷ z ∷ r = ed ∙ ap (λ w. w ++ r) c_is ∙ append_assoc old (x ∷ y ∷ z ∷ []) r in
     let m_is : m ≡ old ++ x ∷ y ∷ z ∷ (r ++ g) = em ∙ ap (λ w. w ++ g) d_is ∙ append_assoc old (x ∷ y ∷ z ∷ r) g in
-    let e_is : e ≡ old ++ x ∷ y ∷ z ∷ ((r ++ g) ++ map (written n) rs) = ee ∙ ap (λ w. w ++ map (written n) rs) m_is ∙ append_assoc old (x ∷ y ∷ z ∷ (r ++ g)) (map (written n) rs) in
+    let e_is : e ≡ old ++ x ∷ y ∷ z ∷ ((r ++ g) ++ map (written n) rs) =
+    ee ∙ ap (λ w. w ++ map (written n) rs) m_is ∙ append_assoc old (x ∷ y ∷ z ∷ (r ++ g)) (map (written n) rs) in
     en ∙ ap (λ w. w ++ last) e_is ∙ append_assoc old (x ∷ y ∷ z ∷ ((r ++ g) ++ map (written n) rs)) last
     ∙ ap (λ w. old ++ x ∷ y ∷ z ∷ w) (append_assoc (r ++ g) (map (written n) rs) last)
     ∙ ap (λ w. old ++ x ∷ y ∷ z ∷ ((r ++ g) ++ w)) (sym both)
@@ -123,7 +129,8 @@ ctrl_counted q c n e = ap (λ (m : Need). 2 + m.vars + m.ctrl) e
 pub both_are : (n : Names) (xs ys : List Line) (old mid new : List InstrOf) → mid ≡ old ++ map (written n) xs → new ≡ mid ++ map (written n) ys →
     new ≡ old ++ map (written n) (xs ++ ys)
 both_are n xs ys old mid new e f =
-    f ∙ ap (λ z. z ++ map (written n) ys) e ∙ append_assoc old (map (written n) xs) (map (written n) ys) ∙ ap (λ z. old ++ z) (sym (map-append (written n) xs ys))
+    f ∙ ap (λ z. z ++ map (written n) ys) e ∙ append_assoc old (map (written n) xs) (map (written n) ys)
+    ∙ ap (λ z. old ++ z) (sym (map-append (written n) xs ys))
 
 -- the indices of main's variables name nothing
 temporaries_nameless : (n : Names) (names : List (List ℕ)) (indices : List ℕ) →

@@ -20,14 +20,16 @@ copied_miss [] y x a m = refl
 copied_miss (b ∷ xs) [] x a m = refl
 copied_miss (b ∷ xs) (v ∷ y) x a m = copied_miss xs y (slice_set x b v) a m.1 ∙ get_or-set_other x b a v no_value m.0
 
-pub copied_at : (xs : List ℕ) (y x : List ValueOf) (i : ℕ) → Distinct xs → Below (length x) xs → i < length xs → i < length y → value_at (copied_out xs y x) (slice_index xs i) ≡ value_at y i
+pub copied_at : (xs : List ℕ) (y x : List ValueOf) (i : ℕ) → Distinct xs → Below (length x) xs → i < length xs → i < length y
+    → value_at (copied_out xs y x) (slice_index xs i) ≡ value_at y i
 copied_at [] y x i d b lx ly = absurd (omega arith)
 copied_at (a ∷ xs) [] x i d b lx ly = absurd (omega arith)
 copied_at (a ∷ xs) (v ∷ y) x zero d b lx ly = copied_miss xs y (slice_set x a v) a d.0 ∙ get_or-set_same x a v no_value b.0
 copied_at (a ∷ xs) (v ∷ y) x (suc i) d b lx ly =
     copied_at xs y (slice_set x a v) i d.1 (subst (λ n. Below n xs) (sym (length-set x a v)) b.1) (omega arith) (omega arith)
 
-pub copied_set_miss : (xs : List ℕ) (y x : List ValueOf) (a : ℕ) (v : ValueOf) → Misses a xs → copied_out xs y (slice_set x a v) ≡ slice_set (copied_out xs y x) a v
+pub copied_set_miss : (xs : List ℕ) (y x : List ValueOf) (a : ℕ) (v : ValueOf) → Misses a xs
+    → copied_out xs y (slice_set x a v) ≡ slice_set (copied_out xs y x) a v
 copied_set_miss [] y x a v m = refl
 copied_set_miss (b ∷ xs) [] x a v m = refl
 copied_set_miss (b ∷ xs) (w ∷ y) x a v m = ap (copied_out xs y) (set_comm x a b v w m.0) ∙ copied_set_miss xs y (slice_set x b w) a v m.1
@@ -37,7 +39,8 @@ set_twice [] a v w = refl
 set_twice (y ∷ x) zero v w = refl
 set_twice (y ∷ x) (suc a) v w = ap (λ l. y ∷ l) (set_twice x a v w)
 
-pub copied_set : (xs : List ℕ) (y x : List ValueOf) (i : ℕ) (v : ValueOf) → Distinct xs → i < length xs → i < length y → copied_out xs (slice_set y i v) x ≡ slice_set (copied_out xs y x) (slice_index xs i) v
+pub copied_set : (xs : List ℕ) (y x : List ValueOf) (i : ℕ) (v : ValueOf) → Distinct xs → i < length xs → i < length y
+    → copied_out xs (slice_set y i v) x ≡ slice_set (copied_out xs y x) (slice_index xs i) v
 copied_set [] y x i v d lx ly = absurd (omega arith)
 copied_set (a ∷ xs) [] x i v d lx ly = absurd (omega arith)
 copied_set (a ∷ xs) (w ∷ y) x zero v d lx ly = ap (copied_out xs y) (sym (set_twice x a w v)) ∙ copied_set_miss xs y (slice_set x a w) a v d.0
@@ -66,7 +69,8 @@ actuals_below shapes (s ∷ formals) [] f = absurd f
 actuals_below shapes (s ∷ formals) (x ∷ xs) f = (get_below shapes x s f.0, actuals_below shapes formals xs f.1)
 
 -- the actual of a formal has its shape
-pub actual_shape : (shapes formals rest : List Shape) (xs : List ℕ) (b : ℕ) → ActualsFit shapes formals xs → b < length formals → slice_get shapes (slice_index xs b) ≡ slice_get (formals ++ rest) b
+pub actual_shape : (shapes formals rest : List Shape) (xs : List ℕ) (b : ℕ) → ActualsFit shapes formals xs → b < length formals
+    → slice_get shapes (slice_index xs b) ≡ slice_get (formals ++ rest) b
 actual_shape shapes [] rest xs b f h = absurd (omega arith)
 actual_shape shapes (s ∷ formals) rest [] b f h = absurd f
 actual_shape shapes (s ∷ formals) rest (x ∷ xs) zero f h = f.0

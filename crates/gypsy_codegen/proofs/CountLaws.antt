@@ -32,8 +32,10 @@ size_least q fits shapes n b (NoOp place) h = omega arith
 size_least q fits shapes n b (Signal place c) h = omega arith
 size_least q fits shapes n b (Seq s v) h = let x = size_least q fits shapes n b s h.0 in let y = size_least q fits shapes n b v h.1 in omega (arith, x, y)
 size_least q fits shapes n b (Loop place s) h = let x = size_least q fits shapes n true s h in omega (arith, x)
-size_least q fits shapes n b (If place t s v) h = let x = size_least q fits shapes n b s h.1 in let y = size_least q fits shapes n b v h.2 in omega (arith, x, y)
-size_least q fits shapes n b (Begin place s cs v) h = let x = size_least q fits shapes n b s h.1 in let y = size_least q fits shapes n b v h.2 in omega (arith, x, y)
+size_least q fits shapes n b (If place t s v) h =
+    let x = size_least q fits shapes n b s h.1 in let y = size_least q fits shapes n b v h.2 in omega (arith, x, y)
+size_least q fits shapes n b (Begin place s cs v) h =
+    let x = size_least q fits shapes n b s h.1 in let y = size_least q fits shapes n b v h.2 in omega (arith, x, y)
 size_least q fits shapes n b (Call place c xs cs) h = let x = actuals_length shapes (proc_at q c).formals xs h.actuals in omega (arith, x, words_sized q fits c)
 size_least q fits shapes n b (Apply place r args) h = let x = args_least args in let y = row_least r in omega (arith, x, y)
 

@@ -35,7 +35,8 @@ Clear earlier [] = Unit {0}
 Clear earlier (None ∷ ds) = Clear earlier ds
 Clear earlier (Some n ∷ ds) = (first_of earlier n.name ≡ None) × Clear earlier ds
 
-pushed_none : (earlier : List Declaration) (d : Declaration) (name : List ℕ) → first_of earlier name ≡ None → is_named name d ≡ false → first_of (earlier ++ d ∷ []) name ≡ None
+pushed_none : (earlier : List Declaration) (d : Declaration) (name : List ℕ) → first_of earlier name ≡ None → is_named name d ≡ false
+    → first_of (earlier ++ d ∷ []) name ≡ None
 pushed_none earlier d name e f =
     position-push (is_named name) earlier d ∙ ap (λ o. first_or o (is_named name d) (length earlier)) e ∙ ap (λ b. first_or None b (length earlier)) f
 
@@ -103,7 +104,8 @@ unlike_at name [] b u lt = absurd (omega (arith, lt))
 unlike_at name (m ∷ names) zero u lt = u.0
 unlike_at name (m ∷ names) (suc b) u lt = unlike_at name names b u.1 (omega (arith, lt))
 
-found_from : (at : ℕ) (names : List (List ℕ)) (b : ℕ) → Differ names → b < length names → position_from (is_named (get_or names b [])) at (declarations names) ≡ Some (at + b)
+found_from : (at : ℕ) (names : List (List ℕ)) (b : ℕ) → Differ names → b < length names
+    → position_from (is_named (get_or names b [])) at (declarations names) ≡ Some (at + b)
 found_from at [] b d lt = absurd (omega (arith, lt))
 found_from at (m ∷ names) zero d lt =
     ap (λ t. cond t (Some at) (position_from (is_named m) (at + 1) (declarations names))) ((bytes_eq-Decides m m).1 refl) ∙ ap Some (omega arith)
@@ -151,7 +153,8 @@ differ_swap xs ys d = let h = differ_parts xs ys d in differ_both ys xs h.1 h.0 
 
 -- ---- names that a source doesn't repeat
 
-unlike_earlier : (rule : ℕ) (earlier : List (List ℕ)) (name : List ℕ) (xs : List Named) → ((m : List ℕ) → is_among m earlier ≡ false → bytes_eq m name ≡ false) →
+unlike_earlier : (rule : ℕ) (earlier : List (List ℕ)) (name : List ℕ) (xs : List Named)
+    → ((m : List ℕ) → is_among m earlier ≡ false → bytes_eq m name ≡ false) →
     repetitions rule earlier xs ≡ [] → Unlike name (map (λ n. n.name) xs)
 unlike_earlier rule earlier name [] h e = tt
 unlike_earlier rule earlier name (x ∷ xs) h e =

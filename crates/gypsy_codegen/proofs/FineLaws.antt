@@ -27,7 +27,8 @@ use Rattle.gypsy_syntax.specs.declared.slot.Slot.{Slot}
 use Rattle.gypsy_syntax.proofs.PredefLaws.{number_below, low_temp, low_ctrl}
 use Rattle.gypsy_syntax.specs.Predefined.{predefs, slots_of, predef_temp, predef_ctrl, can_fail}
 use Rattle.gypsy_syntax.specs.Effects.{item_of_value}
-use Rattle.gypsy_syntax.specs.Programs.{ConditionOf, Leave, Routine, Space, Declared, Arg, Var, Lit, Proc, Program, simple, proc_at, body_of, shapes_of, conds_of, words_of}
+use Rattle.gypsy_syntax.specs.Programs.{ConditionOf, Leave, Routine, Space, Declared, Arg, Var, Lit, Proc, Program, simple, proc_at, body_of, shapes_of}
+use Rattle.gypsy_syntax.specs.Programs.{conds_of, words_of}
 use Rattle.gypsy_syntax.specs.Programs.{Stmt, Skip, NoOp, Signal, Seq, Loop, If, Begin, Call, Apply}
 use Rattle.gypsy_syntax.specs.ProgramFits.{Each, CondFits, ActualsFit, ArgFits, ArgsFit, slot_kind, StmtFits, ProgramFits}
 use Rattle.gypsy_syntax.specs.Ranges.{is_in_range}
@@ -105,7 +106,8 @@ need_small q fits c =
     let ctrl : statement_ctrl d.body ≤ 10 = greatest_below 0 predef_ctrl 10 d.body (omega arith) low_ctrl in
     let words = (fits.procs c).words in
     let vars = length-words_of (shapes_of d) in
-    let number : length (shapes_of d) ≡ length d.formals + length d.locals = omega (arith, length-append d.formals (map (λ v. v.shape) d.locals), length-map d.locals (λ v. v.shape)) in
+    let number : length (shapes_of d) ≡ length d.formals + length d.locals =
+    omega (arith, length-append d.formals (map (λ v. v.shape) d.locals), length-map d.locals (λ v. v.shape)) in
     let few = locals_few q fits c in
     (omega (arith, temp, words, vars, number, few), omega (arith, ctrl, words, vars, number))
 
@@ -140,12 +142,14 @@ offset_below q p b s e =
     let below : b < length d.formals + length d.locals = let lt = get_below (shapes_of d) b s e in omega (arith, lt, vars_count d) in
     by_main (p == q.main) below
   where
-    by_front : (d : Proc) (t : Bool) → nat_lt b (length d.formals) ≡ t → b < length d.formals + length d.locals → cond t (length d.locals + b) (b - length d.formals) < length d.formals + length d.locals
+    by_front : (d : Proc) (t : Bool) → nat_lt b (length d.formals) ≡ t → b < length d.formals + length d.locals
+        → cond t (length d.locals + b) (b - length d.formals) < length d.formals + length d.locals
     by_front d true e lt = let h = ltb-true b (length d.formals) e in omega (arith, h)
     by_front d false e lt = omega (arith, lt)
 
     by_main : (t : Bool) → b < length (proc_at q p).formals + length (proc_at q p).locals →
-        cond t b (cond (nat_lt b (length (proc_at q p).formals)) (length (proc_at q p).locals + b) (b - length (proc_at q p).formals)) < length (proc_at q p).formals + length (proc_at q p).locals
+        cond t b (cond (nat_lt b (length (proc_at q p).formals)) (length (proc_at q p).locals + b) (b - length (proc_at q p).formals))
+        < length (proc_at q p).formals + length (proc_at q p).locals
     by_main true lt = lt
     by_main false lt = by_front (proc_at q p) (nat_lt b (length (proc_at q p).formals)) refl lt
 
@@ -177,7 +181,8 @@ abbrev pub FineLine : TextProgram → (ℕ → ℕ) → ℕ → ℕ → Line →
 FineLine t f locals programs (Plain ins) = Fine t f locals programs ins
 FineLine t f locals programs (Marked l ins) = Known t f l × Fine t f locals programs ins
 
-module _ (q : Program) (fits : ProgramFits q) (p : ℕ) (few : conds_of (proc_at q p) < 2 ^ 31) (t : TextProgram) (f : ℕ → ℕ) (k0 : Known t f 0) (k1 : Known t f 1) where
+module _ (q : Program) (fits : ProgramFits q) (p : ℕ) (few : conds_of (proc_at q p) < 2 ^ 31) (t : TextProgram) (f : ℕ → ℕ) (k0 : Known t f 0)
+    (k1 : Known t f 1) where
   abbrev K : ℕ → Type 0
   K = Known t f
 
@@ -247,7 +252,8 @@ module _ (q : Program) (fits : ProgramFits q) (p : ℕ) (few : conds_of (proc_at
 
   length_right : (shapes : List Shape) (r : Predef) (args : List Arg) → Each (λ s. s.length ≤ 4096) shapes → Each Right (length_code shapes r args)
   length_right shapes row.MgIndexArray args h = one_length_right (arg_length shapes (get_or args 1 (Var 0))) (arg_short shapes (get_or args 1 (Var 0)) h)
-  length_right shapes row.MgArrayElementAssignment args h = one_length_right (arg_length shapes (get_or args 0 (Var 0))) (arg_short shapes (get_or args 0 (Var 0)) h)
+  length_right shapes row.MgArrayElementAssignment args h =
+      one_length_right (arg_length shapes (get_or args 0 (Var 0))) (arg_short shapes (get_or args 0 (Var 0)) h)
   length_right shapes r args h = tt
 
   check_right : (b : Bool) (to : ℕ) → K to → Each Right (cond b (i.PushGlobal 0 ∷ i.Apply op.Sub1Nat ∷ i.TestAndJump family.Nat test.Zero to ∷ []) [])
@@ -263,10 +269,12 @@ module _ (q : Program) (fits : ProgramFits q) (p : ℕ) (few : conds_of (proc_at
   before_right c xs actuals lt =
       let d = proc_at q c in
       each_both Right (push_words (words_of_values d.locals)) _ (words_right (words_of_values d.locals) (values_in_range d.locals (fits.procs c).locals))
-      (each_both Right (push_indices (local_words d) 0 0 (local_shapes d)) _ (indices_right (local_words d) 0 0 (local_shapes d) (locals_few q fits c) (omega arith))
+      (each_both Right (push_indices (local_words d) 0 0 (local_shapes d)) _
+      (indices_right (local_words d) 0 0 (local_shapes d) (locals_few q fits c) (omega arith))
       (each_both Right (push_actuals q p xs) (i.Call c ∷ []) (actuals_right d.formals xs actuals) (omega (arith, lt), tt)))
 
-  raises_sure : (b : Bool) (env : List Scope) (l : ℕ) (cs : List ConditionOf) → Scopes K env → Marks K (marked_raises q p env l cs) → Each (CondFits b (conds_of (proc_at q p))) cs →
+  raises_sure : (b : Bool) (env : List Scope) (l : ℕ) (cs : List ConditionOf) → Scopes K env → Marks K (marked_raises q p env l cs)
+      → Each (CondFits b (conds_of (proc_at q p))) cs →
       Each Sure (marked_raises q p env l cs)
   raises_sure b env l [] k m h = tt
   raises_sure b env l (c ∷ cs) k m h =
@@ -276,7 +284,8 @@ module _ (q : Program) (fits : ProgramFits q) (p : ℕ) (few : conds_of (proc_at
   raise_labels_known env l [] m = tt
   raise_labels_known env l (c ∷ cs) m = (m.0, raise_labels_known env (l + 1) cs m.1)
 
-  after_sure : (b : Bool) (env : List Scope) (l n : ℕ) (cs : List ConditionOf) → n ≤ 65536 → Scopes K env → Marks K (after_lines q p env l n cs) → Each (CondFits b (conds_of (proc_at q p))) cs →
+  after_sure : (b : Bool) (env : List Scope) (l n : ℕ) (cs : List ConditionOf) → n ≤ 65536 → Scopes K env → Marks K (after_lines q p env l n cs)
+      → Each (CondFits b (conds_of (proc_at q p))) cs →
       Each Sure (after_lines q p env l n cs)
   after_sure b env l n cs le k m h =
       let rs = marked_raises q p env (l + 3) cs in

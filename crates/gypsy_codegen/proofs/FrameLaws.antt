@@ -42,8 +42,10 @@ frame_name s q p proc v here lt = by_main (p == q.main)
 
     by_main : (b : Bool) →
         get_or (cond b (variable_names proc) (map (λ l. l.decl.name.name) proc.locals ++ map (λ d. d.name.name) proc.formals))
-        (cond b v (cond (nat_lt v (length (proc_at q p).formals)) (length (proc_at q p).locals + v) (v - length (proc_at q p).formals))) [] ≡ get_or (variable_names proc) v []
+        (cond b v (cond (nat_lt v (length (proc_at q p).formals)) (length (proc_at q p).locals + v) (v - length (proc_at q p).formals))) []
+        ≡ get_or (variable_names proc) v []
     by_main true = refl
     by_main false =
         swapped (map (λ d. d.name.name) proc.formals) (map (λ l. l.decl.name.name) proc.locals) (length (proc_at q p).formals) (length (proc_at q p).locals) v
-        (nat_lt v (length (proc_at q p).formals)) formals locals refl (omega (arith, lt, length-append (map (λ d. d.name.name) proc.formals) (map (λ l. l.decl.name.name) proc.locals)))
+        (nat_lt v (length (proc_at q p).formals)) formals locals refl
+        (omega (arith, lt, length-append (map (λ d. d.name.name) proc.formals) (map (λ l. l.decl.name.name) proc.locals)))

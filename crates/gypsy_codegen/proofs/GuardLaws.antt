@@ -61,15 +61,18 @@ module _ (s : SystemView) where
       let first = one_step s p p1 f fs push 3 e h.0 pushes cost in
       let second = one_step s p1 p2 f fs (i.PushConstant (Nat need)) 1 e h.1.0 (does_push s.temp p1 (Nat need) (omega (arith, two))) refl in
       let third = one_step s p2 p3 f fs (i.Apply op.LtNat) 5 e h.1.1.0 (does_apply s.temp p2 op.LtNat o (outcome.One (Truth b)) refl refl refl) refl in
-      let fourth = one_step s p3 p4 f fs (i.TestAndJump family.Bool test.T to) 2 e h.1.1.1.0 (does_test_and_jump p3 family.Bool test.T to (Truth b) p.stack b refl (test_true b)) refl in
+      let fourth = one_step s p3 p4 f fs (i.TestAndJump family.Bool test.T to) 2 e h.1.1.1.0
+      (does_test_and_jump p3 family.Bool test.T to (Truth b) p.stack b refl (test_true b)) refl in
       steps_append s 1 3 3 8 p p1 p4 first (steps_append s 1 1 2 7 p1 p2 p4 second (steps_append s 1 5 1 2 p2 p3 p4 third fourth))
 
   -- where this place is the one to which the test leads
-  to_end : (p : PitonState) (j n : ℕ) (b c : Bool) (x y z : ℕ) → b ≡ c → (if c then x else y) ≡ z → Steps s j n p (moved_to p (if b then x else y)) → Steps s j n p (moved_to p z)
+  to_end : (p : PitonState) (j n : ℕ) (b c : Bool) (x y z : ℕ) → b ≡ c → (if c then x else y) ≡ z → Steps s j n p (moved_to p (if b then x else y))
+      → Steps s j n p (moved_to p z)
   to_end p j n b c x y z e f st =
       subst (λ k. Steps s j n p (moved_to p k)) f (subst (λ d. Steps s j n p (moved_to p (if d then x else y))) e st)
 
-  pub guards : (need : StackSizes) (to : ℕ) (p : PitonState) → IsAtGuard s need to p → length p.stack + 2 ≤ s.temp → ctrl_used p.frames ≤ s.ctrl → Guards s need to p
+  pub guards : (need : StackSizes) (to : ℕ) (p : PitonState) → IsAtGuard s need to p → length p.stack + 2 ≤ s.temp → ctrl_used p.frames ≤ s.ctrl
+      → Guards s need to p
   guards need to p g two fits =
       let code = (program_of s p.program).instructions in
       let f = g.frame in
@@ -86,10 +89,13 @@ module _ (s : SystemView) where
       λ e. to_end p 4 11 (nat_lt free need.temp) false to four four (le-ltb free need.temp (omega (arith, e))) refl one in
       record {
         temp_lacks = λ e. to_end p 4 11 (nat_lt free need.temp) true to four to (lt-ltb free need.temp (omega (arith, e, two))) refl one;
-        ctrl_lacks = λ e l. steps_append s 4 11 4 11 p q (moved_to p to) (on e) (to_end q 4 11 (nat_lt rest need.ctrl) true to (four + 1 + 1 + 1 + 1) to (lt-ltb rest need.ctrl (omega (arith, l, fits))) refl two');
+        ctrl_lacks = λ e l. steps_append s 4 11 4 11 p q (moved_to p to) (on e)
+            (to_end q 4 11 (nat_lt rest need.ctrl) true to (four + 1 + 1 + 1 + 1) to (lt-ltb rest need.ctrl (omega (arith, l, fits))) refl two');
         has_room = λ e l.
             let last : four + 1 + 1 + 1 + 1 ≡ p.place + 8 = omega arith in
-            steps_append s 4 11 4 11 p q (moved_to p (p.place + 8)) (on e) (to_end q 4 11 (nat_lt rest need.ctrl) false to (four + 1 + 1 + 1 + 1) (p.place + 8) (le-ltb rest need.ctrl (omega (arith, l, fits))) last two');
+            steps_append s 4 11 4 11 p q (moved_to p (p.place + 8)) (on e)
+            (to_end q 4 11 (nat_lt rest need.ctrl) false to (four + 1 + 1 + 1 + 1) (p.place + 8) (le-ltb rest need.ctrl (omega (arith, l, fits))) last
+            two');
       }
 
 pub guards_calls : GuardsCalls
@@ -119,8 +125,11 @@ calls_have_two q sizes a p x place c xs cs w fs t fits room shows =
     omega (arith, ap length shows.stack, height q p x fs fits.0 fits.2, (has_words q sizes p fs room.1).0, room.0.0.0)
 
 -- In an activation that has two words free.
-module _ {q : Program} {sizes : StackSizes} {base p : ℕ} {fs : List machine.Frame} {fr : List piton.Frame} (a : Live q sizes base p fs fr) (x : List ValueOf) (st : List Word) (es : st ≡ stack_of q p x fs) (v : VarsFit (shapes_of (proc_at q p)) x) (two : 2 ≤ temp_need (proc_at q p)) where
-  guards_here : (need : StackSizes) (at cc to : ℕ) (is : List Instruction) → HasAt (code_of q p) at (guard_code need to ++ is) → Guards (generated_view q sizes base) need to (state_at p at cc st fr)
+module _ {q : Program} {sizes : StackSizes} {base p : ℕ} {fs : List machine.Frame} {fr : List piton.Frame} (a : Live q sizes base p fs fr)
+    (x : List ValueOf) (st : List Word) (es : st ≡ stack_of q p x fs) (v : VarsFit (shapes_of (proc_at q p)) x)
+    (two : 2 ≤ temp_need (proc_at q p)) where
+  guards_here : (need : StackSizes) (at cc to : ℕ) (is : List Instruction) → HasAt (code_of q p) at (guard_code need to ++ is)
+      → Guards (generated_view q sizes base) need to (state_at p at cc st fr)
   guards_here need at cc to is h =
       let t = top a in
       let front = has_front (code_of q p) at (guard_code need to) is h in
@@ -136,9 +145,11 @@ module _ {q : Program} {sizes : StackSizes} {base p : ℕ} {fs : List machine.Fr
     temp_lacks e = record { steps = 4; cost = 11; runs = (guards_here need at cc to is h).temp_lacks e; tally = refl }
 
     -- of one without room on the control stack alone
-    pub ctrl_lacks : length st + need.temp ≤ sizes.temp → sizes.ctrl < ctrl_used fr + need.ctrl → Goes (generated_view q sizes base) (Pt p at cc st fr t) (Pt p to cc st fr (spend 22 8 t))
+    pub ctrl_lacks : length st + need.temp ≤ sizes.temp → sizes.ctrl < ctrl_used fr + need.ctrl
+        → Goes (generated_view q sizes base) (Pt p at cc st fr t) (Pt p to cc st fr (spend 22 8 t))
     ctrl_lacks e l = record { steps = 8; cost = 22; runs = (guards_here need at cc to is h).ctrl_lacks e l; tally = refl }
 
     -- of one with room
-    pub has_room : length st + need.temp ≤ sizes.temp → ctrl_used fr + need.ctrl ≤ sizes.ctrl → Goes (generated_view q sizes base) (Pt p at cc st fr t) (Pt p (at + 8) cc st fr (spend 22 8 t))
+    pub has_room : length st + need.temp ≤ sizes.temp → ctrl_used fr + need.ctrl ≤ sizes.ctrl
+        → Goes (generated_view q sizes base) (Pt p at cc st fr t) (Pt p (at + 8) cc st fr (spend 22 8 t))
     has_room e l = record { steps = 8; cost = 22; runs = (guards_here need at cc to is h).has_room e l; tally = refl }

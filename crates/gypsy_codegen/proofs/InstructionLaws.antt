@@ -121,7 +121,8 @@ word_resolves s n w h = ap (λ o. unwrap_or o (word.Bool false)) (word_is s n w 
 name_clean : (make : ℕ → ResolvedArg) (o : Option ℕ) (v rule : ℕ) → o ≡ Some v → when (is_none (option_map make o)) 0 rule ++ [] ≡ []
 name_clean make o v rule e = ap (λ x. when (is_none (option_map make x)) 0 rule ++ []) e
 
-name_view : (see : List ResolvedArg → Instruction) (make : ℕ → ResolvedArg) (o : Option ℕ) (v : ℕ) → o ≡ Some v → see (unwrap_or (option_map make o) (arg.Number 0) ∷ []) ≡ see (make v ∷ [])
+name_view : (see : List ResolvedArg → Instruction) (make : ℕ → ResolvedArg) (o : Option ℕ) (v : ℕ) → o ≡ Some v
+    → see (unwrap_or (option_map make o) (arg.Number 0) ∷ []) ≡ see (make v ∷ [])
 name_view see make o v e = ap (λ x. see (unwrap_or (option_map make x) (arg.Number 0) ∷ [])) e
 
 module _ (s : SystemOf) (p : ProgramOf) (n : Names) (f : ℕ → ℕ) (locals programs : ℕ) (w : World s p n locals programs) where

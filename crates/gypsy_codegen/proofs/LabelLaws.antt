@@ -17,10 +17,12 @@ unfolding label_text
 label_named l lt = numbered_named 76 l refl (λ bytes. refl) lt
 
 -- what is cut from bytes that have the label in front
-pub label_front : (digits rest : List ℕ) (n l : ℕ) → l < 2 ^ 32 → digits ≡ decimal l → n ≡ length digits → IsTrue (is_name (take (1 + n) (76 ∷ (digits ++ rest))))
+pub label_front : (digits rest : List ℕ) (n l : ℕ) → l < 2 ^ 32 → digits ≡ decimal l → n ≡ length digits
+    → IsTrue (is_name (take (1 + n) (76 ∷ (digits ++ rest))))
 label_front digits rest n l lt same long =
     let more : 1 + n ≡ length (76 ∷ digits) = omega (arith, long) in
-    let front : take (1 + n) (76 ∷ (digits ++ rest)) ≡ 76 ∷ digits = ap (λ (k : ℕ). take k (76 ∷ (digits ++ rest))) more ∙ take-append_seam (76 ∷ digits) rest in
+    let front : take (1 + n) (76 ∷ (digits ++ rest)) ≡ 76 ∷ digits =
+    ap (λ (k : ℕ). take k (76 ∷ (digits ++ rest))) more ∙ take-append_seam (76 ∷ digits) rest in
     rw (front, same) (numbered_named 76 l refl (λ bytes. refl) lt)
 
 pub label_itself : (l : ℕ) → bytes_eq (label_text l) (label_text l) ≡ true
@@ -60,12 +62,14 @@ Good f at (Marked m i ∷ ls) = (f m ≡ Some at) × Good f (at + 1) ls
 abbrev pub declared : Names → List Line → List Declaration
 declared n ls = map label_of (map (written n) ls)
 
-good_change : (f g : ℕ → Option ℕ) (k hi at : ℕ) (ls : List Line) → ((m : ℕ) → m ≢ k → m < hi → g m ≡ f m) → Misses k ls → Ranged 0 hi ls → Good f at ls → Good g at ls
+good_change : (f g : ℕ → Option ℕ) (k hi at : ℕ) (ls : List Line) → ((m : ℕ) → m ≢ k → m < hi → g m ≡ f m) → Misses k ls → Ranged 0 hi ls → Good f at ls
+    → Good g at ls
 good_change f g k hi at [] h y r x = tt
 good_change f g k hi at (Plain i ∷ ls) h y r x = good_change f g k hi (at + 1) ls h y r x
 good_change f g k hi at (Marked m i ∷ ls) h y r x = (h m y.0 r.1 ∙ x.0, good_change f g k hi (at + 1) ls h y.1 r.2 x.1)
 
-good_from : (n : Names) (hi at : ℕ) (ls : List Line) → hi ≤ 2 ^ 32 → Distinct ls → Ranged 0 hi ls → Good (λ m. position_from (is_named (label_text m)) at (declared n ls)) at ls
+good_from : (n : Names) (hi at : ℕ) (ls : List Line) → hi ≤ 2 ^ 32 → Distinct ls → Ranged 0 hi ls
+    → Good (λ m. position_from (is_named (label_text m)) at (declared n ls)) at ls
 good_from n hi at [] le d r = tt
 good_from n hi at (Plain i ∷ ls) le d r = good_from n hi (at + 1) ls le d r
 good_from n hi at (Marked k i ∷ ls) le d r =

@@ -1,5 +1,6 @@
 -- Where variables stand on the stack, read and written, and where their indices stand in the frames.
-use Rattle.std.proofs.Common.{◌≡◌, ℕ, ◌+◌, ◌-◌, ◌<◌, ◌≤◌, List, [], ◌∷◌, ◌++◌, length, map, drop, Bool, true, false, Some, refl, sym, ap, ◌∙◌, subst, ⊎_elim, arith, length-append}
+use Rattle.std.proofs.Common.{◌≡◌, ℕ, ◌+◌, ◌-◌, ◌<◌, ◌≤◌, List, [], ◌∷◌, ◌++◌, length, map, drop, Bool, true, false, Some, refl, sym, ap, ◌∙◌, subst, ⊎_elim}
+use Rattle.std.proofs.Common.{arith, length-append}
 use Rattle.std.specs.Prelude.{slice_index, slice_set, slice_get, nat_lt, ◌==◌, if◌then◌else◌}
 use Rattle.std.proofs.lemmas.Bool.{cases_lt, lt-ltb, le-ltb, eq-eqb, ne_eqb}
 use Rattle.std.proofs.lemmas.List.{length-map, get_or-drop, drop-set-lt, drop-set-add}
@@ -28,7 +29,8 @@ use Rattle.gypsy_codegen.specs.Showing.{Waits, frame_with}
 use Rattle.gypsy_codegen.proofs.CopyLaws.{copied_at, copied_set, copied_past, actuals_below, actual_shape, vars_number, vars_behind}
 use Rattle.gypsy_semantics.proofs.Keeping.{copies_back}
 use Rattle.gypsy_semantics.proofs.LendingLaws.{actuals_length}
-use Rattle.gypsy_codegen.proofs.StackLaws.{push_all-length, below_pushed, element_of, words_below, words_from, value_words, values_words, read_word, write_words, words_fit, starts_at, starts-length}
+use Rattle.gypsy_codegen.proofs.StackLaws.{push_all-length, below_pushed, element_of, words_below, words_from, value_words, values_words, read_word}
+use Rattle.gypsy_codegen.proofs.StackLaws.{write_words, words_fit, starts_at, starts-length}
 
 pub if_yes : {A : Type 0} (b : Bool) (x y : A) → b ≡ true → (if b then x else y) ≡ x
 if_yes b x y e = ap (λ c. if c then x else y) e
@@ -61,19 +63,29 @@ module _ (q : Program) where
   call_temp p c fs = refl
 
   -- the variables of the activation below, with the formals' values
-  pub low_fits : (p c : ℕ) (x y : List ValueOf) (w : List Rattle.gypsy_semantics.specs.Machine.Item) (xs : List ℕ) (cs : List Rattle.gypsy_syntax.specs.Programs.ConditionOf) (fs : List Frame) → VarsFit (shapes_of (proc_at q p)) y → FramesFit q p (Held c x w xs cs ∷ fs) → VarsFit (shapes_of (proc_at q c)) (copied_out xs y x)
+  pub low_fits : (p c : ℕ) (x y : List ValueOf) (w : List Rattle.gypsy_semantics.specs.Machine.Item) (xs : List ℕ)
+      (cs : List Rattle.gypsy_syntax.specs.Programs.ConditionOf) (fs : List Frame) → VarsFit (shapes_of (proc_at q p)) y
+      → FramesFit q p (Held c x w xs cs ∷ fs) → VarsFit (shapes_of (proc_at q c)) (copied_out xs y x)
   low_fits p c x y w xs cs fs v g =
       copies_back (shapes_of (proc_at q c)) (proc_at q p).formals (local_shapes (proc_at q p)) xs y x g.0.actuals v g.1
 
-  pub height : (p : ℕ) (y : List ValueOf) (fs : List Frame) → VarsFit (shapes_of (proc_at q p)) y → FramesFit q p fs → length (stack_of q p y fs) ≡ (used q p fs).temp
+  pub height : (p : ℕ) (y : List ValueOf) (fs : List Frame) → VarsFit (shapes_of (proc_at q p)) y → FramesFit q p fs
+      → length (stack_of q p y fs) ≡ (used q p fs).temp
   height p y [] v g = omega (arith, push_all-length (words_of_values y) [], values_words (shapes_of (proc_at q p)) y v, main_temp p g)
   height p y (Held c x w xs cs ∷ fs) v g =
       let r = proc_at q p in
       let ys = drop (length r.formals) y in
       let low = height c (copied_out xs y x) fs (low_fits p c x y w xs cs fs v g) g.3 in
-      omega (arith, push_all-length (words_of_values ys) (stack_of q c (copied_out xs y x) fs), values_words (local_shapes r) ys (vars_behind r.formals (local_shapes r) y v), low, call_temp p c fs)
+      omega (
+        arith,
+        push_all-length (words_of_values ys) (stack_of q c (copied_out xs y x) fs),
+        values_words (local_shapes r) ys (vars_behind r.formals (local_shapes r) y v),
+        low,
+        call_temp p c fs,
+      )
 
-  pub index_fits : (p : ℕ) (fs : List Frame) (b : ℕ) (s : Shape) → FramesFit q p fs → slice_get (shapes_of (proc_at q p)) b ≡ Some s → index_of q p fs b + item_count s ≤ (used q p fs).temp
+  pub index_fits : (p : ℕ) (fs : List Frame) (b : ℕ) (s : Shape) → FramesFit q p fs → slice_get (shapes_of (proc_at q p)) b ≡ Some s
+      → index_of q p fs b + item_count s ≤ (used q p fs).temp
   index_fits p [] b s g h = omega (arith, words_fit (shapes_of (proc_at q p)) b s h, main_temp p g)
   index_fits p (Held c x w xs cs ∷ fs) b s g h =
       let r = proc_at q p in
@@ -89,11 +101,14 @@ module _ (q : Program) where
       (cases_lt b k)
 
   -- a word of a variable
-  pub reads_at : (p : ℕ) (y : List ValueOf) (fs : List Frame) (b h : ℕ) (s : Shape) (u : Word) → VarsFit (shapes_of (proc_at q p)) y → FramesFit q p fs → slice_get (shapes_of (proc_at q p)) b ≡ Some s → slice_get (words_of_value (value_at y b)) h ≡ Some u → element (stack_of q p y fs) (index_of q p fs b + h) ≡ Some u
+  pub reads_at : (p : ℕ) (y : List ValueOf) (fs : List Frame) (b h : ℕ) (s : Shape) (u : Word) → VarsFit (shapes_of (proc_at q p)) y → FramesFit q p fs
+      → slice_get (shapes_of (proc_at q p)) b ≡ Some s → slice_get (words_of_value (value_at y b)) h ≡ Some u
+      → element (stack_of q p y fs) (index_of q p fs b + h) ≡ Some u
   reads_at p y [] b h s u v g e r =
       let shapes = shapes_of (proc_at q p) in
       let i : index_of q p [] b + h ≡ length {A = Word} [] + (words_before shapes b + h) = omega arith in
-      ap (element (stack_of q p y [])) i ∙ element_of (words_of_values y) [] (words_before shapes b + h) u (read_word shapes y b h u v (get_below shapes b s e) r)
+      ap (element (stack_of q p y [])) i ∙ element_of (words_of_values y) [] (words_before shapes b + h) u
+      (read_word shapes y b h u v (get_below shapes b s e) r)
   reads_at p y (Held c x w xs cs ∷ fs) b h s u v g e r =
       let d = proc_at q p in
       let k = length d.formals in
@@ -113,7 +128,9 @@ module _ (q : Program) where
       let under : A + h < length st = omega (arith, index_fits c fs (slice_index xs b) s g.3 same, in_value, low) in
       let below = actuals_below (shapes_of (proc_at q c)) d.formals xs g.0.actuals in
       let many = actuals_length (shapes_of (proc_at q c)) d.formals xs g.0.actuals in
-      let value = copied_at xs y x b g.0.distinct (subst (λ n. Rattle.gypsy_codegen.proofs.CopyLaws.Below n xs) (sym (vars_number (shapes_of (proc_at q c)) x g.1)) below) (omega (arith, many, lt)) (omega (arith, vars_number (shapes_of d) y v, in_shapes)) in
+      let value = copied_at xs y x b g.0.distinct
+      (subst (λ n. Rattle.gypsy_codegen.proofs.CopyLaws.Below n xs) (sym (vars_number (shapes_of (proc_at q c)) x g.1)) below)
+      (omega (arith, many, lt)) (omega (arith, vars_number (shapes_of d) y v, in_shapes)) in
       ap (λ i. element (push_all ws st) (i + h)) (if_yes (nat_lt b k) A B (lt-ltb b k lt))
       ∙ below_pushed ws st (A + h) under
       ∙ reads_at c x' fs (slice_index xs b) h s u vc g.3 same (ap (λ z. slice_get (words_of_value z) h) value ∙ r))
@@ -124,15 +141,20 @@ module _ (q : Program) where
       let in_locals = get_below (local_shapes d) (b - k) s (sym (local_at d b le) ∙ e) in
       ap (λ i. element (push_all ws st) (i + h)) (if_no (nat_lt b k) A B (le-ltb b k le))
       ∙ ap (element (push_all ws st)) i
-      ∙ element_of ws st (words_before (local_shapes d) (b - k) + h) u (read_word (local_shapes d) (drop k y) (b - k) h u (vars_behind d.formals (local_shapes d) y v) in_locals (ap (λ z. slice_get (words_of_value z) h) value ∙ r)))
+      ∙ element_of ws st (words_before (local_shapes d) (b - k) + h) u
+      (read_word (local_shapes d) (drop k y) (b - k) h u (vars_behind d.formals (local_shapes d) y v) in_locals
+      (ap (λ z. slice_get (words_of_value z) h) value ∙ r)))
       (cases_lt b k)
 
   -- a variable written
-  pub writes_at : (p : ℕ) (y : List ValueOf) (fs : List Frame) (b : ℕ) (u : ValueOf) → VarsFit (shapes_of (proc_at q p)) y → FramesFit q p fs → slice_get (shapes_of (proc_at q p)) b ≡ Some u.shape → ValueFits u → with_elements (stack_of q p y fs) (index_of q p fs b) (words_of_value u) ≡ stack_of q p (slice_set y b u) fs
+  pub writes_at : (p : ℕ) (y : List ValueOf) (fs : List Frame) (b : ℕ) (u : ValueOf) → VarsFit (shapes_of (proc_at q p)) y → FramesFit q p fs
+      → slice_get (shapes_of (proc_at q p)) b ≡ Some u.shape → ValueFits u → with_elements (stack_of q p y fs) (index_of q p fs b) (words_of_value u)
+      ≡ stack_of q p (slice_set y b u) fs
   writes_at p y [] b u v g e f =
       let shapes = shapes_of (proc_at q p) in
       let i : index_of q p [] b ≡ length {A = Word} [] + words_before shapes b = omega arith in
-      let within : words_before shapes b + length (words_of_value u) ≤ length (words_of_values y) = omega (arith, words_fit shapes b u.shape e, value_words u f, values_words shapes y v) in
+      let within : words_before shapes b + length (words_of_value u) ≤ length (words_of_values y) =
+      omega (arith, words_fit shapes b u.shape e, value_words u f, values_words shapes y v) in
       ap (λ j. with_elements (stack_of q p y []) j (words_of_value u)) i
       ∙ words_from (words_of_value u) (words_of_values y) [] (words_before shapes b) within
       ∙ ap (λ l. push_all l []) (write_words shapes y b u v e f)
@@ -156,14 +178,16 @@ module _ (q : Program) where
       ap (λ i. with_elements (push_all ws st) i vs) (if_yes (nat_lt b k) A B (lt-ltb b k lt))
       ∙ words_below vs ws st A under
       ∙ ap (push_all ws) (writes_at c x' fs (slice_index xs b) u vc g.3 same f)
-      ∙ ap (λ z. push_all ws (stack_of q c z fs)) (sym (copied_set xs y x b u g.0.distinct (omega (arith, many, lt)) (omega (arith, vars_number (shapes_of d) y v, in_shapes))))
+      ∙ ap (λ z. push_all ws (stack_of q c z fs))
+      (sym (copied_set xs y x b u g.0.distinct (omega (arith, many, lt)) (omega (arith, vars_number (shapes_of d) y v, in_shapes))))
       ∙ ap (λ z. push_all (words_of_values z) (stack_of q c (copied_out xs (slice_set y b u) x) fs)) (sym (drop-set-lt k y b u lt)))
       (λ le.
       let i : B ≡ length st + words_before (local_shapes d) (b - k) = omega (arith, low) in
       let n : k + (b - k) ≡ b = omega (arith, le) in
       let here : slice_get (local_shapes d) (b - k) ≡ Some u.shape = sym (local_at d b le) ∙ e in
       let vl = vars_behind d.formals (local_shapes d) y v in
-      let within : words_before (local_shapes d) (b - k) + length vs ≤ length ws = omega (arith, words_fit (local_shapes d) (b - k) u.shape here, value_words u f, values_words (local_shapes d) (drop k y) vl) in
+      let within : words_before (local_shapes d) (b - k) + length vs ≤ length ws =
+      omega (arith, words_fit (local_shapes d) (b - k) u.shape here, value_words u f, values_words (local_shapes d) (drop k y) vl) in
       ap (λ i. with_elements (push_all ws st) i vs) (if_no (nat_lt b k) A B (le-ltb b k le) ∙ i)
       ∙ words_from vs ws st (words_before (local_shapes d) (b - k)) within
       ∙ ap (λ l. push_all l st) (write_words (local_shapes d) (drop k y) (b - k) u vl here f)
@@ -174,7 +198,8 @@ module _ (q : Program) where
   -- Frames.
 
   -- the word in the frame of a variable is its index
-  pub frame_at : (p : ℕ) (fs : List Frame) (b : ℕ) → FramesFit q p fs → b < length (shapes_of (proc_at q p)) → slice_get (index_words (frame_of q p fs)) (offset q p b) ≡ Some (Nat (index_of q p fs b))
+  pub frame_at : (p : ℕ) (fs : List Frame) (b : ℕ) → FramesFit q p fs → b < length (shapes_of (proc_at q p))
+      → slice_get (index_words (frame_of q p fs)) (offset q p b) ≡ Some (Nat (index_of q p fs b))
   frame_at p [] b g h =
       let d = proc_at q p in
       let k = length d.formals in
@@ -199,12 +224,14 @@ module _ (q : Program) where
       let is = lt-ltb b k lt in
       let n : m + b ≡ length (starts base sh) + b = omega (arith, starts-length base sh, local_number d) in
       ap (slice_get (index_words fr)) (off ∙ if_yes (nat_lt b k) (m + b) (b - k) is)
-      ∙ get_map (λ n. Nat n) fr (m + b) A (ap (slice_get fr) n ∙ get_after (starts base sh) (map f xs) b ∙ get_map f xs b (slice_index xs b) (slice_get-get_or xs b 0 (omega (arith, many, lt))))
+      ∙ get_map (λ n. Nat n) fr (m + b) A (ap (slice_get fr) n ∙ get_after (starts base sh) (map f xs) b
+      ∙ get_map f xs b (slice_index xs b) (slice_get-get_or xs b 0 (omega (arith, many, lt))))
       ∙ ap (λ n. Some (Nat n)) (sym (if_yes (nat_lt b k) A B is)))
       (λ le.
       let is = le-ltb b k le in
       ap (slice_get (index_words fr)) (off ∙ if_no (nat_lt b k) (m + b) (b - k) is)
-      ∙ get_map (λ n. Nat n) fr (b - k) B (get_front (starts base sh) (map f xs) (b - k) B (starts_at base sh (b - k) (omega (arith, h, shapes_number d, local_number d, le))))
+      ∙ get_map (λ n. Nat n) fr (b - k) B (get_front (starts base sh) (map f xs) (b - k) B
+      (starts_at base sh (b - k) (omega (arith, h, shapes_number d, local_number d, le))))
       ∙ ap (λ n. Some (Nat n)) (sym (if_no (nat_lt b k) A B is)))
       (cases_lt b k)
 
@@ -229,7 +256,17 @@ module _ (q : Program) where
       let d = proc_at q p in
       let f = λ (i : ℕ). index_of q c fs i in
       let st = starts (base_of q c fs) (local_shapes d) in
-      ap ctrl_used wt.2 ∙ omega (arith, ctrl_is c fs wt.1 g.3 wt.6, length-map (st ++ map f xs) (λ n. Nat n), length-append st (map f xs), starts-length (base_of q c fs) (local_shapes d), local_number d, length-map xs f, actuals_length (shapes_of (proc_at q c)) d.formals xs g.0.actuals, call_ctrl p c fs)
+      ap ctrl_used wt.2 ∙ omega (
+        arith,
+        ctrl_is c fs wt.1 g.3 wt.6,
+        length-map (st ++ map f xs) (λ n. Nat n),
+        length-append st (map f xs),
+        starts-length (base_of q c fs) (local_shapes d),
+        local_number d,
+        length-map xs f,
+        actuals_length (shapes_of (proc_at q c)) d.formals xs g.0.actuals,
+        call_ctrl p c fs,
+      )
 
   -- the newest frame
   pub record Newest (p : ℕ) (fs : List Frame) (fr : List piton.Frame) : Type 0 where

@@ -58,13 +58,19 @@ distinct_only (c ∷ is) = distinct_only is
 module _ (q : Program) (p : ℕ) where
   raises_ranged : (env : List Scope) (l : ℕ) (cs : List ConditionOf) → Ranged l (l + length cs) (marked_raises q p env l cs)
   raises_ranged env l [] = tt
-  raises_ranged env l (c ∷ cs) =
-      (omega arith, omega arith, wider (l + 1) (l + 1 + length cs) l (l + suc (length cs)) (marked_raises q p env (l + 1) cs) (omega arith) (omega arith) (raises_ranged env (l + 1) cs))
+  raises_ranged env l (c ∷ cs) = (
+    omega arith,
+    omega arith,
+    wider (l + 1) (l + 1 + length cs) l (l + suc (length cs)) (marked_raises q p env (l + 1) cs) (omega arith)
+        (omega arith) (raises_ranged env (l + 1) cs),
+  )
 
   raises_distinct : (env : List Scope) (l : ℕ) (cs : List ConditionOf) → Distinct (marked_raises q p env l cs)
   raises_distinct env l [] = tt
-  raises_distinct env l (c ∷ cs) =
-      (misses_out (l + 1) (l + 1 + length cs) l (marked_raises q p env (l + 1) cs) (λ i x y e. omega (arith, x, e)) (raises_ranged env (l + 1) cs), raises_distinct env (l + 1) cs)
+  raises_distinct env l (c ∷ cs) = (
+    misses_out (l + 1) (l + 1 + length cs) l (marked_raises q p env (l + 1) cs) (λ i x y e. omega (arith, x, e)) (raises_ranged env (l + 1) cs),
+    raises_distinct env (l + 1) cs,
+  )
 
   after_ranged : (env : List Scope) (l n : ℕ) (cs : List ConditionOf) → Ranged l (l + (length cs + 3)) (after_lines q p env l n cs)
   after_ranged env l n cs =
@@ -74,7 +80,8 @@ module _ (q : Program) (p : ℕ) where
         (
           omega arith,
           omega arith,
-          ranged_both _ _ rs _ (wider (l + 3) (l + 3 + length cs) l (l + (length cs + 3)) rs (omega arith) (omega arith) (raises_ranged env (l + 3) cs)) (omega arith, omega arith, tt),
+          ranged_both _ _ rs _ (wider (l + 3) (l + 3 + length cs) l (l + (length cs + 3)) rs (omega arith) (omega arith) (raises_ranged env (l + 3) cs))
+              (omega arith, omega arith, tt),
         ),
       )
 
@@ -82,7 +89,11 @@ module _ (q : Program) (p : ℕ) where
   after_distinct env l n cs =
       let rs = marked_raises q p env (l + 3) cs in
       let rg = raises_ranged env (l + 3) cs in (
-        ((λ e. omega (arith, e)), misses_both l rs _ (misses_out (l + 3) (l + 3 + length cs) l rs (λ i x y e. omega (arith, x, e)) rg) ((λ e. omega (arith, e)), tt)),
+        (
+          (λ e. omega (arith, e)),
+          misses_both l rs _ (misses_out (l + 3) (l + 3 + length cs) l rs (λ i x y e. omega (arith, x, e)) rg)
+              ((λ e. omega (arith, e)), tt),
+        ),
         (
           misses_both (l + 2) rs _ (misses_out (l + 3) (l + 3 + length cs) (l + 2) rs (λ i x y e. omega (arith, x, e)) rg) ((λ e. omega (arith, e)), tt),
           distinct_both (l + 3) (l + 3 + length cs) rs _ rg (λ m x y. ((λ e. omega (arith, x, e)), tt)) (raises_distinct env (l + 3) cs) (tt, tt),
@@ -100,19 +111,33 @@ module _ (q : Program) (p : ℕ) where
       (wider (l + labels a) (l + labels a + labels b) _ _ tb (omega arith) (omega arith) (lines_ranged env (l + labels a) b))
   lines_ranged env l (Loop place s) =
       let e = InLoop (l + 1) ∷ env in
-      let ts = lines q p e (l + 2) s in
-      (omega arith, omega arith, ranged_both _ _ ts _ (wider (l + 2) (l + 2 + labels s) _ _ ts (omega arith) (omega arith) (lines_ranged e (l + 2) s)) (omega arith, omega arith, tt))
+      let ts = lines q p e (l + 2) s in (
+        omega arith,
+        omega arith,
+        ranged_both _ _ ts _ (wider (l + 2) (l + 2 + labels s) _ _ ts (omega arith) (omega arith) (lines_ranged e (l + 2) s))
+            (omega arith, omega arith, tt),
+      )
   lines_ranged env l (If place b s v) =
       let ts = lines q p env (l + 2) s in
       let tv = lines q p env (l + 2 + labels s) v in
-      ranged_both _ _ ts _ (wider (l + 2) (l + 2 + labels s) _ _ ts (omega arith) (omega arith) (lines_ranged env (l + 2) s))
-      (omega arith, omega arith, ranged_both _ _ tv _ (wider (l + 2 + labels s) (l + 2 + labels s + labels v) _ _ tv (omega arith) (omega arith) (lines_ranged env (l + 2 + labels s) v)) (omega arith, omega arith, tt))
+      ranged_both _ _ ts _ (wider (l + 2) (l + 2 + labels s) _ _ ts (omega arith) (omega arith) (lines_ranged env (l + 2) s)) (
+        omega arith,
+        omega arith,
+        ranged_both _ _ tv _
+            (wider (l + 2 + labels s) (l + 2 + labels s + labels v) _ _ tv (omega arith) (omega arith) (lines_ranged env (l + 2 + labels s) v))
+            (omega arith, omega arith, tt),
+      )
   lines_ranged env l (Begin place s cs v) =
       let e = InBegin cs l ∷ env in
       let ts = lines q p e (l + 2) s in
       let tv = lines q p env (l + 2 + labels s) v in
-      ranged_both _ _ ts _ (wider (l + 2) (l + 2 + labels s) _ _ ts (omega arith) (omega arith) (lines_ranged e (l + 2) s))
-      (omega arith, omega arith, ranged_both _ _ tv _ (wider (l + 2 + labels s) (l + 2 + labels s + labels v) _ _ tv (omega arith) (omega arith) (lines_ranged env (l + 2 + labels s) v)) (omega arith, omega arith, tt))
+      ranged_both _ _ ts _ (wider (l + 2) (l + 2 + labels s) _ _ ts (omega arith) (omega arith) (lines_ranged e (l + 2) s)) (
+        omega arith,
+        omega arith,
+        ranged_both _ _ tv _
+            (wider (l + 2 + labels s) (l + 2 + labels s + labels v) _ _ tv (omega arith) (omega arith) (lines_ranged env (l + 2 + labels s) v))
+            (omega arith, omega arith, tt),
+      )
   lines_ranged env l (Call place c xs cs) =
       let after = after_lines q p env l (local_words (proc_at q c)) cs in
       let behind = ranged_plain l (l + (length cs + 3)) (before_code q p c xs) after (after_ranged env l (local_words (proc_at q c)) cs) in
@@ -127,7 +152,8 @@ module _ (q : Program) (p : ℕ) where
   lines_distinct env l (NoOp place) = tt
   lines_distinct env l (Signal place c) = tt
   lines_distinct env l (Seq a b) =
-      distinct_both l (l + labels a) (lines q p env l a) _ (lines_ranged env l a) (λ m x y. lines_misses env (l + labels a) b m (λ i u v e. omega (arith, x, y, u, v, e)))
+      distinct_both l (l + labels a) (lines q p env l a) _ (lines_ranged env l a)
+      (λ m x y. lines_misses env (l + labels a) b m (λ i u v e. omega (arith, x, y, u, v, e)))
       (lines_distinct env l a) (lines_distinct env (l + labels a) b)
   lines_distinct env l (Loop place s) =
       let e = InLoop (l + 1) ∷ env in
@@ -140,10 +166,15 @@ module _ (q : Program) (p : ℕ) where
       let ts = lines q p env (l + 2) s in
       let tv = lines q p env (l + 2 + labels s) v in
       distinct_both (l + 2) (l + 2 + labels s) ts _ (lines_ranged env (l + 2) s)
-      (λ m x y. ((λ f. omega (arith, x, y, f)), misses_both m tv _ (lines_misses env (l + 2 + labels s) v m (λ i u w f. omega (arith, x, y, u, w, f))) ((λ f. omega (arith, x, y, f)), tt)))
+      (λ m x y. (
+        (λ f. omega (arith, x, y, f)),
+        misses_both m tv _ (lines_misses env (l + 2 + labels s) v m (λ i u w f. omega (arith, x, y, u, w, f)))
+            ((λ f. omega (arith, x, y, f)), tt),
+      ))
       (lines_distinct env (l + 2) s) (
         misses_both l tv _ (lines_misses env (l + 2 + labels s) v l (λ i u w f. omega (arith, u, w, f))) ((λ f. omega (arith, f)), tt),
-        distinct_both (l + 2 + labels s) (l + 2 + labels s + labels v) tv _ (lines_ranged env (l + 2 + labels s) v) (λ m x y. ((λ f. omega (arith, x, y, f)), tt))
+        distinct_both (l + 2 + labels s) (l + 2 + labels s + labels v) tv _ (lines_ranged env (l + 2 + labels s) v)
+            (λ m x y. ((λ f. omega (arith, x, y, f)), tt))
             (lines_distinct env (l + 2 + labels s) v) (tt, tt),
       )
   lines_distinct env l (Begin place s cs v) =
@@ -151,10 +182,15 @@ module _ (q : Program) (p : ℕ) where
       let ts = lines q p e (l + 2) s in
       let tv = lines q p env (l + 2 + labels s) v in
       distinct_both (l + 2) (l + 2 + labels s) ts _ (lines_ranged e (l + 2) s)
-      (λ m x y. ((λ f. omega (arith, x, y, f)), misses_both m tv _ (lines_misses env (l + 2 + labels s) v m (λ i u w f. omega (arith, x, y, u, w, f))) ((λ f. omega (arith, x, y, f)), tt)))
+      (λ m x y. (
+        (λ f. omega (arith, x, y, f)),
+        misses_both m tv _ (lines_misses env (l + 2 + labels s) v m (λ i u w f. omega (arith, x, y, u, w, f)))
+            ((λ f. omega (arith, x, y, f)), tt),
+      ))
       (lines_distinct e (l + 2) s) (
         misses_both l tv _ (lines_misses env (l + 2 + labels s) v l (λ i u w f. omega (arith, u, w, f))) ((λ f. omega (arith, f)), tt),
-        distinct_both (l + 2 + labels s) (l + 2 + labels s + labels v) tv _ (lines_ranged env (l + 2 + labels s) v) (λ m x y. ((λ f. omega (arith, x, y, f)), tt))
+        distinct_both (l + 2 + labels s) (l + 2 + labels s + labels v) tv _ (lines_ranged env (l + 2 + labels s) v)
+            (λ m x y. ((λ f. omega (arith, x, y, f)), tt))
             (lines_distinct env (l + 2 + labels s) v) (tt, tt),
       )
   lines_distinct env l (Call place c xs cs) =
@@ -173,4 +209,5 @@ module _ (q : Program) (p : ℕ) where
   pub procedure_ranged : Ranged 0 (2 + labels (body_of q p)) (lines_of q p)
   procedure_ranged =
       let s = body_of q p in
-      ranged_both _ _ (lines q p [] 2 s) _ (wider 2 (2 + labels s) 0 (2 + labels s) (lines q p [] 2 s) (omega arith) (omega arith) (lines_ranged [] 2 s)) (omega arith, omega arith, (omega arith, omega arith, tt))
+      ranged_both _ _ (lines q p [] 2 s) _ (wider 2 (2 + labels s) 0 (2 + labels s) (lines q p [] 2 s) (omega arith) (omega arith)
+      (lines_ranged [] 2 s)) (omega arith, omega arith, (omega arith, omega arith, tt))

@@ -16,7 +16,8 @@ use Rattle.gypsy_space.specs.declared.need.Lack.{Lack}
 use Rattle.gypsy_space.specs.declared.need.Lack.TheVariants.{Nothing, Temporary, Control}
 use Rattle.gypsy_semantics.specs.Calls.{has_cond, is_leave, is_passed_on, matching, values_of, copied_out}
 use Rattle.gypsy_semantics.specs.Machine.{Item, Do, Back, JoinThen, JoinOne, Guard, Out, Frame, Held, State, At, Move, Next, Ended}
-use Rattle.gypsy_semantics.specs.Machine.{opens, settle, open_on, stop_if, raise, either_move, apply_step, call_step, do_step, gypsy_step, used, start, place_of}
+use Rattle.gypsy_semantics.specs.Machine.{opens, settle, open_on, stop_if, raise, either_move, apply_step, call_step, do_step, gypsy_step, used, start}
+use Rattle.gypsy_semantics.specs.Machine.{place_of}
 use Rattle.gypsy_semantics.specs.Kept.{StateFits}
 use Rattle.gypsy_codegen.specs.declared.marking.MarkAt.{MarkAt}
 use Rattle.gypsy_codegen.specs.Generated.{size, count_from}
@@ -43,15 +44,20 @@ contains_first x xs = (0, omega arith, refl)
 contains_own : (front xs : List MarkAt) → Each (Contains (front ++ xs)) xs
 contains_own front [] = tt
 contains_own front (x ∷ xs) =
-    let one : (front ++ x ∷ []) ++ xs ≡ front ++ (x ∷ xs) = append_assoc front (x ∷ []) xs in
-    (Contains-append_right front (x ∷ xs) x (contains_first x xs), subst (λ (all : List MarkAt). Each (Contains all) xs) one (contains_own (front ++ x ∷ []) xs))
+    let one : (front ++ x ∷ []) ++ xs ≡ front ++ (x ∷ xs) = append_assoc front (x ∷ []) xs in (
+      Contains-append_right front (x ∷ xs) x (contains_first x xs),
+      subst (λ (all : List MarkAt). Each (Contains all) xs) one
+          (contains_own (front ++ x ∷ []) xs),
+    )
 
 -- the marks of one procedure are among those of all
-contains_in_all : (q : Program) (m : MarkAt) (k n j : ℕ) → j < n → Contains (procedure_marks q (k + j)) m → Contains (flat_map (procedure_marks q) (count_from k n)) m
+contains_in_all : (q : Program) (m : MarkAt) (k n j : ℕ) → j < n → Contains (procedure_marks q (k + j)) m
+    → Contains (flat_map (procedure_marks q) (count_from k n)) m
 contains_in_all q m k zero j lt h = absurd (omega (arith, lt))
 contains_in_all q m k (suc n) zero lt h =
     let here : k + 0 ≡ k = omega arith in
-    Contains-append_left (procedure_marks q k) (flat_map (procedure_marks q) (count_from (suc k) n)) m (subst (λ (p : ℕ). Contains (procedure_marks q p) m) here h)
+    Contains-append_left (procedure_marks q k) (flat_map (procedure_marks q) (count_from (suc k) n)) m
+    (subst (λ (p : ℕ). Contains (procedure_marks q p) m) here h)
 contains_in_all q m k (suc n) (suc j) lt h =
     let next : k + suc j ≡ suc k + j = omega arith in
     Contains-append_right (procedure_marks q k) (flat_map (procedure_marks q) (count_from (suc k) n)) m
@@ -91,7 +97,8 @@ module _ (q : Program) (p : ℕ) where
   right : (xs ys : List MarkAt) → HasAll (xs ++ ys) → HasAll ys
   right xs ys h = each_right (Contains (procedure_marks q p)) xs ys h
 
-  opens_marked : (s : Stmt) (at : ℕ) (w ws : List Item) → HasAll (statement_marks q p at s) → Marked (at + size q s) w → Marked (at + size q s) ws → Marked at (opens s w ws)
+  opens_marked : (s : Stmt) (at : ℕ) (w ws : List Item) → HasAll (statement_marks q p at s) → Marked (at + size q s) w → Marked (at + size q s) ws
+      → Marked at (opens s w ws)
   opens_marked Skip at w ws h m o = marked_to (at + 0) at ws (omega arith) o
   opens_marked (NoOp place) at w ws h m o = (h, m)
   opens_marked (Signal place c) at w ws h m o = (h, m)
@@ -110,7 +117,8 @@ module _ (q : Program) (p : ℕ) where
       let rest = right (statement_marks q p at s) (mark_at p jump place ∷ (statement_marks q p (jump + 3) v ++ last)) h in
       let guarded : Marked jump (Guard place cs v ∷ w) =
       (rest.0, left (statement_marks q p (jump + 3) v) last rest.1, (right (statement_marks q p (jump + 3) v) last rest.1).0, marked_to _ _ w e m) in
-      opens_marked s at (Guard place cs v ∷ w) (Guard place cs v ∷ w) (left (statement_marks q p at s) (mark_at p jump place ∷ (statement_marks q p (jump + 3) v ++ last)) h) guarded guarded
+      opens_marked s at (Guard place cs v ∷ w) (Guard place cs v ∷ w)
+      (left (statement_marks q p at s) (mark_at p jump place ∷ (statement_marks q p (jump + 3) v ++ last)) h) guarded guarded
   opens_marked (Call place c xs cs) at w ws h m o = (h, m)
   opens_marked (Apply place r args) at w ws h m o = (h, m)
 
@@ -148,11 +156,13 @@ module _ (q : Program) (p : ℕ) where
   out_has : (b : Bool) → Has (if b then size q (body_of q p) + 3 else size q (body_of q p) + 1) (proc_at q p).place
   out_has b = pick b (right (statement_marks q p 0 (body_of q p)) (tail_marks p (size q (body_of q p)) (proc_at q p).place) own_marks)
     where
-      pick : (b : Bool) → HasAll (tail_marks p (size q (body_of q p)) (proc_at q p).place) → Has (if b then size q (body_of q p) + 3 else size q (body_of q p) + 1) (proc_at q p).place
+      pick : (b : Bool) → HasAll (tail_marks p (size q (body_of q p)) (proc_at q p).place)
+          → Has (if b then size q (body_of q p) + 3 else size q (body_of q p) + 1) (proc_at q p).place
       pick true h = h.1.1.0
       pick false h = h.1.0
 
-  top_has : (at : ℕ) (x : List ValueOf) (w : List Item) (fs : List Frame) (t : Tally) → Marked at w → IsOpened w → Has (mark_of q p w) (place_of q (At p x w fs t))
+  top_has : (at : ℕ) (x : List ValueOf) (w : List Item) (fs : List Frame) (t : Tally) → Marked at w → IsOpened w
+      → Has (mark_of q p w) (place_of q (At p x w fs t))
   top_has at x [] fs t m o =
       let ends = right (statement_marks q p 0 (body_of q p)) (tail_marks p (size q (body_of q p)) (proc_at q p).place) own_marks in
       has_to (size q (body_of q p)) _ (proc_at q p).place (omega arith) ends.0
@@ -197,11 +207,13 @@ module _ (q : Program) where
   stop_marked true g h x y = x
   stop_marked false g h x y = y
 
-  raise_marked : (c : ConditionOf) (p : ℕ) (x : List ValueOf) (at : ℕ) (w : List Item) (fs : List Frame) (t : Tally) → Marked q p at w → FramesMarked fs → StateMarked (raise c p x w fs t)
+  raise_marked : (c : ConditionOf) (p : ℕ) (x : List ValueOf) (at : ℕ) (w : List Item) (fs : List Frame) (t : Tally) → Marked q p at w → FramesMarked fs
+      → StateMarked (raise c p x w fs t)
   raise_marked c p x at [] fs t m f = ((at, m), f)
   raise_marked c p x at (Do s ∷ w) fs t m f = raise_marked c p x (at + size q s) w fs t m.1 f
   raise_marked c p x at (Back place s ∷ w) fs t m f =
-      stop_marked (is_leave c) (At p x (settle w) fs (spend 3 2 t)) (raise c p x w fs t) (settled p (at + 3) w m.3, f) (raise_marked c p x (at + 3) w fs t m.3 f)
+      stop_marked (is_leave c) (At p x (settle w) fs (spend 3 2 t)) (raise c p x w fs t) (settled p (at + 3) w m.3, f)
+      (raise_marked c p x (at + 3) w fs t m.3 f)
   raise_marked c p x at (JoinThen place v ∷ w) fs t m f = raise_marked c p x (at + 2 + size q v + 1) w fs t m.1 f
   raise_marked c p x at (JoinOne place ∷ w) fs t m f = raise_marked c p x (at + 1) w fs t m.1 f
   raise_marked c p x at (Guard place cs v ∷ w) fs t m f =
@@ -210,12 +222,14 @@ module _ (q : Program) where
   raise_marked c p x at (Out d ∷ w) fs t m f = raise_marked c p x at w fs t m f
 
   module _ (sizes : StackSizes) where
-    apply_marked : (r : Predef) (args : List Arg) (e : Effect) (p : ℕ) (x : List ValueOf) (at : ℕ) (w : List Item) (fs : List Frame) (t : Tally) → Marked q p at w → FramesMarked fs → MoveMarked (apply_step r args e p x w fs t)
+    apply_marked : (r : Predef) (args : List Arg) (e : Effect) (p : ℕ) (x : List ValueOf) (at : ℕ) (w : List Item) (fs : List Frame) (t : Tally)
+        → Marked q p at w → FramesMarked fs → MoveMarked (apply_step r args e p x w fs t)
     apply_marked r args (Normal v) p x at w fs t m f = (settled p at w m, f)
     apply_marked r args Fault p x at w fs t m f = raise_marked Routine p x at w fs (predef_spend r Fault t) m f
     apply_marked r args Beyond p x at w fs t m f = raise_marked Routine p x at w fs (predef_spend r Beyond t) m f
 
-    call_marked : (l : Lack) (c : ℕ) (xs : List ℕ) (cs : List ConditionOf) (p : ℕ) (x : List ValueOf) (at : ℕ) (w : List Item) (fs : List Frame) (t : Tally) → Marked q p at w → FramesMarked fs → MoveMarked (call_step q l c xs cs p x w fs t)
+    call_marked : (l : Lack) (c : ℕ) (xs : List ℕ) (cs : List ConditionOf) (p : ℕ) (x : List ValueOf) (at : ℕ) (w : List Item) (fs : List Frame)
+        (t : Tally) → Marked q p at w → FramesMarked fs → MoveMarked (call_step q l c xs cs p x w fs t)
     call_marked Nothing c xs cs p x at w fs t m f = ((0, body_marked q c), ((at, m), f))
     call_marked Temporary c xs cs p x at w fs t m f = raise_marked Space p x at w fs (spend 15 7 t) m f
     call_marked Control c xs cs p x at w fs t m f = raise_marked Space p x at w fs (spend 26 11 t) m f
@@ -224,28 +238,49 @@ module _ (q : Program) where
     either_marked true m n x y = x
     either_marked false m n x y = y
 
-    do_marked : (s : Stmt) (p : ℕ) (x : List ValueOf) (at : ℕ) (w : List Item) (fs : List Frame) (t : Tally) → HasAll q p (statement_marks q p at s) → Marked q p (at + size q s) w → FramesMarked fs → MoveMarked (do_step q sizes s p x w fs t)
+    do_marked : (s : Stmt) (p : ℕ) (x : List ValueOf) (at : ℕ) (w : List Item) (fs : List Frame) (t : Tally) → HasAll q p (statement_marks q p at s)
+        → Marked q p (at + size q s) w → FramesMarked fs → MoveMarked (do_step q sizes s p x w fs t)
     do_marked Skip p x at w fs t h m f = (settled p (at + 0) w m, f)
     do_marked (NoOp place) p x at w fs t h m f = (settled p (at + 1) w m, f)
     do_marked (Signal place c) p x at w fs t h m f = raise_marked c p x (at + 3) w fs (spend 4 3 t) m f
     do_marked (Seq a b) p x at w fs t h m f = ((at, open_marked q p (Seq a b) at w h m), f)
     do_marked (Loop place s) p x at w fs t h m f =
         let e : at + (size q s + 4) ≡ at + 1 + size q s + 3 = omega arith in
-        let back : Marked q p (at + 1 + size q s) (Back place s ∷ w) = (at, refl, h, marked_to q p _ _ w e m) in
-        ((at + 1, open_marked q p s (at + 1) (Back place s ∷ w) (left q p (statement_marks q p (at + 1) s) (mark_at p (at + 1 + size q s) place ∷ []) h.1) back), f)
+        let back : Marked q p (at + 1 + size q s) (Back place s ∷ w) = (at, refl, h, marked_to q p _ _ w e m) in (
+          (
+            at + 1,
+            open_marked q p s (at + 1) (Back place s ∷ w)
+                (left q p (statement_marks q p (at + 1) s) (mark_at p (at + 1 + size q s) place ∷ []) h.1) back,
+          ),
+          f,
+        )
     do_marked (If place b s v) p x at w fs t h m f =
         let jump = at + 3 + size q s in
         let last = mark_at p (jump + 2 + size q v) place ∷ [] in
         let rest = right q p (statement_marks q p (at + 3) s) (mark_at p jump place ∷ (statement_marks q p (jump + 2) v ++ last)) h.1 in
         let e : at + (size q s + size q v + 6) ≡ jump + 2 + size q v + 1 = omega arith in
         let behind = marked_to q p _ _ w e m in
-        either_marked (is_true_value (value_at x b)) (Next (At p x (open_on s (JoinThen place v ∷ w)) fs (spend 8 3 t))) (Next (At p x (open_on v (JoinOne place ∷ w)) fs (spend 9 4 t)))
-        ((at + 3, open_marked q p s (at + 3) (JoinThen place v ∷ w) (left q p (statement_marks q p (at + 3) s) (mark_at p jump place ∷ (statement_marks q p (jump + 2) v ++ last)) h.1) (rest.0, behind)), f)
-        ((jump + 2, open_marked q p v (jump + 2) (JoinOne place ∷ w) (left q p (statement_marks q p (jump + 2) v) last rest.1) ((right q p (statement_marks q p (jump + 2) v) last rest.1).0, behind)), f)
+        either_marked (is_true_value (value_at x b)) (Next (At p x (open_on s (JoinThen place v ∷ w)) fs (spend 8 3 t)))
+        (Next (At p x (open_on v (JoinOne place ∷ w)) fs (spend 9 4 t))) (
+          (
+            at + 3,
+            open_marked q p s (at + 3) (JoinThen place v ∷ w)
+                (left q p (statement_marks q p (at + 3) s) (mark_at p jump place ∷ (statement_marks q p (jump + 2) v ++ last)) h.1) (rest.0, behind),
+          ),
+          f,
+        ) (
+          (
+            jump + 2,
+            open_marked q p v (jump + 2) (JoinOne place ∷ w) (left q p (statement_marks q p (jump + 2) v) last rest.1)
+                ((right q p (statement_marks q p (jump + 2) v) last rest.1).0, behind),
+          ),
+          f,
+        )
     do_marked (Begin place s cs v) p x at w fs t h m f = ((at, open_marked q p (Begin place s cs v) at w h m), f)
     do_marked (Call place c xs cs) p x at w fs t h m f =
         call_marked (lack_of q sizes c (used q p fs)) c xs cs p x (at + size q (Call place c xs cs)) w fs t m f
-    do_marked (Apply place r args) p x at w fs t h m f = apply_marked r args (predef_effect r (values_of x args)) p x (at + size q (Apply place r args)) w fs t m f
+    do_marked (Apply place r args) p x at w fs t h m f =
+        apply_marked r args (predef_effect r (values_of x args)) p x (at + size q (Apply place r args)) w fs t m f
 
     step_marked : (g : State) → StateMarked g → MoveMarked (gypsy_step q sizes g)
     step_marked (At p x [] [] t) h = tt
@@ -274,9 +309,11 @@ state_is_marked : (q : Program) → ProgramFits q → (g : State) → StateFits 
 state_is_marked q fits (At p x w fs t) sf o m =
     let here = top_has q p m.0.0 x w fs t m.0.1 o in
     let e : p ≡ 0 + p = omega arith in
-    contains_in_all q (top_mark q (At p x w fs t)) 0 (length q.procs) p (proc_there q fits p fs sf.2) (subst (λ (i : ℕ). Contains (procedure_marks q i) (top_mark q (At p x w fs t))) e here)
+    contains_in_all q (top_mark q (At p x w fs t)) 0 (length q.procs) p (proc_there q fits p fs sf.2)
+    (subst (λ (i : ℕ). Contains (procedure_marks q i) (top_mark q (At p x w fs t))) e here)
 
 pub each_moment_is_marked : EachMomentIsMarked
 each_moment_is_marked q sizes v j g fits vf e =
     let start_marked : StateMarked q (start q v) = ((0, body_marked q q.main), tt) in
-    state_is_marked q fits g (moment_fits q sizes fits v j g vf e) (from_opened q sizes v j g e) (subst (MoveMarked q) e (moment_marked q sizes j (start q v) start_marked))
+    state_is_marked q fits g (moment_fits q sizes fits v j g vf e) (from_opened q sizes v j g e)
+    (subst (MoveMarked q) e (moment_marked q sizes j (start q v) start_marked))

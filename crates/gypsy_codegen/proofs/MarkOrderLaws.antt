@@ -1,5 +1,6 @@
 -- The marks of a generated program ascend.
-use Rattle.std.proofs.Common.{◌≡◌, ℕ, zero, suc, ◌+◌, ◌<◌, ◌≤◌, List, [], ◌∷◌, ◌++◌, ◌⊎◌, length, flat_map, refl, sym, ap, ◌∙◌, subst, inl, inr, ⊎_elim, arith, length-append}
+use Rattle.std.proofs.Common.{◌≡◌, ℕ, zero, suc, ◌+◌, ◌<◌, ◌≤◌, List, [], ◌∷◌, ◌++◌, ◌⊎◌, length, flat_map, refl, sym, ap, ◌∙◌, subst, inl, inr, ⊎_elim, arith}
+use Rattle.std.proofs.Common.{length-append}
 use Rattle.piton_check.specs.Instruction.{ProgramView}
 use Rattle.piton_semantics.specs.State.{program_of}
 use Rattle.piton_semantics.specs.Fits.{IsPlace}
@@ -9,7 +10,8 @@ use Rattle.gypsy_syntax.specs.ProgramFits.{Each}
 use Rattle.gypsy_space.specs.Needs.{StackSizes}
 use Rattle.gypsy_codegen.specs.declared.marking.MarkAt.{MarkAt}
 use Rattle.gypsy_codegen.specs.Generated.{size, gen, tail_code, count_from, generated_view}
-use Rattle.gypsy_codegen.specs.Marks.{mark_at, statement_marks, tail_marks, procedure_marks, marks_of, IsBefore, Ascend, MarksAscend, IsMarkPlace, MarksArePlaces}
+use Rattle.gypsy_codegen.specs.Marks.{mark_at, statement_marks, tail_marks, procedure_marks, marks_of, IsBefore, Ascend, MarksAscend, IsMarkPlace}
+use Rattle.gypsy_codegen.specs.Marks.{MarksArePlaces}
 use Rattle.gypsy_codegen.proofs.CopyLaws.{each_both}
 use Rattle.gypsy_codegen.proofs.StepLaws.{program_is}
 use Rattle.gypsy_codegen.proofs.StandLaws.{size_gen}
@@ -38,28 +40,46 @@ module _ (q : Program) (p : ℕ) where
   statement_climbs at (NoOp place) = (refl, omega arith, omega arith)
   statement_climbs at (Signal place c) = (refl, omega arith, omega arith)
   statement_climbs at (Seq a b) =
-      let h = climb_both p at (at + size q a) (at + size q a + size q b) (statement_marks q p at a) (statement_marks q p (at + size q a) b) (statement_climbs at a) (statement_climbs (at + size q a) b) in
-      climb_higher p at (at + size q a + size q b) (at + (size q a + size q b)) (statement_marks q p at a ++ statement_marks q p (at + size q a) b) (omega arith) h
+      let h = climb_both p at (at + size q a) (at + size q a + size q b) (statement_marks q p at a) (statement_marks q p (at + size q a) b)
+      (statement_climbs at a) (statement_climbs (at + size q a) b) in
+      climb_higher p at (at + size q a + size q b) (at + (size q a + size q b)) (statement_marks q p at a ++ statement_marks q p (at + size q a) b)
+      (omega arith) h
   statement_climbs at (Loop place s) =
-      let back : Climb p (at + 1 + size q s) (at + (size q s + 4)) (mark_at p (at + 1 + size q s) place ∷ []) = (refl, omega arith, omega arith) in
-      (refl, omega arith, climb_both p (at + 1) (at + 1 + size q s) (at + (size q s + 4)) (statement_marks q p (at + 1) s) (mark_at p (at + 1 + size q s) place ∷ []) (statement_climbs (at + 1) s) back)
+      let back : Climb p (at + 1 + size q s) (at + (size q s + 4)) (mark_at p (at + 1 + size q s) place ∷ []) = (refl, omega arith, omega arith) in (
+        refl,
+        omega arith,
+        climb_both p (at + 1) (at + 1 + size q s) (at + (size q s + 4)) (statement_marks q p (at + 1) s)
+            (mark_at p (at + 1 + size q s) place ∷ []) (statement_climbs (at + 1) s) back,
+      )
   statement_climbs at (If place b s v) =
       let jump = at + 3 + size q s in
       let high = at + (size q s + size q v + 6) in
       let last : Climb p (jump + 2 + size q v) high (mark_at p (jump + 2 + size q v) place ∷ []) = (refl, omega arith, omega arith) in
-      let second = climb_both p (jump + 2) (jump + 2 + size q v) high (statement_marks q p (jump + 2) v) (mark_at p (jump + 2 + size q v) place ∷ []) (statement_climbs (jump + 2) v) last in
-      let rest : Climb p jump high (mark_at p jump place ∷ (statement_marks q p (jump + 2) v ++ mark_at p (jump + 2 + size q v) place ∷ [])) =
-      (refl, omega arith, climb_lower p (jump + 2) (jump + 1) high (statement_marks q p (jump + 2) v ++ mark_at p (jump + 2 + size q v) place ∷ []) (omega arith) second) in
-      let first = climb_both p (at + 3) jump high (statement_marks q p (at + 3) s) (mark_at p jump place ∷ (statement_marks q p (jump + 2) v ++ mark_at p (jump + 2 + size q v) place ∷ [])) (statement_climbs (at + 3) s) rest in
+      let second = climb_both p (jump + 2) (jump + 2 + size q v) high (statement_marks q p (jump + 2) v) (mark_at p (jump + 2 + size q v) place ∷ [])
+      (statement_climbs (jump + 2) v) last in
+      let rest : Climb p jump high (mark_at p jump place ∷ (statement_marks q p (jump + 2) v ++ mark_at p (jump + 2 + size q v) place ∷ [])) = (
+        refl,
+        omega arith,
+        climb_lower p (jump + 2) (jump + 1) high (statement_marks q p (jump + 2) v ++ mark_at p (jump + 2 + size q v) place ∷ [])
+            (omega arith) second,
+      ) in
+      let first = climb_both p (at + 3) jump high (statement_marks q p (at + 3) s)
+      (mark_at p jump place ∷ (statement_marks q p (jump + 2) v ++ mark_at p (jump + 2 + size q v) place ∷ [])) (statement_climbs (at + 3) s) rest in
       (refl, omega arith, climb_lower p (at + 3) (at + 1) high _ (omega arith) first)
   statement_climbs at (Begin place s cs v) =
       let jump = at + size q s in
       let high = at + (size q s + size q v + 4) in
       let last : Climb p (jump + 3 + size q v) high (mark_at p (jump + 3 + size q v) place ∷ []) = (refl, omega arith, omega arith) in
-      let second = climb_both p (jump + 3) (jump + 3 + size q v) high (statement_marks q p (jump + 3) v) (mark_at p (jump + 3 + size q v) place ∷ []) (statement_climbs (jump + 3) v) last in
-      let rest : Climb p jump high (mark_at p jump place ∷ (statement_marks q p (jump + 3) v ++ mark_at p (jump + 3 + size q v) place ∷ [])) =
-      (refl, omega arith, climb_lower p (jump + 3) (jump + 1) high (statement_marks q p (jump + 3) v ++ mark_at p (jump + 3 + size q v) place ∷ []) (omega arith) second) in
-      climb_both p at jump high (statement_marks q p at s) (mark_at p jump place ∷ (statement_marks q p (jump + 3) v ++ mark_at p (jump + 3 + size q v) place ∷ [])) (statement_climbs at s) rest
+      let second = climb_both p (jump + 3) (jump + 3 + size q v) high (statement_marks q p (jump + 3) v) (mark_at p (jump + 3 + size q v) place ∷ [])
+      (statement_climbs (jump + 3) v) last in
+      let rest : Climb p jump high (mark_at p jump place ∷ (statement_marks q p (jump + 3) v ++ mark_at p (jump + 3 + size q v) place ∷ [])) = (
+        refl,
+        omega arith,
+        climb_lower p (jump + 3) (jump + 1) high (statement_marks q p (jump + 3) v ++ mark_at p (jump + 3 + size q v) place ∷ [])
+            (omega arith) second,
+      ) in
+      climb_both p at jump high (statement_marks q p at s)
+      (mark_at p jump place ∷ (statement_marks q p (jump + 3) v ++ mark_at p (jump + 3 + size q v) place ∷ [])) (statement_climbs at s) rest
   statement_climbs at (Call place c xs cs) = (refl, omega arith, omega arith)
   statement_climbs at (Apply place r args) = (refl, omega arith, omega arith)
 
@@ -88,7 +108,8 @@ climb_from p low high (m ∷ xs) ys h g =
 programs_from : (q : Program) (k n : ℕ) → From k 0 (flat_map (procedure_marks q) (count_from k n))
 programs_from q k zero = tt
 programs_from q k (suc n) =
-    climb_from k 0 (size q (body_of q k) + 4) (procedure_marks q k) (flat_map (procedure_marks q) (count_from (suc k) n)) (procedure_climbs q k) (programs_from q (suc k) n)
+    climb_from k 0 (size q (body_of q k) + 4) (procedure_marks q k) (flat_map (procedure_marks q) (count_from (suc k) n)) (procedure_climbs q k)
+    (programs_from q (suc k) n)
 
 from_ascends : (p low : ℕ) (ms : List MarkAt) → From p low ms → Ascend ms
 from_ascends p low [] h = tt
@@ -114,7 +135,8 @@ module _ (q : Program) (sizes : StackSizes) (base : ℕ) where
       ap (λ (v : ProgramView). length v.instructions) (program_is q sizes base p lt)
       ∙ length-append body (tail_code n) ∙ ap (λ (k : ℕ). k + 4) (size_gen q p n [] 0 (body_of q p))
 
-  climb_places : (p low high : ℕ) (ms : List MarkAt) → p < length q.procs → high ≤ length (program_of (generated_view q sizes base) p).instructions → Climb p low high ms → Each (IsMarkPlace q sizes base) ms
+  climb_places : (p low high : ℕ) (ms : List MarkAt) → p < length q.procs → high ≤ length (program_of (generated_view q sizes base) p).instructions
+      → Climb p low high ms → Each (IsMarkPlace q sizes base) ms
   climb_places p low high [] lt le h = tt
   climb_places p low high (m ∷ ms) lt le h =
       let bound = climb_bound p (m.at + 1) high ms h.2 in

@@ -30,7 +30,8 @@ marks_next q old new k lt now so_far =
     ∙ so_far
 
 -- at the end
-pub marks_end : (q : Program) (listed : List MarkAt) (k : ℕ) → length q.procs ≤ k → listed ++ flat_map (procedure_marks q) (count_from k (length q.procs - k)) ≡ marks_of q → listed ≡ marks_of q
+pub marks_end : (q : Program) (listed : List MarkAt) (k : ℕ) → length q.procs ≤ k
+    → listed ++ flat_map (procedure_marks q) (count_from k (length q.procs - k)) ≡ marks_of q → listed ≡ marks_of q
 marks_end q listed k le so_far =
     let none : length q.procs - k ≡ 0 = omega (arith, le) in
     sym (append-nil listed) ∙ ap (λ (n : ℕ). listed ++ flat_map (procedure_marks q) (count_from k n)) (sym none) ∙ so_far
@@ -43,5 +44,6 @@ pub body_small : (q : Program) → ProgramFits q → total_words q ≤ 2 ^ 20 �
 body_small q fits few p lt = let small = code_few q fits few p lt in omega (arith, small)
 
 -- the words of a callee's locals
-pub callee_words : (q : Program) (ns : List Need) (c : ℕ) → ProgramFits q → AreNeeds q ns → c < length q.procs → (need_at ns c).locals_words ≡ length (words_of_values (proc_at q c).locals)
+pub callee_words : (q : Program) (ns : List Need) (c : ℕ) → ProgramFits q → AreNeeds q ns → c < length q.procs
+    → (need_at ns c).locals_words ≡ length (words_of_values (proc_at q c).locals)
 callee_words q ns c fits needs lt = ap (λ (n : Need). n.locals_words) (needs.each c lt) ∙ sym (words_sized q fits c)

@@ -1,5 +1,6 @@
 -- Every moment of the step machine is one of the generated system, and costs an instruction at least.
-use Rattle.std.proofs.Common.{◌≡◌, ℕ, zero, suc, ◌+◌, ◌<◌, ◌≤◌, List, [], ◌∷◌, ◌++◌, length, map, Bool, true, false, refl, sym, ap, ◌∙◌, subst, arith, length-append}
+use Rattle.std.proofs.Common.{◌≡◌, ℕ, zero, suc, ◌+◌, ◌<◌, ◌≤◌, List, [], ◌∷◌, ◌++◌, length, map, Bool, true, false, refl, sym, ap, ◌∙◌, subst, arith}
+use Rattle.std.proofs.Common.{length-append}
 use Rattle.std.specs.Prelude.{slice_get}
 use Rattle.std.proofs.lemmas.List.{length-map}
 use Rattle.stack_text.specs.Values.{ValueOf}
@@ -103,14 +104,23 @@ module _ (q : Program) where
       let d = proc_at q p in
       let f = λ (i : ℕ). index_of q c fs i in
       let st = starts (base_of q c fs) (local_shapes d) in
-      omega (arith, length-map (st ++ map f xs) (λ n. Nat n), length-append st (map f xs), starts-length (base_of q c fs) (local_shapes d), locals_number d, length-map xs f, actuals_length (shapes_of (proc_at q c)) d.formals xs g.0.actuals)
+      omega (
+        arith,
+        length-map (st ++ map f xs) (λ n. Nat n),
+        length-append st (map f xs),
+        starts-length (base_of q c fs) (local_shapes d),
+        locals_number d,
+        length-map xs f,
+        actuals_length (shapes_of (proc_at q c)) d.formals xs g.0.actuals,
+      )
 
   are_activations : (p : ℕ) (fs : List Frame) (frames : List piton.Frame) → FramesFit q p fs → Waits q p fs frames → AreActivations q p fs frames
   are_activations p [] frames g wt = subst (AreActivations q p []) (sym wt.2) (frame_number p [] g)
   are_activations p (Held c x w xs cs ∷ fs) frames g wt =
       subst (AreActivations q p (Held c x w xs cs ∷ fs)) (sym wt.2) (frame_number p (Held c x w xs cs ∷ fs) g, are_activations c fs wt.1 g.3 wt.6)
 
-  pub reads_as : (a : PitonState) (p : ℕ) (x : List ValueOf) (w : List Item) (fs : List Frame) (t : Tally) → StateFits q (At p x w fs t) → StandsAs q a (At p x w fs t) → ReadsAs q a p x w fs
+  pub reads_as : (a : PitonState) (p : ℕ) (x : List ValueOf) (w : List Item) (fs : List Frame) (t : Tally) → StateFits q (At p x w fs t)
+      → StandsAs q a (At p x w fs t) → ReadsAs q a p x w fs
   reads_as a p x w fs t sf sh =
       let new = newest q p fs a.frames sh.frames in
       let locals : locals_of a.frames ≡ index_words (frame_of q p fs) = ap locals_of new.is in
@@ -134,14 +144,16 @@ each_moment_is_reached bodies q sizes base v j fits sz vf = by_moment (moment_fr
 
     by_moment : (m : Move) → moment_from q sizes v j ≡ m → HasMoment q (generated_view q sizes base) (opened q sizes base v) m
     by_moment (Next (At p x w fs t)) e =
-        let l : Leads q S (opened q sizes base v) (tally_of (start q v)) (At p x w fs t) = each_is_shown bodies q sizes base v (At p x w fs t) fits sz vf (moment_reached q sizes j (start q v) (At p x w fs t) e) in
+        let l : Leads q S (opened q sizes base v) (tally_of (start q v)) (At p x w fs t) =
+        each_is_shown bodies q sizes base v (At p x w fs t) fits sz vf (moment_reached q sizes j (start q v) (At p x w fs t) e) in
         let k = counts l.cost l.steps t l.tally in
         record {
           to = l.to;
           runs = subst (λ i. Steps S i t.count (opened q sizes base v) l.to) k.0 (subst (λ i. Steps S l.steps i (opened q sizes base v) l.to) k.1 l.runs);
           reads = reads_as q l.to p x w fs t (moment_fits q sizes fits v j (At p x w fs t) vf e) l.shows;
         }
-    by_moment (Ended x c t) e = counted_runs bodies q sizes base v (suc j) x c t fits sz vf ((agree q sizes v).ended j x c t (moment_over q sizes j (start q v) x c t e))
+    by_moment (Ended x c t) e =
+        counted_runs bodies q sizes base v (suc j) x c t fits sz vf ((agree q sizes v).ended j x c t (moment_over q sizes j (start q v) x c t e))
 
 -- ---- no statement that is opened stands on top
 
@@ -204,7 +216,8 @@ raise_opened c p x (Back place s ∷ w) fs t =
 raise_opened c p x (JoinThen place v ∷ w) fs t = raise_opened c p x w fs t
 raise_opened c p x (JoinOne place ∷ w) fs t = raise_opened c p x w fs t
 raise_opened c p x (Guard place cs v ∷ w) fs t =
-    stop_opened (has_cond c cs) (At p x (open_on v (JoinOne place ∷ w)) fs (spend 3 2 t)) (raise c p x w fs t) (open_opened v (JoinOne place ∷ w)) (raise_opened c p x w fs t)
+    stop_opened (has_cond c cs) (At p x (open_on v (JoinOne place ∷ w)) fs (spend 3 2 t)) (raise c p x w fs t) (open_opened v (JoinOne place ∷ w))
+    (raise_opened c p x w fs t)
 raise_opened c p x (Out d ∷ w) fs t = raise_opened c p x w fs t
 
 module _ (q : Program) (sizes : StackSizes) where
@@ -212,12 +225,14 @@ module _ (q : Program) (sizes : StackSizes) where
   either_opened true m n x y = x
   either_opened false m n x y = y
 
-  call_opened : (l : Lack) (c : ℕ) (xs : List ℕ) (cs : List ConditionOf) (p : ℕ) (x : List ValueOf) (w : List Item) (fs : List Frame) (t : Tally) → MoveOpened (call_step q l c xs cs p x w fs t)
+  call_opened : (l : Lack) (c : ℕ) (xs : List ℕ) (cs : List ConditionOf) (p : ℕ) (x : List ValueOf) (w : List Item) (fs : List Frame) (t : Tally)
+      → MoveOpened (call_step q l c xs cs p x w fs t)
   call_opened Nothing c xs cs p x w fs t = open_opened (body_of q c) []
   call_opened Temporary c xs cs p x w fs t = raise_opened Space p x w fs (spend 15 7 t)
   call_opened Control c xs cs p x w fs t = raise_opened Space p x w fs (spend 26 11 t)
 
-  apply_opened : (r : Predef) (args : List Arg) (e : Effect) (p : ℕ) (x : List ValueOf) (w : List Item) (fs : List Frame) (t : Tally) → MoveOpened (apply_step r args e p x w fs t)
+  apply_opened : (r : Predef) (args : List Arg) (e : Effect) (p : ℕ) (x : List ValueOf) (w : List Item) (fs : List Frame) (t : Tally)
+      → MoveOpened (apply_step r args e p x w fs t)
   apply_opened r args (Normal v) p x w fs t = settle_opened w
   apply_opened r args Fault p x w fs t = raise_opened Routine p x w fs (predef_spend r Fault t)
   apply_opened r args Beyond p x w fs t = raise_opened Routine p x w fs (predef_spend r Beyond t)
@@ -229,7 +244,8 @@ module _ (q : Program) (sizes : StackSizes) where
   do_opened (Seq a b) p x w fs t = open_opened (Seq a b) w
   do_opened (Loop place s) p x w fs t = open_opened s (Back place s ∷ w)
   do_opened (If place b s v) p x w fs t =
-      either_opened (is_true_value (value_at x b)) (Next (At p x (open_on s (JoinThen place v ∷ w)) fs (spend 8 3 t))) (Next (At p x (open_on v (JoinOne place ∷ w)) fs (spend 9 4 t)))
+      either_opened (is_true_value (value_at x b)) (Next (At p x (open_on s (JoinThen place v ∷ w)) fs (spend 8 3 t)))
+      (Next (At p x (open_on v (JoinOne place ∷ w)) fs (spend 9 4 t)))
       (open_opened s (JoinThen place v ∷ w)) (open_opened v (JoinOne place ∷ w))
   do_opened (Begin place s cs v) p x w fs t = open_opened (Begin place s cs v) w
   do_opened (Call place c xs cs) p x w fs t = call_opened (lack_of q sizes c (used q p fs)) c xs cs p x w fs t
@@ -295,7 +311,8 @@ raise_spends c p x (JoinThen place v ∷ w) fs t = raise_spends c p x w fs t
 raise_spends c p x (JoinOne place ∷ w) fs t = raise_spends c p x w fs t
 raise_spends c p x (Guard place cs v ∷ w) fs t =
     let more = spends 3 2 t (omega arith) in
-    stop_spends t.count (has_cond c cs) (At p x (open_on v (JoinOne place ∷ w)) fs (spend 3 2 t)) (raise c p x w fs t) (omega (arith, more)) (raise_spends c p x w fs t)
+    stop_spends t.count (has_cond c cs) (At p x (open_on v (JoinOne place ∷ w)) fs (spend 3 2 t)) (raise c p x w fs t) (omega (arith, more))
+    (raise_spends c p x w fs t)
 raise_spends c p x (Out d ∷ w) fs t = raise_spends c p x w fs t
 
 -- a condition raised after something was spent
@@ -307,24 +324,28 @@ module _ (q : Program) (sizes : StackSizes) where
   either_costs true g m n x y = x
   either_costs false g m n x y = y
 
-  call_costs : (l : Lack) (place c : ℕ) (xs : List ℕ) (cs : List ConditionOf) (p : ℕ) (x : List ValueOf) (w : List Item) (fs : List Frame) (t : Tally) → CostsSome (At p x (Do (Call place c xs cs) ∷ w) fs t) (call_step q l c xs cs p x w fs t)
+  call_costs : (l : Lack) (place c : ℕ) (xs : List ℕ) (cs : List ConditionOf) (p : ℕ) (x : List ValueOf) (w : List Item) (fs : List Frame) (t : Tally)
+      → CostsSome (At p x (Do (Call place c xs cs) ∷ w) fs t) (call_step q l c xs cs p x w fs t)
   call_costs Nothing place c xs cs p x w fs t = call_spends q c t
   call_costs Temporary place c xs cs p x w fs t = raised t.count Space p x w fs (spend 15 7 t) (spends 15 7 t (omega arith))
   call_costs Control place c xs cs p x w fs t = raised t.count Space p x w fs (spend 26 11 t) (spends 26 11 t (omega arith))
 
-  apply_costs : (s : Stmt) (r : Predef) (args : List Arg) (e : Effect) (p : ℕ) (x : List ValueOf) (w : List Item) (fs : List Frame) (t : Tally) → CostsSome (At p x (Do s ∷ w) fs t) (apply_step r args e p x w fs t)
+  apply_costs : (s : Stmt) (r : Predef) (args : List Arg) (e : Effect) (p : ℕ) (x : List ValueOf) (w : List Item) (fs : List Frame) (t : Tally)
+      → CostsSome (At p x (Do s ∷ w) fs t) (apply_step r args e p x w fs t)
   apply_costs s r args (Normal v) p x w fs t = predef_spends r (Normal v) t
   apply_costs s r args Fault p x w fs t = raised t.count Routine p x w fs (predef_spend r Fault t) (predef_spends r Fault t)
   apply_costs s r args Beyond p x w fs t = raised t.count Routine p x w fs (predef_spend r Beyond t) (predef_spends r Beyond t)
 
-  do_costs : (s : Stmt) (p : ℕ) (x : List ValueOf) (w : List Item) (fs : List Frame) (t : Tally) → IsOpened (Do s ∷ w) → CostsSome (At p x (Do s ∷ w) fs t) (do_step q sizes s p x w fs t)
+  do_costs : (s : Stmt) (p : ℕ) (x : List ValueOf) (w : List Item) (fs : List Frame) (t : Tally) → IsOpened (Do s ∷ w)
+      → CostsSome (At p x (Do s ∷ w) fs t) (do_step q sizes s p x w fs t)
   do_costs Skip p x w fs t o = absurd o
   do_costs (NoOp place) p x w fs t o = spends 1 1 t (omega arith)
   do_costs (Signal place c) p x w fs t o = raised t.count c p x w fs (spend 4 3 t) (spends 4 3 t (omega arith))
   do_costs (Seq a b) p x w fs t o = absurd o
   do_costs (Loop place s) p x w fs t o = spends 1 1 t (omega arith)
   do_costs (If place b s v) p x w fs t o =
-      either_costs (is_true_value (value_at x b)) (At p x (Do (If place b s v) ∷ w) fs t) (Next (At p x (open_on s (JoinThen place v ∷ w)) fs (spend 8 3 t))) (Next (At p x (open_on v (JoinOne place ∷ w)) fs (spend 9 4 t)))
+      either_costs (is_true_value (value_at x b)) (At p x (Do (If place b s v) ∷ w) fs t)
+      (Next (At p x (open_on s (JoinThen place v ∷ w)) fs (spend 8 3 t))) (Next (At p x (open_on v (JoinOne place ∷ w)) fs (spend 9 4 t)))
       (spends 8 3 t (omega arith)) (spends 9 4 t (omega arith))
   do_costs (Begin place s cs v) p x w fs t o = absurd o
   do_costs (Call place c xs cs) p x w fs t o = call_costs (lack_of q sizes c (used q p fs)) place c xs cs p x w fs t

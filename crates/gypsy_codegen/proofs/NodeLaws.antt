@@ -69,7 +69,8 @@ words_nodes : (n : Names) (ws : List Word) → node_counts (nodes (map word_tree
 words_nodes n [] = omega arith
 words_nodes n (w ∷ ws) = let h = word_nodes n w in let k = words_nodes n ws in omega (arith, h, k)
 
-temporaries_nodes : (n : Names) (names : List (List ℕ)) (ws : List Word) → node_counts (nodes (map temporary_tree (temporaries_of n names ws))) ≤ 6 * length names
+temporaries_nodes : (n : Names) (names : List (List ℕ)) (ws : List Word) → node_counts (nodes (map temporary_tree (temporaries_of n names ws))) ≤ 6
+    * length names
 temporaries_nodes n [] ws = omega arith
 temporaries_nodes n (x ∷ names) [] = omega arith
 temporaries_nodes n (x ∷ names) (w ∷ ws) = let h = word_nodes n w in let k = temporaries_nodes n names ws in omega (arith, h, k)
@@ -157,7 +158,8 @@ module _ (q : Program) (p : ℕ) where
   length_targets shapes row.MgSimpleVariableAssignment args = refl
   length_targets shapes r args = refl
 
-  check_targets : (b : Bool) (to : ℕ) → all_targets (unmarked (cond b (i.PushGlobal 0 ∷ i.Apply op.Sub1Nat ∷ i.TestAndJump family.Nat test.Zero to ∷ []) [])) ≡ 0
+  check_targets : (b : Bool) (to : ℕ) → all_targets
+      (unmarked (cond b (i.PushGlobal 0 ∷ i.Apply op.Sub1Nat ∷ i.TestAndJump family.Nat test.Zero to ∷ []) [])) ≡ 0
   check_targets true to = refl
   check_targets false to = refl
 
@@ -214,7 +216,8 @@ module _ (q : Program) (p : ℕ) where
       let y = lines_targets env (l + 2 + labels s) v in
       omega (
         arith,
-        targets_both (lines q p e (l + 2) s) (Plain (i.Jump (l + 1)) ∷ Marked l (i.PushConstant (word.Nat 2)) ∷ Plain (i.PopGlobal 0) ∷ (tv ++ Marked (l + 1) i.NoOp ∷ [])),
+        targets_both (lines q p e (l + 2) s) (Plain (i.Jump (l + 1)) ∷ Marked l (i.PushConstant (word.Nat 2)) ∷ Plain (i.PopGlobal 0)
+            ∷ (tv ++ Marked (l + 1) i.NoOp ∷ [])),
         targets_both tv (Marked (l + 1) i.NoOp ∷ []),
         x,
         y,
@@ -250,12 +253,14 @@ module _ (q : Program) (p : ℕ) where
 -- ---- programs
 
 heads_nodes : (b : Bool) (n : Names) (frame : List (List ℕ)) (ws : List Word) →
-    node_counts (nodes (map name_tree (cond b [] (map unplaced frame)))) + node_counts (nodes (map temporary_tree (cond b (temporaries_of n frame ws) []))) ≤ 6 * length frame
+    node_counts (nodes (map name_tree (cond b [] (map unplaced frame)))) + node_counts
+    (nodes (map temporary_tree (cond b (temporaries_of n frame ws) []))) ≤ 6 * length frame
 heads_nodes true n frame ws = let h = temporaries_nodes n frame ws in omega (arith, h)
 heads_nodes false n frame ws = omega (arith, names_nodes frame)
 
 module _ (src : SourceOf) (fits : ProgramFits (program_of src)) where
-  procedure_nodes : (p : ℕ) (proc : ProcOf) → ProcForm proc → node_count (program_tree (written_procedure src p proc)) ≤ 1300 + 11 * code_words (program_of src) p
+  procedure_nodes : (p : ℕ) (proc : ProcOf) → ProcForm proc → node_count (program_tree (written_procedure src p proc)) ≤ 1300 + 11
+      * code_words (program_of src) p
   procedure_nodes p proc form =
       let q = program_of src in
       let frame = frame_texts q p proc in
@@ -268,7 +273,8 @@ module _ (src : SourceOf) (fits : ProgramFits (program_of src)) where
       omega (arith, heads, body, case_targets, few, frame_count q p proc, procedure_count q p, least)
 
   procedures_nodes : (from : ℕ) (procs : List ProcOf) → Each ProcForm procs →
-      node_counts (nodes (map program_tree (written_procedures src from procs))) ≤ 1300 * length procs + 11 * code_words_of (program_of src) (count_from from (length procs))
+      node_counts (nodes (map program_tree (written_procedures src from procs))) ≤ 1300 * length procs + 11
+      * code_words_of (program_of src) (count_from from (length procs))
   procedures_nodes from [] h = omega arith
   procedures_nodes from (p ∷ procs) h =
       let x = procedure_nodes from p h.0 in
@@ -278,7 +284,8 @@ module _ (src : SourceOf) (fits : ProgramFits (program_of src)) where
   predefs_nodes : leb (node_counts (nodes (map program_tree body_texts))) 20000 ≡ true
   predefs_nodes = refl
 
-  pub system_nodes : (sizes : StackSizes) (base : ℕ) → Each ProcForm src.procs → length src.procs ≤ 1000 → code_words_of (program_of src) (count_from 0 (length src.procs)) ≤ 2 ^ 20 →
+  pub system_nodes : (sizes : StackSizes) (base : ℕ) → Each ProcForm src.procs → length src.procs ≤ 1000
+      → code_words_of (program_of src) (count_from 0 (length src.procs)) ≤ 2 ^ 20 →
       length (opening_words (program_of src)) ≤ 65536 → node_count (tree_of (generated src sizes base)) ≤ 2 ^ 31
   system_nodes sizes base form few words stack =
       let procs = written_procedures src 0 src.procs in
@@ -286,6 +293,7 @@ module _ (src : SourceOf) (fits : ProgramFits (program_of src)) where
       let x = procedures_nodes 0 src.procs form in
       let y = leb-true (node_counts (nodes (map program_tree others))) 20000 predefs_nodes in
       let z = words_nodes (names_with src []) (opening_words (program_of src)) in
-      let parts : node_counts (nodes (map program_tree (procs ++ others))) ≡ node_counts (nodes (map program_tree procs)) + node_counts (nodes (map program_tree others)) =
+      let parts : node_counts (nodes (map program_tree (procs ++ others))) ≡ node_counts (nodes (map program_tree procs))
+      + node_counts (nodes (map program_tree others)) =
       ap (λ ts. node_counts (nodes ts)) (mapped_both program_tree procs others) ∙ counts_both (map program_tree procs) (map program_tree others) in
       omega (arith, x, y, z, parts, few, words, stack)

@@ -38,7 +38,8 @@ use Rattle.gypsy_codegen.proofs.DeclareLaws.{declarations}
 use Rattle.gypsy_codegen.proofs.LinesLaws.{procedure_distinct, procedure_ranged}
 use Rattle.gypsy_codegen.proofs.ResolveLaws.{found, procedure_resolves, procedure_count}
 use Rattle.gypsy_codegen.proofs.FineLaws.{Marks, FineLine, procedure_sure}
-use Rattle.gypsy_codegen.proofs.ProgramLaws.{formals_fit, temporaries_fit, temporaries_clean, temporaries_view, temporaries_count, formals_declared, temporaries_declared}
+use Rattle.gypsy_codegen.proofs.ProgramLaws.{formals_fit, temporaries_fit, temporaries_clean, temporaries_view, temporaries_count, formals_declared}
+use Rattle.gypsy_codegen.proofs.ProgramLaws.{temporaries_declared}
 use Rattle.gypsy_codegen.proofs.ProgramLaws.{Clean, Made, places, last_part, made_good, made_marks, made_clean}
 use Rattle.gypsy_codegen.proofs.BaseLaws.{Base, world_of}
 use Rattle.gypsy_codegen.proofs.SourceLaws.{frame_differs, frame_named, frame_count}
@@ -108,7 +109,9 @@ marks_tail K (Marked l i ∷ ls) m = marks_tail K ls m.1
 
 -- ---- the program
 
-module _ (src : SourceOf) (fits : ProgramFits (program_of src)) (few : total_words (program_of src) ≤ 2 ^ 20) (s : SystemOf) (p : ℕ) (proc : ProcOf) (is : slice_get src.procs p ≡ Some proc) (lt : p < length src.procs) (form : ProcForm proc) (clean : procedure_breaches src proc ≡ []) (base : Base s (names_with src (frame_texts (program_of src) p proc)) (length (program_of src).procs + length predefs)) where
+module _ (src : SourceOf) (fits : ProgramFits (program_of src)) (few : total_words (program_of src) ≤ 2 ^ 20) (s : SystemOf) (p : ℕ) (proc : ProcOf)
+    (is : slice_get src.procs p ≡ Some proc) (lt : p < length src.procs) (form : ProcForm proc) (clean : procedure_breaches src proc ≡ [])
+    (base : Base s (names_with src (frame_texts (program_of src) p proc)) (length (program_of src).procs + length predefs)) where
   abbrev q : Program
   q = program_of src
 
@@ -145,7 +148,8 @@ module _ (src : SourceOf) (fits : ProgramFits (program_of src)) (few : total_wor
   small : size q (body_of q p) + 14 ≤ 2 ^ 20
   small = code_few q fits few p (omega (arith, lt, length-map src.procs (procedure_of src)))
 
-  made_procedure : Made s (written_procedure src p proc) names (lines_of q p) frame (cond (p == q.main) ws []) (length q.procs + length predefs) (2 + labels (body_of q p))
+  made_procedure : Made s (written_procedure src p proc) names (lines_of q p) frame (cond (p == q.main) ws []) (length q.procs + length predefs)
+      (2 + labels (body_of q p))
   made_procedure =
       let b = p == q.main in
       let few_labels = labels_least q (body_of q p) in

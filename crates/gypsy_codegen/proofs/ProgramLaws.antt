@@ -62,10 +62,12 @@ module _ (s : SystemOf) (t : ProgramOf) (n : Names) (f : ℕ → ℕ) (locals pr
   lines_clean [] h = refl
   lines_clean (l ∷ ls) h = both_none _ _ (line_clean l h.0) (lines_clean ls h.1)
 
-  pub lines_view : (ls : List Line) → Each (FineLine t f locals programs) ls → map instruction_view (map (resolved_instruction s t) (map (written n) ls)) ≡ map (line_with_places f) ls
+  pub lines_view : (ls : List Line) → Each (FineLine t f locals programs) ls → map instruction_view
+      (map (resolved_instruction s t) (map (written n) ls)) ≡ map (line_with_places f) ls
   lines_view [] h = refl
   lines_view (l ∷ ls) h =
-      ap (λ z. z ∷ map instruction_view (map (resolved_instruction s t) (map (written n) ls))) (line_view l h.0) ∙ ap (λ z. line_with_places f l ∷ z) (lines_view ls h.1)
+      ap (λ z. z ∷ map instruction_view (map (resolved_instruction s t) (map (written n) ls))) (line_view l h.0)
+      ∙ ap (λ z. line_with_places f l ∷ z) (lines_view ls h.1)
 
   pub lines_fit : (ls : List Line) → Each (FineLine t f locals programs) ls → All FitsInstruction (map (written n) ls)
   lines_fit [] h = All-nil FitsInstruction
@@ -77,13 +79,15 @@ pub formals_fit : (names : List (List ℕ)) → Each (λ name. IsTrue (is_name n
 formals_fit [] h = All-nil IsNamed
 formals_fit (name ∷ names) h = All-cons IsNamed (unplaced name) (map unplaced names) h.0 (formals_fit names h.1)
 
-pub temporaries_fit : (n : Names) (names : List (List ℕ)) (ws : List Word) → Each (λ name. IsTrue (is_name name)) names → Each InRange ws → All FitsTemporary (temporaries_of n names ws)
+pub temporaries_fit : (n : Names) (names : List (List ℕ)) (ws : List Word) → Each (λ name. IsTrue (is_name name)) names → Each InRange ws
+    → All FitsTemporary (temporaries_of n names ws)
 temporaries_fit n [] ws h k = All-nil FitsTemporary
 temporaries_fit n (name ∷ names) [] h k = All-nil FitsTemporary
 temporaries_fit n (name ∷ names) (w ∷ ws) h k =
     All-cons FitsTemporary (unplaced name, written_word n w) (temporaries_of n names ws) (h.0, word_fits n w k.0) (temporaries_fit n names ws h.1 k.1)
 
-pub temporaries_clean : (s : SystemOf) (n : Names) (names : List (List ℕ)) (ws : List Word) → Each InRange ws → flat_map (temporary_breaches s) (temporaries_of n names ws) ≡ []
+pub temporaries_clean : (s : SystemOf) (n : Names) (names : List (List ℕ)) (ws : List Word) → Each InRange ws
+    → flat_map (temporary_breaches s) (temporaries_of n names ws) ≡ []
 temporaries_clean s n [] ws k = refl
 temporaries_clean s n (name ∷ names) [] k = refl
 temporaries_clean s n (name ∷ names) (w ∷ ws) k = both_none _ _ (word_clean s n w k.0) (temporaries_clean s n names ws k.1)
@@ -94,7 +98,8 @@ temporaries_view s n [] [] e k = refl
 temporaries_view s n [] (w ∷ ws) e k = absurd (omega (arith, e))
 temporaries_view s n (name ∷ names) [] e k = absurd (omega (arith, e))
 temporaries_view s n (name ∷ names) (w ∷ ws) e k =
-    ap (λ z. z ∷ map (resolved_temporary s) (temporaries_of n names ws)) (word_resolves s n w k.0) ∙ ap (λ z. w ∷ z) (temporaries_view s n names ws (omega (arith, e)) k.1)
+    ap (λ z. z ∷ map (resolved_temporary s) (temporaries_of n names ws)) (word_resolves s n w k.0)
+    ∙ ap (λ z. w ∷ z) (temporaries_view s n names ws (omega (arith, e)) k.1)
 
 pub temporaries_count : (n : Names) (names : List (List ℕ)) (ws : List Word) → length names ≡ length ws → length (temporaries_of n names ws) ≡ length names
 temporaries_count n [] [] e = refl
@@ -106,7 +111,8 @@ pub formals_declared : (names : List (List ℕ)) → map formal_name (map unplac
 formals_declared [] = refl
 formals_declared (name ∷ names) = ap (λ z. Some (unplaced name) ∷ z) (formals_declared names)
 
-pub temporaries_declared : (n : Names) (names : List (List ℕ)) (ws : List Word) → length names ≡ length ws → map temporary_name (temporaries_of n names ws) ≡ declarations names
+pub temporaries_declared : (n : Names) (names : List (List ℕ)) (ws : List Word) → length names ≡ length ws
+    → map temporary_name (temporaries_of n names ws) ≡ declarations names
 temporaries_declared n [] [] e = refl
 temporaries_declared n [] (w ∷ ws) e = absurd (omega (arith, e))
 temporaries_declared n (name ∷ names) [] e = absurd (omega (arith, e))
@@ -143,7 +149,8 @@ pub record Made (s : SystemOf) (t : ProgramOf) (n : Names) (ls : List Line) (fra
 abbrev pub places : ProgramOf → ℕ → Option ℕ
 places t = λ m. first_of (label_names t) (label_text m)
 
-ends : (n : Names) (ls : List Line) (l : Line) → slice_get ls (length ls - 1) ≡ Some l → is_end (written n l).op ≡ true → end_breaches (slice_get (map (written n) ls) (length (map (written n) ls) - 1)) ≡ []
+ends : (n : Names) (ls : List Line) (l : Line) → slice_get ls (length ls - 1) ≡ Some l → is_end (written n l).op ≡ true
+    → end_breaches (slice_get (map (written n) ls) (length (map (written n) ls) - 1)) ≡ []
 ends n ls l e h =
     ap (λ k. end_breaches (slice_get (map (written n) ls) (k - 1))) (length-map ls (written n))
     ∙ ap end_breaches (get_map (written n) ls (length ls - 1) l e)
@@ -153,7 +160,8 @@ some_last : (ls : List Line) (l : Line) → slice_get ls (length ls - 1) ≡ Som
 some_last [] l e = absurd cc
 some_last (x ∷ ls) l e = omega arith
 
-module _ (s : SystemOf) (t : ProgramOf) (n : Names) (ls : List Line) (frame : List (List ℕ)) (ws : List Word) (programs hi : ℕ) (m : Made s t n ls frame ws programs hi) where
+module _ (s : SystemOf) (t : ProgramOf) (n : Names) (ls : List Line) (frame : List (List ℕ)) (ws : List Word) (programs hi : ℕ)
+    (m : Made s t n ls frame ws programs hi) where
   labels_are : label_names t ≡ declared n ls
   labels_are = ap (λ is. map label_of is) m.instrs
 
@@ -163,12 +171,15 @@ module _ (s : SystemOf) (t : ProgramOf) (n : Names) (ls : List Line) (frame : Li
   pub made_marks : Marks (Known t (found (places t))) ls
   made_marks = marks_good t hi 0 ls m.small m.ranged made_good
 
-  pub made_clean : Each (FineLine t (found (places t)) (length frame) programs) ls → Clean s t (record { formals = length t.formals; temporaries = ws; instructions = map (line_with_places (found (places t))) ls })
+  pub made_clean : Each (FineLine t (found (places t)) (length frame) programs) ls
+      → Clean s t (record { formals = length t.formals; temporaries = ws; instructions = map (line_with_places (found (places t))) ls })
   made_clean sure =
       let f = found (places t) in
       let locals_once : repeats 5 [] (local_names t) ≡ [] = no_repeats 5 (local_names t) (subst Apart (sym m.frame_names) (names_apart frame m.frame_differ)) in
-      let labels_once : repeats 6 [] (label_names t) ≡ [] = no_repeats 6 (label_names t) (subst Apart (sym labels_are) (labels_apart n hi ls m.small m.distinct m.ranged)) in
-      let lines_keep : flat_map (instruction_breaches s t) t.instrs ≡ [] = ap (flat_map (instruction_breaches s t)) m.instrs ∙ lines_clean s t n f (length frame) programs m.world ls sure in
+      let labels_once : repeats 6 [] (label_names t) ≡ [] =
+      no_repeats 6 (label_names t) (subst Apart (sym labels_are) (labels_apart n hi ls m.small m.distinct m.ranged)) in
+      let lines_keep : flat_map (instruction_breaches s t) t.instrs ≡ [] =
+      ap (flat_map (instruction_breaches s t)) m.instrs ∙ lines_clean s t n f (length frame) programs m.world ls sure in
       let end_keeps : end_breaches (slice_get t.instrs (length t.instrs - 1)) ≡ [] =
       ap (λ is. end_breaches (slice_get is (length is - 1))) m.instrs ∙ ends n ls m.last.0 m.last.1 m.last.2 in
       let seen : map instruction_view (map (resolved_instruction s t) t.instrs) ≡ map (line_with_places f) ls =

@@ -61,7 +61,8 @@ module _ (q : Program) (p : ℕ) where
         size_actuals q p xs,
       )
 
-  length_count : (shapes : List Shape) (r : Predef) (args : List Arg) (rest : List Instruction) → length (length_code shapes r args ++ rest) ≡ lengths_of r + length rest
+  length_count : (shapes : List Shape) (r : Predef) (args : List Arg) (rest : List Instruction)
+      → length (length_code shapes r args ++ rest) ≡ lengths_of r + length rest
   length_count shapes r args rest = length-append (length_code shapes r args) rest ∙ ap (λ n. n + length rest) (size_length shapes r args)
 
   pub lines_count : (env : List Scope) (l : ℕ) (s : Stmt) → length (lines q p env l s) ≡ size q s
@@ -72,7 +73,11 @@ module _ (q : Program) (p : ℕ) where
       omega (arith, length-append (lines q p env l a) (lines q p env (l + labels a) b), lines_count env l a, lines_count env (l + labels a) b)
   lines_count env l (Loop place s) =
       let e = InLoop (l + 1) ∷ env in
-      omega (arith, length-append (lines q p e (l + 2) s) (Plain (i.Jump l) ∷ Marked (l + 1) (i.PushConstant (Nat 2)) ∷ Plain (i.PopGlobal 0) ∷ []), lines_count e (l + 2) s)
+      omega (
+        arith,
+        length-append (lines q p e (l + 2) s) (Plain (i.Jump l) ∷ Marked (l + 1) (i.PushConstant (Nat 2)) ∷ Plain (i.PopGlobal 0) ∷ []),
+        lines_count e (l + 2) s,
+      )
   lines_count env l (If place b s v) =
       let tv = lines q p env (l + 2 + labels s) v in
       omega (
@@ -87,7 +92,8 @@ module _ (q : Program) (p : ℕ) where
       let tv = lines q p env (l + 2 + labels s) v in
       omega (
         arith,
-        length-append (lines q p e (l + 2) s) (Plain (i.Jump (l + 1)) ∷ Marked l (i.PushConstant (Nat 2)) ∷ Plain (i.PopGlobal 0) ∷ (tv ++ Marked (l + 1) i.NoOp ∷ [])),
+        length-append (lines q p e (l + 2) s) (Plain (i.Jump (l + 1)) ∷ Marked l (i.PushConstant (Nat 2)) ∷ Plain (i.PopGlobal 0)
+            ∷ (tv ++ Marked (l + 1) i.NoOp ∷ [])),
         length-append tv (Marked (l + 1) i.NoOp ∷ []),
         lines_count e (l + 2) s,
         lines_count env (l + 2 + labels s) v,
@@ -156,7 +162,8 @@ stays_both g [] b x y = y
 stays_both g (c ∷ a) b x y = stays_front
   where
     stays_front : Stays g (c ∷ a ++ b)
-    stays_front = ap (map (line_with_places g)) (unmarked-append (c ∷ a) b) ∙ mapped-append (line_with_places g) (unmarked (c ∷ a)) (unmarked b) ∙ ap (λ z. z ++ map (line_with_places g) (unmarked b)) x ∙ ap (λ z. (c ∷ a) ++ z) y
+    stays_front = ap (map (line_with_places g)) (unmarked-append (c ∷ a) b) ∙ mapped-append (line_with_places g) (unmarked (c ∷ a)) (unmarked b)
+        ∙ ap (λ z. z ++ map (line_with_places g) (unmarked b)) x ∙ ap (λ z. (c ∷ a) ++ z) y
 
 module _ (q : Program) (p n : ℕ) (f : ℕ → Option ℕ) (zero_at : f 0 ≡ Some (n + 1)) (one_at : f 1 ≡ Some (n + 3)) where
   abbrev g : ℕ → ℕ
@@ -208,7 +215,8 @@ module _ (q : Program) (p n : ℕ) (f : ℕ → Option ℕ) (zero_at : f 0 ≡ S
       ap (λ z. i.PushConstant (Nat (number_of c)) ∷ i.PopGlobal 0 ∷ i.Jump z ∷ map see (marked_raises q p env (l + 1) cs)) (target_is env c)
       ∙ ap (λ z. i.PushConstant (Nat (number_of c)) ∷ i.PopGlobal 0 ∷ i.Jump (target q p n (env_of g env) c) ∷ z) (raises_resolve env (l + 1) cs)
 
-  raise_labels_stand : (env : List Scope) (l at : ℕ) (cs : List ConditionOf) → Good f at (marked_raises q p env l cs) → map g (raise_labels l cs) ≡ raise_places at cs
+  raise_labels_stand : (env : List Scope) (l at : ℕ) (cs : List ConditionOf) → Good f at (marked_raises q p env l cs)
+      → map g (raise_labels l cs) ≡ raise_places at cs
   raise_labels_stand env l at [] h = refl
   raise_labels_stand env l at (c ∷ cs) h =
       let three_on : at + 1 + 1 + 1 ≡ at + 3 = omega arith in
@@ -220,7 +228,8 @@ module _ (q : Program) (p n : ℕ) (f : ℕ → Option ℕ) (zero_at : f 0 ≡ S
   space_stands env l at m cs h = let six_on : at + 1 + 1 + 1 + 1 + 1 + 1 ≡ at + 6 = omega arith in stands f (l + 2) _ h.1.0 ∙ six_on
 
   -- a raise that has a label, and what follows it
-  raise_resolves : (env : List Scope) (l : ℕ) (c : ConditionOf) (rest : List Line) (code : List Instruction) → map see rest ≡ code → map see (marked_raise q p env l c ++ rest) ≡ raise_code q p n (env_of g env) c ++ code
+  raise_resolves : (env : List Scope) (l : ℕ) (c : ConditionOf) (rest : List Line) (code : List Instruction) → map see rest ≡ code
+      → map see (marked_raise q p env l c ++ rest) ≡ raise_code q p n (env_of g env) c ++ code
   raise_resolves env l c rest code h =
       ap (λ z. i.PushConstant (Nat (number_of c)) ∷ i.PopGlobal 0 ∷ i.Jump z ∷ map see rest) (target_is env c)
       ∙ ap (λ z. raise_code q p n (env_of g env) c ++ z) h
@@ -229,7 +238,8 @@ module _ (q : Program) (p n : ℕ) (f : ℕ → Option ℕ) (zero_at : f 0 ≡ S
   guard_resolves : (need : StackSizes) (l to : ℕ) → g l ≡ to → map see (unmarked (guard_code need l)) ≡ guard_code need to
   guard_resolves need l to e = ap (guard_code need) e
 
-  after_resolves : (env : List Scope) (l at m : ℕ) (cs : List ConditionOf) → Good f at (after_lines q p env l m cs) → map see (after_lines q p env l m cs) ≡ after_code q p n (env_of g env) at m cs
+  after_resolves : (env : List Scope) (l at m : ℕ) (cs : List ConditionOf) → Good f at (after_lines q p env l m cs)
+      → map see (after_lines q p env l m cs) ≡ after_code q p n (env_of g env) at m cs
   after_resolves env l at m cs h =
       let rs = marked_raises q p env (l + 3) cs in
       let last = Marked (l + 1) i.NoOp ∷ [] in
@@ -242,18 +252,26 @@ module _ (q : Program) (p n : ℕ) (f : ℕ → Option ℕ) (zero_at : f 0 ≡ S
       let lb : g (l + 1) ≡ at + 9 + 3 * length cs = stands f (l + 1) _ end.0 in
       let lg : g (l + 2) ≡ at + 6 = space_stands env l at m cs h in
       let ls = raise_labels_stand env (l + 3) (at + 9) cs (good_front f (at + 9) rs last rest) in
-      let cases : map g (l ∷ l ∷ (l + 1) ∷ (l + 2) ∷ raise_labels (l + 3) cs) ≡ (at + 3) ∷ (at + 3) ∷ (at + 9 + 3 * length cs) ∷ (at + 6) ∷ raise_places (at + 9) cs =
-      ap (λ z. z ∷ z ∷ g (l + 1) ∷ g (l + 2) ∷ map g (raise_labels (l + 3) cs)) la ∙ ap (λ z. (at + 3) ∷ (at + 3) ∷ z ∷ g (l + 2) ∷ map g (raise_labels (l + 3) cs)) lb
-      ∙ ap (λ z. (at + 3) ∷ (at + 3) ∷ (at + 9 + 3 * length cs) ∷ z ∷ map g (raise_labels (l + 3) cs)) lg ∙ ap (λ z. (at + 3) ∷ (at + 3) ∷ (at + 9 + 3 * length cs) ∷ (at + 6) ∷ z) ls in
+      let cases : map g (l ∷ l ∷ (l + 1) ∷ (l + 2) ∷ raise_labels (l + 3) cs) ≡ (at + 3) ∷ (at + 3) ∷ (at + 9 + 3 * length cs) ∷ (at + 6)
+      ∷ raise_places (at + 9) cs =
+      ap (λ z. z ∷ z ∷ g (l + 1) ∷ g (l + 2) ∷ map g (raise_labels (l + 3) cs)) la
+      ∙ ap (λ z. (at + 3) ∷ (at + 3) ∷ z ∷ g (l + 2) ∷ map g (raise_labels (l + 3) cs)) lb
+      ∙ ap (λ z. (at + 3) ∷ (at + 3) ∷ (at + 9 + 3 * length cs) ∷ z ∷ map g (raise_labels (l + 3) cs)) lg
+      ∙ ap (λ z. (at + 3) ∷ (at + 3) ∷ (at + 9 + 3 * length cs) ∷ (at + 6) ∷ z) ls in
       let tail : map see (rs ++ last) ≡ raises q p n e cs ++ i.NoOp ∷ [] =
       mapped-append see rs last ∙ ap (λ z. z ++ i.NoOp ∷ []) (raises_resolve env (l + 3) cs) in
-      let space : map see (marked_raise q p env (l + 2) Space ++ (rs ++ last)) ≡ raise_code q p n e Space ++ (raises q p n e cs ++ i.NoOp ∷ []) = raise_resolves env (l + 2) Space (rs ++ last) _ tail in
-      let routine : map see (marked_raise q p env l Routine ++ (marked_raise q p env (l + 2) Space ++ (rs ++ last))) ≡ raise_code q p n e Routine ++ (raise_code q p n e Space ++ (raises q p n e cs ++ i.NoOp ∷ [])) = raise_resolves env l Routine (marked_raise q p env (l + 2) Space ++ (rs ++ last)) _ space in
-      ap (λ z. i.PopStar m ∷ i.PushGlobal 0 ∷ i.JumpCase z ∷ map see (marked_raise q p env l Routine ++ (marked_raise q p env (l + 2) Space ++ (rs ++ last)))) cases
+      let space : map see (marked_raise q p env (l + 2) Space ++ (rs ++ last)) ≡ raise_code q p n e Space ++ (raises q p n e cs ++ i.NoOp ∷ []) =
+      raise_resolves env (l + 2) Space (rs ++ last) _ tail in
+      let routine : map see (marked_raise q p env l Routine ++ (marked_raise q p env (l + 2) Space ++ (rs ++ last))) ≡ raise_code q p n e Routine
+      ++ (raise_code q p n e Space ++ (raises q p n e cs ++ i.NoOp ∷ [])) =
+      raise_resolves env l Routine (marked_raise q p env (l + 2) Space ++ (rs ++ last)) _ space in
+      ap (λ z. i.PopStar m ∷ i.PushGlobal 0 ∷ i.JumpCase z ∷ map see
+      (marked_raise q p env l Routine ++ (marked_raise q p env (l + 2) Space ++ (rs ++ last)))) cases
       ∙ ap (λ z. i.PopStar m ∷ i.PushGlobal 0 ∷ i.JumpCase ((at + 3) ∷ (at + 3) ∷ (at + 9 + 3 * length cs) ∷ (at + 6) ∷ raise_places (at + 9) cs) ∷ z) routine
 
   check_resolves : (b : Bool) (to at : ℕ) → g to ≡ at →
-      map see (unmarked (cond b (i.PushGlobal 0 ∷ i.Apply op.Sub1Nat ∷ i.TestAndJump family.Nat test.Zero to ∷ []) [])) ≡ cond b (i.PushGlobal 0 ∷ i.Apply op.Sub1Nat ∷ i.TestAndJump family.Nat test.Zero at ∷ []) []
+      map see (unmarked (cond b (i.PushGlobal 0 ∷ i.Apply op.Sub1Nat ∷ i.TestAndJump family.Nat test.Zero to ∷ []) []))
+      ≡ cond b (i.PushGlobal 0 ∷ i.Apply op.Sub1Nat ∷ i.TestAndJump family.Nat test.Zero at ∷ []) []
   check_resolves true to at e = ap (λ z. i.PushGlobal 0 ∷ i.Apply op.Sub1Nat ∷ i.TestAndJump family.Nat test.Zero z ∷ []) e
   check_resolves false to at e = refl
 
@@ -327,7 +345,8 @@ module _ (q : Program) (p n : ℕ) (f : ℕ → Option ℕ) (zero_at : f 0 ≡ S
       let guarded = guard_resolves (call_need q c) (l + 2) (to + 6) (space_stands env l to m cs rest) in
       let code = after_code q p n (env_of g env) to m cs in
       let indices = push_indices m 0 0 (local_shapes d) in
-      mapped-append see (unmarked guard) (unmarked before ++ after) ∙ ap (λ z. z ++ map see (unmarked before ++ after)) guarded ∙ ap (λ z. guard_code (call_need q c) (to + 6) ++ z)
+      mapped-append see (unmarked guard) (unmarked before ++ after) ∙ ap (λ z. z ++ map see (unmarked before ++ after)) guarded
+      ∙ ap (λ z. guard_code (call_need q c) (to + 6) ++ z)
       (mapped-append see (unmarked before) after ∙ ap (λ z. z ++ map see after) (before_stays c xs) ∙ ap (λ z. before ++ z) (after_resolves env l to m cs rest)
       ∙ append_assoc (push_words (words_of_values d.locals)) (indices ++ (push_actuals q p xs ++ i.Call c ∷ [])) code
       ∙ ap (λ z. push_words (words_of_values d.locals) ++ z) (append_assoc indices (push_actuals q p xs ++ i.Call c ∷ []) code)

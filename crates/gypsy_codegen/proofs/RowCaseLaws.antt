@@ -6,7 +6,8 @@ use Rattle.gypsy_space.specs.Costs.{spend}
 use Rattle.gypsy_space.specs.Needs.{StackSizes, has_temp_room, has_ctrl_room, has_room, lack_of}
 use Rattle.gypsy_space.specs.declared.need.Lack.{Lack}
 use Rattle.gypsy_space.specs.declared.need.Lack.TheVariants.{Nothing, Temporary, Control}
-use Rattle.gypsy_semantics.specs.Machine.{Item, Do, Back, JoinThen, JoinOne, Guard, Out, At, Next, used, either_move, call_step, apply_step, end_step, out_step, open_on, gypsy_step}
+use Rattle.gypsy_semantics.specs.Machine.{Item, Do, Back, JoinThen, JoinOne, Guard, Out, At, Next, used, either_move, call_step, apply_step, end_step, out_step}
+use Rattle.gypsy_semantics.specs.Machine.{open_on, gypsy_step}
 use Rattle.gypsy_codegen.specs.Generated.{generated_view}
 use Rattle.gypsy_codegen.specs.Law.{Follows}
 use Rattle.gypsy_codegen.specs.StepRows.{Top, IsShown, at_work, NoOpRow, SignalRow, LoopRow, BackRow, ThenRow, ElseRow, JoinThenRow, JoinOneRow, GuardRow}
@@ -25,7 +26,8 @@ nothing_lacks q sizes p u e = by_room (has_temp_room q sizes p u) (has_ctrl_room
     by_room false b f = absurd cc
 
 module _ (predefs : PredefsRun) where
-  follows : (s : Top) (w : List Item) → IsShown s (at_work s w) → Follows s.source (generated_view s.source s.sizes s.base) s.piton s.spent (gypsy_step s.source s.sizes (at_work s w))
+  follows : (s : Top) (w : List Item) → IsShown s (at_work s w) → Follows s.source (generated_view s.source s.sizes s.base) s.piton s.spent
+      (gypsy_step s.source s.sizes (at_work s w))
   follows s w h = steps_follow predefs s.source s.sizes s.base s.piton (at_work s w) h.fits h.small h.state_fits h.room h.shows
 
   pub no_op_row : NoOpRow
@@ -42,11 +44,17 @@ module _ (predefs : PredefsRun) where
 
   pub then_row : ThenRow
   then_row s place test b c holds h =
-      subst (λ z. Follows s.source (generated_view s.source s.sizes s.base) s.piton s.spent (either_move z (Next (At s.proc s.vars (open_on b (JoinThen place c ∷ s.work)) s.waiting (spend 8 3 s.spent))) (Next (At s.proc s.vars (open_on c (JoinOne place ∷ s.work)) s.waiting (spend 9 4 s.spent))))) holds (follows s (Do (If place test b c) ∷ s.work) h)
+      subst (λ z. Follows s.source (generated_view s.source s.sizes s.base) s.piton s.spent
+      (either_move z (Next (At s.proc s.vars (open_on b (JoinThen place c ∷ s.work)) s.waiting (spend 8 3 s.spent)))
+      (Next (At s.proc s.vars (open_on c (JoinOne place ∷ s.work)) s.waiting (spend 9 4 s.spent))))) holds
+      (follows s (Do (If place test b c) ∷ s.work) h)
 
   pub else_row : ElseRow
   else_row s place test b c fails h =
-      subst (λ z. Follows s.source (generated_view s.source s.sizes s.base) s.piton s.spent (either_move z (Next (At s.proc s.vars (open_on b (JoinThen place c ∷ s.work)) s.waiting (spend 8 3 s.spent))) (Next (At s.proc s.vars (open_on c (JoinOne place ∷ s.work)) s.waiting (spend 9 4 s.spent))))) fails (follows s (Do (If place test b c) ∷ s.work) h)
+      subst (λ z. Follows s.source (generated_view s.source s.sizes s.base) s.piton s.spent
+      (either_move z (Next (At s.proc s.vars (open_on b (JoinThen place c ∷ s.work)) s.waiting (spend 8 3 s.spent)))
+      (Next (At s.proc s.vars (open_on c (JoinOne place ∷ s.work)) s.waiting (spend 9 4 s.spent))))) fails
+      (follows s (Do (If place test b c) ∷ s.work) h)
 
   pub join_then_row : JoinThenRow
   join_then_row s place c h = follows s (JoinThen place c ∷ s.work) h
@@ -57,10 +65,12 @@ module _ (predefs : PredefsRun) where
   pub guard_row : GuardRow
   guard_row s place cs b h = follows s (Guard place cs b ∷ s.work) h
 
-  call_by : (s : Top) (place c : ℕ) (xs : List ℕ) (cs : List ConditionOf) (l : Lack) → lack_of s.source s.sizes c (used s.source s.proc s.waiting) ≡ l → IsShown s (at_work s (Do (Call place c xs cs) ∷ s.work)) →
+  call_by : (s : Top) (place c : ℕ) (xs : List ℕ) (cs : List ConditionOf) (l : Lack) → lack_of s.source s.sizes c (used s.source s.proc s.waiting) ≡ l
+      → IsShown s (at_work s (Do (Call place c xs cs) ∷ s.work)) →
       Follows s.source (generated_view s.source s.sizes s.base) s.piton s.spent (call_step s.source l c xs cs s.proc s.vars s.work s.waiting s.spent)
   call_by s place c xs cs l lack h =
-      subst (λ z. Follows s.source (generated_view s.source s.sizes s.base) s.piton s.spent (call_step s.source z c xs cs s.proc s.vars s.work s.waiting s.spent)) lack (follows s (Do (Call place c xs cs) ∷ s.work) h)
+      subst (λ z. Follows s.source (generated_view s.source s.sizes s.base) s.piton s.spent
+      (call_step s.source z c xs cs s.proc s.vars s.work s.waiting s.spent)) lack (follows s (Do (Call place c xs cs) ∷ s.work) h)
 
   pub call_row : CallRow
   call_row s place c xs cs room h = call_by s place c xs cs Nothing (nothing_lacks s.source s.sizes c (used s.source s.proc s.waiting) room) h
@@ -73,15 +83,18 @@ module _ (predefs : PredefsRun) where
 
   pub write_row : WriteRow
   write_row s place r args v e h =
-      subst (λ z. Follows s.source (generated_view s.source s.sizes s.base) s.piton s.spent (apply_step r args z s.proc s.vars s.work s.waiting s.spent)) e (follows s (Do (Apply place r args) ∷ s.work) h)
+      subst (λ z. Follows s.source (generated_view s.source s.sizes s.base) s.piton s.spent
+      (apply_step r args z s.proc s.vars s.work s.waiting s.spent)) e (follows s (Do (Apply place r args) ∷ s.work) h)
 
   pub fault_row : FaultRow
   fault_row s place r args e h =
-      subst (λ z. Follows s.source (generated_view s.source s.sizes s.base) s.piton s.spent (apply_step r args z s.proc s.vars s.work s.waiting s.spent)) e (follows s (Do (Apply place r args) ∷ s.work) h)
+      subst (λ z. Follows s.source (generated_view s.source s.sizes s.base) s.piton s.spent
+      (apply_step r args z s.proc s.vars s.work s.waiting s.spent)) e (follows s (Do (Apply place r args) ∷ s.work) h)
 
   pub beyond_row : BeyondRow
   beyond_row s place r args e h =
-      subst (λ z. Follows s.source (generated_view s.source s.sizes s.base) s.piton s.spent (apply_step r args z s.proc s.vars s.work s.waiting s.spent)) e (follows s (Do (Apply place r args) ∷ s.work) h)
+      subst (λ z. Follows s.source (generated_view s.source s.sizes s.base) s.piton s.spent
+      (apply_step r args z s.proc s.vars s.work s.waiting s.spent)) e (follows s (Do (Apply place r args) ∷ s.work) h)
 
   pub return_row : ReturnRow
   return_row s c x w xs cs fs waits h =
@@ -89,7 +102,8 @@ module _ (predefs : PredefsRun) where
 
   pub out_row : OutRow
   out_row s d c x w xs cs fs waits h =
-      subst (λ z. Follows s.source (generated_view s.source s.sizes s.base) s.piton s.spent (out_step s.source d s.proc s.vars z s.spent)) waits (follows s (Out d ∷ []) h)
+      subst (λ z. Follows s.source (generated_view s.source s.sizes s.base) s.piton s.spent (out_step s.source d s.proc s.vars z s.spent)) waits
+      (follows s (Out d ∷ []) h)
 
   pub end_row : EndRow
   end_row s none h =
@@ -97,4 +111,5 @@ module _ (predefs : PredefsRun) where
 
   pub main_out_row : MainOutRow
   main_out_row s d none h =
-      subst (λ z. Follows s.source (generated_view s.source s.sizes s.base) s.piton s.spent (out_step s.source d s.proc s.vars z s.spent)) none (follows s (Out d ∷ []) h)
+      subst (λ z. Follows s.source (generated_view s.source s.sizes s.base) s.piton s.spent (out_step s.source d s.proc s.vars z s.spent)) none
+      (follows s (Out d ∷ []) h)

@@ -17,7 +17,8 @@ use Rattle.gypsy_syntax.specs.ProgramFits.{ProgramFits}
 use Rattle.gypsy_space.specs.Costs.{Tally, spend, start_tally}
 use Rattle.gypsy_space.specs.Needs.{StackSizes}
 use Rattle.gypsy_semantics.specs.Calls.{CurrentCondition, main_start}
-use Rattle.gypsy_semantics.specs.Machine.{Item, Do, Back, JoinThen, JoinOne, Guard, Out, Frame, State, At, Move, Next, Ended, Ending, Over, Going, go_on, run, gypsy_step, start, open_on}
+use Rattle.gypsy_semantics.specs.Machine.{Item, Do, Back, JoinThen, JoinOne, Guard, Out, Frame, State, At, Move, Next, Ended, Ending, Over, Going, go_on, run}
+use Rattle.gypsy_semantics.specs.Machine.{gypsy_step, start, open_on}
 use Rattle.gypsy_semantics.specs.Kept.{StateFits, MoveFits}
 use Rattle.gypsy_semantics.specs.Room.{StateRoom, MoveRoom}
 use Rattle.gypsy_semantics.specs.Counted.{counted_meaning}
@@ -31,7 +32,8 @@ use Rattle.gypsy_codegen.specs.Memory.{stack_of, index_of}
 use Rattle.gypsy_codegen.proofs.PushLaws.{PredefsRun}
 use Rattle.gypsy_codegen.specs.Showing.{Stands, Tops, StandsAs, rest_size, mark_of}
 use Rattle.gypsy_codegen.specs.Law.{Leads, Halts, Follows, tally_of}
-use Rattle.gypsy_codegen.specs.Whole.{opened, SizesFit, CountedRuns, MeaningRuns, LimitedRunHalts, StartShows, Reached, same, later, EachIsShown, PlaceIsMark, VariablesStand, WaitingStand, WaitingVariablesStand, ActualsShare, RaiseFollows}
+use Rattle.gypsy_codegen.specs.Whole.{opened, SizesFit, CountedRuns, MeaningRuns, LimitedRunHalts, StartShows, Reached, same, later, EachIsShown, PlaceIsMark}
+use Rattle.gypsy_codegen.specs.Whole.{VariablesStand, WaitingStand, WaitingVariablesStand, ActualsShare, RaiseFollows}
 use Rattle.std.proofs.Common.{◌<◌, drop}
 use Rattle.std.specs.Prelude.{slice_get, slice_index, nat_lt}
 use Rattle.std.proofs.lemmas.Bool.{lt-ltb}
@@ -65,7 +67,8 @@ start_shows q sizes base v fits =
     let b = tops q q.main 0 (open_on (body_of q q.main) []) (body_stands q q.main) in
     let is = program_is q sizes base q.main fits.main in
     let indices : (program_of (generated_view q sizes base) q.main).temporaries ≡ map (λ n. Nat n) (starts 0 (shapes_of (proc_at q q.main))) =
-    ap (λ (p : ProgramView). p.temporaries) is ∙ if_yes (q.main == q.main) (map (λ n. Nat n) (starts 0 (shapes_of (proc_at q q.main)))) [] (eq-eqb q.main q.main refl) in
+    ap (λ (p : ProgramView). p.temporaries) is ∙ if_yes (q.main == q.main) (map (λ n. Nat n) (starts 0 (shapes_of (proc_at q q.main)))) []
+    (eq-eqb q.main q.main refl) in
     let frame : List Rattle.piton_words.specs.declared.word.Word.Word → List piton.Frame = λ l. record { locals = l; program = q.main; place = 0 } ∷ [] in
     record {
       program = refl;
@@ -87,7 +90,8 @@ leads_on {q} {s} {a} {t} {g} {k} l m = record {
   shows = m.shows;
 }
 
-halts_on : {q : Program} {s : SystemView} {a : PitonState} {t : Tally} {g : State} {x : List ValueOf} {c : CurrentCondition} {u : Tally} (l : Leads q s a t g) → Halts s l.to (tally_of g) x c u → Halts s a t x c u
+halts_on : {q : Program} {s : SystemView} {a : PitonState} {t : Tally} {g : State} {x : List ValueOf} {c : CurrentCondition} {u : Tally}
+    (l : Leads q s a t g) → Halts s l.to (tally_of g) x c u → Halts s a t x c u
 halts_on {q} {s} {a} {t} {g} {x} {c} {u} l h = record {
   steps = l.steps + h.steps;
   cost = l.cost + h.cost;
@@ -105,21 +109,28 @@ HaltsAs s a t (Over x c u) = Halts s a t x c u
 HaltsAs s a t Going = Unit {0}
 
 module _ (q : Program) (sizes : StackSizes) (base : ℕ) (bodies : PredefsRun) (fits : ProgramFits q) (sz : SizesFit q sizes) where
-  on_from : (a : PitonState) (t : Tally) (g : State) (e : Ending) (l : Leads q (generated_view q sizes base) a t g) → HaltsAs (generated_view q sizes base) l.to (tally_of g) e → HaltsAs (generated_view q sizes base) a t e
+  on_from : (a : PitonState) (t : Tally) (g : State) (e : Ending) (l : Leads q (generated_view q sizes base) a t g)
+      → HaltsAs (generated_view q sizes base) l.to (tally_of g) e → HaltsAs (generated_view q sizes base) a t e
   on_from a t g (Over x c u) l h = halts_on l h
   on_from a t g Going l h = tt
 
-  move_halts : (a : PitonState) (t : Tally) (mv : Move) (rest : State → Ending) → MoveFits q mv → MoveRoom q sizes mv → ((b : PitonState) (g : State) → StateFits q g → StateRoom q sizes g → StandsAs q b g → HaltsAs (generated_view q sizes base) b (tally_of g) (rest g)) → Follows q (generated_view q sizes base) a t mv → HaltsAs (generated_view q sizes base) a t (go_on mv rest)
+  move_halts : (a : PitonState) (t : Tally) (mv : Move) (rest : State → Ending) → MoveFits q mv → MoveRoom q sizes mv
+      → ((b : PitonState) (g : State) → StateFits q g → StateRoom q sizes g → StandsAs q b g
+      → HaltsAs (generated_view q sizes base) b (tally_of g) (rest g)) → Follows q (generated_view q sizes base) a t mv
+      → HaltsAs (generated_view q sizes base) a t (go_on mv rest)
   move_halts a t (Next g) rest mf mr h f = on_from a t g (rest g) f (h f.to g mf mr f.shows)
   move_halts a t (Ended x c u) rest mf mr h f = f
 
   -- where the step machine ends after j steps, the generated system halts with the same
-  run_halts : (j : ℕ) (a : PitonState) (g : State) → StateFits q g → StateRoom q sizes g → StandsAs q a g → HaltsAs (generated_view q sizes base) a (tally_of g) (run q sizes j g)
+  run_halts : (j : ℕ) (a : PitonState) (g : State) → StateFits q g → StateRoom q sizes g → StandsAs q a g
+      → HaltsAs (generated_view q sizes base) a (tally_of g) (run q sizes j g)
   run_halts zero a g sf sr sh = tt
   run_halts (suc j) a g sf sr sh =
-      move_halts a (tally_of g) (gypsy_step q sizes g) (run q sizes j) (step_keeps q sizes fits g sf) (step_room q sizes g sr) (λ b h. run_halts j b h) (steps_follow bodies q sizes base a g fits sz.small sf sr sh)
+      move_halts a (tally_of g) (gypsy_step q sizes g) (run q sizes j) (step_keeps q sizes fits g sf) (step_room q sizes g sr) (λ b h. run_halts j b h)
+      (steps_follow bodies q sizes base a g fits sz.small sf sr sh)
 
-  reached : (a : PitonState) (g k : State) → StateFits q g → StateRoom q sizes g → StandsAs q a g → Reached q sizes g k → Leads q (generated_view q sizes base) a (tally_of g) k
+  reached : (a : PitonState) (g k : State) → StateFits q g → StateRoom q sizes g → StandsAs q a g → Reached q sizes g k
+      → Leads q (generated_view q sizes base) a (tally_of g) k
   reached a g k sf sr sh same = record { steps = 0; cost = 0; to = a; runs = Rattle.piton_semantics.specs.Law.none; tally = spend_none _; shows = sh }
   reached a g k sf sr sh (later {h = h} e rest) =
       let mf = subst (MoveFits q) e (step_keeps q sizes fits g sf) in
@@ -139,7 +150,9 @@ counted_runs bodies q sizes base v n x c t fits sz vf d =
     let S = generated_view q sizes base in
     let r = (agree q sizes v).done n x c t d in
     let h : Halts S (opened q sizes base v) start_tally x c t =
-    subst (HaltsAs S (opened q sizes base v) start_tally) r.1 (run_halts q sizes base bodies fits sz r.0 (opened q sizes base v) (start q v) (start_fits q sizes fits v vf) (start_room q sizes v sz.suffice.temp sz.suffice.ctrl) (start_shows q sizes base v fits)) in
+    subst (HaltsAs S (opened q sizes base v) start_tally) r.1
+    (run_halts q sizes base bodies fits sz r.0 (opened q sizes base v) (start q v) (start_fits q sizes fits v vf)
+    (start_room q sizes v sz.suffice.temp sz.suffice.ctrl) (start_shows q sizes base v fits)) in
     let k = counts h.cost h.steps t h.tally in
     record {
       to = h.to;
@@ -163,7 +176,8 @@ limited_run_halts bodies q sizes base v n x c t k fits sz vf d =
 
 pub each_is_shown : PredefsRun → EachIsShown
 each_is_shown bodies q sizes base v g fits sz vf r =
-    reached q sizes base bodies fits sz (opened q sizes base v) (start q v) g (start_fits q sizes fits v vf) (start_room q sizes v sz.suffice.temp sz.suffice.ctrl) (start_shows q sizes base v fits) r
+    reached q sizes base bodies fits sz (opened q sizes base v) (start q v) g (start_fits q sizes fits v vf)
+    (start_room q sizes v sz.suffice.temp sz.suffice.ctrl) (start_shows q sizes base v fits) r
 
 -- The mark.
 
@@ -194,10 +208,13 @@ variables_stand q a p x w fs t b shape sf sh e h u g =
 
 -- Activations that wait.
 
-pub stack_grows : (q : Program) (p c : ℕ) (x y : List ValueOf) (w : List Item) (xs : List ℕ) (cs : List ConditionOf) (fs : List Frame) (j : ℕ) → j < length (stack_of q c (copied_out xs y x) fs) → element (stack_of q p y (Held c x w xs cs ∷ fs)) j ≡ element (stack_of q c (copied_out xs y x) fs) j
+pub stack_grows : (q : Program) (p c : ℕ) (x y : List ValueOf) (w : List Item) (xs : List ℕ) (cs : List ConditionOf) (fs : List Frame) (j : ℕ)
+    → j < length (stack_of q c (copied_out xs y x) fs) → element (stack_of q p y (Held c x w xs cs ∷ fs)) j
+    ≡ element (stack_of q c (copied_out xs y x) fs) j
 stack_grows q p c x y w xs cs fs j h = below_pushed (words_of_values (drop (length (proc_at q p).formals) y)) (stack_of q c (copied_out xs y x) fs) j h
 
-waiting_stand : (q : Program) (fs : List Frame) (p : ℕ) (y : List ValueOf) (stack : List Word) → VarsFit (shapes_of (proc_at q p)) y → FramesFit q p fs → ((j : ℕ) → j < length (stack_of q p y fs) → element stack j ≡ element (stack_of q p y fs) j) → WaitingStand q stack fs
+waiting_stand : (q : Program) (fs : List Frame) (p : ℕ) (y : List ValueOf) (stack : List Word) → VarsFit (shapes_of (proc_at q p)) y → FramesFit q p fs
+    → ((j : ℕ) → j < length (stack_of q p y fs) → element stack j ≡ element (stack_of q p y fs) j) → WaitingStand q stack fs
 waiting_stand q [] p y stack v g ext = tt
 waiting_stand q (Held c x w xs cs ∷ fs) p y stack v g ext =
     let x' = copied_out xs y x in
@@ -205,12 +222,15 @@ waiting_stand q (Held c x w xs cs ∷ fs) p y stack v g ext =
     let ws = words_of_values (drop (length (proc_at q p).formals) y) in
     let vc = low_fits q p c x y w xs cs fs v g in
     let tall : length low ≡ (used q c fs).temp = height q c x' fs vc g.3 in
-    let ext' : (j : ℕ) → j < length low → element stack j ≡ element low j = λ j h. ext j (omega (arith, h, push_all-length ws low)) ∙ stack_grows q p c x y w xs cs fs j h in (
+    let ext' : (j : ℕ) → j < length low → element stack j ≡ element low j =
+    λ j h. ext j (omega (arith, h, push_all-length ws low)) ∙ stack_grows q p c x y w xs cs fs j h in (
       λ b shape miss e h u r.
           let fit = value_fits (shapes_of (proc_at q c)) x b shape g.1 e in
-          let inside : h < item_count shape = omega (arith, get_below (words_of_value (value_at x b)) h u r, value_words (value_at x b) fit.1, ap item_count fit.0) in
+          let inside : h < item_count shape =
+          omega (arith, get_below (words_of_value (value_at x b)) h u r, value_words (value_at x b) fit.1, ap item_count fit.0) in
           let under : index_of q c fs b + h < length low = omega (arith, index_fits q c fs b shape g.3 e, inside, tall) in
-          ext' (index_of q c fs b + h) under ∙ reads_at q c x' fs b h shape u vc g.3 e (ap (λ z. slice_get (words_of_value z) h) (copied_miss xs y x b miss) ∙ r),
+          ext' (index_of q c fs b + h) under ∙ reads_at q c x' fs b h shape u vc g.3 e
+          (ap (λ z. slice_get (words_of_value z) h) (copied_miss xs y x b miss) ∙ r),
       waiting_stand q fs c x' stack vc g.3 ext',
     )
 

@@ -126,7 +126,8 @@ variables_differ s p e =
 pub frame_differs : (s : SourceOf) (q : Program) (i : ℕ) (p : ProcOf) → procedure_breaches s p ≡ [] → Differ (frame_texts q i p)
 frame_differs s q i p e = by_main (i == q.main) (variables_differ s p e)
   where
-    by_main : (b : Bool) → Differ (variable_names p) → Differ (cond b (variable_names p) (map (λ l. l.decl.name.name) p.locals ++ map (λ d. d.name.name) p.formals))
+    by_main : (b : Bool) → Differ (variable_names p) → Differ
+        (cond b (variable_names p) (map (λ l. l.decl.name.name) p.locals ++ map (λ d. d.name.name) p.formals))
     by_main true d = d
     by_main false d = differ_swap (map (λ d. d.name.name) p.formals) (map (λ l. l.decl.name.name) p.locals) d
 
@@ -138,10 +139,12 @@ each_swap : {X : Type 0} (P : X → Type 0) (a b : List X) → Each P a → Each
 each_swap P a [] h k = h
 each_swap P a (x ∷ b) h k = (k.0, each_swap P a b h k.1)
 
-pub frame_named : (q : Program) (i : ℕ) (p : ProcOf) → Each (λ name. IsTrue (is_name name)) (variable_names p) → Each (λ name. IsTrue (is_name name)) (frame_texts q i p)
+pub frame_named : (q : Program) (i : ℕ) (p : ProcOf) → Each (λ name. IsTrue (is_name name)) (variable_names p)
+    → Each (λ name. IsTrue (is_name name)) (frame_texts q i p)
 frame_named q i p e = by_main (i == q.main)
   where
-    by_main : (b : Bool) → Each (λ name. IsTrue (is_name name)) (cond b (variable_names p) (map (λ l. l.decl.name.name) p.locals ++ map (λ d. d.name.name) p.formals))
+    by_main : (b : Bool) → Each (λ name. IsTrue (is_name name))
+        (cond b (variable_names p) (map (λ l. l.decl.name.name) p.locals ++ map (λ d. d.name.name) p.formals))
     by_main true = e
     by_main false =
         let h = each_parts (λ name. IsTrue (is_name name)) (map (λ d. d.name.name) p.formals) (map (λ l. l.decl.name.name) p.locals) e in
@@ -150,11 +153,22 @@ frame_named q i p e = by_main (i == q.main)
 pub frame_count : (q : Program) (i : ℕ) (p : ProcOf) → length (frame_texts q i p) ≡ length p.formals + length p.locals
 frame_count q i p = by_main (i == q.main)
   where
-    by_main : (b : Bool) → length (cond b (variable_names p) (map (λ l. l.decl.name.name) p.locals ++ map (λ d. d.name.name) p.formals)) ≡ length p.formals + length p.locals
+    by_main : (b : Bool) → length (cond b (variable_names p) (map (λ l. l.decl.name.name) p.locals ++ map (λ d. d.name.name) p.formals))
+        ≡ length p.formals + length p.locals
     by_main true =
-        omega (arith, length-append (map (λ d. d.name.name) p.formals) (map (λ l. l.decl.name.name) p.locals), length-map p.formals (λ d. d.name.name), length-map p.locals (λ l. l.decl.name.name))
+        omega (
+          arith,
+          length-append (map (λ d. d.name.name) p.formals) (map (λ l. l.decl.name.name) p.locals),
+          length-map p.formals (λ d. d.name.name),
+          length-map p.locals (λ l. l.decl.name.name),
+        )
     by_main false =
-        omega (arith, length-append (map (λ l. l.decl.name.name) p.locals) (map (λ d. d.name.name) p.formals), length-map p.formals (λ d. d.name.name), length-map p.locals (λ l. l.decl.name.name))
+        omega (
+          arith,
+          length-append (map (λ l. l.decl.name.name) p.locals) (map (λ d. d.name.name) p.formals),
+          length-map p.formals (λ d. d.name.name),
+          length-map p.locals (λ l. l.decl.name.name),
+        )
 
 -- ---- the form
 
@@ -165,7 +179,8 @@ pub record ProcForm (p : ProcOf) : Type 0 where
   pub few_variables : length p.formals + length p.locals ≤ 200
   pub few_conds : length p.conds + length p.local_conds ≤ 200
 
-each_named : {X : Type 0} (P : X → Type 0) (name : X → List ℕ) → ((x : X) → P x → IsTrue (is_name (name x))) → (xs : List X) → All P xs → Each (λ name. IsTrue (is_name name)) (map name xs)
+each_named : {X : Type 0} (P : X → Type 0) (name : X → List ℕ) → ((x : X) → P x → IsTrue (is_name (name x))) → (xs : List X) → All P xs
+    → Each (λ name. IsTrue (is_name name)) (map name xs)
 each_named P name h [] a = tt
 each_named P name h (x ∷ xs) a = (h x (All-head P x xs a), each_named P name h xs (All-tail P x xs a))
 
@@ -173,7 +188,8 @@ proc_form : (p : ProcOf) → FitsProcedure p → ProcForm p
 proc_form p f = record {
   name = f.name;
   variables = each_both (λ name. IsTrue (is_name name)) (map (λ d. d.name.name) p.formals) (map (λ l. l.decl.name.name) p.locals)
-      (each_named FitsDecl (λ d. d.name.name) (λ d h. h.name) p.formals f.formals) (each_named FitsLocal (λ l. l.decl.name.name) (λ l h. h.decl.name) p.locals f.locals);
+      (each_named FitsDecl (λ d. d.name.name) (λ d h. h.name) p.formals f.formals)
+      (each_named FitsLocal (λ l. l.decl.name.name) (λ l h. h.decl.name) p.locals f.locals);
   few_variables = f.few_variables;
   few_conds = f.few_conds;
 }

@@ -114,25 +114,29 @@ values_words (s ∷ shapes) (v ∷ y) h =
     omega (arith, length-append (words_of_value v) (words_of_values y), value_words v h.1, ap item_count h.0, values_words shapes y h.2)
 
 -- a word of a variable
-pub read_word : (shapes : List Shape) (y : List ValueOf) (b h : ℕ) (w : Word) → VarsFit shapes y → b < length shapes → slice_get (words_of_value (value_at y b)) h ≡ Some w → slice_get (words_of_values y) (words_before shapes b + h) ≡ Some w
+pub read_word : (shapes : List Shape) (y : List ValueOf) (b h : ℕ) (w : Word) → VarsFit shapes y → b < length shapes
+    → slice_get (words_of_value (value_at y b)) h ≡ Some w → slice_get (words_of_values y) (words_before shapes b + h) ≡ Some w
 read_word [] y b h w f lt g = absurd (omega (arith, lt))
 read_word (s ∷ shapes) [] b h w f lt g = absurd f
 read_word (s ∷ shapes) (v ∷ y) zero h w f lt g =
     let e : 0 + h ≡ h = omega arith in
     ap (slice_get (words_of_values (v ∷ y))) e ∙ get_front (words_of_value v) (words_of_values y) h w g
 read_word (s ∷ shapes) (v ∷ y) (suc b) h w f lt g =
-    let e : item_count s + words_before shapes b + h ≡ length (words_of_value v) + (words_before shapes b + h) = omega (arith, value_words v f.1, ap item_count f.0) in
+    let e : item_count s + words_before shapes b + h ≡ length (words_of_value v) + (words_before shapes b + h) =
+    omega (arith, value_words v f.1, ap item_count f.0) in
     ap (slice_get (words_of_values (v ∷ y))) e
     ∙ get_after (words_of_value v) (words_of_values y) (words_before shapes b + h)
     ∙ read_word shapes y b h w f.2 (omega (arith, lt)) g
 
 -- a variable written
-pub write_words : (shapes : List Shape) (y : List ValueOf) (b : ℕ) (v : ValueOf) → VarsFit shapes y → slice_get shapes b ≡ Some v.shape → ValueFits v → set_from (words_of_values y) (words_before shapes b) (words_of_value v) ≡ words_of_values (slice_set y b v)
+pub write_words : (shapes : List Shape) (y : List ValueOf) (b : ℕ) (v : ValueOf) → VarsFit shapes y → slice_get shapes b ≡ Some v.shape → ValueFits v
+    → set_from (words_of_values y) (words_before shapes b) (words_of_value v) ≡ words_of_values (slice_set y b v)
 write_words [] y b v f g h = cc
 write_words (s ∷ shapes) [] b v f g h = absurd f
 write_words (s ∷ shapes) (u ∷ y) zero v f g h =
     let same : s ≡ v.shape = cc in
-    set_front (words_of_value u) (words_of_values y) (words_of_value v) (omega (arith, value_words u f.1, value_words v h, ap item_count f.0, ap item_count same))
+    set_front (words_of_value u) (words_of_values y) (words_of_value v)
+    (omega (arith, value_words u f.1, value_words v h, ap item_count f.0, ap item_count same))
 write_words (s ∷ shapes) (u ∷ y) (suc b) v f g h =
     let e : item_count s + words_before shapes b ≡ length (words_of_value u) + words_before shapes b = omega (arith, value_words u f.1, ap item_count f.0) in
     ap (λ j. set_from (words_of_values (u ∷ y)) j (words_of_value v)) e

@@ -18,7 +18,8 @@ use Rattle.piton_syntax.specs.Fits.{FitsWord, FitsProgram, FitsArea, FitsForm as
 use Rattle.stack_text.specs.Breaches.{when}
 use Rattle.piton_check.specs.Declarations.{area_names, program_names, program_name, first_of}
 use Rattle.stack_text.specs.Options.{◌>>=◌}
-use Rattle.piton_check.specs.Violations.{word_breaches, area_breaches, program_breaches, main_of, main_breaches, is_within, first_frame, size_breaches, name_breaches, violations}
+use Rattle.piton_check.specs.Violations.{word_breaches, area_breaches, program_breaches, main_of, main_breaches, is_within, first_frame, size_breaches}
+use Rattle.piton_check.specs.Violations.{name_breaches, violations}
 use Rattle.piton_check.specs.Resolved.{resolved_word, resolved_area, resolved_program, resolved_number, resolved}
 use Rattle.piton_check.specs.Instruction as i
 use Rattle.piton_check.specs.Instruction.{program_view, system_view}
@@ -155,7 +156,8 @@ predefs_all texts s area (r ∷ rs) =
     (record { fits = texts.fits r; clean = texts.rules s r area; view = texts.views s r area }, predefs_all texts s area rs)
 
 module _ (src : SourceOf) where
-  procs_named : (k : ℕ) (procs : List ProcOf) (rest : List ProgramOf) → map program_name (written_procedures src k procs ++ rest) ≡ declarations (map (λ p. p.name.name) procs) ++ map program_name rest
+  procs_named : (k : ℕ) (procs : List ProcOf) (rest : List ProgramOf) → map program_name (written_procedures src k procs ++ rest)
+      ≡ declarations (map (λ p. p.name.name) procs) ++ map program_name rest
   procs_named k [] rest = refl
   procs_named k (p ∷ procs) rest = ap (λ z. Some (unplaced p.name.name) ∷ z) (procs_named (suc k) procs rest)
 
@@ -238,14 +240,21 @@ module _ (texts : TextsResolve) (src : SourceOf) (sizes : StackSizes) (base : �
 
   texts_count : length (program_texts src) ≡ length q.procs + length predefs
   texts_count =
-      omega (arith, length-append (procedure_names src) (map predef_name predefs), length-map src.procs (λ p. p.name.name), length-map src.procs (procedure_of src), length-map predefs predef_name)
+      omega (
+        arith,
+        length-append (procedure_names src) (map predef_name predefs),
+        length-map src.procs (λ p. p.name.name),
+        length-map src.procs (procedure_of src),
+        length-map predefs predef_name,
+      )
 
   texts_right : Each (λ name. IsTrue (is_name name)) (program_texts src)
   texts_right = proc_names_right src src.procs (map predef_name predefs) procs_fit (predef_names_right src predefs)
 
   base_of : (locals : List (List ℕ)) → Base g (names_with src locals) (length q.procs + length predefs)
   base_of locals = record {
-    program = λ c lt. ap (λ ds. first_of ds (get_or (program_texts src) c [])) names_are ∙ found_at (program_texts src) c k.names (omega (arith, lt, texts_count));
+    program = λ c lt. ap (λ ds. first_of ds (get_or (program_texts src) c [])) names_are
+        ∙ found_at (program_texts src) c k.names (omega (arith, lt, texts_count));
     area = found_at area_texts 0 (tt, tt) (omega arith);
     program_name = λ c lt. named_at (program_texts src) c texts_right (omega (arith, lt, texts_count));
     area_name = refl;
@@ -320,20 +329,24 @@ module _ (texts : TextsResolve) (src : SourceOf) (sizes : StackSizes) (base : �
       let ctrl_least : 2 + vars_of (proc_at q q.main) ≤ sizes.ctrl = let h = fit.sizes_fit.suffice.ctrl in let e = need_ctrl q in omega (arith, h, e) in
       let temp_least : max (length g.stack) 1 ≤ sizes.temp = let h = fit.sizes_fit.suffice.temp in let e = need_temp q in omega (arith, h, e, opening_count) in
       both_none _ _ (both_none _ _
-      (no_breach (is_within (first_frame (main_of g)) 65536 (pos sizes.ctrl)) 0 14 (is_within_true (first_frame (main_of g)) 65536 sizes.ctrl (omega (arith, frame, ctrl_least)) fit.few_ctrl))
-      (no_breach (is_within (max (length g.stack) 1) 65536 (pos sizes.temp)) 0 14 (is_within_true (max (length g.stack) 1) 65536 sizes.temp temp_least fit.sizes_fit.small)))
+      (no_breach (is_within (first_frame (main_of g)) 65536 (pos sizes.ctrl)) 0 14
+      (is_within_true (first_frame (main_of g)) 65536 sizes.ctrl (omega (arith, frame, ctrl_least)) fit.few_ctrl))
+      (no_breach (is_within (max (length g.stack) 1) 65536 (pos sizes.temp)) 0 14
+      (is_within_true (max (length g.stack) 1) 65536 sizes.temp temp_least fit.sizes_fit.small)))
       (no_breach (is_within 0 (2 ^ 31) (pos base)) 0 14 (is_within_true 0 (2 ^ 31) base (omega arith) fit.low_base))
 
   areas_keep : flat_map (area_breaches g) g.areas ≡ []
   areas_keep = both_none _ _ (words_clean g (names_with src []) (Nat 2 ∷ []) (two_right, tt)) refl
 
   names_keep : name_breaches g ≡ []
-  names_keep = both_none _ _ (no_repeats 2 (area_names g) (tt, tt)) (no_repeats 1 (program_names g) (subst Apart (sym names_are) (names_apart (program_texts src) k.names)))
+  names_keep = both_none _ _ (no_repeats 2 (area_names g) (tt, tt))
+      (no_repeats 1 (program_names g) (subst Apart (sym names_are) (names_apart (program_texts src) k.names)))
 
   is_clean : violations g ≡ []
   is_clean =
       both_none _ _ names_keep
-      (both_none _ _ (both_none _ _ (both_none _ _ (both_none _ _ main_keeps sizes_keep) areas_keep) (words_clean g (names_with src []) (opening_words q) opening_right)) (all_clean g _ _ programs_all))
+      (both_none _ _ (both_none _ _ (both_none _ _ (both_none _ _ main_keeps sizes_keep) areas_keep)
+      (words_clean g (names_with src []) (opening_words q) opening_right)) (all_clean g _ _ programs_all))
 
   programs_count : length g.programs ≡ length src.procs + length predefs
   programs_count =
@@ -345,7 +358,8 @@ module _ (texts : TextsResolve) (src : SourceOf) (sizes : StackSizes) (base : �
     ctrl = let h = fit.few_ctrl in omega (arith, h);
     temp = let h = fit.sizes_fit.small in omega (arith, h);
     base = let h = fit.low_base in omega (arith, h);
-    areas = All-cons FitsArea (written_area src) [] (record { name = refl; words = words_fit (names_with src []) (Nat 2 ∷ []) (two_right, tt); some_words = omega arith }) (All-nil FitsArea);
+    areas = All-cons FitsArea (written_area src) []
+        (record { name = refl; words = words_fit (names_with src []) (Nat 2 ∷ []) (two_right, tt); some_words = omega arith }) (All-nil FitsArea);
     stack = words_fit (names_with src []) (opening_words q) opening_right;
     programs = all_fit g _ _ programs_all;
     few_areas = omega arith;
@@ -379,7 +393,8 @@ module _ (texts : TextsResolve) (src : SourceOf) (sizes : StackSizes) (base : �
 
   nodes_few : node_count (tree_of g) ≤ 2 ^ 31
   nodes_few =
-      let words : code_words_of q (count_from 0 (length src.procs)) ≤ 2 ^ 20 = subst (λ n. code_words_of q (count_from 0 n) ≤ 2 ^ 20) (length-map src.procs (procedure_of src)) fit.few_words in
+      let words : code_words_of q (count_from 0 (length src.procs)) ≤ 2 ^ 20 =
+      subst (λ n. code_words_of q (count_from 0 n) ≤ 2 ^ 20) (length-map src.procs (procedure_of src)) fit.few_words in
       let temp_least = fit.sizes_fit.suffice.temp in
       let need = need_temp q in
       let few = fit.sizes_fit.small in
@@ -388,7 +403,12 @@ module _ (texts : TextsResolve) (src : SourceOf) (sizes : StackSizes) (base : �
 
   pub is_acceptable : IsAcceptable src sizes base
   is_acceptable =
-      record { form = fits_keeps g does_keep nodes_few; rules = is_clean; view = is_seen; sound = subst IsSound is_seen (is_sound g does_keep nodes_few is_clean) }
+      record {
+        form = fits_keeps g does_keep nodes_few;
+        rules = is_clean;
+        view = is_seen;
+        sound = subst IsSound is_seen (is_sound g does_keep nodes_few is_clean);
+      }
 
 -- a run of the system by places is a run of what the text resolves to
 pub source_runs : PredefsRun → TextsResolve → SourceRuns

@@ -37,11 +37,13 @@ module _ (q : Program) (stack : List Word) where
   abbrev Begins : ℕ → List ValueOf → List Frame → Type 0
   Begins p y fs = (j : ℕ) → j < length (stack_of q p y fs) → element stack j ≡ element (stack_of q p y fs) j
 
-  holds_here : (p : ℕ) (y : List ValueOf) (fs : List Frame) (b : ℕ) (shape : Shape) → VarsFit (shapes_of (proc_at q p)) y → FramesFit q p fs → Begins p y fs → slice_get (shapes_of (proc_at q p)) b ≡ Some shape
+  holds_here : (p : ℕ) (y : List ValueOf) (fs : List Frame) (b : ℕ) (shape : Shape) → VarsFit (shapes_of (proc_at q p)) y → FramesFit q p fs
+      → Begins p y fs → slice_get (shapes_of (proc_at q p)) b ≡ Some shape
       → Holds stack (index_of q p fs b) (words_of_value (value_at y b))
   holds_here p y fs b shape v g begins e h u r =
       let fit = value_fits (shapes_of (proc_at q p)) y b shape v e in
-      let inside : h < item_count shape = omega (arith, get_below (words_of_value (value_at y b)) h u r, value_words (value_at y b) fit.1, ap item_count fit.0) in
+      let inside : h < item_count shape =
+      omega (arith, get_below (words_of_value (value_at y b)) h u r, value_words (value_at y b) fit.1, ap item_count fit.0) in
       let tall : length (stack_of q p y fs) ≡ (used q p fs).temp = height q p y fs v g in
       let under : index_of q p fs b + h < length (stack_of q p y fs) = omega (arith, index_fits q p fs b shape g e, inside, tall) in
       begins (index_of q p fs b + h) under ∙ reads_at q p y fs b h shape u v g e r
@@ -59,7 +61,8 @@ module _ (q : Program) (stack : List Word) where
     };
   }
 
-  frames_stand : (fs : List Frame) (p : ℕ) (y : List ValueOf) (frames : List piton.Frame) → VarsFit (shapes_of (proc_at q p)) y → FramesFit q p fs → Waits q p fs frames → Begins p y fs
+  frames_stand : (fs : List Frame) (p : ℕ) (y : List ValueOf) (frames : List piton.Frame) → VarsFit (shapes_of (proc_at q p)) y → FramesFit q p fs
+      → Waits q p fs frames → Begins p y fs
       → FramesStand q stack p y (handed_back y fs) frames
   frames_stand [] p y frames v g wt begins =
       subst (FramesStand q stack p y []) (sym wt.2) (frame_stands p y [] wt.0 wt.1 v g begins)
@@ -79,7 +82,8 @@ each_moment_has_frames bodies q sizes base v j fits sz vf = by_moment (moment_fr
 
     by_moment : (m : Move) → moment_from q sizes v j ≡ m → HasFrames q (generated_view q sizes base) (opened q sizes base v) m
     by_moment (Next (At p x w fs t)) e =
-        let l : Leads q S (opened q sizes base v) (tally_of (start q v)) (At p x w fs t) = each_is_shown bodies q sizes base v (At p x w fs t) fits sz vf (moment_reached q sizes j (start q v) (At p x w fs t) e) in
+        let l : Leads q S (opened q sizes base v) (tally_of (start q v)) (At p x w fs t) =
+        each_is_shown bodies q sizes base v (At p x w fs t) fits sz vf (moment_reached q sizes j (start q v) (At p x w fs t) e) in
         let k = counts l.cost l.steps t l.tally in
         let kept = moment_fits q sizes fits v j (At p x w fs t) vf e in
         record {

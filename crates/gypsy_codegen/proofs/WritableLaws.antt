@@ -1,5 +1,6 @@
 -- All that the code of an accepted source names is there.
-use Rattle.std.proofs.Common.{◌≡◌, ℕ, suc, ◌+◌, ◌<◌, ◌≤◌, ◌^◌, List, [], ◌∷◌, ◌++◌, map, length, drop, get_or, slice_get, append_assoc, Some, refl, sym, ap, ◌∙◌, arith, subst, length-append}
+use Rattle.std.proofs.Common.{◌≡◌, ℕ, suc, ◌+◌, ◌<◌, ◌≤◌, ◌^◌, List, [], ◌∷◌, ◌++◌, map, length, drop, get_or, slice_get, append_assoc, Some, refl, sym, ap}
+use Rattle.std.proofs.Common.{◌∙◌, arith, subst, length-append}
 use Rattle.std.specs.Prelude.{pos}
 use Rattle.std.proofs.lemmas.List.{length-map, map-append}
 use Rattle.stack_text.specs.declared.name.Named.{Named}
@@ -85,7 +86,13 @@ module _ (s : SourceOf) (fits : ProgramFits (program_of s)) (few : total_words (
 
   texts_count : length (program_texts s) ≡ length q.procs + length predefs
   texts_count =
-      omega (arith, length-append (procedure_names s) (map predef_name predefs), length-map s.procs (λ p. p.name.name), procs_count, length-map predefs predef_name)
+      omega (
+        arith,
+        length-append (procedure_names s) (map predef_name predefs),
+        length-map s.procs (λ p. p.name.name),
+        procs_count,
+        length-map predefs predef_name,
+      )
 
   writable_at : (p : ℕ) (proc : ProcOf) → slice_get s.procs p ≡ Some proc → IsWritable q (program_texts s) p proc
   writable_at p proc is =
@@ -109,7 +116,8 @@ module _ (s : SourceOf) (fits : ProgramFits (program_of s)) (few : total_words (
   writable_from k (proc ∷ procs) h =
       let first : k + 0 ≡ k = omega arith in (
         subst (λ z. IsWritable q (program_texts s) z proc) first (h 0 proc refl),
-        writable_from (suc k) procs (λ j c e. let next : k + suc j ≡ suc k + j = omega arith in subst (λ z. IsWritable q (program_texts s) z c) next (h (suc j) c e)),
+        writable_from (suc k) procs (λ j c e. let next : k + suc j ≡ suc k + j = omega arith in
+            subst (λ z. IsWritable q (program_texts s) z c) next (h (suc j) c e)),
       )
 
   pub all_writable : AreWritable q (program_texts s) 0 s.procs

@@ -66,8 +66,10 @@ procedures_fit index state (suc count) lt =
 calls_fit : (index count : ℕ) → index + count < 2 ^ 32 → FitsStatements (statements (calls_from index count))
 unfolding calls_from
 calls_fit index zero lt = tt
-calls_fit index (suc count) lt =
-    ((procedure_named index (omega arith), All-cons IsNamed (unplaced (codes "x")) [] refl (All-nil IsNamed), All-nil IsNamed), calls_fit (index + 1) count (omega arith))
+calls_fit index (suc count) lt = (
+  (procedure_named index (omega arith), All-cons IsNamed (unplaced (codes "x")) [] refl (All-nil IsNamed), All-nil IsNamed),
+  calls_fit (index + 1) count (omega arith),
+)
 
 main_body_fits : (size : ℕ) → 1 ≤ size → size < 2 ^ 31 → FitsStatement (main_procedure size).body
 unfolding calls_from
@@ -101,7 +103,8 @@ pub large_fits : (number size : ℕ) → 1 ≤ size → size ≤ 900 → FitsFor
 large_fits number size low high = record {
   main = refl;
   procs =
-      All-cons FitsProcedure (main_procedure size) (procedures_from 1 number size) (main_fits size low (omega arith)) (procedures_fit 1 number size (omega arith));
+      All-cons FitsProcedure (main_procedure size) (procedures_from 1 number size) (main_fits size low (omega arith))
+      (procedures_fit 1 number size (omega arith));
   some_procs = omega arith;
   few_procs = let count = procedure_count 1 number size in omega (arith, count);
 }

@@ -1,5 +1,6 @@
 -- A large source breaks no static rule.
-use Rattle.std.proofs.Common.{◌≡◌, ◌≢◌, ◌+◌, ◌<◌, ◌≤◌, ◌^◌, ◌%◌, ℕ, zero, suc, Bool, true, false, cond, List, [], ◌∷◌, map, Option, Some, refl, sym, ap, ◌∙◌, bytes_eq, arith, ◌⊎◌, inl, inr, ◌==◌}
+use Rattle.std.proofs.Common.{◌≡◌, ◌≢◌, ◌+◌, ◌<◌, ◌≤◌, ◌^◌, ◌%◌, ℕ, zero, suc, Bool, true, false, cond, List, [], ◌∷◌, map, Option, Some, refl, sym, ap, ◌∙◌}
+use Rattle.std.proofs.Common.{bytes_eq, arith, ◌⊎◌, inl, inr, ◌==◌}
 use Rattle.std.specs.Prelude.{codes, is_none, slice_get}
 use Rattle.std.specs.List.{flat_map, position_from}
 use Rattle.std.proofs.lemmas.Bool.{lt-ltb}
@@ -57,7 +58,8 @@ found_from i j state (suc count) k low high small =
       place = suc later.place;
       state = later.state;
       at =
-          ap (λ (b : Bool). cond b (Some k) (position_from (bytes_eq (procedure_name i)) (k + 1) (map (λ p. p.name.name) (procedures_from (j + 1) (next_state state) count)))) e
+          ap (λ (b : Bool). cond b (Some k) (position_from (bytes_eq (procedure_name i)) (k + 1)
+          (map (λ p. p.name.name) (procedures_from (j + 1) (next_state state) count)))) e
           ∙ later.at ∙ (let sum : k + 1 + later.place ≡ k + suc later.place = omega arith in ap (λ (n : ℕ). Some n) sum);
       is = later.is;
     }
@@ -67,7 +69,8 @@ found_from i j state (suc count) k low high small =
       place = 0;
       state = next_state state;
       at =
-          ap (λ (b : Bool). cond b (Some k) (position_from (bytes_eq (procedure_name i)) (k + 1) (map (λ p. p.name.name) (procedures_from (j + 1) (next_state state) count)))) e
+          ap (λ (b : Bool). cond b (Some k) (position_from (bytes_eq (procedure_name i)) (k + 1)
+          (map (λ p. p.name.name) (procedures_from (j + 1) (next_state state) count)))) e
           ∙ (let sum : k ≡ k + 0 = omega arith in ap (λ (n : ℕ). Some n) sum);
       is = ap (λ (n : ℕ). Some (procedure n (next_state state))) (sym same);
     }

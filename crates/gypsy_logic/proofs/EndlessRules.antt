@@ -15,7 +15,8 @@ use Rattle.gypsy_logic.specs.Endless.{Endless, IsEndless, NoExit}
 
 module _ {q : Program} {sizes u : StackSizes} where
   -- within a bound a statement that ends is unfinished, or ends so
-  within : (n : ℕ) (s : Stmt) (x y : List ValueOf) (c : CurrentCondition) → Runs q sizes u s x y c → (o : MeaningOutcome) → evaluate q sizes n s u x ≡ o → (o ≡ Unfinished) ⊎ (o ≡ Done y c)
+  within : (n : ℕ) (s : Stmt) (x y : List ValueOf) (c : CurrentCondition) → Runs q sizes u s x y c → (o : MeaningOutcome) → evaluate q sizes n s u x ≡ o
+      → (o ≡ Unfinished) ⊎ (o ≡ Done y c)
   within n s x y c r Unfinished e = inl refl
   within n s x y c r (Done z d) e =
       let same = ends_once q sizes s u x z y d c n r.bound e r.done in
@@ -33,25 +34,29 @@ module _ {q : Program} {sizes u : StackSizes} where
   pub seq_endless : {a b : Stmt} {x : List ValueOf} → Ends q sizes u a x (Then (λ y. Endless q sizes u b y) NoExit) → Endless q sizes u (Seq a b) x
   seq_endless {a = a} {b = b} {x = x} h = record { unfinished = never_done }
     where
-      after : (n : ℕ) (y : List ValueOf) (c : CurrentCondition) → Then (λ z. Endless q sizes u b z) NoExit y c → (o : MeaningOutcome) → (o ≡ Unfinished) ⊎ (o ≡ Done y c) → then_do o (evaluate q sizes n b u) ≡ Unfinished
+      after : (n : ℕ) (y : List ValueOf) (c : CurrentCondition) → Then (λ z. Endless q sizes u b z) NoExit y c → (o : MeaningOutcome) → (o ≡ Unfinished)
+          ⊎ (o ≡ Done y c) → then_do o (evaluate q sizes n b u) ≡ Unfinished
       after n y c k o (inl e) = ap (λ (p : MeaningOutcome). then_do p (evaluate q sizes n b u)) e
       after n y None k o (inr e) = ap (λ (p : MeaningOutcome). then_do p (evaluate q sizes n b u)) e ∙ k.unfinished n
       after n y (Some c) k o (inr e) = absurd k
 
       never_done : (n : ℕ) → evaluate q sizes n (Seq a b) u x ≡ Unfinished
       never_done zero = refl
-      never_done (suc n) = after (suc n) h.vars h.way h.holds (evaluate q sizes (suc n) a u x) (within (suc n) a x h.vars h.way h.runs (evaluate q sizes (suc n) a u x) refl)
+      never_done (suc n) = after (suc n) h.vars h.way h.holds (evaluate q sizes (suc n) a u x)
+          (within (suc n) a x h.vars h.way h.runs (evaluate q sizes (suc n) a u x) refl)
 
   -- ---- one or the other
 
-  pub if_true_endless : {place b : ℕ} {s w : Stmt} {x : List ValueOf} → is_true_value (value_at x b) ≡ true → Endless q sizes u s x → Endless q sizes u (If place b s w) x
+  pub if_true_endless : {place b : ℕ} {s w : Stmt} {x : List ValueOf} → is_true_value (value_at x b) ≡ true → Endless q sizes u s x
+      → Endless q sizes u (If place b s w) x
   if_true_endless {place = place} {b = b} {s = s} {w = w} {x = x} t e = record { unfinished = never_done }
     where
       never_done : (n : ℕ) → evaluate q sizes n (If place b s w) u x ≡ Unfinished
       never_done zero = refl
       never_done (suc n) = ap (λ (d : Bool). either_way d (evaluate q sizes (suc n) s u x) (evaluate q sizes (suc n) w u x)) t ∙ e.unfinished (suc n)
 
-  pub if_false_endless : {place b : ℕ} {s w : Stmt} {x : List ValueOf} → is_true_value (value_at x b) ≡ false → Endless q sizes u w x → Endless q sizes u (If place b s w) x
+  pub if_false_endless : {place b : ℕ} {s w : Stmt} {x : List ValueOf} → is_true_value (value_at x b) ≡ false → Endless q sizes u w x
+      → Endless q sizes u (If place b s w) x
   if_false_endless {place = place} {b = b} {s = s} {w = w} {x = x} t e = record { unfinished = never_done }
     where
       never_done : (n : ℕ) → evaluate q sizes n (If place b s w) u x ≡ Unfinished
@@ -60,7 +65,8 @@ module _ {q : Program} {sizes u : StackSizes} where
 
   -- ---- handlers
 
-  pub begin_endless : {place : ℕ} {s : Stmt} {cs : List ConditionOf} {w : Stmt} {x : List ValueOf} → Endless q sizes u s x → Endless q sizes u (Begin place s cs w) x
+  pub begin_endless : {place : ℕ} {s : Stmt} {cs : List ConditionOf} {w : Stmt} {x : List ValueOf} → Endless q sizes u s x
+      → Endless q sizes u (Begin place s cs w) x
   begin_endless {place = place} {s = s} {cs = cs} {w = w} {x = x} e = record { unfinished = never_done }
     where
       never_done : (n : ℕ) → evaluate q sizes n (Begin place s cs w) u x ≡ Unfinished
@@ -70,7 +76,9 @@ module _ {q : Program} {sizes u : StackSizes} where
   -- ---- loops
 
   module _ (place : ℕ) (s : Stmt) (I : Condition) (each : (x : List ValueOf) → I x → Ends q sizes u s x (Round I NoExit)) where
-    goes_on : (n : ℕ) (y : List ValueOf) (c : CurrentCondition) → Round I NoExit y c → ((z : List ValueOf) → I z → evaluate q sizes n (Loop place s) u z ≡ Unfinished) → (o : MeaningOutcome) → (o ≡ Unfinished) ⊎ (o ≡ Done y c) → round_end o (evaluate q sizes n (Loop place s) u) ≡ Unfinished
+    goes_on : (n : ℕ) (y : List ValueOf) (c : CurrentCondition) → Round I NoExit y c
+        → ((z : List ValueOf) → I z → evaluate q sizes n (Loop place s) u z ≡ Unfinished) → (o : MeaningOutcome) → (o ≡ Unfinished) ⊎ (o ≡ Done y c)
+        → round_end o (evaluate q sizes n (Loop place s) u) ≡ Unfinished
     goes_on n y c k again o (inl e) = ap (λ (p : MeaningOutcome). round_end p (evaluate q sizes n (Loop place s) u)) e
     goes_on n y None k again o (inr e) = ap (λ (p : MeaningOutcome). round_end p (evaluate q sizes n (Loop place s) u)) e ∙ again y k
     goes_on n y (Some Leave) k again o (inr e) = absurd k
@@ -82,15 +90,18 @@ module _ {q : Program} {sizes u : StackSizes} where
     for_ever zero x i = refl
     for_ever (suc n) x i =
         let r = each x i in
-        goes_on n r.vars r.way r.holds (λ z j. for_ever n z j) (evaluate q sizes (suc n) s u x) (within (suc n) s x r.vars r.way r.runs (evaluate q sizes (suc n) s u x) refl)
+        goes_on n r.vars r.way r.holds (λ z j. for_ever n z j) (evaluate q sizes (suc n) s u x)
+        (within (suc n) s x r.vars r.way r.runs (evaluate q sizes (suc n) s u x) refl)
 
   -- An invariant that each round keeps, and that no round leaves.
-  pub loop_endless : {place : ℕ} {s : Stmt} {x : List ValueOf} (I : Condition) → ((y : List ValueOf) → I y → Ends q sizes u s y (Round I NoExit)) → I x → Endless q sizes u (Loop place s) x
+  pub loop_endless : {place : ℕ} {s : Stmt} {x : List ValueOf} (I : Condition) → ((y : List ValueOf) → I y → Ends q sizes u s y (Round I NoExit)) → I x
+      → Endless q sizes u (Loop place s) x
   loop_endless {place = place} {s = s} {x = x} I each i = record { unfinished = λ n. for_ever place s I each n x i }
 
   -- ---- calls of procedures
 
-  pub call_endless : {place p : ℕ} {xs : List ℕ} {cs : List ConditionOf} {x : List ValueOf} → has_room q sizes p u ≡ true → Endless q sizes (with_call q p u) (body_of q p) (opened q p (map (value_at x) xs)) → Endless q sizes u (Call place p xs cs) x
+  pub call_endless : {place p : ℕ} {xs : List ℕ} {cs : List ConditionOf} {x : List ValueOf} → has_room q sizes p u ≡ true
+      → Endless q sizes (with_call q p u) (body_of q p) (opened q p (map (value_at x) xs)) → Endless q sizes u (Call place p xs cs) x
   unfolding copied_in
   call_endless {place = place} {p = p} {xs = xs} {cs = cs} {x = x} room e = record { unfinished = never_done }
     where
@@ -101,6 +112,7 @@ module _ {q : Program} {sizes u : StackSizes} where
           ∙ ap (returned q p xs cs x) (e.unfinished n)
 
 -- main
-pub main_endless : {q : Program} {sizes : StackSizes} {v : List ValueOf} → Endless q sizes (main_used q) (body_of q q.main) (opened q q.main v) → IsEndless q sizes v
+pub main_endless : {q : Program} {sizes : StackSizes} {v : List ValueOf} → Endless q sizes (main_used q) (body_of q q.main) (opened q q.main v)
+    → IsEndless q sizes v
 unfolding main_start
 main_endless {q = q} e = record { unfinished = λ n. ap (main_end q) (e.unfinished n) }

@@ -49,7 +49,8 @@ module _ (q : Program) (sizes u : StackSizes) (place place1 place2 place3 place4
   abbrev Tested : Stmt
   Tested = counting_rest place2 place3 place4 d rest
 
-  module _ (State : ℕ → Type 0) (vars : (i : ℕ) → State i → List ValueOf) (counts : (i : ℕ) (v : State i) → number_at (vars i v) a ≡ pos i) (there : (i : ℕ) (v : State i) (w : ValueOf) → value_at (with_value (vars i v) d w) d ≡ w) where
+  module _ (State : ℕ → Type 0) (vars : (i : ℕ) → State i → List ValueOf) (counts : (i : ℕ) (v : State i) → number_at (vars i v) a ≡ pos i)
+      (there : (i : ℕ) (v : State i) (w : ValueOf) → value_at (with_value (vars i v) d w) d ≡ w) where
     tested : (i : ℕ) (v : State i) (b : Bool) → is_true_value (value_at (with_value (vars i v) d (truth_value b)) d) ≡ b
     tested i v b = ap is_true_value (there i v (truth_value b)) ∙ truth_is b
 
@@ -59,7 +60,8 @@ module _ (q : Program) (sizes u : StackSizes) (place place1 place2 place3 place4
     goes_on : (i : ℕ) (v : State i) → i < m → are_same (value_at (vars i v) a) (integer_value (pos m)) ≡ false
     goes_on i v less = same_false (number_at (vars i v) a) (pos m) (λ e. let f : pos i ≡ pos m = sym (counts i v) ∙ e in absurd (omega (arith, ints)))
 
-    module _ (Q : Exit) (each : (i : ℕ) (v : State i) → i < m → Ends q sizes u rest (with_value (vars i v) d (truth_value false)) (Round (AtNext m State vars i) Q)) (ends : (v : State m) → Q (with_value (vars m v) d (truth_value true)) None) where
+    module _ (Q : Exit) (each : (i : ℕ) (v : State i) → i < m → Ends q sizes u rest (with_value (vars i v) d (truth_value false))
+        (Round (AtNext m State vars i) Q)) (ends : (v : State m) → Q (with_value (vars m v) d (truth_value true)) None) where
       abbrev RoundEnds : ℕ → Exit
       RoundEnds n = Round (Again (Stands (Left m State vars) (at_left m State vars)) n) Q
 
@@ -87,14 +89,18 @@ module _ (q : Program) (sizes u : StackSizes) (place place1 place2 place3 place4
           subst (λ (b : Bool). Ends q sizes u Tested (with_value x d (truth_value b)) (RoundEnds (suc n))) (sym (goes_on s.i s.state less))
           (seq_rule ▸ if_false (tested s.i s.state false) ▸ no_op_rule ▸ weaker (each s.i s.state less) (on s.i n s.left))
 
-    module _ (count : ℕ → ℕ) (Q : CountedExit) (each : (i : ℕ) (v : State i) → i < m → EndsAfter q sizes u rest (with_value (vars i v) d (truth_value false)) (count i + 49) (RoundAfter (AtNextAfter m State vars count i) Q)) (ends : (v : State m) → Q (with_value (vars m v) d (truth_value true)) None (count m + 53)) where
+    module _ (count : ℕ → ℕ) (Q : CountedExit)
+        (each : (i : ℕ) (v : State i) → i < m → EndsAfter q sizes u rest (with_value (vars i v) d (truth_value false)) (count i + 49)
+        (RoundAfter (AtNextAfter m State vars count i) Q))
+        (ends : (v : State m) → Q (with_value (vars m v) d (truth_value true)) None (count m + 53)) where
       abbrev count_left : (n : ℕ) → Left m State vars n → ℕ
       count_left n s = count s.i
 
       abbrev RoundEndsAfter : ℕ → CountedExit
       RoundEndsAfter n = RoundAfter (AgainAfter (StandsAfter (Left m State vars) (at_left m State vars) count_left) n) Q
 
-      on_after : (i n : ℕ) → i + suc n ≡ m → (y : List ValueOf) (c : CurrentCondition) (k : ℕ) → RoundAfter (AtNextAfter m State vars count i) Q y c k → RoundEndsAfter (suc n) y c k
+      on_after : (i n : ℕ) → i + suc n ≡ m → (y : List ValueOf) (c : CurrentCondition) (k : ℕ) → RoundAfter (AtNextAfter m State vars count i) Q y c k
+          → RoundEndsAfter (suc n) y c k
       on_after i n e y None k h = (n, omega arith, (record { i = suc i; state = h.0; left = omega arith }, h.1, h.2))
       on_after i n e y (Some Leave) k h = h
       on_after i n e y (Some Routine) k h = h
@@ -115,22 +121,34 @@ module _ (q : Program) (sizes u : StackSizes) (place place1 place2 place3 place4
           let x = vars s.i s.state in
           let less : s.i < m = omega (arith, s.left) in
           seq_after ▸ predef_after ▸ equal_constant_rule ▸
-          subst (λ (b : Bool). EndsAfter q sizes u Tested (with_value x d (truth_value b)) (count s.i + 1 + 37) (RoundEndsAfter (suc n))) (sym (goes_on s.i s.state less))
+          subst (λ (b : Bool). EndsAfter q sizes u Tested (with_value x d (truth_value b)) (count s.i + 1 + 37) (RoundEndsAfter (suc n)))
+          (sym (goes_on s.i s.state less))
           (seq_after ▸ if_false_after (tested s.i s.state false) ▸ no_op_after ▸
-          subst (λ (k : ℕ). EndsAfter q sizes u rest (with_value x d (truth_value false)) k (RoundEndsAfter (suc n))) (omega arith) (weaker_after (each s.i s.state less) (on_after s.i n s.left)))
+          subst (λ (k : ℕ). EndsAfter q sizes u rest (with_value x d (truth_value false)) k (RoundEndsAfter (suc n))) (omega arith)
+          (weaker_after (each s.i s.state less) (on_after s.i n s.left)))
 
 -- From the state at i, S leads to one at the next number, below m; and the loop is left at m.
-pub counting_rule : {q : Program} {sizes u : StackSizes} {place place1 place2 place3 place4 d a m : ℕ} {rest : Stmt} {Q : Exit} (State : ℕ → Type 0) (vars : (i : ℕ) → State i → List ValueOf) → ((i : ℕ) (v : State i) → number_at (vars i v) a ≡ pos i) → ((i : ℕ) (v : State i) (w : ValueOf) → value_at (with_value (vars i v) d w) d ≡ w) →
-    ((i : ℕ) (v : State i) → i < m → Ends q sizes u rest (with_value (vars i v) d (truth_value false)) (Round (AtNext m State vars i) Q)) → ((v : State m) → Q (with_value (vars m v) d (truth_value true)) None) → (i : ℕ) (v : State i) → i ≤ m →
+pub counting_rule : {q : Program} {sizes u : StackSizes} {place place1 place2 place3 place4 d a m : ℕ} {rest : Stmt} {Q : Exit} (State : ℕ → Type 0)
+    (vars : (i : ℕ) → State i → List ValueOf) → ((i : ℕ) (v : State i) → number_at (vars i v) a ≡ pos i)
+    → ((i : ℕ) (v : State i) (w : ValueOf) → value_at (with_value (vars i v) d w) d ≡ w) →
+    ((i : ℕ) (v : State i) → i < m → Ends q sizes u rest (with_value (vars i v) d (truth_value false)) (Round (AtNext m State vars i) Q))
+    → ((v : State m) → Q (with_value (vars m v) d (truth_value true)) None) → (i : ℕ) (v : State i) → i ≤ m →
     Ends q sizes u (Loop place (Seq (counting_test place1 d a m) (counting_rest place2 place3 place4 d rest))) (vars i v) Q
-counting_rule {q = q} {sizes = sizes} {u = u} {place = place} {place1 = place1} {place2 = place2} {place3 = place3} {place4 = place4} {d = d} {a = a} {m = m} {rest = rest} {Q = Q} State vars counts there each ends i v most =
+counting_rule {q = q} {sizes = sizes} {u = u} {place = place} {place1 = place1} {place2 = place2} {place3 = place3} {place4 = place4} {d = d} {a = a}
+    {m = m} {rest = rest} {Q = Q} State vars counts there each ends i v most =
     loop_over (Left m State vars) (at_left m State vars) (round q sizes u place place1 place2 place3 place4 d a m rest State vars counts there Q each ends)
     (m - i) (record { i = i; state = v; left = omega arith })
 
 -- With counts: at the number i so many instructions were taken before the round, of which its test takes 49, and that of the last one 53.
-pub counting_after : {q : Program} {sizes u : StackSizes} {place place1 place2 place3 place4 d a m : ℕ} {rest : Stmt} {Q : CountedExit} (State : ℕ → Type 0) (vars : (i : ℕ) → State i → List ValueOf) → ((i : ℕ) (v : State i) → number_at (vars i v) a ≡ pos i) → ((i : ℕ) (v : State i) (w : ValueOf) → value_at (with_value (vars i v) d w) d ≡ w) → (count : ℕ → ℕ) →
-    ((i : ℕ) (v : State i) → i < m → EndsAfter q sizes u rest (with_value (vars i v) d (truth_value false)) (count i + 49) (RoundAfter (AtNextAfter m State vars count i) Q)) → ((v : State m) → Q (with_value (vars m v) d (truth_value true)) None (count m + 53)) → (i : ℕ) (v : State i) → i ≤ m →
+pub counting_after : {q : Program} {sizes u : StackSizes} {place place1 place2 place3 place4 d a m : ℕ} {rest : Stmt} {Q : CountedExit}
+    (State : ℕ → Type 0) (vars : (i : ℕ) → State i → List ValueOf) → ((i : ℕ) (v : State i) → number_at (vars i v) a ≡ pos i)
+    → ((i : ℕ) (v : State i) (w : ValueOf) → value_at (with_value (vars i v) d w) d ≡ w) → (count : ℕ → ℕ) →
+    ((i : ℕ) (v : State i) → i < m → EndsAfter q sizes u rest (with_value (vars i v) d (truth_value false)) (count i + 49)
+    (RoundAfter (AtNextAfter m State vars count i) Q)) → ((v : State m) → Q (with_value (vars m v) d (truth_value true)) None (count m + 53))
+    → (i : ℕ) (v : State i) → i ≤ m →
     EndsAfter q sizes u (Loop place (Seq (counting_test place1 d a m) (counting_rest place2 place3 place4 d rest))) (vars i v) (count i) Q
-counting_after {q = q} {sizes = sizes} {u = u} {place = place} {place1 = place1} {place2 = place2} {place3 = place3} {place4 = place4} {d = d} {a = a} {m = m} {rest = rest} {Q = Q} State vars counts there count each ends i v most =
-    loop_over_after (Left m State vars) (at_left m State vars) (λ n s. count s.i) (round_after q sizes u place place1 place2 place3 place4 d a m rest State vars counts there count Q each ends)
+counting_after {q = q} {sizes = sizes} {u = u} {place = place} {place1 = place1} {place2 = place2} {place3 = place3} {place4 = place4} {d = d} {a = a}
+    {m = m} {rest = rest} {Q = Q} State vars counts there count each ends i v most =
+    loop_over_after (Left m State vars) (at_left m State vars) (λ n s. count s.i)
+    (round_after q sizes u place place1 place2 place3 place4 d a m rest State vars counts there count Q each ends)
     (m - i) (record { i = i; state = v; left = omega arith })

@@ -53,7 +53,8 @@ keeps_from bs x y (Done z c) k l = λ b misses. l b misses ∙ k b misses
 keeps_from bs x y Unfinished k l = tt
 
 module _ (bs : List ℕ) (x : List ValueOf) where
-  then_keeps : (o : MeaningOutcome) (f : List ValueOf → MeaningOutcome) → Keeping bs x o → ((y : List ValueOf) → Keeping bs y (f y)) → Keeping bs x (then_do o f)
+  then_keeps : (o : MeaningOutcome) (f : List ValueOf → MeaningOutcome) → Keeping bs x o → ((y : List ValueOf) → Keeping bs y (f y))
+      → Keeping bs x (then_do o f)
   then_keeps (Done y None) f k l = keeps_from bs x y (f y) k (l y)
   then_keeps (Done y (Some c)) f k l = k
   then_keeps Unfinished f k l = tt
@@ -62,12 +63,14 @@ module _ (bs : List ℕ) (x : List ValueOf) where
   either_keeps true o p k l = k
   either_keeps false o p k l = l
 
-  caught_keeps : (o : MeaningOutcome) (cs : List ConditionOf) (f : List ValueOf → MeaningOutcome) → Keeping bs x o → ((y : List ValueOf) → Keeping bs y (f y)) → Keeping bs x (caught o cs f)
+  caught_keeps : (o : MeaningOutcome) (cs : List ConditionOf) (f : List ValueOf → MeaningOutcome) → Keeping bs x o
+      → ((y : List ValueOf) → Keeping bs y (f y)) → Keeping bs x (caught o cs f)
   caught_keeps (Done y None) cs f k l = k
   caught_keeps (Done y (Some c)) cs f k l = either_keeps (has_cond c cs) (f y) (Done y (Some c)) (keeps_from bs x y (f y) k (l y)) k
   caught_keeps Unfinished cs f k l = tt
 
-  round_keeps : (o : MeaningOutcome) (f : List ValueOf → MeaningOutcome) → Keeping bs x o → ((y : List ValueOf) → Keeping bs y (f y)) → Keeping bs x (round_end o f)
+  round_keeps : (o : MeaningOutcome) (f : List ValueOf → MeaningOutcome) → Keeping bs x o → ((y : List ValueOf) → Keeping bs y (f y))
+      → Keeping bs x (round_end o f)
   round_keeps (Done y None) f k l = keeps_from bs x y (f y) k (l y)
   round_keeps (Done y (Some c)) f k l = either_keeps (is_leave c) (Done y None) (Done y (Some c)) k k
   round_keeps Unfinished f k l = tt
@@ -94,18 +97,25 @@ module _ (q : Program) (sizes : StackSizes) where
   keeps_others (suc n) (Signal place c) u x = keeps_all [] x
   keeps_others (suc n) (Seq a b) u x =
       then_keeps (written a ++ written b) x (evaluate q sizes (suc n) a u x) (evaluate q sizes (suc n) b u)
-      (keeps_more (written a) (written a ++ written b) x (evaluate q sizes (suc n) a u x) (keeps_others (suc n) a u x) (λ i m. misses_first i (written a) (written b) m))
-      (λ y. keeps_more (written b) (written a ++ written b) y (evaluate q sizes (suc n) b u y) (keeps_others (suc n) b u y) (λ i m. misses_second i (written a) (written b) m))
+      (keeps_more (written a) (written a ++ written b) x (evaluate q sizes (suc n) a u x) (keeps_others (suc n) a u x)
+      (λ i m. misses_first i (written a) (written b) m))
+      (λ y. keeps_more (written b) (written a ++ written b) y (evaluate q sizes (suc n) b u y) (keeps_others (suc n) b u y)
+      (λ i m. misses_second i (written a) (written b) m))
   keeps_others (suc n) (Loop place s) u x =
-      round_keeps (written s) x (evaluate q sizes (suc n) s u x) (evaluate q sizes n (Loop place s) u) (keeps_others (suc n) s u x) (keeps_others n (Loop place s) u)
+      round_keeps (written s) x (evaluate q sizes (suc n) s u x) (evaluate q sizes n (Loop place s) u) (keeps_others (suc n) s u x)
+      (keeps_others n (Loop place s) u)
   keeps_others (suc n) (If place b s w) u x =
       either_keeps (written s ++ written w) x (is_true_value (value_at x b)) (evaluate q sizes (suc n) s u x) (evaluate q sizes (suc n) w u x)
-      (keeps_more (written s) (written s ++ written w) x (evaluate q sizes (suc n) s u x) (keeps_others (suc n) s u x) (λ i m. misses_first i (written s) (written w) m))
-      (keeps_more (written w) (written s ++ written w) x (evaluate q sizes (suc n) w u x) (keeps_others (suc n) w u x) (λ i m. misses_second i (written s) (written w) m))
+      (keeps_more (written s) (written s ++ written w) x (evaluate q sizes (suc n) s u x) (keeps_others (suc n) s u x)
+      (λ i m. misses_first i (written s) (written w) m))
+      (keeps_more (written w) (written s ++ written w) x (evaluate q sizes (suc n) w u x) (keeps_others (suc n) w u x)
+      (λ i m. misses_second i (written s) (written w) m))
   keeps_others (suc n) (Begin place s cs w) u x =
       caught_keeps (written s ++ written w) x (evaluate q sizes (suc n) s u x) cs (evaluate q sizes (suc n) w u)
-      (keeps_more (written s) (written s ++ written w) x (evaluate q sizes (suc n) s u x) (keeps_others (suc n) s u x) (λ i m. misses_first i (written s) (written w) m))
-      (λ y. keeps_more (written w) (written s ++ written w) y (evaluate q sizes (suc n) w u y) (keeps_others (suc n) w u y) (λ i m. misses_second i (written s) (written w) m))
+      (keeps_more (written s) (written s ++ written w) x (evaluate q sizes (suc n) s u x) (keeps_others (suc n) s u x)
+      (λ i m. misses_first i (written s) (written w) m))
+      (λ y. keeps_more (written w) (written s ++ written w) y (evaluate q sizes (suc n) w u y) (keeps_others (suc n) w u y)
+      (λ i m. misses_second i (written s) (written w) m))
   keeps_others (suc n) (Call place p xs cs) u x =
       let inner = evaluate q sizes n (body_of q p) (with_call q p u) (copied_in q p xs x) in
       room_keeps xs x (has_room q sizes p u) (returned q p xs cs x inner) (returned_keeps q p xs cs x inner)

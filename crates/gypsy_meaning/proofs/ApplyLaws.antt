@@ -44,7 +44,9 @@ normal_spend : (r : Predef) (v : ValueOf) (t : Tally) → predef_spend r (Normal
 normal_spend r v t = ap (λ c. spend c.0 c.1 t) (normal_cost r v)
 
 -- a predefined call that writes
-pub writes_law : (call : Application) (x : List ValueOf) (w u : List Item) (e : Effect) (i : ℕ) (v : ValueOf) (a : Advance) → e ≡ Normal v → e ≡ applied_effect call.which x call.args.items → i ≡ target_of (map seen_arg call.args.items) → a.event ≡ event.Predef call.which outcome.Normal → a.caught ≡ false → u ≡ settle w → WritesOn x (call_item call ∷ w) u i v a
+pub writes_law : (call : Application) (x : List ValueOf) (w u : List Item) (e : Effect) (i : ℕ) (v : ValueOf) (a : Advance) → e ≡ Normal v
+    → e ≡ applied_effect call.which x call.args.items → i ≡ target_of (map seen_arg call.args.items) → a.event ≡ event.Predef call.which outcome.Normal
+    → a.caught ≡ false → u ≡ settle w → WritesOn x (call_item call ∷ w) u i v a
 writes_law call x w u e i v a is eff at ev free wk =
     let P : CostEvent → Type 0 = IsPlain in (
       subst P (sym ev) tt,
@@ -65,13 +67,15 @@ IsFailure outcome.Normal = ⊥
 IsFailure outcome.Fault = Unit {0}
 IsFailure outcome.Beyond = Unit {0}
 
-failed : (r : Predef) (args : List Arg) (o : Outcome) (p : ℕ) (x : List ValueOf) (w : List Item) (fs : List Frame) (t : Tally) → IsFailure o → apply_step r args (effect_of o) p x w fs t ≡ Next (raise Routine p x w fs (predef_spend r (effect_of o) t))
+failed : (r : Predef) (args : List Arg) (o : Outcome) (p : ℕ) (x : List ValueOf) (w : List Item) (fs : List Frame) (t : Tally) → IsFailure o
+    → apply_step r args (effect_of o) p x w fs t ≡ Next (raise Routine p x w fs (predef_spend r (effect_of o) t))
 failed r args outcome.Normal p x w fs t f = absurd f
 failed r args outcome.Fault p x w fs t f = refl
 failed r args outcome.Beyond p x w fs t f = refl
 
 -- and one that fails
-pub fails_law : (call : Application) (x : List ValueOf) (w u : List Item) (e : Effect) (o : Outcome) (a : Advance) → IsFailure o → e ≡ effect_of o → e ≡ applied_effect call.which x call.args.items → RaisesOn call.which o w u a → GoesOn x (call_item call ∷ w) u a
+pub fails_law : (call : Application) (x : List ValueOf) (w u : List Item) (e : Effect) (o : Outcome) (a : Advance) → IsFailure o → e ≡ effect_of o
+    → e ≡ applied_effect call.which x call.args.items → RaisesOn call.which o w u a → GoesOn x (call_item call ∷ w) u a
 fails_law call x w u e o a f is eff r = (
   r.0,
   λ q sizes p fs t.

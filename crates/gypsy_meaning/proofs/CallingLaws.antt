@@ -37,15 +37,18 @@ use Rattle.gypsy_semantics.proofs.LendingLaws.{back_again, copied_again, length-
 use Rattle.gypsy_meaning.proofs.ReturningLaws.{kept_frames-push, same_state}
 use Rattle.gypsy_semantics.proofs.Rooms.{rooms}
 
-module _ (m : Meaning) (ns : List Need) (site : CallSite) (below : List Item) (needs : AreNeeds (seen_program m.program) ns) (there : site.callee < length (seen_program m.program).procs)
-    (turn : work_of m.work ≡ call_top site ∷ below) (counts : used (seen_program m.program) m.procedure (kept_frames m.waiting.items) ≡ stack_sizes m.used_ctrl m.used_temp) where
+module _ (m : Meaning) (ns : List Need) (site : CallSite) (below : List Item) (needs : AreNeeds (seen_program m.program) ns)
+    (there : site.callee < length (seen_program m.program).procs)
+    (turn : work_of m.work ≡ call_top site ∷ below)
+    (counts : used (seen_program m.program) m.procedure (kept_frames m.waiting.items) ≡ stack_sizes m.used_ctrl m.used_temp) where
   abbrev q : Program
   q = seen_program m.program
 
   abbrev x : List ValueOf
   x = map (λ v. v.1) m.variables.items
 
-  pub lack_is : lack_of q (sizes_of m) site.callee (used q m.procedure (frames_in m)) ≡ lack_by (need_at ns site.callee) (sizes_of m) (stack_sizes m.used_ctrl m.used_temp)
+  pub lack_is : lack_of q (sizes_of m) site.callee (used q m.procedure (frames_in m))
+      ≡ lack_by (need_at ns site.callee) (sizes_of m) (stack_sizes m.used_ctrl m.used_temp)
   lack_is =
       ap (lack_of q (sizes_of m) site.callee) (used_back q m.procedure x (kept_frames m.waiting.items) ∙ counts)
       ∙ lack_same q (sizes_of m) site.callee (stack_sizes m.used_ctrl m.used_temp)
@@ -53,10 +56,12 @@ module _ (m : Meaning) (ns : List Need) (site : CallSite) (below : List Item) (n
 
   -- the step by what the call lacks
   pub call_steps : (l : Lack) → lack_by (need_at ns site.callee) (sizes_of m) (stack_sizes m.used_ctrl m.used_temp) ≡ l →
-      gypsy_step q (sizes_of m) (state_of m) ≡ call_step q l site.callee site.actuals.items (map seen_cond site.conds.items) m.procedure x below (frames_in m) start_tally
+      gypsy_step q (sizes_of m) (state_of m) ≡ call_step q l site.callee site.actuals.items (map seen_cond site.conds.items) m.procedure x below
+      (frames_in m) start_tally
   call_steps l h =
       ap (λ (w : List Item). gypsy_step q (sizes_of m) (At m.procedure x w (frames_in m) start_tally)) turn
-      ∙ ap (λ (k : Lack). call_step q k site.callee site.actuals.items (map seen_cond site.conds.items) m.procedure x below (frames_in m) start_tally) (lack_is ∙ h)
+      ∙ ap (λ (k : Lack). call_step q k site.callee site.actuals.items (map seen_cond site.conds.items) m.procedure x below (frames_in m) start_tally)
+      (lack_is ∙ h)
 
   pub lacks_temporary : lack_by (need_at ns site.callee) (sizes_of m) (stack_sizes m.used_ctrl m.used_temp) ≡ Temporary → RaisesSpace m event.LackTemporary
   lacks_temporary h = (call_top site, below, turn, call_steps Temporary h)
@@ -68,8 +73,10 @@ module _ (m : Meaning) (ns : List Need) (site : CallSite) (below : List Item) (n
 abbrev pub after_call : List Need → ℕ → Meaning → Meaning
 after_call ns callee a = paid (event_count ns (event.Call callee)) (with_words (need_at ns callee) (record a { procedure = callee }))
 
-module _ (m a : Meaning) (ns : List Need) (site : Rc CallSite Global) (below : List Item) (w : List Kept) (callee : Vec (Name × Value)) (needs : AreNeeds (seen_program m.program) ns) (there : site.value.callee < length (seen_program m.program).procs)
-    (turn : work_of m.work ≡ call_top site.value ∷ below) (held : IsHeld m) (room : lack_by (need_at ns site.value.callee) (sizes_of m) (stack_sizes m.used_ctrl m.used_temp) ≡ Nothing)
+module _ (m a : Meaning) (ns : List Need) (site : Rc CallSite Global) (below : List Item) (w : List Kept) (callee : Vec (Name × Value))
+    (needs : AreNeeds (seen_program m.program) ns) (there : site.value.callee < length (seen_program m.program).procs)
+    (turn : work_of m.work ≡ call_top site.value ∷ below) (held : IsHeld m)
+    (room : lack_by (need_at ns site.value.callee) (sizes_of m) (stack_sizes m.used_ctrl m.used_temp) ≡ Nothing)
     (locals : drop (length site.value.actuals.items) (map (λ v. v.1) callee.items) ≡ (proc_at (seen_program m.program) site.value.callee).locals)
     (named : map (λ v. v.0) callee.items ≡ variables_of m.names.items site.value.callee)
     (body : work_of w ≡ open_on (body_of (seen_program m.program) site.value.callee) []) (waits : Waits m callee w below site a) where
@@ -82,7 +89,8 @@ module _ (m a : Meaning) (ns : List Need) (site : Rc CallSite Global) (below : L
   names_are : a.names ≡ m.names
   names_are = ap (λ (k : Meaning). k.names) waits.others
 
-  values_are : map (λ v. v.1) a.variables.items ≡ copied_in (seen_program m.program) site.value.callee site.value.actuals.items (map (λ v. v.1) m.variables.items)
+  values_are : map (λ v. v.1) a.variables.items ≡ copied_in (seen_program m.program) site.value.callee site.value.actuals.items
+      (map (λ v. v.1) m.variables.items)
   unfolding copied_in
   values_are = waits.lent ∙ ap (λ (l : List ValueOf). map (value_at (map (λ v. v.1) m.variables.items)) site.value.actuals.items ++ l) locals
 
@@ -95,7 +103,8 @@ module _ (m a : Meaning) (ns : List Need) (site : Rc CallSite Global) (below : L
       ∙ sym (length-map a.variables.items (λ v. v.1))
 
   lent_back : copied_out site.value.actuals.items (map (λ v. v.1) a.variables.items) (map (λ v. v.1) waits.caller.items) ≡
-      copied_out site.value.actuals.items (copied_in (seen_program m.program) site.value.callee site.value.actuals.items (map (λ v. v.1) m.variables.items)) (map (λ v. v.1) m.variables.items)
+      copied_out site.value.actuals.items (copied_in (seen_program m.program) site.value.callee site.value.actuals.items
+      (map (λ v. v.1) m.variables.items)) (map (λ v. v.1) m.variables.items)
   lent_back =
       let xs = site.value.actuals.items in
       let x = map (λ v. v.1) m.variables.items in
@@ -104,17 +113,22 @@ module _ (m a : Meaning) (ns : List Need) (site : Rc CallSite Global) (below : L
       ∙ copied_again xs (map (λ v. v.1) callee.items) y x sized
       ∙ ap (λ (l : List ValueOf). copied_out xs l x) values_are
 
-  kept_are : kept_frames a.waiting.items ≡ machine.Held m.procedure (map (λ v. v.1) waits.caller.items) (below) site.value.actuals.items (map seen_cond site.value.conds.items) ∷ kept_frames m.waiting.items
+  kept_are : kept_frames a.waiting.items ≡ machine.Held m.procedure (map (λ v. v.1) waits.caller.items) (below) site.value.actuals.items
+      (map seen_cond site.value.conds.items) ∷ kept_frames m.waiting.items
   kept_are =
       ap kept_frames waits.waiting
       ∙ kept_frames-push m.waiting.items _
-      ∙ ap (λ (l : List Item). machine.Held m.procedure (map (λ v. v.1) waits.caller.items) l site.value.actuals.items (map seen_cond site.value.conds.items) ∷ kept_frames m.waiting.items) waits.behind_is
+      ∙ ap (λ (l : List Item). machine.Held m.procedure (map (λ v. v.1) waits.caller.items) l site.value.actuals.items
+      (map seen_cond site.value.conds.items) ∷ kept_frames m.waiting.items) waits.behind_is
 
-  frames_are : let z = copied_out site.value.actuals.items (copied_in (seen_program m.program) site.value.callee site.value.actuals.items (map (λ v. v.1) m.variables.items)) (map (λ v. v.1) m.variables.items) in
+  frames_are : let z = copied_out site.value.actuals.items
+      (copied_in (seen_program m.program) site.value.callee site.value.actuals.items (map (λ v. v.1) m.variables.items))
+      (map (λ v. v.1) m.variables.items) in
       frames_in a ≡ machine.Held m.procedure z (below) site.value.actuals.items (map seen_cond site.value.conds.items) ∷ frames_of z m.waiting.items
   frames_are =
       ap (handed_back (map (λ v. v.1) a.variables.items)) kept_are
-      ∙ ap (λ (l : List ValueOf). machine.Held m.procedure l (below) site.value.actuals.items (map seen_cond site.value.conds.items) ∷ frames_of l m.waiting.items) lent_back
+      ∙ ap (λ (l : List ValueOf). machine.Held m.procedure l (below) site.value.actuals.items (map seen_cond site.value.conds.items)
+      ∷ frames_of l m.waiting.items) lent_back
 
   enter_goes : Goes (seen_program m.program) (sizes_of m) m after
   enter_goes =
@@ -130,7 +144,8 @@ module _ (m a : Meaning) (ns : List Need) (site : Rc CallSite Global) (below : L
       let spent : u.count ≡ 0 + event_count ns (event.Call c) = call_table r ns needs c there start_tally in
       let cost : event_count ns (event.Call c) ≡ u.count = omega (arith, spent) in
       let again : machine.Held m.procedure z (below) xs cs ∷ handed_back z (frames_in m) ≡ frames_in a =
-      ap (λ (l : List machine.Frame). machine.Held m.procedure z (below) xs cs ∷ l) (back_again x z (kept_frames m.waiting.items) (sym (length-copied_out xs y x)))
+      ap (λ (l : List machine.Frame). machine.Held m.procedure z (below) xs cs ∷ l)
+      (back_again x z (kept_frames m.waiting.items) (sym (length-copied_out xs y x)))
       ∙ sym frames_are in (
         At c y (open_on (body_of r c) []) (machine.Held m.procedure x (below) xs cs ∷ frames_in m) u,
         call_steps m ns site.value below needs there turn held.top.used_words Nothing room,
@@ -140,7 +155,8 @@ module _ (m a : Meaning) (ns : List Need) (site : Rc CallSite Global) (below : L
         record { counted = ap₂ added shown cost; last = cost },
       )
 
-  enter_uses : m.temp < 2 ^ 32 → m.ctrl < 2 ^ 32 → used (seen_program a.program) site.value.callee (kept_frames a.waiting.items) ≡ stack_sizes after.used_ctrl after.used_temp
+  enter_uses : m.temp < 2 ^ 32 → m.ctrl < 2 ^ 32 → used (seen_program a.program) site.value.callee (kept_frames a.waiting.items)
+      ≡ stack_sizes after.used_ctrl after.used_temp
   unfolding lack_by with_call
   enter_uses lt_temp lt_ctrl =
       let n = need_at ns site.value.callee in

@@ -24,7 +24,9 @@ use Rattle.gypsy_meaning.specs.declared.running.Ending.TheVariants as ending
 use Rattle.gypsy_meaning.specs.declared.running.Meaning.{Meaning}
 
 -- with what is left of the variables
-pub finished : (e : Ending) (cost : ℕ) (m : Meaning) (vars : Vec (Name × Value)) (count : ℕ) → vars.items ≡ take count m.variables.items → count ≡ length (proc_at (seen_program m.program) m.program.main).formals → IsFinished e cost m (paid cost (record m { variables = vars; ending = Some e }))
+pub finished : (e : Ending) (cost : ℕ) (m : Meaning) (vars : Vec (Name × Value)) (count : ℕ) → vars.items ≡ take count m.variables.items
+    → count ≡ length (proc_at (seen_program m.program) m.program.main).formals → IsFinished e cost m
+    (paid cost (record m { variables = vars; ending = Some e }))
 unfolding main_formals
 finished e cost m vars count left is = record {
   values = ap (map (λ v. v.1)) left ∙ sym (take-map (λ v. v.1) count m.variables.items) ∙ ap (λ n. take n (map (λ v. v.1) m.variables.items)) is;
@@ -44,7 +46,8 @@ finished_keeps e cost m n f = record {
 }
 
 finishes : (e : Ending) (cost : ℕ) (m n : Meaning) (u : Tally) → m.waiting.items ≡ [] → IsFinished e cost m n → u.count ≡ cost →
-    gypsy_step (seen_program m.program) (sizes_of m) (state_of m) ≡ Ended (main_formals (seen_program m.program) (map (λ v. v.1) m.variables.items)) (way_of e) u → EndsRun m n
+    gypsy_step (seen_program m.program) (sizes_of m) (state_of m) ≡ Ended (main_formals (seen_program m.program) (map (λ v. v.1) m.variables.items))
+    (way_of e) u → EndsRun m n
 finishes e cost m n u alone f costs step = record {
   alone = alone;
   ended_by = e;
@@ -59,7 +62,8 @@ finishes e cost m n u alone f costs step = record {
   named = f.named;
 }
 
-pub end_finishes : (ns : List Need) (m n : Meaning) → work_of m.work ≡ [] → m.waiting.items ≡ [] → IsFinished ending.Normal (event_count ns event.EndMain) m n → EndsRun m n
+pub end_finishes : (ns : List Need) (m n : Meaning) → work_of m.work ≡ [] → m.waiting.items ≡ []
+    → IsFinished ending.Normal (event_count ns event.EndMain) m n → EndsRun m n
 unfolding event_count spend
 end_finishes ns m n nothing alone f =
     let q = seen_program m.program in
@@ -73,7 +77,8 @@ unfolding spend main_spend
 price_is true = refl
 price_is false = refl
 
-pub leave_finishes : (m n : Meaning) (c d : Condition) (below : List Item) → work_of m.work ≡ Out (seen_cond c) ∷ below → m.waiting.items ≡ [] → seen_cond d ≡ main_way (seen_program m.program) (seen_cond c) →
+pub leave_finishes : (m n : Meaning) (c d : Condition) (below : List Item) → work_of m.work ≡ Out (seen_cond c) ∷ below → m.waiting.items ≡ []
+    → seen_cond d ≡ main_way (seen_program m.program) (seen_cond c) →
     IsFinished (ending.Raised d) (end_price (is_passed_on (seen_program m.program) m.program.main (seen_cond c))) m n → EndsRun m n
 leave_finishes m n c d below out alone way f =
     let q = seen_program m.program in

@@ -1,5 +1,6 @@
 -- Whether values and sizes suit the start of a run.
-use Rattle.std.proofs.Common.{◌≡◌, ℕ, ◌+◌, ◌≤◌, List, [], ◌∷◌, ◌++◌, ◌==◌, ◌&&◌, map, length, nat_le, true, refl, sym, ap, ap₂, subst, ◌∙◌, arith, eqb-true, eq-eqb, le-leb}
+use Rattle.std.proofs.Common.{◌≡◌, ℕ, ◌+◌, ◌≤◌, List, [], ◌∷◌, ◌++◌, ◌==◌, ◌&&◌, map, length, nat_le, true, refl, sym, ap, ap₂, subst, ◌∙◌, arith, eqb-true}
+use Rattle.std.proofs.Common.{eq-eqb, le-leb}
 use Rattle.std.specs.List.{list_all}
 use Rattle.std.proofs.lemmas.Bool.{and_parts, and_from, leb-true}
 use Rattle.stack_text.specs.declared.shape.Shape.{Shape}
@@ -44,7 +45,8 @@ value_of_shape s v same fits =
     subst P same
     (and_from (same_shape v.shape v.shape && are_as_many v.shape v.items) (list_all (is_in_range v.shape.kind) v.items)
     (and_from (same_shape v.shape v.shape) (are_as_many v.shape v.items) (shape_itself v.shape)
-    (and_from (nat_le v.shape.length 4096) (length v.items == item_count v.shape) (le-leb v.shape.length 4096 fits.few) (eq-eqb (length v.items) (item_count v.shape) fits.number)))
+    (and_from (nat_le v.shape.length 4096) (length v.items == item_count v.shape) (le-leb v.shape.length 4096 fits.few)
+    (eq-eqb (length v.items) (item_count v.shape) fits.number)))
     fits.items)
 
 pub values_are : (shapes : List Shape) (x : List ValueOf) → are_values shapes x ≡ true → VarsFit shapes x
@@ -76,4 +78,5 @@ pub start_is : (q : Program) (x : List ValueOf) (sizes : StackSizes) → CanStar
 start_is q x sizes h =
     let need = main_need q in
     and_from (are_values (proc_at q q.main).formals x) (suffice need sizes) (are_those (proc_at q q.main).formals x h.values_fit)
-    (and_from (nat_le need.temp sizes.temp) (nat_le need.ctrl sizes.ctrl) (le-leb need.temp sizes.temp h.sizes_suffice.temp) (le-leb need.ctrl sizes.ctrl h.sizes_suffice.ctrl))
+    (and_from (nat_le need.temp sizes.temp) (nat_le need.ctrl sizes.ctrl) (le-leb need.temp sizes.temp h.sizes_suffice.temp)
+    (le-leb need.ctrl sizes.ctrl h.sizes_suffice.ctrl))

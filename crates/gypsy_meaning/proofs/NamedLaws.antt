@@ -15,10 +15,12 @@ module _ (s : SourceOf) (names : List Names) (same : map seen_names names ≡ ma
   pub variables_same : (p : ℕ) → variables_of names p ≡ variables_at s p
   variables_same p =
       let each : map (λ n. n.variables.items) names ≡ map variable_names s.procs =
-      sym (map-map (λ (r : NamesOf). r.variables) seen_names names) ∙ ap (map (λ (r : NamesOf). r.variables)) same ∙ map-map (λ (r : NamesOf). r.variables) proc_names s.procs in
+      sym (map-map (λ (r : NamesOf). r.variables) seen_names names) ∙ ap (map (λ (r : NamesOf). r.variables)) same
+      ∙ map-map (λ (r : NamesOf). r.variables) proc_names s.procs in
       ap (λ rows. get_or rows p []) each
 
-  rows_names : (rows : List ProcOf) (p : ℕ) → get_or (map (λ r. shown_names (condition_names r)) rows) p [] ≡ shown_names (get_or (map condition_names rows) p [])
+  rows_names : (rows : List ProcOf) (p : ℕ) → get_or (map (λ r. shown_names (condition_names r)) rows) p []
+      ≡ shown_names (get_or (map condition_names rows) p [])
   rows_names [] p = refl
   rows_names (r ∷ rows) zero = refl
   rows_names (r ∷ rows) (suc p) = rows_names rows p
@@ -26,7 +28,8 @@ module _ (s : SourceOf) (names : List Names) (same : map seen_names names ≡ ma
   pub conditions_same : (p : ℕ) → conditions_of names p ≡ shown_names (conditions_at s p)
   conditions_same p =
       let each : map (λ n. n.conditions.items) names ≡ map (λ r. shown_names (condition_names r)) s.procs =
-      sym (map-map (λ (r : NamesOf). r.conditions) seen_names names) ∙ ap (map (λ (r : NamesOf). r.conditions)) same ∙ map-map (λ (r : NamesOf). r.conditions) proc_names s.procs in
+      sym (map-map (λ (r : NamesOf). r.conditions) seen_names names) ∙ ap (map (λ (r : NamesOf). r.conditions)) same
+      ∙ map-map (λ (r : NamesOf). r.conditions) proc_names s.procs in
       ap (λ rows. get_or rows p []) each ∙ rows_names s.procs p
 
   pub number_same : (code : Code) → seen_program code ≡ program_of s → length names ≡ length code.procedures.items

@@ -37,12 +37,15 @@ call_sized ns m site below ready turn =
     let q = seen_program m.program in
     let P : List Item → Type 0 = WorkFits q (proc_at q m.procedure) in
     let fits = subst P turn ready.state_fits.1 in
-    let sized : length (variables_of m.names.items site.callee) ≡ length (proc_at q site.callee).formals + length (proc_at q site.callee).locals = ready.sized site.callee in
-    let same : length site.actuals.items ≡ length (proc_at q site.callee).formals = actuals_length (shapes_of (proc_at q m.procedure)) (proc_at q site.callee).formals site.actuals.items fits.0.actuals in
+    let sized : length (variables_of m.names.items site.callee) ≡ length (proc_at q site.callee).formals + length (proc_at q site.callee).locals =
+    ready.sized site.callee in
+    let same : length site.actuals.items ≡ length (proc_at q site.callee).formals =
+    actuals_length (shapes_of (proc_at q m.procedure)) (proc_at q site.callee).formals site.actuals.items fits.0.actuals in
     omega (arith, sized, same)
 
 -- its actuals may be lent
-pub call_lent : (ns : List Need) (m : Meaning) (site : CallSite) (below : List Item) → IsReady ns m → work_of m.work ≡ call_top site ∷ below → AreLent (length m.variables.items) site.actuals.items
+pub call_lent : (ns : List Need) (m : Meaning) (site : CallSite) (below : List Item) → IsReady ns m → work_of m.work ≡ call_top site ∷ below
+    → AreLent (length m.variables.items) site.actuals.items
 call_lent ns m site below ready turn =
     let q = seen_program m.program in
     let p = proc_at q m.procedure in
@@ -55,7 +58,8 @@ call_lent ns m site below ready turn =
       distinct = fits.0.distinct;
     }
 
-suits : (r : Predef) (shapes : List Shape) (k : Kind) (x : List ValueOf) (args : List Argument) → VarsFit shapes x → ArgsFit shapes k (slots_of r) (map seen_arg args) → Suits r x args
+suits : (r : Predef) (shapes : List Shape) (k : Kind) (x : List ValueOf) (args : List Argument) → VarsFit shapes x
+    → ArgsFit shapes k (slots_of r) (map seen_arg args) → Suits r x args
 unfolding Suits values_of
 suits row.MgArrayElementAssignment shapes k x args h f =
     let vs = values_of x (map seen_arg args) in

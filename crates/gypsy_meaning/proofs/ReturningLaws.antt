@@ -1,5 +1,6 @@
 -- The end of a procedure for which another waits.
-use Rattle.std.proofs.Common.{◌≡◌, ℕ, zero, suc, ◌+◌, ◌-◌, List, [], ◌∷◌, ◌++◌, length, map, take, reverse, Bool, true, false, Some, refl, sym, ap, ap₂, subst, ◌∙◌, arith}
+use Rattle.std.proofs.Common.{◌≡◌, ℕ, zero, suc, ◌+◌, ◌-◌, List, [], ◌∷◌, ◌++◌, length, map, take, reverse, Bool, true, false, Some, refl, sym, ap, ap₂, subst}
+use Rattle.std.proofs.Common.{◌∙◌, arith}
 use Rattle.std.proofs.lemmas.List.{reverse-append}
 use Rattle.stack_text.specs.Values.{ValueOf}
 use Rattle.gypsy_syntax.specs.Programs.{ConditionOf, Program}
@@ -28,14 +29,16 @@ use Rattle.gypsy_semantics.proofs.LendingLaws.{back_again, copied_again}
 pub kept_frames-push : (fs : List Frame) (f : Frame) → kept_frames (fs ++ f ∷ []) ≡ frame_of f ∷ kept_frames fs
 kept_frames-push fs f = ap (map frame_of) (reverse-append fs (f ∷ []))
 
-pub same_state : (p p' : ℕ) (x x' : List ValueOf) (w w' : List Item) (fs fs' : List machine.Frame) (t : Tally) → p ≡ p' → x ≡ x' → w ≡ w' → fs ≡ fs' → At p x w fs t ≡ At p' x' w' fs' t
+pub same_state : (p p' : ℕ) (x x' : List ValueOf) (w w' : List Item) (fs fs' : List machine.Frame) (t : Tally) → p ≡ p' → x ≡ x' → w ≡ w' → fs ≡ fs'
+    → At p x w fs t ≡ At p' x' w' fs' t
 same_state p p' x x' w w' fs fs' t a b c d = cc
 
 -- the last of those that waited is active again, with this work
 abbrev Goes-on : Meaning → Meaning → Vec Frame → Frame → List Kept → Type 0
 Goes-on m n ws f w = Resumes (record m { waiting = ws }) n (record f { work = w })
 
-resume_held : (cost : ℕ) (m n : Meaning) (ws : Vec Frame) (f : Frame) (w : List Kept) → m.waiting.items ≡ ws.items ++ f ∷ [] → Goes-on m n ws f w → IsHeld m → IsHeld (paid cost n)
+resume_held : (cost : ℕ) (m n : Meaning) (ws : Vec Frame) (f : Frame) (w : List Kept) → m.waiting.items ≡ ws.items ++ f ∷ [] → Goes-on m n ws f w
+    → IsHeld m → IsHeld (paid cost n)
 resume_held cost m n ws f w e r h =
     let q = seen_program m.program in
     let names = m.names.items in
@@ -99,7 +102,8 @@ back_at m n ws f w r work u same =
     let z : List ValueOf = map (λ v. v.1) n.variables.items in
     let again : handed_back y (frames_of y gs) ≡ frames_of z n.waiting.items =
     back_again y y (kept_frames gs) refl ∙ ap₂ frames_of (sym r.values) (sym rest) in
-    same_state f.procedure n.procedure y z work (work_of n.work) (handed_back y (frames_of y gs)) (frames_in n) start_tally (sym r.procedure) (sym r.values) same again
+    same_state f.procedure n.procedure y z work (work_of n.work) (handed_back y (frames_of y gs)) (frames_in n) start_tally (sym r.procedure)
+    (sym r.values) same again
 
 pub end_moves : (ns : List Need) (m n : Meaning) (ws : Vec Frame) (f : Frame) (w : List Kept) → work_of m.work ≡ [] → m.waiting.items ≡ ws.items ++ f ∷ [] →
     work_of w ≡ settle (work_of f.work) → Resumes (record m { waiting = ws }) n (record f { work = w }) → Moves m (paid (event_count ns event.EndProc) n)
@@ -135,9 +139,11 @@ out_paid true false t = refl
 out_paid false true t = omega arith
 out_paid false false t = refl
 
-pub leave_moves : (m n : Meaning) (ws : Vec Frame) (f : Frame) (w : List Kept) (caught : Bool) (d : ConditionOf) (below : List Item) → work_of m.work ≡ Out d ∷ below → m.waiting.items ≡ ws.items ++ f ∷ [] →
+pub leave_moves : (m n : Meaning) (ws : Vec Frame) (f : Frame) (w : List Kept) (caught : Bool) (d : ConditionOf) (below : List Item)
+    → work_of m.work ≡ Out d ∷ below → m.waiting.items ≡ ws.items ++ f ∷ [] →
     ((p : ℕ) (x : List ValueOf) (fs : List machine.Frame) (t : Tally) →
-    raise (matching (seen_program m.program) m.procedure (map seen_cond f.call.value.conds.items) d) p x (work_of f.work) fs t ≡ At p x (work_of w) fs (caught_spend caught t)) →
+    raise (matching (seen_program m.program) m.procedure (map seen_cond f.call.value.conds.items) d) p x (work_of f.work) fs t
+    ≡ At p x (work_of w) fs (caught_spend caught t)) →
     Resumes (record m { waiting = ws }) n (record f { work = w }) → Moves m (paid (out_price (is_passed_on (seen_program m.program) m.procedure d) caught) n)
 leave_moves m n ws f w caught d below out last raises r =
     let q = seen_program m.program in

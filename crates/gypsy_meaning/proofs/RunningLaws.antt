@@ -22,7 +22,8 @@ use Rattle.gypsy_meaning.specs.declared.running.Meaning.{Meaning}
 use Rattle.gypsy_meaning.specs.declared.work.Item.{Item as Kept}
 use Rattle.gypsy_semantics.proofs.LendingLaws.{back_again}
 
-caught_is : (b : Bool) (ns : List Need) (e : CostEvent) (t : Tally) (u : Tally) → u.count ≡ t.count + event_count ns e → (caught_spend b u).count ≡ t.count + price ns e b
+caught_is : (b : Bool) (ns : List Need) (e : CostEvent) (t : Tally) (u : Tally) → u.count ≡ t.count + event_count ns e
+    → (caught_spend b u).count ≡ t.count + price ns e b
 unfolding price spend
 caught_is true ns e t u h = omega (arith, h)
 caught_is false ns e t u h = h
@@ -34,15 +35,18 @@ plain_table ns (event.Call callee) p t = absurd p
 plain_table ns e p t = refl
 
 -- what is lent stays lent
-still_lent : (p : ℕ) (x : List ValueOf) (w : List Item) (fs : List Frame) (t : Tally) → bare (At p x w (handed_back x fs) t) ≡ At p x w (handed_back x fs) start_tally
+still_lent : (p : ℕ) (x : List ValueOf) (w : List Item) (fs : List Frame) (t : Tally)
+    → bare (At p x w (handed_back x fs) t) ≡ At p x w (handed_back x fs) start_tally
 still_lent p x w fs t = ap (λ (gs : List Frame). At p x w gs start_tally) (back_again x x fs refl)
 
 -- a step that changes the work alone
 advance_goes : (q : Program) (sizes : StackSizes) (ns : List Need) (a : Advance) (w : List Kept) (m : Meaning) → IsPlain a.event →
-    gypsy_step q sizes (state_of m) ≡ Next (At m.procedure (map (λ v. v.1) m.variables.items) (work_of w) (frames_in m) (caught_spend a.caught (pay a.event start_tally))) → Goes q sizes m (advanced ns a w m)
+    gypsy_step q sizes (state_of m) ≡ Next (At m.procedure (map (λ v. v.1) m.variables.items) (work_of w) (frames_in m)
+    (caught_spend a.caught (pay a.event start_tally))) → Goes q sizes m (advanced ns a w m)
 advance_goes q sizes ns a w m plain step =
     let u = pay a.event start_tally in
-    let paid : (caught_spend a.caught u).count ≡ 0 + price ns a.event a.caught = caught_is a.caught ns a.event start_tally u (plain_table ns a.event plain start_tally) in
+    let paid : (caught_spend a.caught u).count ≡ 0 + price ns a.event a.caught =
+    caught_is a.caught ns a.event start_tally u (plain_table ns a.event plain start_tally) in
     let cost : price ns a.event a.caught ≡ (caught_spend a.caught u).count = omega (arith, paid) in
     let x : List ValueOf = map (λ v. v.1) m.variables.items in
     let spent : Tally = caught_spend a.caught u in (
@@ -53,7 +57,8 @@ advance_goes q sizes ns a w m plain step =
     )
 
 pub step_moves : (ns : List Need) (a : Advance) (w : List Kept) (m : Meaning) → IsPlain a.event →
-    gypsy_step (seen_program m.program) (sizes_of m) (state_of m) ≡ Next (At m.procedure (map (λ v. v.1) m.variables.items) (work_of w) (frames_in m) (caught_spend a.caught (pay a.event start_tally))) →
+    gypsy_step (seen_program m.program) (sizes_of m) (state_of m) ≡ Next
+    (At m.procedure (map (λ v. v.1) m.variables.items) (work_of w) (frames_in m) (caught_spend a.caught (pay a.event start_tally))) →
     Moves m (advanced ns a w m)
 step_moves ns a w m plain step = record {
   goes = advance_goes (seen_program m.program) (sizes_of m) ns a w m plain step;
@@ -62,15 +67,20 @@ step_moves ns a w m plain step = record {
   held = λ h. record { top = h.top; waiting = h.waiting };
 }
 
-pub advance_moves : (ns : List Need) (a : Advance) (w : List Kept) (m : Meaning) → GoesOn (map (λ v. v.1) m.variables.items) (work_of m.work) (work_of w) a → Moves m (advanced ns a w m)
+pub advance_moves : (ns : List Need) (a : Advance) (w : List Kept) (m : Meaning)
+    → GoesOn (map (λ v. v.1) m.variables.items) (work_of m.work) (work_of w) a → Moves m (advanced ns a w m)
 advance_moves ns a w m goes = step_moves ns a w m goes.0 (goes.1 (seen_program m.program) (sizes_of m) m.procedure (frames_in m) start_tally)
 
 -- a step that writes a variable, where the state in between is known by its values and names
-pub write_moves : (ns : List Need) (i : ℕ) (v : ValueOf) (a : Advance) (w : List Kept) (m n : Meaning) → WritesOn (map (λ z. z.1) m.variables.items) (work_of m.work) (work_of w) i v a → map (λ w. w.1) n.variables.items ≡ slice_set (map (λ w. w.1) m.variables.items) i v → map (λ w. w.0) n.variables.items ≡ map (λ w. w.0) m.variables.items → Moves m (advanced ns a w (record m { variables = n.variables }))
+pub write_moves : (ns : List Need) (i : ℕ) (v : ValueOf) (a : Advance) (w : List Kept) (m n : Meaning)
+    → WritesOn (map (λ z. z.1) m.variables.items) (work_of m.work) (work_of w) i v a
+    → map (λ w. w.1) n.variables.items ≡ slice_set (map (λ w. w.1) m.variables.items) i v
+    → map (λ w. w.0) n.variables.items ≡ map (λ w. w.0) m.variables.items → Moves m (advanced ns a w (record m { variables = n.variables }))
 write_moves ns i v a w m n goes wrote named =
     let q = seen_program m.program in
     let u = pay a.event start_tally in
-    let paid : (caught_spend a.caught u).count ≡ 0 + price ns a.event a.caught = caught_is a.caught ns a.event start_tally u (plain_table ns a.event goes.0 start_tally) in
+    let paid : (caught_spend a.caught u).count ≡ 0 + price ns a.event a.caught =
+    caught_is a.caught ns a.event start_tally u (plain_table ns a.event goes.0 start_tally) in
     let cost : price ns a.event a.caught ≡ (caught_spend a.caught u).count = omega (arith, paid) in
     let spent : Tally = caught_spend a.caught u in
     let x : List ValueOf = map (λ w. w.1) m.variables.items in
@@ -90,7 +100,8 @@ write_moves ns i v a w m n goes wrote named =
     }
 
 -- a step that opens the work, at no cost
-pub open_moves : (w : List Kept) (m : Meaning) → OpensTo (map (λ v. v.1) m.variables.items) (work_of m.work) (work_of w) → Moves m (paid 0 (record m { work = w }))
+pub open_moves : (w : List Kept) (m : Meaning) → OpensTo (map (λ v. v.1) m.variables.items) (work_of m.work) (work_of w)
+    → Moves m (paid 0 (record m { work = w }))
 open_moves w m opens = record {
   goes = (
     At m.procedure (map (λ v. v.1) m.variables.items) (work_of w) (frames_in m) start_tally,

@@ -1,5 +1,6 @@
 -- What the code shows of a run.
-use Rattle.std.proofs.Common.{◌≡◌, ℕ, zero, suc, ◌+◌, ◌*◌, ◌^◌, ◌<◌, ◌≤◌, List, [], ◌∷◌, map, length, take, reverse, slice_get, Option, Some, None, refl, ap, ap₂, subst, ◌∙◌, arith}
+use Rattle.std.proofs.Common.{◌≡◌, ℕ, zero, suc, ◌+◌, ◌*◌, ◌^◌, ◌<◌, ◌≤◌, List, [], ◌∷◌, map, length, take, reverse, slice_get, Option, Some, None, refl, ap}
+use Rattle.std.proofs.Common.{ap₂, subst, ◌∙◌, arith}
 use Rattle.std.specs.declared.alloc.Global.{Global}
 use Rattle.std.specs.declared.rc.Rc.{Rc}
 use Rattle.std.proofs.lemmas.List.{length-map, length-reverse}
@@ -32,7 +33,8 @@ parts_place (n ∷ ns) = refl
 
 -- The names of variables.
 
-names_by : (s : SourceOf) (ns : List Need) (m : Meaning) (b : BelongsTo s ns m) (o : Option Ending) → IsKept m o → map (λ v. v.0) m.variables.items ≡ names_at s (stage_by o m)
+names_by : (s : SourceOf) (ns : List Need) (m : Meaning) (b : BelongsTo s ns m) (o : Option Ending) → IsKept m o
+    → map (λ v. v.0) m.variables.items ≡ names_at s (stage_by o m)
 names_by s ns m b None h = h.top.named ∙ variables_same s m.names.items b.names m.procedure
 names_by s ns m b (Some e) h =
     let same = program_is s ns m b in
@@ -51,7 +53,8 @@ current_same [] i = refl
 current_same (n ∷ names) zero = refl
 current_same (n ∷ names) (suc i) = current_same names i
 
-pub condition_shown : (s : SourceOf) (ns : List Need) (m : Meaning) (c : Current) (routine : Current) (p i : ℕ) → BelongsTo s ns m → routine ≡ current.Routine → p ≡ procedure_at (seen m).program (seen m).stage → Some (Declared i) ≡ way_at (seen m).stage →
+pub condition_shown : (s : SourceOf) (ns : List Need) (m : Meaning) (c : Current) (routine : Current) (p i : ℕ) → BelongsTo s ns m
+    → routine ≡ current.Routine → p ≡ procedure_at (seen m).program (seen m).stage → Some (Declared i) ≡ way_at (seen m).stage →
     c ≡ current_or routine (slice_get (conditions_of m.names.items p) i) → c ≡ condition_at s (seen m).stage
 unfolding seen
 condition_shown s ns m c other p i b plain active way is =
@@ -75,7 +78,8 @@ has_words : (q : Program) (sizes : StackSizes) (p : ℕ) (fs : List Frame) → H
 has_words q sizes p [] h = h.1
 has_words q sizes p (Held c x w xs cs ∷ fs) h = h.0.1
 
-pub depth_shown : (s : SourceOf) (ns : List Need) (m : Meaning) → BelongsTo s ns m → m.ending ≡ None → m.ctrl < 2 ^ 32 → (length m.waiting.items + 1 < 2 ^ 32) × (depth_at (seen m).stage ≡ length m.waiting.items + 1)
+pub depth_shown : (s : SourceOf) (ns : List Need) (m : Meaning) → BelongsTo s ns m → m.ending ≡ None → m.ctrl < 2 ^ 32
+    → (length m.waiting.items + 1 < 2 ^ 32) × (depth_at (seen m).stage ≡ length m.waiting.items + 1)
 unfolding seen
 depth_shown s ns m b e lt =
     let q = seen_program m.program in
@@ -85,5 +89,6 @@ depth_shown s ns m b e lt =
     let words : (used q m.procedure fs).ctrl + ctrl_need (proc_at q m.procedure) ≤ m.ctrl = has_words q (sizes_of m) m.procedure fs room.1 in
     let twice : 2 * (length fs + 1) ≤ (used q m.procedure fs).ctrl = two_words q m.procedure fs in
     let same : length fs ≡ length m.waiting.items =
-    length-back (map (λ v. v.1) m.variables.items) (kept_frames m.waiting.items) ∙ length-map (reverse m.waiting.items) frame_of ∙ length-reverse m.waiting.items in
+    length-back (map (λ v. v.1) m.variables.items) (kept_frames m.waiting.items) ∙ length-map (reverse m.waiting.items) frame_of
+    ∙ length-reverse m.waiting.items in
     (omega (arith, words, twice, same, lt), ap (λ (o : Option Ending). depth_at (stage_by o m)) e ∙ ap (λ (n : ℕ). n + 1) same)

@@ -39,17 +39,20 @@ shapes_are (s ∷ shapes) (v ∷ x) h = ap₂ (λ (a : Shape) (b : List Shape). 
 
 -- a program that is made of an accepted source, with the source's names
 module _ (s : SourceOf) (accepted : IsAccepted s) (code : Code) (program : seen_program code ≡ program_of s) where
-  main_vars : (x : List ValueOf) → VarsFit (proc_at (program_of s) (program_of s).main).formals x → VarsFit (shapes_of (proc_at (seen_program code) code.main)) (main_start (seen_program code) x)
+  main_vars : (x : List ValueOf) → VarsFit (proc_at (program_of s) (program_of s).main).formals x
+      → VarsFit (shapes_of (proc_at (seen_program code) code.main)) (main_start (seen_program code) x)
   main_vars x fit =
       let q = program_of s in
       let P : Program → Type 0 = λ r. VarsFit (shapes_of (proc_at r r.main)) (main_start r x) in
       subst P (sym program) (start_fits q (stack_sizes 0 0) accepted.fits x fit).0
 
-  pub main_words : (vars : List (Name × Value)) (x : List ValueOf) → VarsFit (proc_at (program_of s) (program_of s).main).formals x → map (λ v. v.1) vars ≡ main_start (seen_program code) x →
+  pub main_words : (vars : List (Name × Value)) (x : List ValueOf) → VarsFit (proc_at (program_of s) (program_of s).main).formals x
+      → map (λ v. v.1) vars ≡ main_start (seen_program code) x →
       words_of (map (λ v. v.shape) (map (λ v. v.1) vars)) ≤ 65536
   main_words vars x fit is =
       let shapes = shapes_of (proc_at (seen_program code) code.main) in
-      let same : map (λ v. v.shape) (map (λ v. v.1) vars) ≡ shapes = ap (map (λ v. v.shape)) is ∙ shapes_are shapes (main_start (seen_program code) x) (main_vars x fit) in
+      let same : map (λ v. v.shape) (map (λ v. v.1) vars) ≡ shapes =
+      ap (map (λ v. v.shape)) is ∙ shapes_are shapes (main_start (seen_program code) x) (main_vars x fit) in
       let P : Program → Type 0 = λ r. words_of (shapes_of (proc_at r r.main)) ≤ 65536 in
       let Q : List Shape → Type 0 = λ l. words_of l ≤ 65536 in
       subst Q (sym same) (subst P (sym program) (accepted.fits.procs (program_of s).main).words)
@@ -62,7 +65,8 @@ module _ (s : SourceOf) (accepted : IsAccepted s) (code : Code) (program : seen_
       let there : code.main < length (seen_program code).procs = subst P (sym program) accepted.fits.main in
       omega (arith, number, procs, there)
 
-  pub main_sized : (names : List Names) (x : List ValueOf) → map seen_names names ≡ map proc_names s.procs → VarsFit (proc_at (program_of s) (program_of s).main).formals x →
+  pub main_sized : (names : List Names) (x : List ValueOf) → map seen_names names ≡ map proc_names s.procs
+      → VarsFit (proc_at (program_of s) (program_of s).main).formals x →
       length (variables_of names code.main) ≡ length x + length (proc_at (seen_program code) code.main).locals
   main_sized names x same fit =
       let formals = (proc_at (program_of s) (program_of s).main).formals in
@@ -73,12 +77,15 @@ module _ (s : SourceOf) (accepted : IsAccepted s) (code : Code) (program : seen_
       ap length (variables_same s names same q.main) ∙ variables_sized s q.main in
       subst P (sym program) (omega (arith, sized, number))
 
-same_stage : (p p' : ℕ) (x x' : List ValueOf) (w w' : List Item) (fs fs' : List Frame) → p ≡ p' → x ≡ x' → w ≡ w' → fs ≡ fs' → Running (At p x w fs start_tally) ≡ Running (At p' x' w' fs' start_tally)
+same_stage : (p p' : ℕ) (x x' : List ValueOf) (w w' : List Item) (fs fs' : List Frame) → p ≡ p' → x ≡ x' → w ≡ w' → fs ≡ fs'
+    → Running (At p x w fs start_tally) ≡ Running (At p' x' w' fs' start_tally)
 same_stage p p' x x' w w' fs fs' a b c d = cc
 
-module _ (s : SourceOf) (m : Meaning) (accepted : IsAccepted s) (program : seen_program m.program ≡ program_of s) (names : map seen_names m.names.items ≡ map proc_names s.procs)
+module _ (s : SourceOf) (m : Meaning) (accepted : IsAccepted s) (program : seen_program m.program ≡ program_of s)
+    (names : map seen_names m.names.items ≡ map proc_names s.procs)
     (fit : VarsFit (proc_at (program_of s) (program_of s).main).formals m.values.items) (procedure : m.procedure ≡ m.program.main)
-    (vars : map (λ v. v.1) m.variables.items ≡ main_start (seen_program m.program) m.values.items) (named : map (λ v. v.0) m.variables.items ≡ variables_of m.names.items m.program.main)
+    (vars : map (λ v. v.1) m.variables.items ≡ main_start (seen_program m.program) m.values.items)
+    (named : map (λ v. v.0) m.variables.items ≡ variables_of m.names.items m.program.main)
     (work : work_of m.work ≡ open_on (body_of (seen_program m.program) m.program.main) []) (waiting : m.waiting.items ≡ []) (ending : m.ending ≡ None) where
   pub opens : m.steps ≡ 0 → m.counted ≡ 0 → m.cost ≡ 0 → seen m ≡ opening (program_of s) (sizes_of m) m.values.items
   unfolding seen
@@ -87,7 +94,8 @@ module _ (s : SourceOf) (m : Meaning) (accepted : IsAccepted s) (program : seen_
       let v = m.values.items in
       let stage : stage_by m.ending m ≡ Running (start (program_of s) v) =
       ap (λ o. stage_by o m) ending
-      ∙ same_stage m.procedure m.program.main (map (λ v. v.1) m.variables.items) (main_start q v) (work_of m.work) (open_on (body_of q m.program.main) []) (frames_in m) []
+      ∙ same_stage m.procedure m.program.main (map (λ v. v.1) m.variables.items) (main_start q v) (work_of m.work)
+      (open_on (body_of q m.program.main) []) (frames_in m) []
       procedure vars work (ap (frames_of (map (λ v. v.1) m.variables.items)) waiting)
       ∙ ap (λ (r : Program). Running (start r v)) program in
       λ i. record {
@@ -109,7 +117,8 @@ module _ (s : SourceOf) (m : Meaning) (accepted : IsAccepted s) (program : seen_
       ap (map (λ v. v.shape)) vars ∙ shapes_are (shapes_of p) (main_start q m.values.items) (main_vars s accepted m.program program m.values.items fit) in
       let a : length (map (λ v. v.shape) (map (λ v. v.1) m.variables.items)) ≡ length m.variables.items =
       length-map (map (λ v. v.1) m.variables.items) (λ v. v.shape) ∙ length-map m.variables.items (λ v. v.1) in
-      let b : length (shapes_of p) ≡ length p.formals + length (map (λ (v : ValueOf). v.shape) p.locals) = length-append p.formals (map (λ v. v.shape) p.locals) in
+      let b : length (shapes_of p) ≡ length p.formals + length (map (λ (v : ValueOf). v.shape) p.locals) =
+      length-append p.formals (map (λ v. v.shape) p.locals) in
       let d : length (map (λ (v : ValueOf). v.shape) p.locals) ≡ length p.locals = length-map p.locals (λ v. v.shape) in
       let number : m.used_ctrl ≡ 2 + (length p.formals + length p.locals) = omega (arith, a, b, d, ctrl, ap length shapes) in
       let P : List Waiting → Type 0 = λ fs. AreActivations q m.names.items (reverse fs) in
@@ -123,7 +132,8 @@ module _ (s : SourceOf) (m : Meaning) (accepted : IsAccepted s) (program : seen_
         waiting = subst P (sym waiting) tt;
       }
 
-  pub belongs : (ns : List Need) → AreNeeds (program_of s) ns → AreSmall ns → Suffices (program_of s) (sizes_of m) → m.unnamed ≡ unnamed → m.steps ≡ 0 → m.counted ≡ 0 → m.cost ≡ 0 →
+  pub belongs : (ns : List Need) → AreNeeds (program_of s) ns → AreSmall ns → Suffices (program_of s) (sizes_of m) → m.unnamed ≡ unnamed → m.steps ≡ 0
+      → m.counted ≡ 0 → m.cost ≡ 0 →
       m.used_temp ≡ words_of (map (λ v. v.shape) (map (λ v. v.1) m.variables.items)) → m.used_ctrl ≡ length m.variables.items + 2 → BelongsTo s ns m
   unfolding after
   belongs ns needs small suffices plain steps counted cost temp ctrl =

@@ -1,5 +1,6 @@
 -- A step of the code is a step of what is shown.
-use Rattle.std.proofs.Common.{◌≡◌, ℕ, suc, ◌+◌, List, map, length, take, reverse, Option, Some, None, Result, Ok, Err, IfErr, true, false, refl, sym, ap, ap₂, subst, ◌∙◌}
+use Rattle.std.proofs.Common.{◌≡◌, ℕ, suc, ◌+◌, List, map, length, take, reverse, Option, Some, None, Result, Ok, Err, IfErr, true, false, refl, sym, ap, ap₂}
+use Rattle.std.proofs.Common.{subst, ◌∙◌}
 use Rattle.std.specs.Global.{Vec}
 use Rattle.stack_text.specs.Values.{ValueOf}
 use Rattle.gypsy_syntax.specs.Sources.{SourceOf}
@@ -20,7 +21,8 @@ use Rattle.gypsy_meaning.specs.Views.Held.{AreActivations, EndsRun, IsActivation
 use Rattle.gypsy_semantics.specs.Machine.{At, Ended, Move, Next, gypsy_step}
 use Rattle.gypsy_meaning.specs.Views.Named.{seen_names, variables_of}
 use Rattle.gypsy_meaning.specs.Views.Running.{Costs, frames_of, kept_frames, seen, sizes_of, stage_by, state_of, way_of}
-use Rattle.gypsy_semantics.specs.Views.RunView.{Finished, Running, Seen, Stage, added, after, after_move, answer_by, answer_from, answer_of, bare, is_over, left_from, left_of, opening, spent_at}
+use Rattle.gypsy_semantics.specs.Views.RunView.{Finished, Running, Seen, Stage, added, after, after_move, answer_by, answer_from, answer_of, bare, is_over}
+use Rattle.gypsy_semantics.specs.Views.RunView.{left_from, left_of, opening, spent_at}
 use Rattle.gypsy_meaning.specs.Internal.Stepping.{Does, IsReady}
 use Rattle.gypsy_meaning.specs.Views.Work.{work_of}
 use Rattle.gypsy_semantics.specs.declared.answers.Moved.{Moved}
@@ -179,7 +181,8 @@ module _ (s : SourceOf) (ns : List Need) (m : Meaning) (b : BelongsTo s ns m) wh
         values_fit = subst P (sym values) b.values_fit;
         sizes_suffice = subst Q (sym sizes) b.sizes_suffice;
         number = suc b.number;
-        run = left ∙ ap left_of b.run ∙ sym (after_last b.number (opened s m)) ∙ sym (ap₂ (λ (w : StackSizes) (x : List ValueOf). after (suc b.number) (opening q w x)) sizes values);
+        run = left ∙ ap left_of b.run ∙ sym (after_last b.number (opened s m)) ∙ sym
+            (ap₂ (λ (w : StackSizes) (x : List ValueOf). after (suc b.number) (opening q w x)) sizes values);
         names = ap (λ t. map seen_names t.items) k.names ∙ b.names;
         unnamed_are = k.unnamed ∙ b.unnamed_are;
         kept = kept;
@@ -202,7 +205,8 @@ module _ (s : SourceOf) (ns : List Need) (m : Meaning) (b : BelongsTo s ns m) wh
       h.named ∙ ap (take (length (proc_at q q.main).formals)) (top ∙ ap (variables_of m.names.items) main) in
       let all : IsKept n (Some h.ended_by) =
       named
-      ∙ ap₂ (λ (p : Program) (t : List Names). take (length (proc_at p p.main).formals) (variables_of t p.main)) (sym (ap seen_program h.keeps.program)) (sym (ap (λ t. t.items) h.keeps.names)) in
+      ∙ ap₂ (λ (p : Program) (t : List Names). take (length (proc_at p p.main).formals) (variables_of t p.main)) (sym (ap seen_program h.keeps.program))
+      (sym (ap (λ t. t.items) h.keeps.names)) in
       belongs_after n h.keeps (finishes_step m e n h).left (subst P (sym h.ending) all)
 
   -- by its answer

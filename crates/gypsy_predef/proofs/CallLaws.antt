@@ -1,5 +1,6 @@
 -- The code of a predefined call: the pushes, the call, the test.
-use Rattle.std.proofs.Common.{◌≡◌, ℕ, suc, ◌+◌, ◌≤◌, ◌<◌, Some, Ok, Bool, true, false, ◌||◌, List, [], ◌∷◌, ◌++◌, length, map, refl, ap, sym, ◌∙◌, subst, arith, length-append}
+use Rattle.std.proofs.Common.{◌≡◌, ℕ, suc, ◌+◌, ◌≤◌, ◌<◌, Some, Ok, Bool, true, false, ◌||◌, List, [], ◌∷◌, ◌++◌, length, map, refl, ap, sym, ◌∙◌, subst, arith}
+use Rattle.std.proofs.Common.{length-append}
 use Rattle.std.proofs.lemmas.List.{length-map}
 use Rattle.std.specs.Prelude.{slice_get, if◌then◌else◌}
 use Rattle.stack_text.specs.declared.shape.Kind.{Kind}
@@ -25,24 +26,31 @@ use Rattle.gypsy_syntax.specs.declared.predef.Predef.TheVariants as row
 use Rattle.gypsy_syntax.specs.Predefined.{slots_of, predef_effect, predef_cost, predef_temp, predef_number, can_fail}
 use Rattle.gypsy_syntax.specs.Effects.{Effect, Normal, Fault, Beyond}
 use Rattle.gypsy_predef.specs.Bodies.{body_of, bodies, lengths_of}
-use Rattle.gypsy_predef.specs.Runs.{Argument, ArgumentsFit, pushed_word, pushed_words, push_all, values_of, length_words, with_elements, target_of, words_of_value, push_count, pushes_count, called_count, called_steps, after_call, IsAtCall}
+use Rattle.gypsy_predef.specs.Runs.{Argument, ArgumentsFit, pushed_word, pushed_words, push_all, values_of, length_words, with_elements, target_of}
+use Rattle.gypsy_predef.specs.Runs.{words_of_value, push_count, pushes_count, called_count, called_steps, after_call, IsAtCall}
 use Rattle.gypsy_predef.specs.Calls.{argument_code, arguments_code, test_code, CodeAt, LocalHolds, LocalsHold, after_code, PredefCallRuns, BodiesStand}
 use Rattle.gypsy_predef.proofs.StackLaws.{written_length}
 use Rattle.gypsy_predef.proofs.RunningLaws.{step_first, joined, counted}
 use Rattle.gypsy_predef.proofs.RowLaws.{runs, counts}
 
 -- Code and then other code.
-code_after : (s : SystemView) (program place : ℕ) (front rest : List Instruction) → CodeAt s program place (front ++ rest) → CodeAt s program (place + length front) rest
-code_after s program place [] rest h = λ i ins e. let same : place + i ≡ place + 0 + i = omega arith in subst (λ l. instruction_at s program l ≡ Some ins) same (h i ins e)
+code_after : (s : SystemView) (program place : ℕ) (front rest : List Instruction) → CodeAt s program place (front ++ rest)
+    → CodeAt s program (place + length front) rest
+code_after s program place [] rest h =
+    λ i ins e. let same : place + i ≡ place + 0 + i = omega arith in subst (λ l. instruction_at s program l ≡ Some ins) same (h i ins e)
 code_after s program place (x ∷ front) rest h = λ i ins e.
     let same : place + 1 + length front + i ≡ place + suc (length front) + i = omega arith in
     subst (λ l. instruction_at s program l ≡ Some ins) same
-    (code_after s program (place + 1) front rest (λ i ins e. let same : place + suc i ≡ place + 1 + i = omega arith in subst (λ l. instruction_at s program l ≡ Some ins) same (h (suc i) ins e)) i ins e)
+    (code_after s program (place + 1) front rest
+    (λ i ins e. let same : place + suc i ≡ place + 1 + i = omega arith in subst (λ l. instruction_at s program l ≡ Some ins) same (h (suc i) ins e))
+    i ins e)
 
-code_first : (s : SystemView) (program place : ℕ) (ins : Instruction) (rest : List Instruction) → CodeAt s program place (ins ∷ rest) → instruction_at s program place ≡ Some ins
+code_first : (s : SystemView) (program place : ℕ) (ins : Instruction) (rest : List Instruction) → CodeAt s program place (ins ∷ rest)
+    → instruction_at s program place ≡ Some ins
 code_first s program place ins rest h = let same : place + 0 ≡ place = omega arith in subst (λ l. instruction_at s program l ≡ Some ins) same (h 0 ins refl)
 
-code_rest : (s : SystemView) (program place : ℕ) (ins : Instruction) (rest : List Instruction) → CodeAt s program place (ins ∷ rest) → CodeAt s program (place + 1) rest
+code_rest : (s : SystemView) (program place : ℕ) (ins : Instruction) (rest : List Instruction) → CodeAt s program place (ins ∷ rest)
+    → CodeAt s program (place + 1) rest
 code_rest s program place ins rest h = code_after s program place (ins ∷ []) rest h
 
 -- What pushes words, at a cost.
@@ -57,7 +65,8 @@ module _ (s : SystemView) (program : ℕ) (f : Frame) (fs : List Frame) (areas :
   abbrev state : ℕ → List Word → PitonState
   state place stack = record { program = program; place = place; frames = f ∷ fs; stack = stack; areas = areas }
 
-  pushing_runs : (code : List Instruction) (words : List Word) (n : ℕ) → Pushing f.locals code words n → (rest : List Instruction) (place : ℕ) (stack : List Word) →
+  pushing_runs : (code : List Instruction) (words : List Word) (n : ℕ) → Pushing f.locals code words n
+      → (rest : List Instruction) (place : ℕ) (stack : List Word) →
       CodeAt s program place (code ++ rest) → length stack + length code ≤ s.temp →
       Steps s (length code) n (state place stack) (state (place + length code) (push_all words stack))
   pushing_runs c ws n nothing rest place stack h room =
@@ -92,19 +101,22 @@ module _ (s : SystemView) (program : ℕ) (f : Frame) (fs : List Frame) (areas :
       step_first (state place stack) (program_of s program) f fs (PushGlobal 0) refl refl first
       (does_push_global s.temp (state place stack) 0 (Nat n) read room)
       (step_first (state (place + 1) (Nat n ∷ stack)) (program_of s program) f fs (Apply op.Sub1Nat) refl refl second
-      (does_apply s.temp (state (place + 1) (Nat n ∷ stack)) op.Sub1Nat record { third = Nat n; second = Nat n; top = Nat n; below = stack } (One (Nat m)) refl less refl)
+      (does_apply s.temp (state (place + 1) (Nat n ∷ stack)) op.Sub1Nat record { third = Nat n; second = Nat n; top = Nat n; below = stack }
+      (One (Nat m)) refl less refl)
       (step_first (state (place + 1 + 1) (Nat m ∷ stack)) (program_of s program) f fs (TestAndJump family.Nat test.Zero target) refl refl third
       (does_test_and_jump (state (place + 1 + 1) (Nat m ∷ stack)) family.Nat test.Zero target (Nat m) stack jump refl holds) none))
 
 -- What the code pushes.
 
-push_one : (locals : List Word) (form : Form) (a : Argument) (code : List Instruction) (words : List Word) (n : ℕ) → LocalHolds locals form a → Pushing locals code words n →
+push_one : (locals : List Word) (form : Form) (a : Argument) (code : List Instruction) (words : List Word) (n : ℕ) → LocalHolds locals form a
+    → Pushing locals code words n →
     Pushing locals (argument_code form a ∷ code) (pushed_word form a ∷ words) (push_count form + n)
 push_one locals Simple a code words n h rest = local a.local (Nat a.index) h rest
 push_one locals Array a code words n h rest = local a.local (Nat a.index) h rest
 push_one locals Literal a code words n h rest = constant (pushed_word Literal a) rest
 
-arguments_push : (locals stack : List Word) (k : Kind) (slots : List Slot) (args : List Argument) → ArgumentsFit stack k slots args → LocalsHold locals slots args →
+arguments_push : (locals stack : List Word) (k : Kind) (slots : List Slot) (args : List Argument) → ArgumentsFit stack k slots args
+    → LocalsHold locals slots args →
     Pushing locals (arguments_code slots args) (pushed_words slots args) (pushes_count slots) × (length (arguments_code slots args) ≡ length slots)
 arguments_push locals stack k [] [] fit holds = (nothing, refl)
 arguments_push locals stack k [] (a ∷ args) fit holds = absurd fit
@@ -162,7 +174,8 @@ unfolding then_on
 is_zero = refl
 
 -- after the call: the test, where there is one
-test_follows : (s : SystemView) (r : Predef) (args : List Argument) (f : Frame) (fs : List Frame) (p : PitonState) (place target size : ℕ) (words : List Word) (e : Effect) (b : Bool) →
+test_follows : (s : SystemView) (r : Predef) (args : List Argument) (f : Frame) (fs : List Frame) (p : PitonState) (place target size : ℕ)
+    (words : List Word) (e : Effect) (b : Bool) →
     predef_effect r (values_of args) ≡ e → can_fail r ≡ b → p.frames ≡ f ∷ fs → word_at p.areas 0 0 ≡ Some (Nat 2) → length p.stack < s.temp →
     CodeAt s p.program (place + 1) (if b then PushGlobal 0 ∷ Apply op.Sub1Nat ∷ TestAndJump family.Nat test.Zero target ∷ [] else []) →
     p.place + size ≡ place + 1 + (if b then 3 else 0) → ((v : ValueOf) → length (with_elements p.stack (target_of args) (words_of_value v)) ≡ length p.stack) →
@@ -189,7 +202,8 @@ test_follows s r args f fs p place target size words Fault true he hb frames two
 test_follows s r args f fs p place target size words Beyond true he hb frames two room code at lengths =
     test_runs s p.program f fs (with_word p.areas 0 0 (Nat 1)) (place + 1) target 1 0 true p.stack code (word_set p.areas (Nat 2) (Nat 1) two) refl is_zero room
 
-test_length : (b : Bool) (target : ℕ) → length (if b then PushGlobal 0 ∷ Apply op.Sub1Nat ∷ TestAndJump family.Nat test.Zero target ∷ [] else []) ≡ (if b then 3 else 0)
+test_length : (b : Bool) (target : ℕ) → length (if b then PushGlobal 0 ∷ Apply op.Sub1Nat ∷ TestAndJump family.Nat test.Zero target ∷ [] else [])
+    ≡ (if b then 3 else 0)
 test_length true target = refl
 test_length false target = refl
 
@@ -231,12 +245,14 @@ calls s start target r k args f fs p found at =
     length-append acode (lcode ++ (Call program ∷ tcode)) ∙ ap (λ n. length acode + n) (length-append lcode (Call program ∷ tcode)) in
     let tests : length tcode ≡ (if can_fail r then 3 else 0) = test_length (can_fail r) target in
     let place : p.place + length (acode ++ (lcode ++ (Call program ∷ tcode))) ≡ l2 + 1 + (if can_fail r then 3 else 0) = omega (arith, size, tests) in
-    let pushed = pushing_runs s p.program f fs p.areas acode (pushed_words (slots_of r) args) (pushes_count (slots_of r)) pushing.0 (lcode ++ (Call program ∷ tcode)) p.place p.stack code1 room1 in
+    let pushed = pushing_runs s p.program f fs p.areas acode (pushed_words (slots_of r) args) (pushes_count (slots_of r)) pushing.0
+    (lcode ++ (Call program ∷ tcode)) p.place p.stack code1 room1 in
     let longer = pushing_runs s p.program f fs p.areas lcode lw (length lw) (constants_push f.locals lw) (Call program ∷ tcode) l1 w1 code2 room2 in
     let there : IsAtCall s program r args p.stack f fs (state s p.program f fs p.areas l2 (push_all lw w1)) =
     record { call = call; frames = refl; pushed = refl; temp = at.temp; temp_room = at.temp_room; ctrl_room = at.ctrl_room } in
     let called = runs s start r k args p.stack f fs (state s p.program f fs p.areas l2 (push_all lw w1)) found there at.arguments in
-    let after = test_follows s r args f fs p l2 target (length (acode ++ (lcode ++ (Call program ∷ tcode)))) (push_all lw w1) e (can_fail r) refl refl at.frames at.condition
+    let after = test_follows s r args f fs p l2 target (length (acode ++ (lcode ++ (Call program ∷ tcode)))) (push_all lw w1) e (can_fail r) refl refl
+    at.frames at.condition
     (omega (arith, at.temp_room, covers.1)) code4 place (λ v. written_length (words_of_value v) p.stack (target_of args)) in
     let all = counts r e in
     let fail_steps = if can_fail r then 3 else 0 in

@@ -1,5 +1,6 @@
 -- The texts of the bodies keep the form.
-use Rattle.std.proofs.Common.{◌≡◌, ◌+◌, ◌<◌, ◌≤◌, ◌^◌, Bool, true, false, List, [], ◌∷◌, length, map, All, Contains, IsTrue, Some, pos, negsuc, refl, sym, subst, lit<, lit≤, flat_map}
+use Rattle.std.proofs.Common.{◌≡◌, ◌+◌, ◌<◌, ◌≤◌, ◌^◌, Bool, true, false, List, [], ◌∷◌, length, map, All, Contains, IsTrue, Some, pos, negsuc, refl, sym}
+use Rattle.std.proofs.Common.{subst, lit<, lit≤, flat_map}
 use Rattle.std.specs.Prelude.{nat_lt}
 use Rattle.std.specs.List.{list_all}
 use Rattle.std.proofs.lemmas.Bool.{and_parts, ltb-true}
@@ -36,7 +37,8 @@ use Rattle.gypsy_predef.specs.declared.line.Temporary.TheVariants as temporary
 use Rattle.gypsy_predef.specs.declared.line.Line.{Line}
 use Rattle.gypsy_predef.specs.declared.line.Line.TheVariants as line
 use Rattle.gypsy_predef.specs.Resolving.{BodiesFit}
-use Rattle.gypsy_predef.specs.Texts.{local_name, label_name, lines_of, formals_of, temporary_locals, plain, plain_at, of_name, constant, branch_text, fail_label, condition_area}
+use Rattle.gypsy_predef.specs.Texts.{local_name, label_name, lines_of, formals_of, temporary_locals, plain, plain_at, of_name, constant, branch_text}
+use Rattle.gypsy_predef.specs.Texts.{fail_label, condition_area}
 use Rattle.gypsy_predef.specs.Texts.{line_text, temporary_text, named_local}
 
 -- ---- names
@@ -171,7 +173,8 @@ both i j h k = All-cons FitsInstruction i (j ∷ []) h (alone j k)
 plain_at_fits : (l : Label) (o : PitonOp) → op_arguments o ≡ Zero → FitsInstruction (plain_at l o)
 plain_at_fits l o h = record { label = label_names l; args = subst (λ (a : Arguments). FitsArguments a []) (sym h) tt }
 
-branch_fits : (o : PitonOp) (k : TestKind) (l : Label) → FitsArguments (op_arguments o) (arg.Test k ∷ arg.Name (unplaced (label_name l)) ∷ []) → FitsInstruction (branch_text o k l)
+branch_fits : (o : PitonOp) (k : TestKind) (l : Label) → FitsArguments (op_arguments o) (arg.Test k ∷ arg.Name (unplaced (label_name l)) ∷ [])
+    → FitsInstruction (branch_text o k l)
 branch_fits o k l h = record { label = tt; args = h }
 
 jump_fits : (l : Label) → FitsInstruction (of_name op.Jump (label_name l))
@@ -205,7 +208,8 @@ note_fits =
 line_fits : (l : Line) → line_right l ≡ true → All FitsInstruction (line_text l)
 unfolding operations.row_of
 line_fits (line.Get x) h = both (of_name op.PushLocal (local_name x)) (plain op.FetchTempStk) (local_fits op.PushLocal x refl) (plain_fits op.FetchTempStk refl)
-line_fits (line.Put d) h = both (of_name op.PushLocal (local_name d)) (plain op.DepositTempStk) (local_fits op.PushLocal d refl) (plain_fits op.DepositTempStk refl)
+line_fits (line.Put d) h =
+    both (of_name op.PushLocal (local_name d)) (plain op.DepositTempStk) (local_fits op.PushLocal d refl) (plain_fits op.DepositTempStk refl)
 line_fits (line.Local o x) h = alone (of_name o (local_name x)) (local_fits o x (local_taken (op_arguments o) h))
 line_fits (line.Plain o) h = alone (plain o) (plain_fits o (nothing_taken (op_arguments o) h))
 line_fits (line.Truth b) h = alone _ (record { label = tt; args = tt })
@@ -217,7 +221,8 @@ line_fits (line.Branch o k l) h = alone (branch_text o k l) (branch_fits o k l (
 line_fits (line.Choose l end) h = choose_fits l end
 line_fits line.Note h = note_fits
 line_fits line.Fail h =
-    All-cons FitsInstruction (constant (Some (unplaced fail_label)) (item.Nat record { place = 0; number = pos 1 })) (of_name op.PopGlobal condition_area ∷ plain op.Ret ∷ []) (record { label = refl; args = lit< tt })
+    All-cons FitsInstruction (constant (Some (unplaced fail_label)) (item.Nat record { place = 0; number = pos 1 }))
+    (of_name op.PopGlobal condition_area ∷ plain op.Ret ∷ []) (record { label = refl; args = lit< tt })
     (both (of_name op.PopGlobal condition_area) (plain op.Ret) (record { label = tt; args = refl }) (plain_fits op.Ret refl))
 
 lines_fit : (ls : List Line) → list_all line_right ls ≡ true → All FitsInstruction (flat_map line_text ls)

@@ -1,5 +1,6 @@
 -- The product: 31 rounds, each a bit of the second factor.
-use Rattle.std.proofs.Common.{◌≡◌, ℕ, zero, suc, ◌+◌, ◌*◌, ◌≤◌, ◌<◌, ◌^◌, ℤ, pos, ◌+ℤ◌, ◌-ℤ◌, ◌*ℤ◌, neg_ℤ, Some, Ok, Bool, true, false, not, ◌||◌, List, [], ◌∷◌, length, map, refl, ap, sym, ◌∙◌, subst, arith}
+use Rattle.std.proofs.Common.{◌≡◌, ℕ, zero, suc, ◌+◌, ◌*◌, ◌≤◌, ◌<◌, ◌^◌, ℤ, pos, ◌+ℤ◌, ◌-ℤ◌, ◌*ℤ◌, neg_ℤ, Some, Ok, Bool, true, false, not, ◌||◌, List, []}
+use Rattle.std.proofs.Common.{◌∷◌, length, map, refl, ap, sym, ◌∙◌, subst, arith}
 use Rattle.std.specs.Prelude.{slice_get, ◌==◌, if◌then◌else◌}
 use Rattle.std.proofs.lemmas.Bool.{lt-ltb, ne_eqb}
 use Rattle.std.proofs.lemmas.Int.{ints}
@@ -19,7 +20,8 @@ use Rattle.piton_semantics.specs.Views.{then_on, test_of, is_negative}
 use Rattle.piton_semantics.specs.Law.{Steps, none}
 use Rattle.gypsy_syntax.specs.declared.predef.Predef.TheVariants as row
 use Rattle.gypsy_predef.specs.Bodies.{body_of}
-use Rattle.gypsy_predef.proofs.RunningLaws.{Called, program_is, joined, counted, within, afterwards, At, gets, puts, fails, pushes, pushes_local, pops_local, sets_local, jumps, goes_to, passes, drops, applies_one, applies_two, applies_three}
+use Rattle.gypsy_predef.proofs.RunningLaws.{Called, program_is, joined, counted, within, afterwards, At, gets, puts, fails, pushes, pushes_local, pops_local}
+use Rattle.gypsy_predef.proofs.RunningLaws.{sets_local, jumps, goes_to, passes, drops, applies_one, applies_two, applies_three}
 use Rattle.gypsy_predef.proofs.NumberLaws.{add_row, subtract_row, truth_test, negative_test}
 use Rattle.gypsy_predef.proofs.ProductLaws.{kept, bit, term, IsSum, Cut, cut_between, cut_first, cut_next, cut_whole, sum_first, sum_next, sum_whole}
 
@@ -84,14 +86,17 @@ module _ (s : SystemView) (program caller place : ℕ) (f : Frame) (fs : List Fr
       let chosen = term (is_negative y) x in
       let z = pos 0 -ℤ chosen in
       let below = Int (pos 0) ∷ Truth false ∷ stack in
-      gets here 0 (Nat a ∷ Nat b ∷ Nat c ∷ Int (pos 0) ∷ Int (pos 0) ∷ Truth false ∷ Nat 31 ∷ Int (pos 0) ∷ []) stack areas 1 b (Int x) refl refl refl at_x (omega (arith, room))
+      gets here 0 (Nat a ∷ Nat b ∷ Nat c ∷ Int (pos 0) ∷ Int (pos 0) ∷ Truth false ∷ Nat 31 ∷ Int (pos 0) ∷ []) stack areas 1 b (Int x) refl refl refl
+      at_x (omega (arith, room))
       (pops_local here 2 (Nat a ∷ Nat b ∷ Nat c ∷ Int (pos 0) ∷ Int (pos 0) ∷ Truth false ∷ Nat 31 ∷ Int (pos 0) ∷ []) 1 (Int x) stack areas refl
-      (gets here 3 (Nat a ∷ Int x ∷ Nat c ∷ Int (pos 0) ∷ Int (pos 0) ∷ Truth false ∷ Nat 31 ∷ Int (pos 0) ∷ []) stack areas 2 c (Int y) refl refl refl at_y (omega (arith, room))
+      (gets here 3 (Nat a ∷ Int x ∷ Nat c ∷ Int (pos 0) ∷ Int (pos 0) ∷ Truth false ∷ Nat 31 ∷ Int (pos 0) ∷ []) stack areas 2 c (Int y) refl refl refl
+      at_y (omega (arith, room))
       (pops_local here 5 (Nat a ∷ Int x ∷ Nat c ∷ Int (pos 0) ∷ Int (pos 0) ∷ Truth false ∷ Nat 31 ∷ Int (pos 0) ∷ []) 2 (Int y) stack areas refl
       (pushes here 6 (locals a x y (pos 0) false 31 (pos 0)) stack areas (Truth false) refl (omega (arith, room))
       (pushes_local here 7 (locals a x y (pos 0) false 31 (pos 0)) (Truth false ∷ stack) areas 4 (Int (pos 0)) refl refl (omega (arith, room))
       (joined (chooses 8 12 14 a x y (pos 0) false 31 (pos 0) below refl refl refl refl refl refl refl (omega (arith, room)))
-      (applies_three here 14 (locals a x y (pos 0) false 31 (pos 0)) op.SubIntWithCarry (Int chosen) (Int (pos 0)) (Truth false) (Two (Truth (not (is_int z))) (Int (kept z))) stack areas
+      (applies_three here 14 (locals a x y (pos 0) false 31 (pos 0)) op.SubIntWithCarry (Int chosen) (Int (pos 0)) (Truth false)
+      (Two (Truth (not (is_int z))) (Int (kept z))) stack areas
       refl refl (subtract_row (pos 0) chosen (map length areas)) refl
       (pops_local here 15 (locals a x y (pos 0) false 31 (pos 0)) 3 (Int (kept z)) (Truth (not (is_int z)) ∷ stack) areas refl
       (pops_local here 16 (locals a x y (kept z) false 31 (pos 0)) 5 (Truth (not (is_int z))) stack areas refl none)))))))))
@@ -123,26 +128,30 @@ module _ (s : SystemView) (program caller place : ℕ) (f : Frame) (fs : List Fr
       pushes here 17 (locals d x y p o (suc n) t) stack areas (Truth false) refl (omega (arith, room))
       (pushes_local here 18 (locals d x y p o (suc n) t) (Truth false ∷ stack) areas 2 (Int y) refl refl (omega (arith, room))
       (pushes_local here 19 (locals d x y p o (suc n) t) (Int y ∷ Truth false ∷ stack) areas 2 (Int y) refl refl (omega (arith, room))
-      (applies_three here 20 (locals d x y p o (suc n) t) op.AddIntWithCarry (Int y) (Int y) (Truth false) (Two (Truth (not (is_int (y +ℤ y)))) (Int rest)) stack areas
+      (applies_three here 20 (locals d x y p o (suc n) t) op.AddIntWithCarry (Int y) (Int y) (Truth false)
+      (Two (Truth (not (is_int (y +ℤ y)))) (Int rest)) stack areas
       refl refl (add_row y y (map length areas)) refl
       (pops_local here 21 (locals d x y p o (suc n) t) 2 (Int rest) (Truth (not (is_int (y +ℤ y))) ∷ stack) areas refl
       (drops here 22 (locals d x rest p o (suc n) t) (Truth (not (is_int (y +ℤ y)))) stack areas refl
       (pushes here 23 (locals d x rest p o (suc n) t) stack areas (Truth false) refl (omega (arith, room))
       (pushes_local here 24 (locals d x rest p o (suc n) t) (Truth false ∷ stack) areas 3 (Int p) refl refl (omega (arith, room))
       (joined (chooses 25 29 31 d x rest p o (suc n) t (Int p ∷ Truth false ∷ stack) refl refl refl refl refl refl refl (omega (arith, room)))
-      (applies_three here 31 (locals d x rest p o (suc n) t) op.AddIntWithCarry (Int chosen) (Int p) (Truth false) (Two (Truth (not (is_int added))) (Int half)) stack areas
+      (applies_three here 31 (locals d x rest p o (suc n) t) op.AddIntWithCarry (Int chosen) (Int p) (Truth false)
+      (Two (Truth (not (is_int added))) (Int half)) stack areas
       refl refl (add_row p chosen (map length areas)) refl
       (pops_local here 32 (locals d x rest p o (suc n) t) 7 (Int half) (Truth (not (is_int added)) ∷ stack) areas refl
       (joined (notes 33 d x rest p (not (is_int added)) o (suc n) half stack refl refl refl (omega (arith, room)))
       (pushes here 36 (locals d x rest p o1 (suc n) half) stack areas (Truth false) refl (omega (arith, room))
       (pushes_local here 37 (locals d x rest p o1 (suc n) half) (Truth false ∷ stack) areas 7 (Int half) refl refl (omega (arith, room))
       (pushes_local here 38 (locals d x rest p o1 (suc n) half) (Int half ∷ Truth false ∷ stack) areas 3 (Int p) refl refl (omega (arith, room))
-      (applies_three here 39 (locals d x rest p o1 (suc n) half) op.AddIntWithCarry (Int p) (Int half) (Truth false) (Two (Truth (not (is_int (half +ℤ p)))) (Int sum)) stack areas
+      (applies_three here 39 (locals d x rest p o1 (suc n) half) op.AddIntWithCarry (Int p) (Int half) (Truth false)
+      (Two (Truth (not (is_int (half +ℤ p)))) (Int sum)) stack areas
       refl refl (add_row half p (map length areas)) refl
       (pops_local here 40 (locals d x rest p o1 (suc n) half) 3 (Int sum) (Truth (not (is_int (half +ℤ p))) ∷ stack) areas refl
       (joined (notes 41 d x rest sum (not (is_int (half +ℤ p))) o1 (suc n) half stack refl refl refl (omega (arith, room)))
       (pushes_local here 44 (locals d x rest sum o2 (suc n) half) stack areas 6 (Nat (suc n)) refl refl (omega (arith, room))
-      (applies_one here 45 (locals d x rest sum o2 (suc n) half) op.Sub1Nat (Nat (suc n)) (One (Nat n)) stack areas refl refl (less_row n (Nat (suc n)) (map length areas) small) refl
+      (applies_one here 45 (locals d x rest sum o2 (suc n) half) op.Sub1Nat (Nat (suc n)) (One (Nat n)) stack areas refl refl
+      (less_row n (Nat (suc n)) (map length areas) small) refl
       (sets_local here 46 (locals d x rest sum o2 (suc n) half) 6 (Nat n) stack areas refl
       (jumps here 47 (locals d x rest sum o2 n half) family.Nat test.NotZero 17 (Nat n) b stack areas refl (more_test n b more) none)))))))))))))))))))))
 

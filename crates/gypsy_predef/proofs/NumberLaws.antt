@@ -1,5 +1,6 @@
 -- The word operations of the bodies on words of items.
-use Rattle.std.proofs.Common.{◌≡◌, ℕ, zero, suc, ◌+◌, ◌<◌, ◌^◌, ℤ, pos, negsuc, ◌+ℤ◌, ◌-ℤ◌, neg_ℤ, Ok, Bool, true, false, not, ◌⊎◌, cond, List, refl, ap, sym, ◌∙◌, arith, int_lt, int_le, inl, inr}
+use Rattle.std.proofs.Common.{◌≡◌, ℕ, zero, suc, ◌+◌, ◌<◌, ◌^◌, ℤ, pos, negsuc, ◌+ℤ◌, ◌-ℤ◌, neg_ℤ, Ok, Bool, true, false, not, ◌⊎◌, cond, List, refl, ap, sym}
+use Rattle.std.proofs.Common.{◌∙◌, arith, int_lt, int_le, inl, inr}
 use Rattle.std.specs.Prelude.{◌==◌, nat_lt, nat_le}
 use Rattle.std.specs.Ordering.{is_eq}
 use Rattle.std.proofs.Common.{Less, Equal, Greater}

@@ -1,5 +1,6 @@
 -- The arithmetic of a product that is added up bit by bit, over whole numbers.
-use Rattle.std.proofs.Common.{◌≡◌, ℕ, zero, suc, ◌+◌, ◌*◌, ◌-◌, ◌%◌, ◌≤◌, ◌<◌, ◌^◌, ℤ, pos, negsuc, ◌+ℤ◌, ◌-ℤ◌, ◌*ℤ◌, neg_ℤ, Bool, true, false, not, ◌||◌, ◌⊎◌, inl, inr, refl, ap, sym, ◌∙◌, subst, arith}
+use Rattle.std.proofs.Common.{◌≡◌, ℕ, zero, suc, ◌+◌, ◌*◌, ◌-◌, ◌%◌, ◌≤◌, ◌<◌, ◌^◌, ℤ, pos, negsuc, ◌+ℤ◌, ◌-ℤ◌, ◌*ℤ◌, neg_ℤ, Bool, true, false, not, ◌||◌, ◌⊎◌}
+use Rattle.std.proofs.Common.{inl, inr, refl, ap, sym, ◌∙◌, subst, arith}
 use Rattle.std.specs.Prelude.{nat_lt, if◌then◌else◌}
 use Rattle.std.specs.Int.{w32, cast_signed, cast_unsigned, int_wrap}
 use Rattle.std.proofs.lemmas.Bool.{lt-ltb, ltb-true, ltb-false, or_parts, or_cases, false_from_ne_true, not-false, not-true, both_ways}
@@ -50,7 +51,8 @@ nearer_fits (negsuc x) (pos a) (negsuc c) l h =
     let none : suc x * a ≡ 0 = ap (λ n. suc x * n) l ∙ omega arith in
     ap (λ n. is_int (neg_ℤ (pos n))) none
 nearer_fits (negsuc x) (negsuc a) (pos c) l h = absurd l
-nearer_fits (negsuc x) (negsuc a) (negsuc c) l h = let more : suc a ≤ suc c = omega (arith, l) in small_up (suc x * suc a) (suc x * suc c) (mul-le-mul_left (suc x) more) h
+nearer_fits (negsuc x) (negsuc a) (negsuc c) l h =
+    let more : suc a ≤ suc c = omega (arith, l) in small_up (suc x * suc a) (suc x * suc c) (mul-le-mul_left (suc x) more) h
 
 -- ---- bits
 
@@ -204,11 +206,13 @@ cut_next n y high rest c =
 pub cut_whole : (y high rest : ℤ) → Cut 0 y high rest → high ≡ y
 cut_whole y high rest c =
     let all : c.scale ≡ 2 ^ 31 = omega (arith, c.scaled) in
-    let is : y *ℤ pos (2 ^ 31) ≡ high *ℤ pos (2 ^ 31) +ℤ pos (c.bits % 2 ^ 31) = subst (λ k. y *ℤ pos k ≡ high *ℤ pos (2 ^ 31) +ℤ pos (c.bits % 2 ^ 31)) all c.is in
+    let is : y *ℤ pos (2 ^ 31) ≡ high *ℤ pos (2 ^ 31) +ℤ pos (c.bits % 2 ^ 31) =
+    subst (λ k. y *ℤ pos k ≡ high *ℤ pos (2 ^ 31) +ℤ pos (c.bits % 2 ^ 31)) all c.is in
     omega (arith, ints, is)
 
 -- at first only the sign is known
-first_bits : (y : ℤ) → is_int y ≡ true → (cast_unsigned w32 y < 2 ^ 32) × (y *ℤ pos 1 ≡ neg_ℤ (bit (is_negative y)) *ℤ pos (2 ^ 31) +ℤ pos (cast_unsigned w32 y % 2 ^ 31))
+first_bits : (y : ℤ) → is_int y ≡ true → (cast_unsigned w32 y < 2 ^ 32)
+    × (y *ℤ pos 1 ≡ neg_ℤ (bit (is_negative y)) *ℤ pos (2 ^ 31) +ℤ pos (cast_unsigned w32 y % 2 ^ 31))
 first_bits (pos n) h =
     let small : n < 2 ^ 31 = ltb-true n (2 ^ 31) h in
     let low : n % 2 ^ 31 ≡ n = omega (arith, small) in

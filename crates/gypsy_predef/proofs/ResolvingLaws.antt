@@ -40,7 +40,8 @@ stand_resolved s programs r e h =
     let there : slice_get s.programs (length programs + predef_number r) ≡ Some (body_text r) =
     ap (λ (ps : List ProgramOf). slice_get ps (length programs + predef_number r)) e ∙ get_after programs body_texts (predef_number r) ∙ text_number r in
     slice_get-map program_view (map (resolved_program s) s.programs) (length programs + predef_number r)
-    ∙ ap (option_map program_view) (slice_get-map (resolved_program s) s.programs (length programs + predef_number r) ∙ ap (option_map (resolved_program s)) there)
+    ∙ ap (option_map program_view) (slice_get-map (resolved_program s) s.programs (length programs + predef_number r)
+    ∙ ap (option_map (resolved_program s)) there)
     ∙ ap Some (resolve s r h)
 
 pub do_rows : (texts : List ProgramOf) → texts ≡ body_texts → DoTheirRows texts

@@ -1,5 +1,6 @@
 -- The rows.
-use Rattle.std.proofs.Common.{◌≡◌, ℕ, ◌+◌, ◌≤◌, ◌<◌, ◌^◌, ℤ, pos, negsuc, ◌+ℤ◌, ◌-ℤ◌, ◌*ℤ◌, neg_ℤ, int_le, int_lt, not, ◌||◌, ◌&&◌, Result, Some, Ok, Bool, true, false, List, [], ◌∷◌, length, map, refl, ap, sym, ◌∙◌, subst, arith}
+use Rattle.std.proofs.Common.{◌≡◌, ℕ, ◌+◌, ◌≤◌, ◌<◌, ◌^◌, ℤ, pos, negsuc, ◌+ℤ◌, ◌-ℤ◌, ◌*ℤ◌, neg_ℤ, int_le, int_lt, not, ◌||◌, ◌&&◌, Result, Some, Ok, Bool}
+use Rattle.std.proofs.Common.{true, false, List, [], ◌∷◌, length, map, refl, ap, sym, ◌∙◌, subst, arith}
 use Rattle.std.specs.Prelude.{slice_get, slice_set, nat_lt, get_or, if◌then◌else◌}
 use Rattle.std.proofs.lemmas.Bool.{lt-ltb, ltb-true}
 use Rattle.std.proofs.lemmas.List.{map-set, length-map}
@@ -32,10 +33,13 @@ use Rattle.gypsy_syntax.specs.Effects.{number_effect, indexed}
 use Rattle.gypsy_syntax.specs.Ranges.{is_in_range}
 use Rattle.gypsy_syntax.proofs.RangeLaws.{simple_item}
 use Rattle.gypsy_predef.specs.Bodies.{body_of}
-use Rattle.gypsy_predef.specs.Runs.{word_of_item, words_of_value, with_elements, length_word, Argument, values_of, ArgumentFits, ArgumentsFit, with_arguments, Runs, PredefRuns, CountsAdd, WordsWritten}
-use Rattle.gypsy_predef.proofs.RunningLaws.{Called, program_is, calls, gets, puts, fails, pushes, pushes_local, pops_local, sets_local, fetches, deposits, jumps, applies_one, applies_two, applies_three, returns}
+use Rattle.gypsy_predef.specs.Runs.{word_of_item, words_of_value, with_elements, length_word, Argument, values_of, ArgumentFits, ArgumentsFit, with_arguments}
+use Rattle.gypsy_predef.specs.Runs.{Runs, PredefRuns, CountsAdd, WordsWritten}
+use Rattle.gypsy_predef.proofs.RunningLaws.{Called, program_is, calls, gets, puts, fails, pushes, pushes_local, pops_local, sets_local, fetches, deposits}
+use Rattle.gypsy_predef.proofs.RunningLaws.{jumps, applies_one, applies_two, applies_three, returns}
 use Rattle.gypsy_predef.proofs.StackLaws.{element_over, element_under_two, element_there, written_one, written_length, written_word, written_other}
-use Rattle.gypsy_predef.proofs.NumberLaws.{eq_row, not_less, same_range, minus_range, minus_row, add_row, subtract_row, truth_test, false_test, negative_test, to_nat_row, add_nat_row}
+use Rattle.gypsy_predef.proofs.NumberLaws.{eq_row, not_less, same_range, minus_range, minus_row, add_row, subtract_row, truth_test, false_test, negative_test}
+use Rattle.gypsy_predef.proofs.NumberLaws.{to_nat_row, add_nat_row}
 use Rattle.gypsy_predef.proofs.ProductLaws.{kept_is}
 use Rattle.gypsy_predef.proofs.MultiplyLaws.{product_fits, product_overflows}
 use Rattle.gypsy_predef.proofs.ValueLaws.{simple_words, simple_argument, literal_word, array_word, truth_words, for_two, for_three}
@@ -85,7 +89,8 @@ module _ (s : SystemView) (program caller place : ℕ) (f : Frame) (fs : List Fr
       (puts here 2 locals 0 a.index w stack areas refl refl refl refl d.low (omega (arith, room)))))
 
   assigns_constant : (a b : Argument) → Ready row.MgSimpleConstantAssignment → ArgumentFits stack Simple k a → ArgumentFits stack Literal k b →
-      Runs s row.MgSimpleConstantAssignment (a ∷ b ∷ []) stack (from (word_of_item b.value.shape.kind (item_of_value b.value) ∷ Nat a.index ∷ stack)) (Normal b.value)
+      Runs s row.MgSimpleConstantAssignment (a ∷ b ∷ []) stack (from (word_of_item b.value.shape.kind (item_of_value b.value) ∷ Nat a.index ∷ stack))
+      (Normal b.value)
   unfolding predef_cost
   assigns_constant a b ready fa fb =
       let body = body_of row.MgSimpleConstantAssignment in
@@ -100,8 +105,10 @@ module _ (s : SystemView) (program caller place : ℕ) (f : Frame) (fs : List Fr
       (pushes_local here 0 locals stack areas 1 w refl refl (omega (arith, room))
       (puts here 1 locals 0 a.index w stack areas refl refl refl refl d.low (omega (arith, room)))))
 
-  equals : (a b c : Argument) → Ready row.MgSimpleVariableEq → ArgumentFits stack Simple Boolean a → ArgumentFits stack Simple k b → ArgumentFits stack Simple k c →
-      Runs s row.MgSimpleVariableEq (a ∷ b ∷ c ∷ []) stack (from (Nat c.index ∷ Nat b.index ∷ Nat a.index ∷ stack)) (Normal (truth_value (are_same b.value c.value)))
+  equals : (a b c : Argument) → Ready row.MgSimpleVariableEq → ArgumentFits stack Simple Boolean a → ArgumentFits stack Simple k b
+      → ArgumentFits stack Simple k c →
+      Runs s row.MgSimpleVariableEq (a ∷ b ∷ c ∷ []) stack (from (Nat c.index ∷ Nat b.index ∷ Nat a.index ∷ stack))
+      (Normal (truth_value (are_same b.value c.value)))
   unfolding predef_cost
   equals a b c ready fa fb fc =
       let body = body_of row.MgSimpleVariableEq in
@@ -122,8 +129,11 @@ module _ (s : SystemView) (program caller place : ℕ) (f : Frame) (fs : List Fr
       (applies_two here 4 locals op.Eq t u (One (Truth same)) stack areas refl refl result refl
       (puts here 5 locals 0 a.index (Truth same) stack areas refl refl refl refl d.low (omega (arith, room)))))))
 
-  equals_constant : (a b c : Argument) → Ready row.MgSimpleConstantEq → ArgumentFits stack Simple Boolean a → ArgumentFits stack Simple k b → ArgumentFits stack Literal k c →
-      Runs s row.MgSimpleConstantEq (a ∷ b ∷ c ∷ []) stack (from (word_of_item c.value.shape.kind (item_of_value c.value) ∷ Nat b.index ∷ Nat a.index ∷ stack)) (Normal (truth_value (are_same b.value c.value)))
+  equals_constant : (a b c : Argument) → Ready row.MgSimpleConstantEq → ArgumentFits stack Simple Boolean a → ArgumentFits stack Simple k b
+      → ArgumentFits stack Literal k c →
+      Runs s row.MgSimpleConstantEq (a ∷ b ∷ c ∷ []) stack
+      (from (word_of_item c.value.shape.kind (item_of_value c.value) ∷ Nat b.index ∷ Nat a.index ∷ stack))
+      (Normal (truth_value (are_same b.value c.value)))
   unfolding predef_cost
   equals_constant a b c ready fa fb fc =
       let body = body_of row.MgSimpleConstantEq in
@@ -145,8 +155,10 @@ module _ (s : SystemView) (program caller place : ℕ) (f : Frame) (fs : List Fr
       (applies_two here 3 locals op.Eq t u (One (Truth same)) stack areas refl refl result refl
       (puts here 4 locals 0 a.index (Truth same) stack areas refl refl refl refl d.low (omega (arith, room)))))))
 
-  compares : (a b c : Argument) → Ready row.MgIntegerLe → ArgumentFits stack Simple Boolean a → ArgumentFits stack Simple Integer b → ArgumentFits stack Simple Integer c →
-      Runs s row.MgIntegerLe (a ∷ b ∷ c ∷ []) stack (from (Nat c.index ∷ Nat b.index ∷ Nat a.index ∷ stack)) (Normal (truth_value (int_le (item_of_value b.value) (item_of_value c.value))))
+  compares : (a b c : Argument) → Ready row.MgIntegerLe → ArgumentFits stack Simple Boolean a → ArgumentFits stack Simple Integer b
+      → ArgumentFits stack Simple Integer c →
+      Runs s row.MgIntegerLe (a ∷ b ∷ c ∷ []) stack (from (Nat c.index ∷ Nat b.index ∷ Nat a.index ∷ stack))
+      (Normal (truth_value (int_le (item_of_value b.value) (item_of_value c.value))))
   unfolding predef_cost
   compares a b c ready fa fb fc =
       let body = body_of row.MgIntegerLe in
@@ -159,7 +171,8 @@ module _ (s : SystemView) (program caller place : ℕ) (f : Frame) (fs : List Fr
       let v = item_of_value c.value in
       let le = int_le u v in
       let locals = Nat a.index ∷ Nat b.index ∷ Nat c.index ∷ [] in
-      let result : ◌≡◌ {A = Result Outcome WordError} (Ok (One (Truth (not (int_lt v u))))) (Ok (One (Truth le))) = ap (λ b. Ok (One (Truth b))) (not_less u v) in
+      let result : ◌≡◌ {A = Result Outcome WordError} (Ok (One (Truth (not (int_lt v u))))) (Ok (One (Truth le))) =
+      ap (λ b. Ok (One (Truth b))) (not_less u v) in
       written 10 35 a.index _ (Truth le) (truth_value le) (truth_words le)
       (calls here ready.found (Nat c.index ∷ Nat b.index ∷ Nat a.index ∷ stack) areas at (omega arith) ready.ctrl
       (gets here 0 locals stack areas 2 c.index (Int v) refl refl refl y.word (omega (arith, room))
@@ -168,8 +181,10 @@ module _ (s : SystemView) (program caller place : ℕ) (f : Frame) (fs : List Fr
       (applies_one here 5 locals op.NotBool (Truth (int_lt v u)) (One (Truth le)) stack areas refl refl result refl
       (puts here 6 locals 0 a.index (Truth le) stack areas refl refl refl refl d.low (omega (arith, room))))))))
 
-  ors : (a b c : Argument) → Ready row.MgBooleanOr → ArgumentFits stack Simple Boolean a → ArgumentFits stack Simple Boolean b → ArgumentFits stack Simple Boolean c →
-      Runs s row.MgBooleanOr (a ∷ b ∷ c ∷ []) stack (from (Nat c.index ∷ Nat b.index ∷ Nat a.index ∷ stack)) (Normal (truth_value (is_true_value b.value || is_true_value c.value)))
+  ors : (a b c : Argument) → Ready row.MgBooleanOr → ArgumentFits stack Simple Boolean a → ArgumentFits stack Simple Boolean b
+      → ArgumentFits stack Simple Boolean c →
+      Runs s row.MgBooleanOr (a ∷ b ∷ c ∷ []) stack (from (Nat c.index ∷ Nat b.index ∷ Nat a.index ∷ stack))
+      (Normal (truth_value (is_true_value b.value || is_true_value c.value)))
   unfolding predef_cost
   ors a b c ready fa fb fc =
       let body = body_of row.MgBooleanOr in
@@ -184,12 +199,15 @@ module _ (s : SystemView) (program caller place : ℕ) (f : Frame) (fs : List Fr
       written 9 30 a.index _ (Truth (u || v)) (truth_value (u || v)) (truth_words (u || v))
       (calls here ready.found (Nat c.index ∷ Nat b.index ∷ Nat a.index ∷ stack) areas at (omega arith) ready.ctrl
       (gets here 0 locals stack areas 1 b.index (Truth u) refl refl refl x.word (omega (arith, room))
-      (gets here 2 locals (Truth u ∷ stack) areas 2 c.index (Truth v) refl refl refl (element_over (Truth u) stack c.index (Truth v) y.word) (omega (arith, room))
+      (gets here 2 locals (Truth u ∷ stack) areas 2 c.index (Truth v) refl refl refl (element_over (Truth u) stack c.index (Truth v) y.word)
+      (omega (arith, room))
       (applies_two here 4 locals op.OrBool (Truth v) (Truth u) (One (Truth (u || v))) stack areas refl refl refl refl
       (puts here 5 locals 0 a.index (Truth (u || v)) stack areas refl refl refl refl d.low (omega (arith, room)))))))
 
-  ands : (a b c : Argument) → Ready row.MgBooleanAnd → ArgumentFits stack Simple Boolean a → ArgumentFits stack Simple Boolean b → ArgumentFits stack Simple Boolean c →
-      Runs s row.MgBooleanAnd (a ∷ b ∷ c ∷ []) stack (from (Nat c.index ∷ Nat b.index ∷ Nat a.index ∷ stack)) (Normal (truth_value (is_true_value b.value && is_true_value c.value)))
+  ands : (a b c : Argument) → Ready row.MgBooleanAnd → ArgumentFits stack Simple Boolean a → ArgumentFits stack Simple Boolean b
+      → ArgumentFits stack Simple Boolean c →
+      Runs s row.MgBooleanAnd (a ∷ b ∷ c ∷ []) stack (from (Nat c.index ∷ Nat b.index ∷ Nat a.index ∷ stack))
+      (Normal (truth_value (is_true_value b.value && is_true_value c.value)))
   unfolding predef_cost
   ands a b c ready fa fb fc =
       let body = body_of row.MgBooleanAnd in
@@ -204,7 +222,8 @@ module _ (s : SystemView) (program caller place : ℕ) (f : Frame) (fs : List Fr
       written 9 30 a.index _ (Truth (u && v)) (truth_value (u && v)) (truth_words (u && v))
       (calls here ready.found (Nat c.index ∷ Nat b.index ∷ Nat a.index ∷ stack) areas at (omega arith) ready.ctrl
       (gets here 0 locals stack areas 1 b.index (Truth u) refl refl refl x.word (omega (arith, room))
-      (gets here 2 locals (Truth u ∷ stack) areas 2 c.index (Truth v) refl refl refl (element_over (Truth u) stack c.index (Truth v) y.word) (omega (arith, room))
+      (gets here 2 locals (Truth u ∷ stack) areas 2 c.index (Truth v) refl refl refl (element_over (Truth u) stack c.index (Truth v) y.word)
+      (omega (arith, room))
       (applies_two here 4 locals op.AndBool (Truth v) (Truth u) (One (Truth (u && v))) stack areas refl refl refl refl
       (puts here 5 locals 0 a.index (Truth (u && v)) stack areas refl refl refl refl d.low (omega (arith, room)))))))
 
@@ -226,7 +245,8 @@ module _ (s : SystemView) (program caller place : ℕ) (f : Frame) (fs : List Fr
       (puts here 3 locals 0 a.index (Truth (not u)) stack areas refl refl refl refl d.low (omega (arith, room))))))
 
   minuses : (a b : Argument) → Ready row.MgIntegerUnaryMinus → ArgumentFits stack Simple Integer a → ArgumentFits stack Simple Integer b →
-      are_same_ints (item_of_value b.value) (negsuc 2147483647) ≡ false → Runs s row.MgIntegerUnaryMinus (a ∷ b ∷ []) stack (from (Nat b.index ∷ Nat a.index ∷ stack)) (Normal (integer_value (neg_ℤ (item_of_value b.value))))
+      are_same_ints (item_of_value b.value) (negsuc 2147483647) ≡ false → Runs s row.MgIntegerUnaryMinus (a ∷ b ∷ []) stack
+      (from (Nat b.index ∷ Nat a.index ∷ stack)) (Normal (integer_value (neg_ℤ (item_of_value b.value))))
   unfolding predef_cost
   minuses a b ready fa fb h =
       let body = body_of row.MgIntegerUnaryMinus in
@@ -249,7 +269,8 @@ module _ (s : SystemView) (program caller place : ℕ) (f : Frame) (fs : List Fr
       (puts here 8 locals 0 a.index (Int (neg_ℤ v)) stack areas refl refl refl refl d.low (omega (arith, room))))))))))
 
   minuses_least : (a b : Argument) → Ready row.MgIntegerUnaryMinus → ArgumentFits stack Simple Integer a → ArgumentFits stack Simple Integer b →
-      are_same_ints (item_of_value b.value) (negsuc 2147483647) ≡ true → Runs s row.MgIntegerUnaryMinus (a ∷ b ∷ []) stack (from (Nat b.index ∷ Nat a.index ∷ stack)) (Fault)
+      are_same_ints (item_of_value b.value) (negsuc 2147483647) ≡ true → Runs s row.MgIntegerUnaryMinus (a ∷ b ∷ []) stack
+      (from (Nat b.index ∷ Nat a.index ∷ stack)) (Fault)
   unfolding predef_cost
   minuses_least a b ready fa fb h =
       let body = body_of row.MgIntegerUnaryMinus in
@@ -266,8 +287,10 @@ module _ (s : SystemView) (program caller place : ℕ) (f : Frame) (fs : List Fr
       (jumps here 4 locals family.Bool test.T 11 (Truth least) true stack areas refl (truth_test least true h)
       (fails here 11 locals stack areas refl refl refl (omega (arith, room))))))))
 
-  adds : (a b c : Argument) → Ready row.MgIntegerAdd → ArgumentFits stack Simple Integer a → ArgumentFits stack Simple Integer b → ArgumentFits stack Simple Integer c →
-      is_int (item_of_value b.value +ℤ item_of_value c.value) ≡ true → Runs s row.MgIntegerAdd (a ∷ b ∷ c ∷ []) stack (from (Nat c.index ∷ Nat b.index ∷ Nat a.index ∷ stack)) (Normal (integer_value (item_of_value b.value +ℤ item_of_value c.value)))
+  adds : (a b c : Argument) → Ready row.MgIntegerAdd → ArgumentFits stack Simple Integer a → ArgumentFits stack Simple Integer b
+      → ArgumentFits stack Simple Integer c →
+      is_int (item_of_value b.value +ℤ item_of_value c.value) ≡ true → Runs s row.MgIntegerAdd (a ∷ b ∷ c ∷ []) stack
+      (from (Nat c.index ∷ Nat b.index ∷ Nat a.index ∷ stack)) (Normal (integer_value (item_of_value b.value +ℤ item_of_value c.value)))
   unfolding predef_cost
   adds a b c ready fa fb fc h =
       let body = body_of row.MgIntegerAdd in
@@ -286,16 +309,21 @@ module _ (s : SystemView) (program caller place : ℕ) (f : Frame) (fs : List Fr
       written 13 46 a.index _ sum (integer_value (u +ℤ v)) e
       (calls here ready.found (Nat c.index ∷ Nat b.index ∷ Nat a.index ∷ stack) areas at (omega arith) ready.ctrl
       (pushes here 0 locals stack areas (Truth false) refl (omega (arith, room))
-      (gets here 1 locals (Truth false ∷ stack) areas 1 b.index (Int u) refl refl refl (element_over (Truth false) stack b.index (Int u) x.word) (omega (arith, room))
-      (gets here 3 locals (Int u ∷ Truth false ∷ stack) areas 2 c.index (Int v) refl refl refl (element_under_two (Int u) (Truth false) stack c.index (Int v) y.word) (omega (arith, room))
-      (applies_three here 5 locals op.AddIntWithCarry (Int v) (Int u) (Truth false) (Two (Truth carry) sum) stack areas refl refl (add_row u v (map length areas)) refl
+      (gets here 1 locals (Truth false ∷ stack) areas 1 b.index (Int u) refl refl refl (element_over (Truth false) stack b.index (Int u) x.word)
+      (omega (arith, room))
+      (gets here 3 locals (Int u ∷ Truth false ∷ stack) areas 2 c.index (Int v) refl refl refl
+      (element_under_two (Int u) (Truth false) stack c.index (Int v) y.word) (omega (arith, room))
+      (applies_three here 5 locals op.AddIntWithCarry (Int v) (Int u) (Truth false) (Two (Truth carry) sum) stack areas refl refl
+      (add_row u v (map length areas)) refl
       (pops_local here 6 locals 3 sum (Truth carry ∷ stack) areas refl
       (jumps here 7 kept family.Bool test.T 12 (Truth carry) false stack areas refl (truth_test carry false (ap not h))
       (pushes_local here 8 kept stack areas 3 sum refl refl (omega (arith, room))
       (puts here 9 kept 0 a.index sum stack areas refl refl refl refl d.low (omega (arith, room)))))))))))
 
-  adds_beyond : (a b c : Argument) → Ready row.MgIntegerAdd → ArgumentFits stack Simple Integer a → ArgumentFits stack Simple Integer b → ArgumentFits stack Simple Integer c →
-      is_int (item_of_value b.value +ℤ item_of_value c.value) ≡ false → Runs s row.MgIntegerAdd (a ∷ b ∷ c ∷ []) stack (from (Nat c.index ∷ Nat b.index ∷ Nat a.index ∷ stack)) (Fault)
+  adds_beyond : (a b c : Argument) → Ready row.MgIntegerAdd → ArgumentFits stack Simple Integer a → ArgumentFits stack Simple Integer b
+      → ArgumentFits stack Simple Integer c →
+      is_int (item_of_value b.value +ℤ item_of_value c.value) ≡ false → Runs s row.MgIntegerAdd (a ∷ b ∷ c ∷ []) stack
+      (from (Nat c.index ∷ Nat b.index ∷ Nat a.index ∷ stack)) (Fault)
   unfolding predef_cost
   adds_beyond a b c ready fa fb fc h =
       let body = body_of row.MgIntegerAdd in
@@ -311,15 +339,20 @@ module _ (s : SystemView) (program caller place : ℕ) (f : Frame) (fs : List Fr
       let kept = Nat a.index ∷ Nat b.index ∷ Nat c.index ∷ sum ∷ [] in
       (calls here ready.found (Nat c.index ∷ Nat b.index ∷ Nat a.index ∷ stack) areas at (omega arith) ready.ctrl
       (pushes here 0 locals stack areas (Truth false) refl (omega (arith, room))
-      (gets here 1 locals (Truth false ∷ stack) areas 1 b.index (Int u) refl refl refl (element_over (Truth false) stack b.index (Int u) x.word) (omega (arith, room))
-      (gets here 3 locals (Int u ∷ Truth false ∷ stack) areas 2 c.index (Int v) refl refl refl (element_under_two (Int u) (Truth false) stack c.index (Int v) y.word) (omega (arith, room))
-      (applies_three here 5 locals op.AddIntWithCarry (Int v) (Int u) (Truth false) (Two (Truth carry) sum) stack areas refl refl (add_row u v (map length areas)) refl
+      (gets here 1 locals (Truth false ∷ stack) areas 1 b.index (Int u) refl refl refl (element_over (Truth false) stack b.index (Int u) x.word)
+      (omega (arith, room))
+      (gets here 3 locals (Int u ∷ Truth false ∷ stack) areas 2 c.index (Int v) refl refl refl
+      (element_under_two (Int u) (Truth false) stack c.index (Int v) y.word) (omega (arith, room))
+      (applies_three here 5 locals op.AddIntWithCarry (Int v) (Int u) (Truth false) (Two (Truth carry) sum) stack areas refl refl
+      (add_row u v (map length areas)) refl
       (pops_local here 6 locals 3 sum (Truth carry ∷ stack) areas refl
       (jumps here 7 kept family.Bool test.T 12 (Truth carry) true stack areas refl (truth_test carry true (ap not h))
       (fails here 12 kept stack areas refl refl refl (omega (arith, room))))))))))
 
-  subtracts : (a b c : Argument) → Ready row.MgIntegerSubtract → ArgumentFits stack Simple Integer a → ArgumentFits stack Simple Integer b → ArgumentFits stack Simple Integer c →
-      is_int (item_of_value b.value -ℤ item_of_value c.value) ≡ true → Runs s row.MgIntegerSubtract (a ∷ b ∷ c ∷ []) stack (from (Nat c.index ∷ Nat b.index ∷ Nat a.index ∷ stack)) (Normal (integer_value (item_of_value b.value -ℤ item_of_value c.value)))
+  subtracts : (a b c : Argument) → Ready row.MgIntegerSubtract → ArgumentFits stack Simple Integer a → ArgumentFits stack Simple Integer b
+      → ArgumentFits stack Simple Integer c →
+      is_int (item_of_value b.value -ℤ item_of_value c.value) ≡ true → Runs s row.MgIntegerSubtract (a ∷ b ∷ c ∷ []) stack
+      (from (Nat c.index ∷ Nat b.index ∷ Nat a.index ∷ stack)) (Normal (integer_value (item_of_value b.value -ℤ item_of_value c.value)))
   unfolding predef_cost
   subtracts a b c ready fa fb fc h =
       let body = body_of row.MgIntegerSubtract in
@@ -338,16 +371,21 @@ module _ (s : SystemView) (program caller place : ℕ) (f : Frame) (fs : List Fr
       written 13 46 a.index _ sum (integer_value (u -ℤ v)) e
       (calls here ready.found (Nat c.index ∷ Nat b.index ∷ Nat a.index ∷ stack) areas at (omega arith) ready.ctrl
       (pushes here 0 locals stack areas (Truth false) refl (omega (arith, room))
-      (gets here 1 locals (Truth false ∷ stack) areas 1 b.index (Int u) refl refl refl (element_over (Truth false) stack b.index (Int u) x.word) (omega (arith, room))
-      (gets here 3 locals (Int u ∷ Truth false ∷ stack) areas 2 c.index (Int v) refl refl refl (element_under_two (Int u) (Truth false) stack c.index (Int v) y.word) (omega (arith, room))
-      (applies_three here 5 locals op.SubIntWithCarry (Int v) (Int u) (Truth false) (Two (Truth carry) sum) stack areas refl refl (subtract_row u v (map length areas)) refl
+      (gets here 1 locals (Truth false ∷ stack) areas 1 b.index (Int u) refl refl refl (element_over (Truth false) stack b.index (Int u) x.word)
+      (omega (arith, room))
+      (gets here 3 locals (Int u ∷ Truth false ∷ stack) areas 2 c.index (Int v) refl refl refl
+      (element_under_two (Int u) (Truth false) stack c.index (Int v) y.word) (omega (arith, room))
+      (applies_three here 5 locals op.SubIntWithCarry (Int v) (Int u) (Truth false) (Two (Truth carry) sum) stack areas refl refl
+      (subtract_row u v (map length areas)) refl
       (pops_local here 6 locals 3 sum (Truth carry ∷ stack) areas refl
       (jumps here 7 kept family.Bool test.T 12 (Truth carry) false stack areas refl (truth_test carry false (ap not h))
       (pushes_local here 8 kept stack areas 3 sum refl refl (omega (arith, room))
       (puts here 9 kept 0 a.index sum stack areas refl refl refl refl d.low (omega (arith, room)))))))))))
 
-  subtracts_beyond : (a b c : Argument) → Ready row.MgIntegerSubtract → ArgumentFits stack Simple Integer a → ArgumentFits stack Simple Integer b → ArgumentFits stack Simple Integer c →
-      is_int (item_of_value b.value -ℤ item_of_value c.value) ≡ false → Runs s row.MgIntegerSubtract (a ∷ b ∷ c ∷ []) stack (from (Nat c.index ∷ Nat b.index ∷ Nat a.index ∷ stack)) (Fault)
+  subtracts_beyond : (a b c : Argument) → Ready row.MgIntegerSubtract → ArgumentFits stack Simple Integer a → ArgumentFits stack Simple Integer b
+      → ArgumentFits stack Simple Integer c →
+      is_int (item_of_value b.value -ℤ item_of_value c.value) ≡ false → Runs s row.MgIntegerSubtract (a ∷ b ∷ c ∷ []) stack
+      (from (Nat c.index ∷ Nat b.index ∷ Nat a.index ∷ stack)) (Fault)
   unfolding predef_cost
   subtracts_beyond a b c ready fa fb fc h =
       let body = body_of row.MgIntegerSubtract in
@@ -363,15 +401,20 @@ module _ (s : SystemView) (program caller place : ℕ) (f : Frame) (fs : List Fr
       let kept = Nat a.index ∷ Nat b.index ∷ Nat c.index ∷ sum ∷ [] in
       (calls here ready.found (Nat c.index ∷ Nat b.index ∷ Nat a.index ∷ stack) areas at (omega arith) ready.ctrl
       (pushes here 0 locals stack areas (Truth false) refl (omega (arith, room))
-      (gets here 1 locals (Truth false ∷ stack) areas 1 b.index (Int u) refl refl refl (element_over (Truth false) stack b.index (Int u) x.word) (omega (arith, room))
-      (gets here 3 locals (Int u ∷ Truth false ∷ stack) areas 2 c.index (Int v) refl refl refl (element_under_two (Int u) (Truth false) stack c.index (Int v) y.word) (omega (arith, room))
-      (applies_three here 5 locals op.SubIntWithCarry (Int v) (Int u) (Truth false) (Two (Truth carry) sum) stack areas refl refl (subtract_row u v (map length areas)) refl
+      (gets here 1 locals (Truth false ∷ stack) areas 1 b.index (Int u) refl refl refl (element_over (Truth false) stack b.index (Int u) x.word)
+      (omega (arith, room))
+      (gets here 3 locals (Int u ∷ Truth false ∷ stack) areas 2 c.index (Int v) refl refl refl
+      (element_under_two (Int u) (Truth false) stack c.index (Int v) y.word) (omega (arith, room))
+      (applies_three here 5 locals op.SubIntWithCarry (Int v) (Int u) (Truth false) (Two (Truth carry) sum) stack areas refl refl
+      (subtract_row u v (map length areas)) refl
       (pops_local here 6 locals 3 sum (Truth carry ∷ stack) areas refl
       (jumps here 7 kept family.Bool test.T 12 (Truth carry) true stack areas refl (truth_test carry true (ap not h))
       (fails here 12 kept stack areas refl refl refl (omega (arith, room))))))))))
 
-  multiplies : (a b c : Argument) → Ready row.MgIntegerMultiply → ArgumentFits stack Simple Integer a → ArgumentFits stack Simple Integer b → ArgumentFits stack Simple Integer c →
-      is_int (item_of_value b.value *ℤ item_of_value c.value) ≡ true → Runs s row.MgIntegerMultiply (a ∷ b ∷ c ∷ []) stack (from (Nat c.index ∷ Nat b.index ∷ Nat a.index ∷ stack)) (Normal (integer_value (item_of_value b.value *ℤ item_of_value c.value)))
+  multiplies : (a b c : Argument) → Ready row.MgIntegerMultiply → ArgumentFits stack Simple Integer a → ArgumentFits stack Simple Integer b
+      → ArgumentFits stack Simple Integer c →
+      is_int (item_of_value b.value *ℤ item_of_value c.value) ≡ true → Runs s row.MgIntegerMultiply (a ∷ b ∷ c ∷ []) stack
+      (from (Nat c.index ∷ Nat b.index ∷ Nat a.index ∷ stack)) (Normal (integer_value (item_of_value b.value *ℤ item_of_value c.value)))
   unfolding predef_cost
   multiplies a b c ready fa fb fc h =
       let d = simple_argument stack Integer a fa in
@@ -381,11 +424,14 @@ module _ (s : SystemView) (program caller place : ℕ) (f : Frame) (fs : List Fr
       let v = item_of_value c.value in
       let fits : is_int v ≡ true = sym (same_range v) ∙ y.range in
       written 921 2585 a.index _ (Int (u *ℤ v)) (integer_value (u *ℤ v)) refl
-      (calls (called (body_of row.MgIntegerMultiply) ready.found) ready.found (Nat c.index ∷ Nat b.index ∷ Nat a.index ∷ stack) areas at (omega arith) ready.ctrl
+      (calls (called (body_of row.MgIntegerMultiply) ready.found) ready.found (Nat c.index ∷ Nat b.index ∷ Nat a.index ∷ stack) areas at (omega arith)
+      ready.ctrl
       (product_fits s program caller place f fs areas ready.found a.index b.index c.index u v stack x.word y.word ready.temp fits d.low h))
 
-  multiplies_beyond : (a b c : Argument) → Ready row.MgIntegerMultiply → ArgumentFits stack Simple Integer a → ArgumentFits stack Simple Integer b → ArgumentFits stack Simple Integer c →
-      is_int (item_of_value b.value *ℤ item_of_value c.value) ≡ false → Runs s row.MgIntegerMultiply (a ∷ b ∷ c ∷ []) stack (from (Nat c.index ∷ Nat b.index ∷ Nat a.index ∷ stack)) (Fault)
+  multiplies_beyond : (a b c : Argument) → Ready row.MgIntegerMultiply → ArgumentFits stack Simple Integer a → ArgumentFits stack Simple Integer b
+      → ArgumentFits stack Simple Integer c →
+      is_int (item_of_value b.value *ℤ item_of_value c.value) ≡ false → Runs s row.MgIntegerMultiply (a ∷ b ∷ c ∷ []) stack
+      (from (Nat c.index ∷ Nat b.index ∷ Nat a.index ∷ stack)) (Fault)
   unfolding predef_cost
   multiplies_beyond a b c ready fa fb fc h =
       let x = simple_argument stack Integer b fb in
@@ -396,8 +442,10 @@ module _ (s : SystemView) (program caller place : ℕ) (f : Frame) (fs : List Fr
       calls (called (body_of row.MgIntegerMultiply) ready.found) ready.found (Nat c.index ∷ Nat b.index ∷ Nat a.index ∷ stack) areas at (omega arith) ready.ctrl
       (product_overflows s program caller place f fs areas ready.found a.index b.index c.index u v stack x.word y.word ready.temp fits h)
 
-  reads_below_zero : (a b c : Argument) → Ready row.MgIndexArray → ArgumentFits stack Simple k a → ArgumentFits stack Array k b → ArgumentFits stack Simple Integer c →
-      is_negative (item_of_value c.value) ≡ true → Runs s row.MgIndexArray (a ∷ b ∷ c ∷ []) stack (from (length_word b.value ∷ Nat c.index ∷ Nat b.index ∷ Nat a.index ∷ stack)) (Fault)
+  reads_below_zero : (a b c : Argument) → Ready row.MgIndexArray → ArgumentFits stack Simple k a → ArgumentFits stack Array k b
+      → ArgumentFits stack Simple Integer c →
+      is_negative (item_of_value c.value) ≡ true → Runs s row.MgIndexArray (a ∷ b ∷ c ∷ []) stack
+      (from (length_word b.value ∷ Nat c.index ∷ Nat b.index ∷ Nat a.index ∷ stack)) (Fault)
   unfolding predef_cost
   reads_below_zero a b c ready fa fb fc hn =
       let body = body_of row.MgIndexArray in
@@ -415,8 +463,10 @@ module _ (s : SystemView) (program caller place : ℕ) (f : Frame) (fs : List Fr
       (jumps here 3 kept family.Int test.Neg 16 (Int z) true stack areas refl (negative_test z ∙ ap Ok hn)
       (fails here 16 kept stack areas refl refl refl (omega (arith, room)))))))
 
-  reads_beyond : (a b c : Argument) → Ready row.MgIndexArray → ArgumentFits stack Simple k a → ArgumentFits stack Array k b → ArgumentFits stack Simple Integer c →
-      is_negative (item_of_value c.value) ≡ false → int_lt (item_of_value c.value) (pos (item_count b.value.shape)) ≡ false → Runs s row.MgIndexArray (a ∷ b ∷ c ∷ []) stack (from (length_word b.value ∷ Nat c.index ∷ Nat b.index ∷ Nat a.index ∷ stack)) (Beyond)
+  reads_beyond : (a b c : Argument) → Ready row.MgIndexArray → ArgumentFits stack Simple k a → ArgumentFits stack Array k b
+      → ArgumentFits stack Simple Integer c →
+      is_negative (item_of_value c.value) ≡ false → int_lt (item_of_value c.value) (pos (item_count b.value.shape)) ≡ false
+      → Runs s row.MgIndexArray (a ∷ b ∷ c ∷ []) stack (from (length_word b.value ∷ Nat c.index ∷ Nat b.index ∷ Nat a.index ∷ stack)) (Beyond)
   unfolding predef_cost
   reads_beyond a b c ready fa fb fc hn hl =
       let body = body_of row.MgIndexArray in
@@ -439,7 +489,9 @@ module _ (s : SystemView) (program caller place : ℕ) (f : Frame) (fs : List Fr
       (fails here 16 kept stack areas refl refl refl (omega (arith, room)))))))))))
 
   reads : (a b c : Argument) → Ready row.MgIndexArray → ArgumentFits stack Simple k a → ArgumentFits stack Array k b → ArgumentFits stack Simple Integer c →
-      (i : ℕ) → item_of_value c.value ≡ pos i → i < length b.value.items → Runs s row.MgIndexArray (a ∷ b ∷ c ∷ []) stack (from (length_word b.value ∷ Nat c.index ∷ Nat b.index ∷ Nat a.index ∷ stack)) (Normal record { shape = simple b.value.shape.kind; items = get_or b.value.items i (pos 0) ∷ [] })
+      (i : ℕ) → item_of_value c.value ≡ pos i → i < length b.value.items → Runs s row.MgIndexArray (a ∷ b ∷ c ∷ []) stack
+      (from (length_word b.value ∷ Nat c.index ∷ Nat b.index ∷ Nat a.index ∷ stack))
+      (Normal record { shape = simple b.value.shape.kind; items = get_or b.value.items i (pos 0) ∷ [] })
   unfolding predef_cost
   reads a b c ready fa fb fc i hi h =
       let body = body_of row.MgIndexArray in
@@ -456,7 +508,8 @@ module _ (s : SystemView) (program caller place : ℕ) (f : Frame) (fs : List Fr
       let word = array_word stack k b i fb h in
       let low : b.index + i < length stack = element_there stack (b.index + i) _ word in
       let number : words.row_of op.IntToNat (Int z) (Int z) (Int z) (map length areas) ≡ Ok (One (Nat i)) =
-      ap (λ y. words.row_of op.IntToNat (Int z) (Int z) (Int y) (map length areas)) hi ∙ to_nat_row i (Int z) (map length areas) (omega (arith, low, room, small)) in
+      ap (λ y. words.row_of op.IntToNat (Int z) (Int z) (Int y) (map length areas)) hi
+      ∙ to_nat_row i (Int z) (map length areas) (omega (arith, low, room, small)) in
       let sum = add_nat_row b.index i (Nat i) (map length areas) (omega (arith, low, room, small)) in
       let d = simple_argument stack k a fa in
       let item = get_or b.value.items i (pos 0) in
@@ -477,8 +530,10 @@ module _ (s : SystemView) (program caller place : ℕ) (f : Frame) (fs : List Fr
       (fetches here 12 kept (b.index + i) w stack areas refl word
       (puts here 13 kept 0 a.index w stack areas refl refl refl refl d.low (omega (arith, room))))))))))))))))
 
-  stores_below_zero : (a b c : Argument) → Ready row.MgArrayElementAssignment → ArgumentFits stack Array k a → ArgumentFits stack Simple Integer b → ArgumentFits stack Simple k c →
-      is_negative (item_of_value b.value) ≡ true → Runs s row.MgArrayElementAssignment (a ∷ b ∷ c ∷ []) stack (from (length_word a.value ∷ Nat c.index ∷ Nat b.index ∷ Nat a.index ∷ stack)) (Fault)
+  stores_below_zero : (a b c : Argument) → Ready row.MgArrayElementAssignment → ArgumentFits stack Array k a → ArgumentFits stack Simple Integer b
+      → ArgumentFits stack Simple k c →
+      is_negative (item_of_value b.value) ≡ true → Runs s row.MgArrayElementAssignment (a ∷ b ∷ c ∷ []) stack
+      (from (length_word a.value ∷ Nat c.index ∷ Nat b.index ∷ Nat a.index ∷ stack)) (Fault)
   unfolding predef_cost
   stores_below_zero a b c ready fa fb fc hn =
       let body = body_of row.MgArrayElementAssignment in
@@ -496,8 +551,11 @@ module _ (s : SystemView) (program caller place : ℕ) (f : Frame) (fs : List Fr
       (jumps here 3 kept family.Int test.Neg 16 (Int z) true stack areas refl (negative_test z ∙ ap Ok hn)
       (fails here 16 kept stack areas refl refl refl (omega (arith, room)))))))
 
-  stores_beyond : (a b c : Argument) → Ready row.MgArrayElementAssignment → ArgumentFits stack Array k a → ArgumentFits stack Simple Integer b → ArgumentFits stack Simple k c →
-      is_negative (item_of_value b.value) ≡ false → int_lt (item_of_value b.value) (pos (item_count a.value.shape)) ≡ false → Runs s row.MgArrayElementAssignment (a ∷ b ∷ c ∷ []) stack (from (length_word a.value ∷ Nat c.index ∷ Nat b.index ∷ Nat a.index ∷ stack)) (Beyond)
+  stores_beyond : (a b c : Argument) → Ready row.MgArrayElementAssignment → ArgumentFits stack Array k a → ArgumentFits stack Simple Integer b
+      → ArgumentFits stack Simple k c →
+      is_negative (item_of_value b.value) ≡ false → int_lt (item_of_value b.value) (pos (item_count a.value.shape)) ≡ false
+      → Runs s row.MgArrayElementAssignment (a ∷ b ∷ c ∷ []) stack (from (length_word a.value ∷ Nat c.index ∷ Nat b.index ∷ Nat a.index ∷ stack))
+      (Beyond)
   unfolding predef_cost
   stores_beyond a b c ready fa fb fc hn hl =
       let body = body_of row.MgArrayElementAssignment in
@@ -519,8 +577,11 @@ module _ (s : SystemView) (program caller place : ℕ) (f : Frame) (fs : List Fr
       (jumps here 7 kept family.Bool test.F 16 (Truth less) true stack areas refl (false_test less true (ap not hl))
       (fails here 16 kept stack areas refl refl refl (omega (arith, room)))))))))))
 
-  stores : (a b c : Argument) → Ready row.MgArrayElementAssignment → ArgumentFits stack Array k a → ArgumentFits stack Simple Integer b → ArgumentFits stack Simple k c →
-      (i : ℕ) → item_of_value b.value ≡ pos i → i < length a.value.items → Runs s row.MgArrayElementAssignment (a ∷ b ∷ c ∷ []) stack (from (length_word a.value ∷ Nat c.index ∷ Nat b.index ∷ Nat a.index ∷ stack)) (Normal record { shape = a.value.shape; items = slice_set a.value.items i (item_of_value c.value) })
+  stores : (a b c : Argument) → Ready row.MgArrayElementAssignment → ArgumentFits stack Array k a → ArgumentFits stack Simple Integer b
+      → ArgumentFits stack Simple k c →
+      (i : ℕ) → item_of_value b.value ≡ pos i → i < length a.value.items → Runs s row.MgArrayElementAssignment (a ∷ b ∷ c ∷ []) stack
+      (from (length_word a.value ∷ Nat c.index ∷ Nat b.index ∷ Nat a.index ∷ stack))
+      (Normal record { shape = a.value.shape; items = slice_set a.value.items i (item_of_value c.value) })
   unfolding predef_cost
   stores a b c ready fa fb fc i hi h =
       let body = body_of row.MgArrayElementAssignment in
@@ -537,14 +598,16 @@ module _ (s : SystemView) (program caller place : ℕ) (f : Frame) (fs : List Fr
       let word = array_word stack k a i fa h in
       let low : a.index + i < length stack = element_there stack (a.index + i) _ word in
       let number : words.row_of op.IntToNat (Int z) (Int z) (Int z) (map length areas) ≡ Ok (One (Nat i)) =
-      ap (λ y. words.row_of op.IntToNat (Int z) (Int z) (Int y) (map length areas)) hi ∙ to_nat_row i (Int z) (map length areas) (omega (arith, low, room, small)) in
+      ap (λ y. words.row_of op.IntToNat (Int z) (Int z) (Int y) (map length areas)) hi
+      ∙ to_nat_row i (Int z) (map length areas) (omega (arith, low, room, small)) in
       let sum = add_nat_row a.index i (Nat i) (map length areas) (omega (arith, low, room, small)) in
       let x = simple_argument stack k c fc in
       let item = item_of_value c.value in
       let w = word_of_item k item in
       let kind : word_of_item a.value.shape.kind item ≡ w = ap (λ k. word_of_item k item) fa.0 in
       let inside : i < length (words_of_value a.value) = omega (arith, h, length-map a.value.items (word_of_item a.value.shape.kind)) in
-      let out : with_elements stack a.index (words_of_value record { shape = a.value.shape; items = slice_set a.value.items i item }) ≡ with_element stack (a.index + i) w =
+      let out : with_elements stack a.index (words_of_value record { shape = a.value.shape; items = slice_set a.value.items i item })
+      ≡ with_element stack (a.index + i) w =
       ap (with_elements stack a.index) (map-set (word_of_item a.value.shape.kind) a.value.items i item)
       ∙ written_one (words_of_value a.value) stack a.index i (word_of_item a.value.shape.kind item) fa.2 inside
       ∙ ap (with_element stack (a.index + i)) kind in
@@ -571,38 +634,52 @@ module _ (s : SystemView) (program caller place : ℕ) (f : Frame) (fs : List Fr
       (least : Bool) → are_same_ints (item_of_value b.value) (negsuc 2147483647) ≡ least →
       Runs s row.MgIntegerUnaryMinus (a ∷ b ∷ []) stack (from (Nat b.index ∷ Nat a.index ∷ stack)) (number_effect (neg_ℤ (item_of_value b.value)))
   minus_runs a b ready fa fb least h =
-      subst (λ t. Runs s row.MgIntegerUnaryMinus (a ∷ b ∷ []) stack (from (Nat b.index ∷ Nat a.index ∷ stack)) (if t then Normal (integer_value (neg_ℤ (item_of_value b.value))) else Fault))
+      subst (λ t. Runs s row.MgIntegerUnaryMinus (a ∷ b ∷ []) stack (from (Nat b.index ∷ Nat a.index ∷ stack))
+      (if t then Normal (integer_value (neg_ℤ (item_of_value b.value))) else Fault))
       (sym (minus_range (item_of_value b.value) (simple_argument stack Integer b fb).range ∙ ap not h)) (pick least h)
     where
       pick : (least : Bool) → are_same_ints (item_of_value b.value) (negsuc 2147483647) ≡ least →
-          Runs s row.MgIntegerUnaryMinus (a ∷ b ∷ []) stack (from (Nat b.index ∷ Nat a.index ∷ stack)) (if not least then Normal (integer_value (neg_ℤ (item_of_value b.value))) else Fault)
+          Runs s row.MgIntegerUnaryMinus (a ∷ b ∷ []) stack (from (Nat b.index ∷ Nat a.index ∷ stack))
+          (if not least then Normal (integer_value (neg_ℤ (item_of_value b.value))) else Fault)
       pick true h = minuses_least a b ready fa fb h
       pick false h = minuses a b ready fa fb h
 
-  add_runs : (a b c : Argument) → Ready row.MgIntegerAdd → ArgumentFits stack Simple Integer a → ArgumentFits stack Simple Integer b → ArgumentFits stack Simple Integer c →
-      Runs s row.MgIntegerAdd (a ∷ b ∷ c ∷ []) stack (from (Nat c.index ∷ Nat b.index ∷ Nat a.index ∷ stack)) (number_effect (item_of_value b.value +ℤ item_of_value c.value))
-  add_runs a b c ready fa fb fc = pick (is_in_range Integer (item_of_value b.value +ℤ item_of_value c.value)) (sym (same_range (item_of_value b.value +ℤ item_of_value c.value)))
+  add_runs : (a b c : Argument) → Ready row.MgIntegerAdd → ArgumentFits stack Simple Integer a → ArgumentFits stack Simple Integer b
+      → ArgumentFits stack Simple Integer c →
+      Runs s row.MgIntegerAdd (a ∷ b ∷ c ∷ []) stack (from (Nat c.index ∷ Nat b.index ∷ Nat a.index ∷ stack))
+      (number_effect (item_of_value b.value +ℤ item_of_value c.value))
+  add_runs a b c ready fa fb fc =
+      pick (is_in_range Integer (item_of_value b.value +ℤ item_of_value c.value)) (sym (same_range (item_of_value b.value +ℤ item_of_value c.value)))
     where
       pick : (t : Bool) → is_int (item_of_value b.value +ℤ item_of_value c.value) ≡ t →
-          Runs s row.MgIntegerAdd (a ∷ b ∷ c ∷ []) stack (from (Nat c.index ∷ Nat b.index ∷ Nat a.index ∷ stack)) (if t then Normal (integer_value (item_of_value b.value +ℤ item_of_value c.value)) else Fault)
+          Runs s row.MgIntegerAdd (a ∷ b ∷ c ∷ []) stack (from (Nat c.index ∷ Nat b.index ∷ Nat a.index ∷ stack))
+          (if t then Normal (integer_value (item_of_value b.value +ℤ item_of_value c.value)) else Fault)
       pick true h = adds a b c ready fa fb fc h
       pick false h = adds_beyond a b c ready fa fb fc h
 
-  subtract_runs : (a b c : Argument) → Ready row.MgIntegerSubtract → ArgumentFits stack Simple Integer a → ArgumentFits stack Simple Integer b → ArgumentFits stack Simple Integer c →
-      Runs s row.MgIntegerSubtract (a ∷ b ∷ c ∷ []) stack (from (Nat c.index ∷ Nat b.index ∷ Nat a.index ∷ stack)) (number_effect (item_of_value b.value -ℤ item_of_value c.value))
-  subtract_runs a b c ready fa fb fc = pick (is_in_range Integer (item_of_value b.value -ℤ item_of_value c.value)) (sym (same_range (item_of_value b.value -ℤ item_of_value c.value)))
+  subtract_runs : (a b c : Argument) → Ready row.MgIntegerSubtract → ArgumentFits stack Simple Integer a → ArgumentFits stack Simple Integer b
+      → ArgumentFits stack Simple Integer c →
+      Runs s row.MgIntegerSubtract (a ∷ b ∷ c ∷ []) stack (from (Nat c.index ∷ Nat b.index ∷ Nat a.index ∷ stack))
+      (number_effect (item_of_value b.value -ℤ item_of_value c.value))
+  subtract_runs a b c ready fa fb fc =
+      pick (is_in_range Integer (item_of_value b.value -ℤ item_of_value c.value)) (sym (same_range (item_of_value b.value -ℤ item_of_value c.value)))
     where
       pick : (t : Bool) → is_int (item_of_value b.value -ℤ item_of_value c.value) ≡ t →
-          Runs s row.MgIntegerSubtract (a ∷ b ∷ c ∷ []) stack (from (Nat c.index ∷ Nat b.index ∷ Nat a.index ∷ stack)) (if t then Normal (integer_value (item_of_value b.value -ℤ item_of_value c.value)) else Fault)
+          Runs s row.MgIntegerSubtract (a ∷ b ∷ c ∷ []) stack (from (Nat c.index ∷ Nat b.index ∷ Nat a.index ∷ stack))
+          (if t then Normal (integer_value (item_of_value b.value -ℤ item_of_value c.value)) else Fault)
       pick true h = subtracts a b c ready fa fb fc h
       pick false h = subtracts_beyond a b c ready fa fb fc h
 
-  multiply_runs : (a b c : Argument) → Ready row.MgIntegerMultiply → ArgumentFits stack Simple Integer a → ArgumentFits stack Simple Integer b → ArgumentFits stack Simple Integer c →
-      Runs s row.MgIntegerMultiply (a ∷ b ∷ c ∷ []) stack (from (Nat c.index ∷ Nat b.index ∷ Nat a.index ∷ stack)) (number_effect (item_of_value b.value *ℤ item_of_value c.value))
-  multiply_runs a b c ready fa fb fc = pick (is_in_range Integer (item_of_value b.value *ℤ item_of_value c.value)) (sym (same_range (item_of_value b.value *ℤ item_of_value c.value)))
+  multiply_runs : (a b c : Argument) → Ready row.MgIntegerMultiply → ArgumentFits stack Simple Integer a → ArgumentFits stack Simple Integer b
+      → ArgumentFits stack Simple Integer c →
+      Runs s row.MgIntegerMultiply (a ∷ b ∷ c ∷ []) stack (from (Nat c.index ∷ Nat b.index ∷ Nat a.index ∷ stack))
+      (number_effect (item_of_value b.value *ℤ item_of_value c.value))
+  multiply_runs a b c ready fa fb fc =
+      pick (is_in_range Integer (item_of_value b.value *ℤ item_of_value c.value)) (sym (same_range (item_of_value b.value *ℤ item_of_value c.value)))
     where
       pick : (t : Bool) → is_int (item_of_value b.value *ℤ item_of_value c.value) ≡ t →
-          Runs s row.MgIntegerMultiply (a ∷ b ∷ c ∷ []) stack (from (Nat c.index ∷ Nat b.index ∷ Nat a.index ∷ stack)) (if t then Normal (integer_value (item_of_value b.value *ℤ item_of_value c.value)) else Fault)
+          Runs s row.MgIntegerMultiply (a ∷ b ∷ c ∷ []) stack (from (Nat c.index ∷ Nat b.index ∷ Nat a.index ∷ stack))
+          (if t then Normal (integer_value (item_of_value b.value *ℤ item_of_value c.value)) else Fault)
       pick true h = multiplies a b c ready fa fb fc h
       pick false h = multiplies_beyond a b c ready fa fb fc h
 
@@ -620,7 +697,8 @@ module _ (s : SystemView) (program caller place : ℕ) (f : Frame) (fs : List Fr
           reads_beyond a b c ready fa fb fc (ap is_negative e)
           (ap (λ z. int_lt z (pos (item_count b.value.shape))) e ∙ ap (nat_lt i) (sym fb.1.number) ∙ h)
 
-  store_runs : (a b c : Argument) → Ready row.MgArrayElementAssignment → ArgumentFits stack Array k a → ArgumentFits stack Simple Integer b → ArgumentFits stack Simple k c →
+  store_runs : (a b c : Argument) → Ready row.MgArrayElementAssignment → ArgumentFits stack Array k a → ArgumentFits stack Simple Integer b
+      → ArgumentFits stack Simple k c →
       (z : ℤ) → item_of_value b.value ≡ z →
       Runs s row.MgArrayElementAssignment (a ∷ b ∷ c ∷ []) stack (from (length_word a.value ∷ Nat c.index ∷ Nat b.index ∷ Nat a.index ∷ stack))
       (effects.stored a.value z (item_of_value c.value))
@@ -649,11 +727,13 @@ module _ (s : SystemView) (program caller place : ℕ) (f : Frame) (fs : List Fr
   row_runs row.MgSimpleVariableEq args ready fit =
       for_three stack k boolean_slot (shared Simple) (shared Simple) (Does row.MgSimpleVariableEq) (λ a b c fa fb fc. equals a b c ready fa fb fc) args fit
   row_runs row.MgSimpleConstantEq args ready fit =
-      for_three stack k boolean_slot (shared Simple) (shared Literal) (Does row.MgSimpleConstantEq) (λ a b c fa fb fc. equals_constant a b c ready fa fb fc) args fit
+      for_three stack k boolean_slot (shared Simple) (shared Literal) (Does row.MgSimpleConstantEq)
+      (λ a b c fa fb fc. equals_constant a b c ready fa fb fc) args fit
   row_runs row.MgIntegerLe args ready fit =
       for_three stack k boolean_slot integer_slot integer_slot (Does row.MgIntegerLe) (λ a b c fa fb fc. compares a b c ready fa fb fc) args fit
   row_runs row.MgIntegerUnaryMinus args ready fit =
-      for_two stack k integer_slot integer_slot (Does row.MgIntegerUnaryMinus) (λ a b fa fb. minus_runs a b ready fa fb (are_same_ints (item_of_value b.value) (negsuc 2147483647)) refl) args fit
+      for_two stack k integer_slot integer_slot (Does row.MgIntegerUnaryMinus)
+      (λ a b fa fb. minus_runs a b ready fa fb (are_same_ints (item_of_value b.value) (negsuc 2147483647)) refl) args fit
   row_runs row.MgIntegerAdd args ready fit =
       for_three stack k integer_slot integer_slot integer_slot (Does row.MgIntegerAdd) (λ a b c fa fb fc. add_runs a b c ready fa fb fc) args fit
   row_runs row.MgIntegerSubtract args ready fit =
@@ -665,9 +745,11 @@ module _ (s : SystemView) (program caller place : ℕ) (f : Frame) (fs : List Fr
   row_runs row.MgBooleanNot args ready fit =
       for_two stack k boolean_slot boolean_slot (Does row.MgBooleanNot) (λ a b fa fb. negates a b ready fa fb) args fit
   row_runs row.MgIndexArray args ready fit =
-      for_three stack k (shared Simple) (shared Array) integer_slot (Does row.MgIndexArray) (λ a b c fa fb fc. read_runs a b c ready fa fb fc (item_of_value c.value) refl) args fit
+      for_three stack k (shared Simple) (shared Array) integer_slot (Does row.MgIndexArray)
+      (λ a b c fa fb fc. read_runs a b c ready fa fb fc (item_of_value c.value) refl) args fit
   row_runs row.MgArrayElementAssignment args ready fit =
-      for_three stack k (shared Array) integer_slot (shared Simple) (Does row.MgArrayElementAssignment) (λ a b c fa fb fc. store_runs a b c ready fa fb fc (item_of_value b.value) refl) args fit
+      for_three stack k (shared Array) integer_slot (shared Simple) (Does row.MgArrayElementAssignment)
+      (λ a b c fa fb fc. store_runs a b c ready fa fb fc (item_of_value b.value) refl) args fit
   row_runs row.MgIntegerMultiply args ready fit =
       for_three stack k integer_slot integer_slot integer_slot (Does row.MgIntegerMultiply) (λ a b c fa fb fc. multiply_runs a b c ready fa fb fc) args fit
 

@@ -16,7 +16,8 @@ use Rattle.piton_semantics.specs.Views.{then_on, words_taken, operands_of, test_
 use Rattle.piton_semantics.specs.InstructionRows.{does_grow, results_on, row_of}
 use Rattle.piton_semantics.specs.Step.{piton_step, step_cost, cost_of, cost_at, operation_cost}
 use Rattle.piton_semantics.specs.Law.{Steps, none, more}
-use Rattle.piton_semantics.proofs.RowLaws.{step_is, does_push, does_push_local, does_pop_local, does_set_local, does_pop_global, does_fetch_temp_stk, does_deposit_temp_stk, does_test_and_jump, does_call, does_apply}
+use Rattle.piton_semantics.proofs.RowLaws.{step_is, does_push, does_push_local, does_pop_local, does_set_local, does_pop_global, does_fetch_temp_stk}
+use Rattle.piton_semantics.proofs.RowLaws.{does_deposit_temp_stk, does_test_and_jump, does_call, does_apply}
 
 -- a step whose instruction is known, before other steps
 pub step_first : {s : SystemView} {j n : ℕ} {q r : PitonState} (p : PitonState) (body : ProgramView) (f : Frame) (fs : List Frame) (ins : Instruction) →
@@ -125,35 +126,46 @@ module _ (here : Called) where
       At l i.DepositTempStk → index < length stack → Steps s j n (within (l + 1) locals (with_element stack index w) areas) r →
       Steps s (suc j) (3 + n) (within l locals (Nat index ∷ w ∷ stack) areas) r
   deposits l locals index w stack areas at low rest =
-      goes l locals (Nat index ∷ w ∷ stack) areas i.DepositTempStk at (does_deposit_temp_stk (within l locals (Nat index ∷ w ∷ stack) areas) index w stack refl low) rest
+      goes l locals (Nat index ∷ w ∷ stack) areas i.DepositTempStk at
+      (does_deposit_temp_stk (within l locals (Nat index ∷ w ∷ stack) areas) index w stack refl low) rest
 
   pub jumps : {j n : ℕ} {r : PitonState} (l : ℕ) (locals : List Word) (family : TestFamily) (kind : TestKind) (to : ℕ) (w : Word) (test : Bool)
       (stack : List Word) (areas : List (List Word)) → At l (i.TestAndJump family kind to) → test_of family kind w ≡ Ok test →
       Steps s j n (within (if test then to else l + 1) locals stack areas) r →
       Steps s (suc j) (2 + n) (within l locals (w ∷ stack) areas) r
   jumps l locals family kind to w test stack areas at holds rest =
-      goes l locals (w ∷ stack) areas (i.TestAndJump family kind to) at (does_test_and_jump (within l locals (w ∷ stack) areas) family kind to w stack test refl holds) rest
+      goes l locals (w ∷ stack) areas (i.TestAndJump family kind to) at
+      (does_test_and_jump (within l locals (w ∷ stack) areas) family kind to w stack test refl holds) rest
 
-  pub applies_one : {j n : ℕ} {r : PitonState} (l : ℕ) (locals : List Word) (o : WordOp) (t : Word) (out : Outcome) (stack : List Word) (areas : List (List Word)) →
+  pub applies_one : {j n : ℕ} {r : PitonState} (l : ℕ) (locals : List Word) (o : WordOp) (t : Word) (out : Outcome) (stack : List Word)
+      (areas : List (List Word)) →
       At l (i.Apply o) → words_taken o ≡ 1 → words.row_of o t t t (map length areas) ≡ Ok out → does_grow o ≡ false →
       Steps s j n (within (l + 1) locals (results_on out stack) areas) r →
       Steps s (suc j) (operation_cost o + n) (within l locals (t ∷ stack) areas) r
   applies_one l locals o t out stack areas at taken result small rest =
-      goes l locals (t ∷ stack) areas (i.Apply o) at (does_apply s.temp (within l locals (t ∷ stack) areas) o record { third = t; second = t; top = t; below = stack } out (ap (λ k. operands_of k (t ∷ stack)) taken) result small) rest
+      goes l locals (t ∷ stack) areas (i.Apply o) at
+      (does_apply s.temp (within l locals (t ∷ stack) areas) o record { third = t; second = t; top = t; below = stack } out
+      (ap (λ k. operands_of k (t ∷ stack)) taken) result small) rest
 
-  pub applies_two : {j n : ℕ} {r : PitonState} (l : ℕ) (locals : List Word) (o : WordOp) (t u : Word) (out : Outcome) (stack : List Word) (areas : List (List Word)) →
+  pub applies_two : {j n : ℕ} {r : PitonState} (l : ℕ) (locals : List Word) (o : WordOp) (t u : Word) (out : Outcome) (stack : List Word)
+      (areas : List (List Word)) →
       At l (i.Apply o) → words_taken o ≡ 2 → words.row_of o t u t (map length areas) ≡ Ok out → does_grow o ≡ false →
       Steps s j n (within (l + 1) locals (results_on out stack) areas) r →
       Steps s (suc j) (operation_cost o + n) (within l locals (t ∷ u ∷ stack) areas) r
   applies_two l locals o t u out stack areas at taken result small rest =
-      goes l locals (t ∷ u ∷ stack) areas (i.Apply o) at (does_apply s.temp (within l locals (t ∷ u ∷ stack) areas) o record { third = t; second = u; top = t; below = stack } out (ap (λ k. operands_of k (t ∷ u ∷ stack)) taken) result small) rest
+      goes l locals (t ∷ u ∷ stack) areas (i.Apply o) at
+      (does_apply s.temp (within l locals (t ∷ u ∷ stack) areas) o record { third = t; second = u; top = t; below = stack } out
+      (ap (λ k. operands_of k (t ∷ u ∷ stack)) taken) result small) rest
 
-  pub applies_three : {j n : ℕ} {r : PitonState} (l : ℕ) (locals : List Word) (o : WordOp) (t u v : Word) (out : Outcome) (stack : List Word) (areas : List (List Word)) →
+  pub applies_three : {j n : ℕ} {r : PitonState} (l : ℕ) (locals : List Word) (o : WordOp) (t u v : Word) (out : Outcome) (stack : List Word)
+      (areas : List (List Word)) →
       At l (i.Apply o) → words_taken o ≡ 3 → words.row_of o v u t (map length areas) ≡ Ok out → does_grow o ≡ false →
       Steps s j n (within (l + 1) locals (results_on out stack) areas) r →
       Steps s (suc j) (operation_cost o + n) (within l locals (t ∷ u ∷ v ∷ stack) areas) r
   applies_three l locals o t u v out stack areas at taken result small rest =
-      goes l locals (t ∷ u ∷ v ∷ stack) areas (i.Apply o) at (does_apply s.temp (within l locals (t ∷ u ∷ v ∷ stack) areas) o record { third = v; second = u; top = t; below = stack } out (ap (λ k. operands_of k (t ∷ u ∷ v ∷ stack)) taken) result small) rest
+      goes l locals (t ∷ u ∷ v ∷ stack) areas (i.Apply o) at
+      (does_apply s.temp (within l locals (t ∷ u ∷ v ∷ stack) areas) o record { third = v; second = u; top = t; below = stack } out
+      (ap (λ k. operands_of k (t ∷ u ∷ v ∷ stack)) taken) result small) rest
 
   pub goes_to : {j n : ℕ} {r : PitonState} (l : ℕ) (locals stack : List Word) (areas : List (List Word)) (to : ℕ) → At l (i.Jump to) →
       Steps s j n (within to locals stack areas) r → Steps s (suc j) (1 + n) (within l locals stack areas) r
@@ -172,13 +184,15 @@ module _ (here : Called) where
   returns l locals stack areas at = goes l locals stack areas i.Ret at refl none
 
   -- the rows of the table: get, put and return, fail
-  pub gets : {j n : ℕ} {r : PitonState} (l : ℕ) (locals stack : List Word) (areas : List (List Word)) (o index : ℕ) (w : Word) → At l (i.PushLocal o) → At (l + 1) i.FetchTempStk →
+  pub gets : {j n : ℕ} {r : PitonState} (l : ℕ) (locals stack : List Word) (areas : List (List Word)) (o index : ℕ) (w : Word) → At l (i.PushLocal o)
+      → At (l + 1) i.FetchTempStk →
       slice_get locals o ≡ Some (Nat index) → element stack index ≡ Some w → length stack < s.temp →
       Steps s j n (within (l + 1 + 1) locals (w ∷ stack) areas) r → Steps s (suc (suc j)) (3 + (3 + n)) (within l locals stack areas) r
   gets l locals stack areas o index w at at' read there room rest =
       pushes_local l locals stack areas o (Nat index) at read room (fetches (l + 1) locals index w stack areas at' there rest)
 
-  pub puts : (l : ℕ) (locals : List Word) (o index : ℕ) (w : Word) (stack : List Word) (areas : List (List Word)) → At l (i.PushLocal o) → At (l + 1) i.DepositTempStk →
+  pub puts : (l : ℕ) (locals : List Word) (o index : ℕ) (w : Word) (stack : List Word) (areas : List (List Word)) → At l (i.PushLocal o)
+      → At (l + 1) i.DepositTempStk →
       At (l + 1 + 1) i.Ret → slice_get locals o ≡ Some (Nat index) → index < length stack → length (w ∷ stack) < s.temp →
       Steps s 3 10 (within l locals (w ∷ stack) areas) (afterwards (with_element stack index w) areas)
   puts l locals o index w stack areas at at' at'' read low room =
@@ -186,7 +200,8 @@ module _ (here : Called) where
       (deposits (l + 1) locals index w stack areas at' low
       (returns (l + 1 + 1) locals (with_element stack index w) areas at''))
 
-  pub fails : (l : ℕ) (locals stack : List Word) (areas : List (List Word)) → At l (i.PushConstant (Nat 1)) → At (l + 1) (i.PopGlobal 0) → At (l + 1 + 1) i.Ret →
+  pub fails : (l : ℕ) (locals stack : List Word) (areas : List (List Word)) → At l (i.PushConstant (Nat 1)) → At (l + 1) (i.PopGlobal 0)
+      → At (l + 1 + 1) i.Ret →
       length stack < s.temp → Steps s 3 7 (within l locals stack areas) (afterwards stack (with_word areas 0 0 (Nat 1)))
   fails l locals stack areas at at' at'' room =
       pushes l locals stack areas (Nat 1) at room
@@ -194,7 +209,8 @@ module _ (here : Called) where
       (returns (l + 1 + 1) locals stack (with_word areas 0 0 (Nat 1)) at''))
 
 -- the call, from a state at its place
-pub calls : {j n : ℕ} {r : PitonState} (here : Called) → slice_get here.s.programs here.program ≡ Some here.body → (stack : List Word) (areas : List (List Word)) →
+pub calls : {j n : ℕ} {r : PitonState} (here : Called) → slice_get here.s.programs here.program ≡ Some here.body
+    → (stack : List Word) (areas : List (List Word)) →
     instruction_at here.s here.caller here.place ≡ Some (i.Call here.program) → here.body.formals ≤ length stack →
     ctrl_used (here.f ∷ here.fs) + (2 + (here.body.formals + length here.body.temporaries)) ≤ here.s.ctrl →
     Steps here.s j n (within here 0 (reverse (take here.body.formals stack) ++ here.body.temporaries) (drop here.body.formals stack) areas) r →
@@ -204,6 +220,7 @@ calls {j} {n} {r} here found stack areas at enough room rest =
     let s = here.s in
     let body = here.body in
     let p : PitonState = record { program = here.caller; place = here.place; frames = here.f ∷ here.fs; stack = stack; areas = areas } in
-    let cost : cost_of s p (i.Call here.program) ≡ 4 + (body.formals + length body.temporaries) = ap (λ (b : ProgramView). 4 + (b.formals + length b.temporaries)) here.is in
+    let cost : cost_of s p (i.Call here.program) ≡ 4 + (body.formals + length body.temporaries) =
+    ap (λ (b : ProgramView). 4 + (b.formals + length b.temporaries)) here.is in
     subst (λ c. Steps s (suc j) (c + n) p r) cost
     (step_first p (program_of s here.caller) here.f here.fs (i.Call here.program) refl refl at (does_call s p here.program body stack found enough room) rest)

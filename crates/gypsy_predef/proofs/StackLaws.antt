@@ -1,5 +1,6 @@
 -- Elements of the temporary stack, read under pushed words and written.
-use Rattle.std.proofs.Common.{◌≤◌, ◌≡◌, ℕ, zero, suc, ◌+◌, ◌-◌, ◌<◌, Some, None, Bool, true, false, List, [], ◌∷◌, length, refl, ap, sym, ◌∙◌, subst, arith, ltb-true, length-set}
+use Rattle.std.proofs.Common.{◌≤◌, ◌≡◌, ℕ, zero, suc, ◌+◌, ◌-◌, ◌<◌, Some, None, Bool, true, false, List, [], ◌∷◌, length, refl, ap, sym, ◌∙◌, subst, arith}
+use Rattle.std.proofs.Common.{ltb-true, length-set}
 use Rattle.std.specs.Prelude.{if◌then◌else◌, slice_get, slice_set, nat_lt, get_or, ◌≢◌}
 use Rattle.std.proofs.lemmas.Bool.{lt-ltb}
 use Rattle.std.proofs.lemmas.Option.{slice_get_within, slice_get-get_or, get_or_from_slice_get}
@@ -77,7 +78,8 @@ written_one (v ∷ words) stack index (suc i) w h l =
     let first = holds_first stack index v words h in
     let low : i < length words = omega (arith, l) in
     let at : index < length stack = element_there stack index v first in
-    let there : index + 1 + i < length stack = element_there stack (index + 1 + i) (get_or words i w) (rest i (get_or words i w) (slice_get-get_or words i w low)) in
+    let there : index + 1 + i < length stack =
+    element_there stack (index + 1 + i) (get_or words i w) (rest i (get_or words i w) (slice_get-get_or words i w low)) in
     let same : index + 1 + i ≡ index + suc i = omega arith in
     ap (λ s. with_element s index v) (written_one words stack (index + 1) i w rest low)
     ∙ same_element (with_element stack (index + 1 + i) w) index v (element_other stack (index + 1 + i) index w there at (λ e. omega (arith, e)) ∙ first)

@@ -38,10 +38,17 @@ pub record IsSimple (stack : List Word) (k : Kind) (a : Argument) : Type 0 where
 pub simple_argument : (stack : List Word) (k : Kind) (a : Argument) → ArgumentFits stack Simple k a → IsSimple stack k a
 simple_argument stack k a f =
     let words : words_of_value a.value ≡ word_of_item k (item_of_value a.value) ∷ [] = simple_words k a.value f.0 f.1 in
-    let first : element stack (a.index + 0) ≡ Some (word_of_item k (item_of_value a.value)) = f.2 0 (word_of_item k (item_of_value a.value)) (ap (λ ws. slice_get ws 0) words) in
+    let first : element stack (a.index + 0) ≡ Some (word_of_item k (item_of_value a.value)) =
+    f.2 0 (word_of_item k (item_of_value a.value)) (ap (λ ws. slice_get ws 0) words) in
     let same : a.index + 0 ≡ a.index = omega arith in
-    let word : element stack a.index ≡ Some (word_of_item k (item_of_value a.value)) = subst (λ i. element stack i ≡ Some (word_of_item k (item_of_value a.value))) same first in
-    record { word = word; low = element_there stack a.index (word_of_item k (item_of_value a.value)) word; range = simple_item k a.value f.0 f.1; words = words }
+    let word : element stack a.index ≡ Some (word_of_item k (item_of_value a.value)) =
+    subst (λ i. element stack i ≡ Some (word_of_item k (item_of_value a.value))) same first in
+    record {
+      word = word;
+      low = element_there stack a.index (word_of_item k (item_of_value a.value)) word;
+      range = simple_item k a.value f.0 f.1;
+      words = words;
+    }
 
 -- a literal's word
 pub literal_word : (k : Kind) (v : ValueOf) → v.shape ≡ simple k → word_of_item v.shape.kind (item_of_value v) ≡ word_of_item k (item_of_value v)
@@ -75,4 +82,5 @@ pub array_word : (stack : List Word) (k : Kind) (a : Argument) (i : ℕ) → Arg
     element stack (a.index + i) ≡ Some (word_of_item a.value.shape.kind (get_or a.value.items i (pos 0)))
 array_word stack k a i f l =
     f.2 i (word_of_item a.value.shape.kind (get_or a.value.items i (pos 0)))
-    (slice_get-map (word_of_item a.value.shape.kind) a.value.items i ∙ ap (option_map (word_of_item a.value.shape.kind)) (slice_get-get_or a.value.items i (pos 0) l))
+    (slice_get-map (word_of_item a.value.shape.kind) a.value.items i ∙ ap (option_map (word_of_item a.value.shape.kind))
+    (slice_get-get_or a.value.items i (pos 0) l))

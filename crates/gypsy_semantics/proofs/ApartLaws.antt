@@ -58,7 +58,8 @@ module _ (t : Tally) where
   at_apart : (p : ℕ) (x : List ValueOf) (w : List Item) (fs : List Frame) (u v : Tally) → u ≡ plus t v → At p x w fs u ≡ add t (At p x w fs v)
   at_apart p x w fs u v e = ap (At p x w fs) e
 
-  raise_apart : (c : ConditionOf) (p : ℕ) (x : List ValueOf) (w : List Item) (fs : List Frame) (u : Tally) → raise c p x w fs (plus t u) ≡ add t (raise c p x w fs u)
+  raise_apart : (c : ConditionOf) (p : ℕ) (x : List ValueOf) (w : List Item) (fs : List Frame) (u : Tally)
+      → raise c p x w fs (plus t u) ≡ add t (raise c p x w fs u)
   raise_apart c p x [] fs u = refl
   raise_apart c p x (Do s ∷ w) fs u = raise_apart c p x w fs u
   raise_apart c p x (Back place s ∷ w) fs u =
@@ -72,15 +73,18 @@ module _ (t : Tally) where
   raise_apart c p x (Out d ∷ w) fs u = raise_apart c p x w fs u
 
   -- a condition that is raised after a cost
-  raised_apart : (c : ConditionOf) (p : ℕ) (x : List ValueOf) (w : List Item) (fs : List Frame) (u v : Tally) → u ≡ plus t v → Next (raise c p x w fs u) ≡ Next (add t (raise c p x w fs v))
+  raised_apart : (c : ConditionOf) (p : ℕ) (x : List ValueOf) (w : List Item) (fs : List Frame) (u v : Tally) → u ≡ plus t v
+      → Next (raise c p x w fs u) ≡ Next (add t (raise c p x w fs v))
   raised_apart c p x w fs u v e = ap Next (ap (raise c p x w fs) e ∙ raise_apart c p x w fs v)
 
   next_apart : (p : ℕ) (x : List ValueOf) (w : List Item) (fs : List Frame) (u v : Tally) → u ≡ plus t v → Next (At p x w fs u) ≡ Next (add t (At p x w fs v))
   next_apart p x w fs u v e = ap Next (at_apart p x w fs u v e)
 
-  apply_apart : (r : Predef) (args : List Arg) (e : Effect) (p : ℕ) (x : List ValueOf) (w : List Item) (fs : List Frame) (u : Tally) → apply_step r args e p x w fs (plus t u) ≡ add_to t (apply_step r args e p x w fs u)
+  apply_apart : (r : Predef) (args : List Arg) (e : Effect) (p : ℕ) (x : List ValueOf) (w : List Item) (fs : List Frame) (u : Tally)
+      → apply_step r args e p x w fs (plus t u) ≡ add_to t (apply_step r args e p x w fs u)
   apply_apart r args (Normal v) p x w fs u =
-      next_apart p (slice_set x (target_of args) v) (settle w) fs (predef_spend r (Normal v) (plus t u)) (predef_spend r (Normal v) u) (predef_apart r (Normal v) t u)
+      next_apart p (slice_set x (target_of args) v) (settle w) fs (predef_spend r (Normal v) (plus t u)) (predef_spend r (Normal v) u)
+      (predef_apart r (Normal v) t u)
   apply_apart r args Fault p x w fs u = raised_apart Routine p x w fs (predef_spend r Fault (plus t u)) (predef_spend r Fault u) (predef_apart r Fault t u)
   apply_apart r args Beyond p x w fs u = raised_apart Routine p x w fs (predef_spend r Beyond (plus t u)) (predef_spend r Beyond u) (predef_apart r Beyond t u)
 
@@ -88,20 +92,24 @@ module _ (t : Tally) where
   either_apart true a r a' r' e f = ap Next e
   either_apart false a r a' r' e f = ap Next f
 
-  called_apart : (q : Program) (l : Lack) (c : ℕ) (xs : List ℕ) (cs : List ConditionOf) (p : ℕ) (x : List ValueOf) (w : List Item) (fs : List Frame) (u : Tally) → call_step q l c xs cs p x w fs (plus t u) ≡ add_to t (call_step q l c xs cs p x w fs u)
-  called_apart q Nothing c xs cs p x w fs u = next_apart c (copied_in q c xs x) (open_on (body_of q c) []) (Held p x w xs cs ∷ fs) (call_spend q c (plus t u)) (call_spend q c u) (call_apart q c t u)
+  called_apart : (q : Program) (l : Lack) (c : ℕ) (xs : List ℕ) (cs : List ConditionOf) (p : ℕ) (x : List ValueOf) (w : List Item) (fs : List Frame)
+      (u : Tally) → call_step q l c xs cs p x w fs (plus t u) ≡ add_to t (call_step q l c xs cs p x w fs u)
+  called_apart q Nothing c xs cs p x w fs u = next_apart c (copied_in q c xs x) (open_on (body_of q c) []) (Held p x w xs cs ∷ fs)
+      (call_spend q c (plus t u)) (call_spend q c u) (call_apart q c t u)
   called_apart q Temporary c xs cs p x w fs u = raised_apart Space p x w fs (spend 15 7 (plus t u)) (spend 15 7 u) (spend_apart 15 7 t u)
   called_apart q Control c xs cs p x w fs u = raised_apart Space p x w fs (spend 26 11 (plus t u)) (spend 26 11 u) (spend_apart 26 11 t u)
 
   module _ (q : Program) (sizes : StackSizes) where
-    do_apart : (s : Stmt) (p : ℕ) (x : List ValueOf) (w : List Item) (fs : List Frame) (u : Tally) → do_step q sizes s p x w fs (plus t u) ≡ add_to t (do_step q sizes s p x w fs u)
+    do_apart : (s : Stmt) (p : ℕ) (x : List ValueOf) (w : List Item) (fs : List Frame) (u : Tally)
+        → do_step q sizes s p x w fs (plus t u) ≡ add_to t (do_step q sizes s p x w fs u)
     do_apart Skip p x w fs u = refl
     do_apart (NoOp place) p x w fs u = next_apart p x (settle w) fs (spend 1 1 (plus t u)) (spend 1 1 u) (spend_apart 1 1 t u)
     do_apart (Signal place c) p x w fs u = raised_apart c p x w fs (spend 4 3 (plus t u)) (spend 4 3 u) (spend_apart 4 3 t u)
     do_apart (Seq a b) p x w fs u = refl
     do_apart (Loop place s) p x w fs u = next_apart p x (open_on s (Back place s ∷ w)) fs (spend 1 1 (plus t u)) (spend 1 1 u) (spend_apart 1 1 t u)
     do_apart (If place b s v) p x w fs u =
-        either_apart (is_true_value (value_at x b)) _ _ (At p x (open_on s (JoinThen place v ∷ w)) fs (spend 8 3 u)) (At p x (open_on v (JoinOne place ∷ w)) fs (spend 9 4 u))
+        either_apart (is_true_value (value_at x b)) _ _ (At p x (open_on s (JoinThen place v ∷ w)) fs (spend 8 3 u))
+        (At p x (open_on v (JoinOne place ∷ w)) fs (spend 9 4 u))
         (at_apart p x (open_on s (JoinThen place v ∷ w)) fs (spend 8 3 (plus t u)) (spend 8 3 u) (spend_apart 8 3 t u))
         (at_apart p x (open_on v (JoinOne place ∷ w)) fs (spend 9 4 (plus t u)) (spend 9 4 u) (spend_apart 9 4 t u))
     do_apart (Begin place s cs v) p x w fs u = refl
@@ -112,10 +120,12 @@ module _ (t : Tally) where
     end_apart p y [] u = ap (Ended (main_formals q y) None) (spend_apart 5 2 t u)
     end_apart p y (Held c x w xs cs ∷ fs) u = next_apart c (copied_out xs y x) (settle w) fs (spend 12 6 (plus t u)) (spend 12 6 u) (spend_apart 12 6 t u)
 
-    out_from_apart : (d : ConditionOf) (p : ℕ) (y : List ValueOf) (fs : List Frame) (u : Tally) → out_step q d p y fs (plus t u) ≡ add_to t (out_step q d p y fs u)
+    out_from_apart : (d : ConditionOf) (p : ℕ) (y : List ValueOf) (fs : List Frame) (u : Tally)
+        → out_step q d p y fs (plus t u) ≡ add_to t (out_step q d p y fs u)
     out_from_apart d p y [] u = ap (Ended (main_formals q y) (Some (main_way q d))) (main_apart (is_passed_on q q.main d) t u)
     out_from_apart d p y (Held c x w xs cs ∷ fs) u =
-        raised_apart (matching q p cs d) c (copied_out xs y x) w fs (out_spend (is_passed_on q p d) (plus t u)) (out_spend (is_passed_on q p d) u) (out_apart (is_passed_on q p d) t u)
+        raised_apart (matching q p cs d) c (copied_out xs y x) w fs (out_spend (is_passed_on q p d) (plus t u)) (out_spend (is_passed_on q p d) u)
+        (out_apart (is_passed_on q p d) t u)
 
     pub step_apart : (g : State) → gypsy_step q sizes (add t g) ≡ add_to t (gypsy_step q sizes g)
     step_apart (At p x [] fs u) = end_apart p x fs u

@@ -10,6 +10,7 @@ pub has_any : (c : ConditionOf) (ds : List Condition) → has_cond c (map seen_c
 has_any c [] = refl
 has_any c (d ∷ ds) = pick (same_cond c (seen_cond d)) (has_any c ds)
   where
-    pick : (b : Bool) → has_cond c (map seen_cond ds) ≡ list_any (λ e. same_cond c (seen_cond e)) ds → (if b then true else has_cond c (map seen_cond ds)) ≡ (b || list_any (λ e. same_cond c (seen_cond e)) ds)
+    pick : (b : Bool) → has_cond c (map seen_cond ds) ≡ list_any (λ e. same_cond c (seen_cond e)) ds
+        → (if b then true else has_cond c (map seen_cond ds)) ≡ (b || list_any (λ e. same_cond c (seen_cond e)) ds)
     pick true e = refl
     pick false e = e

@@ -1,5 +1,6 @@
 -- What a predefined procedure writes has the shape of its first argument.
-use Rattle.std.proofs.Common.{◌≡◌, ℕ, zero, suc, ◌<◌, ℤ, pos, negsuc, ◌+ℤ◌, ◌-ℤ◌, ◌*ℤ◌, neg_ℤ, List, [], ◌∷◌, map, length, get_or, slice_get, slice_set, nat_lt, if◌then◌else◌}
+use Rattle.std.proofs.Common.{◌≡◌, ℕ, zero, suc, ◌<◌, ℤ, pos, negsuc, ◌+ℤ◌, ◌-ℤ◌, ◌*ℤ◌, neg_ℤ, List, [], ◌∷◌, map, length, get_or, slice_get, slice_set, nat_lt}
+use Rattle.std.proofs.Common.{if◌then◌else◌}
 use Rattle.std.proofs.Common.{Bool, true, false, Some, refl, ap, sym, ◌∙◌, subst, arith, true≢false, ltb-true, length-set}
 use Rattle.std.specs.List.{list_all}
 use Rattle.std.proofs.lemmas.Bool.{and_parts, and_from}
@@ -35,13 +36,15 @@ ValuesMatch k (slot ∷ slots) (v ∷ vs) = FormFits slot.form (slot_kind k slot
 
 -- Variables.
 
-pub value_fits : (shapes : List Shape) (x : List ValueOf) (i : ℕ) (s : Shape) → VarsFit shapes x → slice_get shapes i ≡ Some s → ((value_at x i).shape ≡ s) × ValueFits (value_at x i)
+pub value_fits : (shapes : List Shape) (x : List ValueOf) (i : ℕ) (s : Shape) → VarsFit shapes x → slice_get shapes i ≡ Some s
+    → ((value_at x i).shape ≡ s) × ValueFits (value_at x i)
 value_fits [] x i s h e = cc
 value_fits (t ∷ shapes) [] i s h e = absurd h
 value_fits (t ∷ shapes) (v ∷ x) zero s h e = let same : t ≡ s = cc in (h.0 ∙ same, h.1)
 value_fits (t ∷ shapes) (v ∷ x) (suc i) s h e = value_fits shapes x i s h.2 e
 
-pub set_fits : (shapes : List Shape) (x : List ValueOf) (i : ℕ) (v : ValueOf) → VarsFit shapes x → slice_get shapes i ≡ Some v.shape → ValueFits v → VarsFit shapes (slice_set x i v)
+pub set_fits : (shapes : List Shape) (x : List ValueOf) (i : ℕ) (v : ValueOf) → VarsFit shapes x → slice_get shapes i ≡ Some v.shape → ValueFits v
+    → VarsFit shapes (slice_set x i v)
 set_fits [] [] i v h e f = tt
 set_fits [] (u ∷ x) i v h e f = absurd h
 set_fits (t ∷ shapes) [] i v h e f = absurd h
@@ -50,7 +53,8 @@ set_fits (t ∷ shapes) (u ∷ x) (suc i) v h e f = (h.0, h.1, set_fits shapes x
 
 -- Arguments.
 
-arg_value : (shapes : List Shape) (x : List ValueOf) (form : Form) (k : Kind) (a : Arg) → VarsFit shapes x → ArgFits shapes form k a → FormFits form k (value_of x a)
+arg_value : (shapes : List Shape) (x : List ValueOf) (form : Form) (k : Kind) (a : Arg) → VarsFit shapes x → ArgFits shapes form k a
+    → FormFits form k (value_of x a)
 arg_value shapes x Simple k (Var i) h f = value_fits shapes x i (simple k) h f
 arg_value shapes x Array k (Var i) h f =
     let v = value_fits shapes x i record { kind = k; length = f.0 } h f.3 in
@@ -60,7 +64,8 @@ arg_value shapes x Simple k (Lit v) h f = absurd f
 arg_value shapes x Array k (Lit v) h f = absurd f
 arg_value shapes x Literal k (Lit v) h f = f
 
-args_values : (shapes : List Shape) (x : List ValueOf) (k : Kind) (slots : List Slot) (args : List Arg) → VarsFit shapes x → ArgsFit shapes k slots args → ValuesMatch k slots (map (value_of x) args)
+args_values : (shapes : List Shape) (x : List ValueOf) (k : Kind) (slots : List Slot) (args : List Arg) → VarsFit shapes x → ArgsFit shapes k slots args
+    → ValuesMatch k slots (map (value_of x) args)
 args_values shapes x k [] [] h f = tt
 args_values shapes x k [] (a ∷ args) h f = absurd f
 args_values shapes x k (slot ∷ slots) [] h f = absurd f
@@ -70,11 +75,13 @@ value_0 : (k : Kind) (s : Slot) (slots : List Slot) (vs : List ValueOf) → Valu
 value_0 k s slots [] h = absurd h
 value_0 k s slots (v ∷ vs) h = h.0
 
-value_1 : (k : Kind) (s t : Slot) (slots : List Slot) (vs : List ValueOf) → ValuesMatch k (s ∷ t ∷ slots) vs → FormFits t.form (slot_kind k t.kind) (value_at vs 1)
+value_1 : (k : Kind) (s t : Slot) (slots : List Slot) (vs : List ValueOf) → ValuesMatch k (s ∷ t ∷ slots) vs
+    → FormFits t.form (slot_kind k t.kind) (value_at vs 1)
 value_1 k s t slots [] h = absurd h
 value_1 k s t slots (v ∷ vs) h = value_0 k t slots vs h.1
 
-value_2 : (k : Kind) (s t u : Slot) (slots : List Slot) (vs : List ValueOf) → ValuesMatch k (s ∷ t ∷ u ∷ slots) vs → FormFits u.form (slot_kind k u.kind) (value_at vs 2)
+value_2 : (k : Kind) (s t u : Slot) (slots : List Slot) (vs : List ValueOf) → ValuesMatch k (s ∷ t ∷ u ∷ slots) vs
+    → FormFits u.form (slot_kind k u.kind) (value_at vs 2)
 value_2 k s t u slots [] h = absurd h
 value_2 k s t u slots (v ∷ vs) h = value_1 k t u slots vs h.1
 
@@ -114,14 +121,16 @@ indexed_fits k n a (pos i) e f = pick (nat_lt i (length a.items)) refl
     kind_is : a.shape.kind ≡ k
     kind_is = ap (λ (s : Shape). s.kind) e
 
-    pick : (b : Bool) → nat_lt i (length a.items) ≡ b → EffectFits (simple k) (if b then Normal record { shape = simple a.shape.kind; items = get_or a.items i (pos 0) ∷ [] } else Beyond)
+    pick : (b : Bool) → nat_lt i (length a.items) ≡ b → EffectFits (simple k)
+        (if b then Normal record { shape = simple a.shape.kind; items = get_or a.items i (pos 0) ∷ [] } else Beyond)
     pick true l = (
       ap simple kind_is,
       item_value a.shape.kind (get_or a.items i (pos 0)) (get_holds (is_in_range a.shape.kind) a.items i f.items (ltb-true i (length a.items) l)),
     )
     pick false l = tt
 
-stored_fits : (k : Kind) (n : ℕ) (a : ValueOf) (y z : ℤ) → a.shape ≡ record { kind = k; length = n } → ValueFits a → is_in_range k z ≡ true → EffectFits a.shape (stored a y z)
+stored_fits : (k : Kind) (n : ℕ) (a : ValueOf) (y z : ℤ) → a.shape ≡ record { kind = k; length = n } → ValueFits a → is_in_range k z ≡ true
+    → EffectFits a.shape (stored a y z)
 stored_fits k n a (negsuc i) z e f g = tt
 stored_fits k n a (pos i) z e f g = pick (nat_lt i (length a.items))
   where
@@ -140,7 +149,9 @@ stored_fits k n a (pos i) z e f g = pick (nat_lt i (length a.items))
     pick false = tt
 
 -- what is stored in an array is in the range of its kind
-pub stored_item : (shapes : List Shape) (x : List ValueOf) (k : Kind) (args : List Arg) → VarsFit shapes x → ArgsFit shapes k (slots_of row.MgArrayElementAssignment) args → is_in_range (value_at (map (value_of x) args) 0).shape.kind (item_of_value (value_at (map (value_of x) args) 2)) ≡ true
+pub stored_item : (shapes : List Shape) (x : List ValueOf) (k : Kind) (args : List Arg) → VarsFit shapes x
+    → ArgsFit shapes k (slots_of row.MgArrayElementAssignment) args → is_in_range (value_at (map (value_of x) args) 0).shape.kind
+    (item_of_value (value_at (map (value_of x) args) 2)) ≡ true
 stored_item shapes x k args h f =
     let vs = map (value_of x) args in
     let match : ValuesMatch k (slots_of row.MgArrayElementAssignment) vs = args_values shapes x k (slots_of row.MgArrayElementAssignment) args h f in
@@ -148,10 +159,12 @@ stored_item shapes x k args h f =
     let z = value_2 k (shared Array) integer_slot (shared Simple) [] vs match in
     ap (λ (s : Shape). is_in_range s.kind (item_of_value (value_at vs 2))) a.2 ∙ simple_item k (value_at vs 2) z.0 z.1
 
-truth_effect : (k : Kind) (s : Slot) (slots : List Slot) (vs : List ValueOf) (b : Bool) → ValuesMatch k (boolean_slot ∷ slots) vs → EffectFits (value_at vs 0).shape (Normal (truth_value b))
+truth_effect : (k : Kind) (s : Slot) (slots : List Slot) (vs : List ValueOf) (b : Bool) → ValuesMatch k (boolean_slot ∷ slots) vs
+    → EffectFits (value_at vs 0).shape (Normal (truth_value b))
 truth_effect k s slots vs b h = (sym (value_0 k boolean_slot slots vs h).0, truth_fits b)
 
-number_of : (k : Kind) (slots : List Slot) (vs : List ValueOf) (z : ℤ) → ValuesMatch k (integer_slot ∷ slots) vs → EffectFits (value_at vs 0).shape (number_effect z)
+number_of : (k : Kind) (slots : List Slot) (vs : List ValueOf) (z : ℤ) → ValuesMatch k (integer_slot ∷ slots) vs
+    → EffectFits (value_at vs 0).shape (number_effect z)
 number_of k slots vs z h = subst (λ s. EffectFits s (number_effect z)) (sym (value_0 k integer_slot slots vs h).0) (number_fits z)
 
 effect_fits : (r : Predef) (k : Kind) (vs : List ValueOf) → ValuesMatch k (slots_of r) vs → EffectFits (value_at vs 0).shape (predef_effect r vs)
@@ -180,7 +193,8 @@ effect_fits row.MgBooleanNot k vs h = truth_effect k boolean_slot (boolean_slot 
 effect_fits row.MgIndexArray k vs h =
     let d = value_0 k (shared Simple) (shared Array ∷ integer_slot ∷ []) vs h in
     let a = value_1 k (shared Simple) (shared Array) (integer_slot ∷ []) vs h in
-    subst (λ s. EffectFits s (indexed (value_at vs 1) (item_of_value (value_at vs 2)))) (sym d.0) (indexed_fits k a.0 (value_at vs 1) (item_of_value (value_at vs 2)) a.2 a.3)
+    subst (λ s. EffectFits s (indexed (value_at vs 1) (item_of_value (value_at vs 2)))) (sym d.0)
+    (indexed_fits k a.0 (value_at vs 1) (item_of_value (value_at vs 2)) a.2 a.3)
 effect_fits row.MgArrayElementAssignment k vs h =
     let a = value_0 k (shared Array) (integer_slot ∷ shared Simple ∷ []) vs h in
     let x = value_2 k (shared Array) integer_slot (shared Simple) [] vs h in
@@ -203,7 +217,8 @@ no_literal shapes Simple k v e f = f
 no_literal shapes Array k v e f = f
 no_literal shapes Literal k v e f = true≢false (sym e)
 
-target_shape : (shapes : List Shape) (x : List ValueOf) (k : Kind) (s : Slot) (slots : List Slot) (args : List Arg) → is_variable s.form ≡ true → VarsFit shapes x → ArgsFit shapes k (s ∷ slots) args → slice_get shapes (target_of args) ≡ Some (value_at (map (value_of x) args) 0).shape
+target_shape : (shapes : List Shape) (x : List ValueOf) (k : Kind) (s : Slot) (slots : List Slot) (args : List Arg) → is_variable s.form ≡ true
+    → VarsFit shapes x → ArgsFit shapes k (s ∷ slots) args → slice_get shapes (target_of args) ≡ Some (value_at (map (value_of x) args) 0).shape
 unfolding target_of
 target_shape shapes x k s slots [] e h f = absurd f
 target_shape shapes x k s slots (Lit v ∷ args) e h f = absurd (no_literal shapes s.form (slot_kind k s.kind) v e f.0)
@@ -217,11 +232,13 @@ first_slot row.MgSimpleVariableAssignment = (_, _, refl, refl)
 first_slot r = (_, _, refl, refl)
 
 -- a predefined call keeps the variables' shapes
-pub apply_fits : (shapes : List Shape) (x : List ValueOf) (k : Kind) (r : Predef) (args : List Arg) (v : ValueOf) → VarsFit shapes x → ArgsFit shapes k (slots_of r) args → predef_effect r (values_of x args) ≡ Normal v → VarsFit shapes (slice_set x (target_of args) v)
+pub apply_fits : (shapes : List Shape) (x : List ValueOf) (k : Kind) (r : Predef) (args : List Arg) (v : ValueOf) → VarsFit shapes x
+    → ArgsFit shapes k (slots_of r) args → predef_effect r (values_of x args) ≡ Normal v → VarsFit shapes (slice_set x (target_of args) v)
 unfolding values_of
 apply_fits shapes x k r args v h f e =
     let s = first_slot r in
     let match : ValuesMatch k (slots_of r) (map (value_of x) args) = args_values shapes x k (slots_of r) args h f in
-    let written : EffectFits (value_at (map (value_of x) args) 0).shape (Normal v) = subst (EffectFits (value_at (map (value_of x) args) 0).shape) e (effect_fits r k (map (value_of x) args) match) in
+    let written : EffectFits (value_at (map (value_of x) args) 0).shape (Normal v) =
+    subst (EffectFits (value_at (map (value_of x) args) 0).shape) e (effect_fits r k (map (value_of x) args) match) in
     let target = target_shape shapes x k s.0 s.1 args s.3 h (subst (λ slots. ArgsFit shapes k slots args) s.2 f) in
     set_fits shapes x (target_of args) v h (target ∙ ap Some (sym written.0)) written.1

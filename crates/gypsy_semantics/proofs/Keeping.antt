@@ -15,7 +15,8 @@ use Rattle.gypsy_space.specs.Needs.{StackSizes, lack_of}
 use Rattle.gypsy_space.specs.declared.need.Lack.{Lack}
 use Rattle.gypsy_space.specs.declared.need.Lack.TheVariants.{Nothing, Temporary, Control}
 use Rattle.gypsy_semantics.specs.Calls.{has_cond, is_passed_on, matching, main_way, values_of, copied_in, copied_out, main_start, main_formals}
-use Rattle.gypsy_semantics.specs.Machine.{Item, Do, Back, JoinThen, JoinOne, Guard, Out, Frame, Held, State, At, Next, opens, open_on, settle, stop_if, raise, either_move, apply_step, used, call_step, do_step, end_step, out_step, gypsy_step, start}
+use Rattle.gypsy_semantics.specs.Machine.{Item, Do, Back, JoinThen, JoinOne, Guard, Out, Frame, Held, State, At, Next, opens, open_on, settle, stop_if, raise}
+use Rattle.gypsy_semantics.specs.Machine.{either_move, apply_step, used, call_step, do_step, end_step, out_step, gypsy_step, start}
 use Rattle.gypsy_semantics.specs.Kept.{in_loop, RaisedFits, WorkFits, FramesFit, StateFits, EndFits, MoveFits}
 use Rattle.gypsy_semantics.proofs.EffectLaws.{value_fits, set_fits, apply_fits}
 
@@ -31,7 +32,8 @@ pub locals_fit : (locals : List ValueOf) → Each ValueFits locals → VarsFit (
 locals_fit [] h = tt
 locals_fit (v ∷ locals) h = (refl, h.0, locals_fit locals h.1)
 
-actuals_copied : (shapes formals : List Shape) (xs : List ℕ) (x : List ValueOf) → ActualsFit shapes formals xs → VarsFit shapes x → VarsFit formals (map (value_at x) xs)
+actuals_copied : (shapes formals : List Shape) (xs : List ℕ) (x : List ValueOf) → ActualsFit shapes formals xs → VarsFit shapes x
+    → VarsFit formals (map (value_at x) xs)
 actuals_copied shapes [] [] x f h = tt
 actuals_copied shapes [] (a ∷ xs) x f h = absurd f
 actuals_copied shapes (s ∷ formals) [] x f h = absurd f
@@ -39,7 +41,8 @@ actuals_copied shapes (s ∷ formals) (a ∷ xs) x f h =
     let v = value_fits shapes x a s h f.0 in
     (v.0, v.1, actuals_copied shapes formals xs x f.1 h)
 
-pub copies_back : (shapes formals rest : List Shape) (xs : List ℕ) (y x : List ValueOf) → ActualsFit shapes formals xs → VarsFit (formals ++ rest) y → VarsFit shapes x → VarsFit shapes (copied_out xs y x)
+pub copies_back : (shapes formals rest : List Shape) (xs : List ℕ) (y x : List ValueOf) → ActualsFit shapes formals xs → VarsFit (formals ++ rest) y
+    → VarsFit shapes x → VarsFit shapes (copied_out xs y x)
 copies_back shapes [] rest [] y x f g h = h
 copies_back shapes [] rest (a ∷ xs) y x f g h = absurd f
 copies_back shapes (s ∷ formals) rest [] y x f g h = absurd f
@@ -91,7 +94,8 @@ main_ends q (Declared i) = pick (nat_lt i (proc_at q q.main).conds) refl
 module _ (q : Program) (sizes : StackSizes) (fits : ProgramFits q) where
   -- Work.
 
-  opens_fits : (p : Proc) (s : Stmt) (w ws : List Item) → StmtFits q (shapes_of p) (conds_of p) (in_loop w) s → WorkFits q p w → WorkFits q p ws → WorkFits q p (opens s w ws)
+  opens_fits : (p : Proc) (s : Stmt) (w ws : List Item) → StmtFits q (shapes_of p) (conds_of p) (in_loop w) s → WorkFits q p w → WorkFits q p ws
+      → WorkFits q p (opens s w ws)
   opens_fits p Skip w ws f h g = g
   opens_fits p (NoOp place) w ws f h g = (f, h)
   opens_fits p (Signal place c) w ws f h g = (f, h)
@@ -115,7 +119,9 @@ module _ (q : Program) (sizes : StackSizes) (fits : ProgramFits q) where
   open_fits : (p : Proc) (s : Stmt) (w : List Item) → StmtFits q (shapes_of p) (conds_of p) (in_loop w) s → WorkFits q p w → WorkFits q p (open_on s w)
   open_fits p s w f h = opens_fits p s w (settle w) f h (settle_fits p w h)
 
-  raise_fits : (c : ConditionOf) (p : ℕ) (x : List ValueOf) (w : List Item) (fs : List Frame) (t : Tally) → RaisedFits (in_loop w) (conds_of (proc_at q p)) c → VarsFit (shapes_of (proc_at q p)) x → WorkFits q (proc_at q p) w → FramesFit q p fs → StateFits q (raise c p x w fs t)
+  raise_fits : (c : ConditionOf) (p : ℕ) (x : List ValueOf) (w : List Item) (fs : List Frame) (t : Tally)
+      → RaisedFits (in_loop w) (conds_of (proc_at q p)) c → VarsFit (shapes_of (proc_at q p)) x → WorkFits q (proc_at q p) w → FramesFit q p fs
+      → StateFits q (raise c p x w fs t)
   raise_fits c p x [] fs t f v h g = (v, (f, refl), g)
   raise_fits c p x (Do s ∷ w) fs t f v h g = raise_fits c p x w fs t f v h.1 g
   raise_fits Leave p x (Back place s ∷ w) fs t f v h g = (v, settle_fits (proc_at q p) w h.1, g)
@@ -126,32 +132,41 @@ module _ (q : Program) (sizes : StackSizes) (fits : ProgramFits q) where
   raise_fits c p x (JoinOne place ∷ w) fs t f v h g = raise_fits c p x w fs t f v h g
   raise_fits c p x (Guard place cs u ∷ w) fs t f v h g = pick (has_cond c cs) (raise_fits c p x w fs t f v h.2 g)
     where
-      pick : (b : Bool) → StateFits q (raise c p x w fs t) → StateFits q (stop_if b (At p x (open_on u (JoinOne place ∷ w)) fs (spend 3 2 t)) (raise c p x w fs t))
+      pick : (b : Bool) → StateFits q (raise c p x w fs t) → StateFits q
+          (stop_if b (At p x (open_on u (JoinOne place ∷ w)) fs (spend 3 2 t)) (raise c p x w fs t))
       pick true r = (v, open_fits (proc_at q p) u (JoinOne place ∷ w) h.1 h.2, g)
       pick false r = r
   raise_fits c p x (Out d ∷ w) fs t f v h g = raise_fits c p x w fs t f v (subst (WorkFits q (proc_at q p)) (sym h.1) tt) g
 
   -- Steps.
 
-  apply_keeps : (place k : ℕ) (r : Predef) (args : List Arg) (e : Effect) (p : ℕ) (x : List ValueOf) (w : List Item) (fs : List Frame) (t : Tally) → predef_effect r (values_of x args) ≡ e → StmtFits q (shapes_of (proc_at q p)) (conds_of (proc_at q p)) (in_loop w) (Apply place r args) → VarsFit (shapes_of (proc_at q p)) x → WorkFits q (proc_at q p) w → FramesFit q p fs → MoveFits q (apply_step r args e p x w fs t)
+  apply_keeps : (place k : ℕ) (r : Predef) (args : List Arg) (e : Effect) (p : ℕ) (x : List ValueOf) (w : List Item) (fs : List Frame) (t : Tally)
+      → predef_effect r (values_of x args) ≡ e → StmtFits q (shapes_of (proc_at q p)) (conds_of (proc_at q p)) (in_loop w) (Apply place r args)
+      → VarsFit (shapes_of (proc_at q p)) x → WorkFits q (proc_at q p) w → FramesFit q p fs → MoveFits q (apply_step r args e p x w fs t)
   apply_keeps place k r args (Normal u) p x w fs t e f v h g =
       (apply_fits (shapes_of (proc_at q p)) x f.0 r args u v f.1 e, settle_fits (proc_at q p) w h, g)
   apply_keeps place k r args Fault p x w fs t e f v h g = raise_fits Routine p x w fs (predef_spend r Fault t) tt v h g
   apply_keeps place k r args Beyond p x w fs t e f v h g = raise_fits Routine p x w fs (predef_spend r Beyond t) tt v h g
 
-  callee_vars : (p : ℕ) (shapes : List Shape) (xs : List ℕ) (x : List ValueOf) → ActualsFit shapes (proc_at q p).formals xs → VarsFit shapes x → VarsFit (shapes_of (proc_at q p)) (copied_in q p xs x)
+  callee_vars : (p : ℕ) (shapes : List Shape) (xs : List ℕ) (x : List ValueOf) → ActualsFit shapes (proc_at q p).formals xs → VarsFit shapes x
+      → VarsFit (shapes_of (proc_at q p)) (copied_in q p xs x)
   unfolding copied_in
   callee_vars p shapes xs x f v =
       let c = proc_at q p in
-      vars_join c.formals (map (λ (u : ValueOf). u.shape) c.locals) (map (value_at x) xs) c.locals (actuals_copied shapes c.formals xs x f v) (locals_fit c.locals (fits.procs p).locals)
+      vars_join c.formals (map (λ (u : ValueOf). u.shape) c.locals) (map (value_at x) xs) c.locals (actuals_copied shapes c.formals xs x f v)
+      (locals_fit c.locals (fits.procs p).locals)
 
-  call_keeps : (l : Lack) (c : ℕ) (xs : List ℕ) (cs : List ConditionOf) (p : ℕ) (x : List ValueOf) (w : List Item) (fs : List Frame) (t : Tally) → CallFits q (shapes_of (proc_at q p)) (conds_of (proc_at q p)) (in_loop w) c xs cs → VarsFit (shapes_of (proc_at q p)) x → WorkFits q (proc_at q p) w → FramesFit q p fs → MoveFits q (call_step q l c xs cs p x w fs t)
+  call_keeps : (l : Lack) (c : ℕ) (xs : List ℕ) (cs : List ConditionOf) (p : ℕ) (x : List ValueOf) (w : List Item) (fs : List Frame) (t : Tally)
+      → CallFits q (shapes_of (proc_at q p)) (conds_of (proc_at q p)) (in_loop w) c xs cs → VarsFit (shapes_of (proc_at q p)) x
+      → WorkFits q (proc_at q p) w → FramesFit q p fs → MoveFits q (call_step q l c xs cs p x w fs t)
   call_keeps Nothing c xs cs p x w fs t f v h g =
       (callee_vars c (shapes_of (proc_at q p)) xs x f.actuals v, open_fits (proc_at q c) (body_of q c) [] (fits.procs c).body tt, (f, v, h, g))
   call_keeps Temporary c xs cs p x w fs t f v h g = raise_fits Space p x w fs (spend 15 7 t) tt v h g
   call_keeps Control c xs cs p x w fs t f v h g = raise_fits Space p x w fs (spend 26 11 t) tt v h g
 
-  do_keeps : (s : Stmt) (p : ℕ) (x : List ValueOf) (w : List Item) (fs : List Frame) (t : Tally) → StmtFits q (shapes_of (proc_at q p)) (conds_of (proc_at q p)) (in_loop w) s → VarsFit (shapes_of (proc_at q p)) x → WorkFits q (proc_at q p) w → FramesFit q p fs → MoveFits q (do_step q sizes s p x w fs t)
+  do_keeps : (s : Stmt) (p : ℕ) (x : List ValueOf) (w : List Item) (fs : List Frame) (t : Tally)
+      → StmtFits q (shapes_of (proc_at q p)) (conds_of (proc_at q p)) (in_loop w) s → VarsFit (shapes_of (proc_at q p)) x → WorkFits q (proc_at q p) w
+      → FramesFit q p fs → MoveFits q (do_step q sizes s p x w fs t)
   do_keeps Skip p x w fs t f v h g = (v, settle_fits (proc_at q p) w h, g)
   do_keeps (NoOp place) p x w fs t f v h g = (v, settle_fits (proc_at q p) w h, g)
   do_keeps (Signal place c) p x w fs t f v h g = raise_fits c p x w fs (spend 4 3 t) (raised_of (in_loop w) (conds_of (proc_at q p)) c f) v h g
@@ -159,7 +174,8 @@ module _ (q : Program) (sizes : StackSizes) (fits : ProgramFits q) where
   do_keeps (Loop place s) p x w fs t f v h g = (v, open_fits (proc_at q p) s (Back place s ∷ w) f (f, h), g)
   do_keeps (If place b s u) p x w fs t f v h g = pick (is_true_value (value_at x b))
     where
-      pick : (b : Bool) → MoveFits q (either_move b (Next (At p x (open_on s (JoinThen place u ∷ w)) fs (spend 8 3 t))) (Next (At p x (open_on u (JoinOne place ∷ w)) fs (spend 9 4 t))))
+      pick : (b : Bool) → MoveFits q (either_move b (Next (At p x (open_on s (JoinThen place u ∷ w)) fs (spend 8 3 t)))
+          (Next (At p x (open_on u (JoinOne place ∷ w)) fs (spend 9 4 t))))
       pick true = (v, open_fits (proc_at q p) s (JoinThen place u ∷ w) f.1 h, g)
       pick false = (v, open_fits (proc_at q p) u (JoinOne place ∷ w) f.2 h, g)
   do_keeps (Begin place s cs u) p x w fs t f v h g = (v, open_fits (proc_at q p) (Begin place s cs u) w f h, g)
@@ -172,15 +188,23 @@ module _ (q : Program) (sizes : StackSizes) (fits : ProgramFits q) where
       let c = proc_at q q.main in
       front_fits c.formals (map (λ (u : ValueOf). u.shape) c.locals) x (subst (λ i. VarsFit (shapes_of (proc_at q i)) x) e v)
 
-  end_keeps : (p : ℕ) (y : List ValueOf) (fs : List Frame) (t : Tally) → VarsFit (shapes_of (proc_at q p)) y → FramesFit q p fs → MoveFits q (end_step q p y fs t)
+  end_keeps : (p : ℕ) (y : List ValueOf) (fs : List Frame) (t : Tally) → VarsFit (shapes_of (proc_at q p)) y → FramesFit q p fs
+      → MoveFits q (end_step q p y fs t)
   end_keeps p y [] t v g = (main_vars p y g v, tt)
-  end_keeps p y (Held c x w xs cs ∷ fs) t v g =
-      (copies_back (shapes_of (proc_at q c)) (proc_at q p).formals (map (λ (u : ValueOf). u.shape) (proc_at q p).locals) xs y x g.0.actuals v g.1, settle_fits (proc_at q c) w g.2, g.3)
+  end_keeps p y (Held c x w xs cs ∷ fs) t v g = (
+    copies_back (shapes_of (proc_at q c)) (proc_at q p).formals (map (λ (u : ValueOf). u.shape) (proc_at q p).locals) xs y x g.0.actuals v g.1,
+    settle_fits (proc_at q c) w g.2,
+    g.3,
+  )
 
-  out_keeps : (d : ConditionOf) (p : ℕ) (y : List ValueOf) (fs : List Frame) (t : Tally) → VarsFit (shapes_of (proc_at q p)) y → FramesFit q p fs → MoveFits q (out_step q d p y fs t)
+  out_keeps : (d : ConditionOf) (p : ℕ) (y : List ValueOf) (fs : List Frame) (t : Tally) → VarsFit (shapes_of (proc_at q p)) y → FramesFit q p fs
+      → MoveFits q (out_step q d p y fs t)
   out_keeps d p y [] t v g = (main_vars p y g v, main_ends q d)
   out_keeps d p y (Held c x w xs cs ∷ fs) t v g =
-      raise_fits (matching q p cs d) c (copied_out xs y x) w fs (out_spend (is_passed_on q p d) t) (matched q p (in_loop w) (conds_of (proc_at q c)) cs d g.0.conds) (copies_back (shapes_of (proc_at q c)) (proc_at q p).formals (map (λ (u : ValueOf). u.shape) (proc_at q p).locals) xs y x g.0.actuals v g.1) g.2 g.3
+      raise_fits (matching q p cs d) c (copied_out xs y x) w fs (out_spend (is_passed_on q p d) t)
+      (matched q p (in_loop w) (conds_of (proc_at q c)) cs d g.0.conds)
+      (copies_back (shapes_of (proc_at q c)) (proc_at q p).formals (map (λ (u : ValueOf). u.shape) (proc_at q p).locals) xs y x g.0.actuals v g.1) g.2
+      g.3
 
   pub step_keeps : (g : State) → StateFits q g → MoveFits q (gypsy_step q sizes g)
   step_keeps (At p x [] fs t) h = end_keeps p x fs t h.0 h.2
@@ -194,5 +218,8 @@ module _ (q : Program) (sizes : StackSizes) (fits : ProgramFits q) where
   pub start_fits : (v : List ValueOf) → VarsFit (proc_at q q.main).formals v → StateFits q (start q v)
   unfolding main_start
   start_fits v h =
-      let c = proc_at q q.main in
-      (vars_join c.formals (map (λ (u : ValueOf). u.shape) c.locals) v c.locals h (locals_fit c.locals (fits.procs q.main).locals), open_fits c (body_of q q.main) [] (fits.procs q.main).body tt, refl)
+      let c = proc_at q q.main in (
+        vars_join c.formals (map (λ (u : ValueOf). u.shape) c.locals) v c.locals h (locals_fit c.locals (fits.procs q.main).locals),
+        open_fits c (body_of q q.main) [] (fits.procs q.main).body tt,
+        refl,
+      )

@@ -19,7 +19,8 @@ use Rattle.gypsy_space.specs.declared.need.Lack.TheVariants.{Nothing, Temporary,
 use Rattle.gypsy_semantics.specs.Calls.{has_cond, is_leave, is_passed_on, matching, values_of, target_of, copied_in, copied_out}
 use Rattle.gypsy_semantics.specs.Kept.{FramesFit}
 use Rattle.gypsy_semantics.specs.Machine.{Item, Do, Back, JoinThen, JoinOne, Guard, Out, Frame, Held, State, At, Move, Next, Ended, Ending, go_on}
-use Rattle.gypsy_semantics.specs.Machine.{open_on, settle, stop_if, raise, either_move, apply_step, used, call_step, do_step, end_step, out_step, gypsy_step, run}
+use Rattle.gypsy_semantics.specs.Machine.{open_on, settle, stop_if, raise, either_move, apply_step, used, call_step, do_step, end_step, out_step, gypsy_step}
+use Rattle.gypsy_semantics.specs.Machine.{run}
 use Rattle.gypsy_semantics.specs.Room.{HasWords, HaveWords}
 use Rattle.gypsy_semantics.specs.Views.RunView.{handed_back, lending, lending_move}
 use Rattle.gypsy_semantics.proofs.Keeping.{copies_back}
@@ -54,7 +55,8 @@ hides (w ∷ ws) x a v u =
     (cases_eq w.0 a)
 
 -- so formals that are written back hide those that were written back before, whatever was written in between
-hidden : (xs : List ℕ) (y y' : List ValueOf) (ws : Writes) (x : List ValueOf) → length y ≡ length y' → copied_out xs y' (wrote ws (copied_out xs y x)) ≡ copied_out xs y' (wrote ws x)
+hidden : (xs : List ℕ) (y y' : List ValueOf) (ws : Writes) (x : List ValueOf) → length y ≡ length y'
+    → copied_out xs y' (wrote ws (copied_out xs y x)) ≡ copied_out xs y' (wrote ws x)
 hidden [] y y' ws x e = refl
 hidden (a ∷ xs) [] [] ws x e = refl
 hidden (a ∷ xs) [] (u ∷ y') ws x e = absurd (omega (arith, e))
@@ -92,13 +94,15 @@ pub used_back : (q : Program) (p : ℕ) (y : List ValueOf) (fs : List Frame) →
 used_back q p y [] = refl
 used_back q p y (Held c x w xs cs ∷ fs) = ap (with_call q p) (used_back q c (copied_out xs y x) fs)
 
-pub back_fits : (q : Program) (p : ℕ) (y : List ValueOf) (fs : List Frame) → VarsFit (shapes_of (proc_at q p)) y → FramesFit q p fs → FramesFit q p (handed_back y fs)
+pub back_fits : (q : Program) (p : ℕ) (y : List ValueOf) (fs : List Frame) → VarsFit (shapes_of (proc_at q p)) y → FramesFit q p fs
+    → FramesFit q p (handed_back y fs)
 back_fits q p y [] v g = g
 back_fits q p y (Held c x w xs cs ∷ fs) v g =
     let z = copies_back (shapes_of (proc_at q c)) (proc_at q p).formals (map (λ (u : ValueOf). u.shape) (proc_at q p).locals) xs y x g.0.actuals v g.1 in
     (g.0, z, g.2, back_fits q c (copied_out xs y x) fs z g.3)
 
-pub back_words : (q : Program) (sizes : StackSizes) (p : ℕ) (y : List ValueOf) (fs : List Frame) → HaveWords q sizes p fs → HaveWords q sizes p (handed_back y fs)
+pub back_words : (q : Program) (sizes : StackSizes) (p : ℕ) (y : List ValueOf) (fs : List Frame) → HaveWords q sizes p fs
+    → HaveWords q sizes p (handed_back y fs)
 back_words q sizes p y [] h = h
 back_words q sizes p y (Held c x w xs cs ∷ fs) h =
     let z = copied_out xs y x in
@@ -107,17 +111,20 @@ back_words q sizes p y (Held c x w xs cs ∷ fs) h =
 
 -- Steps.
 
-next_lent : (p : ℕ) (y x : List ValueOf) (w : List Item) (fs : List Frame) (t : Tally) → length y ≡ length x → lending_move (Next (At p x w (handed_back y fs) t)) ≡ lending_move (Next (At p x w fs t))
+next_lent : (p : ℕ) (y x : List ValueOf) (w : List Item) (fs : List Frame) (t : Tally) → length y ≡ length x
+    → lending_move (Next (At p x w (handed_back y fs) t)) ≡ lending_move (Next (At p x w fs t))
 next_lent p y x w fs t e = ap (λ (gs : List Frame). Next (At p x w gs t)) (back_again y x fs e)
 
 stop_lent : (b : Bool) (g r h s : State) → lending g ≡ lending h → lending r ≡ lending s → lending (stop_if b g r) ≡ lending (stop_if b h s)
 stop_lent true g r h s e f = e
 stop_lent false g r h s e f = f
 
-at_lent : (p : ℕ) (y x : List ValueOf) (w : List Item) (fs : List Frame) (t : Tally) → length y ≡ length x → lending (At p x w (handed_back y fs) t) ≡ lending (At p x w fs t)
+at_lent : (p : ℕ) (y x : List ValueOf) (w : List Item) (fs : List Frame) (t : Tally) → length y ≡ length x
+    → lending (At p x w (handed_back y fs) t) ≡ lending (At p x w fs t)
 at_lent p y x w fs t e = ap (λ (gs : List Frame). At p x w gs t) (back_again y x fs e)
 
-raise_lent : (c : ConditionOf) (p : ℕ) (y x : List ValueOf) (w : List Item) (fs : List Frame) (t : Tally) → length y ≡ length x → lending (raise c p x w (handed_back y fs) t) ≡ lending (raise c p x w fs t)
+raise_lent : (c : ConditionOf) (p : ℕ) (y x : List ValueOf) (w : List Item) (fs : List Frame) (t : Tally) → length y ≡ length x
+    → lending (raise c p x w (handed_back y fs) t) ≡ lending (raise c p x w fs t)
 raise_lent c p y x [] fs t e = at_lent p y x (Out c ∷ []) fs t e
 raise_lent c p y x (Do s ∷ w) fs t e = raise_lent c p y x w fs t e
 raise_lent c p y x (Back place s ∷ w) fs t e =
@@ -130,20 +137,24 @@ raise_lent c p y x (Guard place cs v ∷ w) fs t e =
     (at_lent p y x (open_on v (JoinOne place ∷ w)) fs (spend 3 2 t) e) (raise_lent c p y x w fs t e)
 raise_lent c p y x (Out d ∷ w) fs t e = raise_lent c p y x w fs t e
 
-raised_lent : (c : ConditionOf) (p : ℕ) (y x : List ValueOf) (w : List Item) (fs : List Frame) (t : Tally) → length y ≡ length x → lending_move (Next (raise c p x w (handed_back y fs) t)) ≡ lending_move (Next (raise c p x w fs t))
+raised_lent : (c : ConditionOf) (p : ℕ) (y x : List ValueOf) (w : List Item) (fs : List Frame) (t : Tally) → length y ≡ length x
+    → lending_move (Next (raise c p x w (handed_back y fs) t)) ≡ lending_move (Next (raise c p x w fs t))
 raised_lent c p y x w fs t e = ap Next (raise_lent c p y x w fs t e)
 
-apply_lent : (r : Predef) (args : List Arg) (o : Effect) (p : ℕ) (x : List ValueOf) (w : List Item) (fs : List Frame) (t : Tally) → lending_move (apply_step r args o p x w (handed_back x fs) t) ≡ lending_move (apply_step r args o p x w fs t)
+apply_lent : (r : Predef) (args : List Arg) (o : Effect) (p : ℕ) (x : List ValueOf) (w : List Item) (fs : List Frame) (t : Tally)
+    → lending_move (apply_step r args o p x w (handed_back x fs) t) ≡ lending_move (apply_step r args o p x w fs t)
 apply_lent r args (Normal v) p x w fs t =
     next_lent p x (slice_set x (target_of args) v) (settle w) fs (predef_spend r (Normal v) t) (sym (length-set x (target_of args) v))
 apply_lent r args Fault p x w fs t = raised_lent Routine p x x w fs (predef_spend r Fault t) refl
 apply_lent r args Beyond p x w fs t = raised_lent Routine p x x w fs (predef_spend r Beyond t) refl
 
-either_lent : (b : Bool) (g r h s : State) → lending g ≡ lending h → lending r ≡ lending s → lending_move (either_move b (Next g) (Next r)) ≡ lending_move (either_move b (Next h) (Next s))
+either_lent : (b : Bool) (g r h s : State) → lending g ≡ lending h → lending r ≡ lending s
+    → lending_move (either_move b (Next g) (Next r)) ≡ lending_move (either_move b (Next h) (Next s))
 either_lent true g r h s e f = ap Next e
 either_lent false g r h s e f = ap Next f
 
-called_lent : (q : Program) (l : Lack) (c : ℕ) (xs : List ℕ) (cs : List ConditionOf) (p : ℕ) (x : List ValueOf) (w : List Item) (fs : List Frame) (t : Tally) → lending_move (call_step q l c xs cs p x w (handed_back x fs) t) ≡ lending_move (call_step q l c xs cs p x w fs t)
+called_lent : (q : Program) (l : Lack) (c : ℕ) (xs : List ℕ) (cs : List ConditionOf) (p : ℕ) (x : List ValueOf) (w : List Item) (fs : List Frame)
+    (t : Tally) → lending_move (call_step q l c xs cs p x w (handed_back x fs) t) ≡ lending_move (call_step q l c xs cs p x w fs t)
 called_lent q Nothing c xs cs p x w fs t =
     let y = copied_in q c xs x in
     let z = copied_out xs y x in
@@ -153,14 +164,16 @@ called_lent q Temporary c xs cs p x w fs t = raised_lent Space p x x w fs (spend
 called_lent q Control c xs cs p x w fs t = raised_lent Space p x x w fs (spend 26 11 t) refl
 
 module _ (q : Program) (sizes : StackSizes) where
-  do_lent : (s : Stmt) (p : ℕ) (x : List ValueOf) (w : List Item) (fs : List Frame) (t : Tally) → lending_move (do_step q sizes s p x w (handed_back x fs) t) ≡ lending_move (do_step q sizes s p x w fs t)
+  do_lent : (s : Stmt) (p : ℕ) (x : List ValueOf) (w : List Item) (fs : List Frame) (t : Tally)
+      → lending_move (do_step q sizes s p x w (handed_back x fs) t) ≡ lending_move (do_step q sizes s p x w fs t)
   do_lent Skip p x w fs t = next_lent p x x (settle w) fs t refl
   do_lent (NoOp place) p x w fs t = next_lent p x x (settle w) fs (spend 1 1 t) refl
   do_lent (Signal place c) p x w fs t = raised_lent c p x x w fs (spend 4 3 t) refl
   do_lent (Seq a b) p x w fs t = next_lent p x x (open_on (Seq a b) w) fs t refl
   do_lent (Loop place s) p x w fs t = next_lent p x x (open_on s (Back place s ∷ w)) fs (spend 1 1 t) refl
   do_lent (If place b s v) p x w fs t =
-      either_lent (is_true_value (value_at x b)) _ _ (At p x (open_on s (JoinThen place v ∷ w)) fs (spend 8 3 t)) (At p x (open_on v (JoinOne place ∷ w)) fs (spend 9 4 t))
+      either_lent (is_true_value (value_at x b)) _ _ (At p x (open_on s (JoinThen place v ∷ w)) fs (spend 8 3 t))
+      (At p x (open_on v (JoinOne place ∷ w)) fs (spend 9 4 t))
       (at_lent p x x (open_on s (JoinThen place v ∷ w)) fs (spend 8 3 t) refl)
       (at_lent p x x (open_on v (JoinOne place ∷ w)) fs (spend 9 4 t) refl)
   do_lent (Begin place s cs v) p x w fs t = next_lent p x x (open_on (Begin place s cs v) w) fs t refl
@@ -176,7 +189,8 @@ module _ (q : Program) (sizes : StackSizes) where
       ap (λ (l : List ValueOf). lending_move (Next (At c l (settle w) (handed_back z fs) (spend 12 6 t)))) (copied_again xs y y x refl)
       ∙ next_lent c z z (settle w) fs (spend 12 6 t) refl
 
-  out_lent : (d : ConditionOf) (p : ℕ) (y : List ValueOf) (fs : List Frame) (t : Tally) → lending_move (out_step q d p y (handed_back y fs) t) ≡ lending_move (out_step q d p y fs t)
+  out_lent : (d : ConditionOf) (p : ℕ) (y : List ValueOf) (fs : List Frame) (t : Tally)
+      → lending_move (out_step q d p y (handed_back y fs) t) ≡ lending_move (out_step q d p y fs t)
   out_lent d p y [] t = refl
   out_lent d p y (Held c x w xs cs ∷ fs) t =
       let z = copied_out xs y x in

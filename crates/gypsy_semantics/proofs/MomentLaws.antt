@@ -17,7 +17,8 @@ alone : (q : Program) (sizes : StackSizes) (a : Move) → moved_on a (moment q s
 alone q sizes (Next g) = refl
 alone q sizes (Ended x c t) = refl
 
-last_of : (q : Program) (sizes : StackSizes) (k : ℕ) (a : Move) → ((g : State) → moment q sizes (suc k) g ≡ moved_on (moment q sizes k g) (gypsy_step q sizes)) →
+last_of : (q : Program) (sizes : StackSizes) (k : ℕ) (a : Move)
+    → ((g : State) → moment q sizes (suc k) g ≡ moved_on (moment q sizes k g) (gypsy_step q sizes)) →
     moved_on a (moment q sizes (suc k)) ≡ moved_on (moved_on a (moment q sizes k)) (gypsy_step q sizes)
 last_of q sizes k (Next g) rest = rest g
 last_of q sizes k (Ended x c t) rest = refl
@@ -75,7 +76,8 @@ step_shown v p x w fs t h =
       counted = subst P (sym (counted_moved v a)) shown;
     }
 
-from_shown : (v : Seen) (a : Move) → v.stage ≡ shown_stage a → ShowsSum v.counted (spent_by a) → IsMoment (left_from v (shown_stage a)) (moved_on a (gypsy_step v.program v.sizes))
+from_shown : (v : Seen) (a : Move) → v.stage ≡ shown_stage a → ShowsSum v.counted (spent_by a)
+    → IsMoment (left_from v (shown_stage a)) (moved_on a (gypsy_step v.program v.sizes))
 from_shown v (Next (At p x w fs t)) e h = step_shown v p x w fs t h
 from_shown v (Ended x c t) e h = record { stage = e; counted = h }
 

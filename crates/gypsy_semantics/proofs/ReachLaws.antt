@@ -9,7 +9,8 @@ use Rattle.gypsy_semantics.specs.Calls.{CurrentCondition}
 use Rattle.gypsy_semantics.specs.Meaning.{Done, meaning}
 use Rattle.gypsy_semantics.specs.Counted.{CountedDone, CountedOutcome, CountedUnfinished, counted_meaning, tally_of, uncounted}
 use Rattle.gypsy_semantics.specs.Machine.{At, Ended, Frame, Going, Item, Move, Next, Over, State, go_on, gypsy_step, run, start}
-use Rattle.gypsy_semantics.specs.Views.RunView.{Finished, IsEnd, Running, Seen, ShowsSum, Stage, added, after, after_move, answer_by, answer_from, answer_of, bare, end_by, handed_back, left_from, left_of, opening, ran_on, meaning_run}
+use Rattle.gypsy_semantics.specs.Views.RunView.{Finished, IsEnd, Running, Seen, ShowsSum, Stage, added, after, after_move, answer_by, answer_from, answer_of}
+use Rattle.gypsy_semantics.specs.Views.RunView.{bare, end_by, handed_back, left_from, left_of, opening, ran_on, meaning_run}
 use Rattle.gypsy_semantics.specs.Views.RunAgrees.{MeansEnd}
 use Rattle.gypsy_semantics.proofs.ApartLaws.{add, add_to, plus, plus-nothing, step_apart}
 use Rattle.gypsy_semantics.proofs.CountLaws.{meaning-uncounted}
@@ -42,16 +43,19 @@ opening_reached q sizes v = record {
 added_shows : (shown n m : ℕ) → ShowsSum shown n → ShowsSum (added shown m) (n + m)
 added_shows shown n m h = omega (arith, h)
 
-stepped : (q : Program) (sizes : StackSizes) (g : State) (t : Tally) (a : Move) (k : ℕ) → gypsy_step q sizes g ≡ a → run q sizes (suc k) (add t g) ≡ go_on (add_to t a) (run q sizes k)
+stepped : (q : Program) (sizes : StackSizes) (g : State) (t : Tally) (a : Move) (k : ℕ) → gypsy_step q sizes g ≡ a
+    → run q sizes (suc k) (add t g) ≡ go_on (add_to t a) (run q sizes k)
 stepped q sizes g t a k e = ap (λ m. go_on m (run q sizes k)) (step_apart t q sizes g ∙ ap (add_to t) e)
 
 -- what is spent is counted apart, and what is lent changes no run
-bare_run : (q : Program) (sizes : StackSizes) (k : ℕ) (t : Tally) (p : ℕ) (x : List ValueOf) (w : List Item) (fs : List Frame) (u : Tally) → run q sizes k (add t (At p x w fs u)) ≡ run q sizes k (add (plus t u) (bare (At p x w fs u)))
+bare_run : (q : Program) (sizes : StackSizes) (k : ℕ) (t : Tally) (p : ℕ) (x : List ValueOf) (w : List Item) (fs : List Frame) (u : Tally)
+    → run q sizes k (add t (At p x w fs u)) ≡ run q sizes k (add (plus t u) (bare (At p x w fs u)))
 bare_run q sizes k t p x w fs u =
     sym (run_lent q sizes k (At p x w fs (plus t u)))
     ∙ ap (λ (v : Tally). run q sizes k (At p x w (handed_back x fs) v)) (sym (plus-nothing (plus t u)))
 
-pub move_reached : (v : Seen) (g : State) (made : ℕ) (t : Tally) (a : Move) → Reached v → ShowsSum v.steps made → ShowsSum v.counted t.count → IsAt v (Running g) made t → gypsy_step v.program v.sizes g ≡ a → Reached (after_move v a)
+pub move_reached : (v : Seen) (g : State) (made : ℕ) (t : Tally) (a : Move) → Reached v → ShowsSum v.steps made → ShowsSum v.counted t.count
+    → IsAt v (Running g) made t → gypsy_step v.program v.sizes g ≡ a → Reached (after_move v a)
 move_reached v g made t (Next (At p x w fs u)) r steps counted at e = record {
   made = made + 1;
   spent = plus t u;
@@ -118,7 +122,8 @@ same_end : (x y : List ValueOf) (c d : CurrentCondition) (t u : Tally) → Over 
 same_end x y c d t u e = (cc, cc)
 
 module _ (x : List ValueOf) (c : CurrentCondition) where
-  move_ends : (k : ℕ) (v : Seen) (t u : Tally) (a : Move) → ((w : Seen) → EndsWithin w w.stage k x c → IsEnd (meaning_run k w) x c) → go_on (add_to t a) (run v.program v.sizes k) ≡ Over x c u →
+  move_ends : (k : ℕ) (v : Seen) (t u : Tally) (a : Move) → ((w : Seen) → EndsWithin w w.stage k x c → IsEnd (meaning_run k w) x c)
+      → go_on (add_to t a) (run v.program v.sizes k) ≡ Over x c u →
       IsEnd (ran_on (answer_by a) (after_move v a) (meaning_run k)) x c
   move_ends k v t u (Next (At p y w fs s)) rest h =
       rest (after_move v (Next (At p y w fs s))) (plus t s, u, sym (bare_run v.program v.sizes k t p y w fs s) ∙ h)
@@ -126,7 +131,8 @@ module _ (x : List ValueOf) (c : CurrentCondition) where
       let same = same_end y x d c (plus t s) u h in
       record { run = refl; stage = ap₂ Finished same.0 same.1 }
 
-  from_ends : (k : ℕ) (v : Seen) (s : Stage) → ((w : Seen) → EndsWithin w w.stage k x c → IsEnd (meaning_run k w) x c) → v.stage ≡ s → EndsWithin v s (suc k) x c →
+  from_ends : (k : ℕ) (v : Seen) (s : Stage) → ((w : Seen) → EndsWithin w w.stage k x c → IsEnd (meaning_run k w) x c) → v.stage ≡ s
+      → EndsWithin v s (suc k) x c →
       IsEnd (ran_on (answer_from v s) (left_from v s) (meaning_run k)) x c
   from_ends k v (Running g) rest e h =
       let q = v.program in
@@ -142,7 +148,8 @@ module _ (x : List ValueOf) (c : CurrentCondition) where
   run_ends zero v h = here_ends v v.stage refl h
   run_ends (suc k) v h = from_ends k v v.stage (run_ends k) refl h
 
-  at_ends : (v : Seen) (s : Stage) (made j limit : ℕ) (spent t : Tally) → IsAt v s made spent → run v.program v.sizes j (start v.program v.values) ≡ Over x c t → j ≤ limit → EndsWithin v s limit x c
+  at_ends : (v : Seen) (s : Stage) (made j limit : ℕ) (spent t : Tally) → IsAt v s made spent
+      → run v.program v.sizes j (start v.program v.values) ≡ Over x c t → j ≤ limit → EndsWithin v s limit x c
   at_ends v (Running g) made j limit spent t at over le =
       let q = v.program in
       (spent, t, sym (at limit) ∙ longer q v.sizes j (made + limit) (omega (arith, le)) (start q v.values) (Over x c t) tt over)
@@ -151,7 +158,8 @@ module _ (x : List ValueOf) (c : CurrentCondition) where
       same_end y x d c spent t (one_end q v.sizes made j (start q v.values) (Over y d spent) (Over x c t) tt tt at over)
 
   -- where the meaning is done, a run with a limit large enough ends with the same
-  pub completes : (v : Seen) (n : ℕ) → Reached v → meaning v.program v.sizes v.values n ≡ Done x c → (j : ℕ) × ((limit : ℕ) → j ≤ limit → IsEnd (meaning_run limit v) x c)
+  pub completes : (v : Seen) (n : ℕ) → Reached v → meaning v.program v.sizes v.values n ≡ Done x c → (j : ℕ)
+      × ((limit : ℕ) → j ≤ limit → IsEnd (meaning_run limit v) x c)
   completes v n r done =
       let q = v.program in
       let counted = counted_too (counted_meaning q v.sizes v.values n) x c (meaning-uncounted q v.sizes v.values n ∙ done) in

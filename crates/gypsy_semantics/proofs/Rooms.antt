@@ -7,11 +7,13 @@ use Rattle.gypsy_syntax.specs.Programs.{Stmt, Skip, NoOp, Signal, Seq, Loop, If,
 use Rattle.gypsy_syntax.specs.Predefined.{predef_effect}
 use Rattle.gypsy_syntax.specs.Effects.{Effect, Normal, Fault, Beyond, value_at, is_true_value}
 use Rattle.gypsy_space.specs.Costs.{Tally, spend, predef_spend, out_spend}
-use Rattle.gypsy_space.specs.Needs.{StackSizes, temp_need, ctrl_need, local_words, frame_of, main_need, with_call, call_need, has_temp_room, has_ctrl_room, lack_of}
+use Rattle.gypsy_space.specs.Needs.{StackSizes, temp_need, ctrl_need, local_words, frame_of, main_need, with_call, call_need, has_temp_room, has_ctrl_room}
+use Rattle.gypsy_space.specs.Needs.{lack_of}
 use Rattle.gypsy_space.specs.declared.need.Lack.{Lack}
 use Rattle.gypsy_space.specs.declared.need.Lack.TheVariants.{Nothing, Temporary, Control}
 use Rattle.gypsy_semantics.specs.Calls.{has_cond, is_leave, is_passed_on, matching, values_of, copied_out}
-use Rattle.gypsy_semantics.specs.Machine.{Item, Do, Back, JoinThen, JoinOne, Guard, Out, Frame, Held, State, At, Next, opens, open_on, settle, stop_if, raise, either_move, apply_step, used, call_step, do_step, end_step, out_step, gypsy_step, start}
+use Rattle.gypsy_semantics.specs.Machine.{Item, Do, Back, JoinThen, JoinOne, Guard, Out, Frame, Held, State, At, Next, opens, open_on, settle, stop_if, raise}
+use Rattle.gypsy_semantics.specs.Machine.{either_move, apply_step, used, call_step, do_step, end_step, out_step, gypsy_step, start}
 use Rattle.gypsy_semantics.specs.Room.{Covers, CoversWork, HasWords, HaveWords, StateRoom, MoveRoom}
 
 -- a call that lacks nothing has room on each stack
@@ -53,7 +55,8 @@ open_room : (p : Proc) (s : Stmt) (w : List Item) → Covers p s → CoversWork 
 open_room p s w f h = opens_room p s w (settle w) f h (settle_room p w h)
 
 module _ (q : Program) (sizes : StackSizes) where
-  raise_room : (c : ConditionOf) (p : ℕ) (x : List ValueOf) (w : List Item) (fs : List Frame) (t : Tally) → CoversWork (proc_at q p) w → HaveWords q sizes p fs → StateRoom q sizes (raise c p x w fs t)
+  raise_room : (c : ConditionOf) (p : ℕ) (x : List ValueOf) (w : List Item) (fs : List Frame) (t : Tally) → CoversWork (proc_at q p) w
+      → HaveWords q sizes p fs → StateRoom q sizes (raise c p x w fs t)
   raise_room c p x [] fs t h g = (tt, g)
   raise_room c p x (Do s ∷ w) fs t h g = raise_room c p x w fs t h.1 g
   raise_room c p x (Back place s ∷ w) fs t h g = pick (is_leave c) (raise_room c p x w fs t h.1 g)
@@ -65,7 +68,8 @@ module _ (q : Program) (sizes : StackSizes) where
   raise_room c p x (JoinOne place ∷ w) fs t h g = raise_room c p x w fs t h g
   raise_room c p x (Guard place cs u ∷ w) fs t h g = pick (has_cond c cs) (raise_room c p x w fs t h.1 g)
     where
-      pick : (b : Bool) → StateRoom q sizes (raise c p x w fs t) → StateRoom q sizes (stop_if b (At p x (open_on u (JoinOne place ∷ w)) fs (spend 3 2 t)) (raise c p x w fs t))
+      pick : (b : Bool) → StateRoom q sizes (raise c p x w fs t) → StateRoom q sizes
+          (stop_if b (At p x (open_on u (JoinOne place ∷ w)) fs (spend 3 2 t)) (raise c p x w fs t))
       pick true r = (open_room (proc_at q p) u (JoinOne place ∷ w) h.0 h.1, g)
       pick false r = r
   raise_room c p x (Out d ∷ w) fs t h g = raise_room c p x w fs t h g
@@ -77,25 +81,29 @@ module _ (q : Program) (sizes : StackSizes) where
       let c = proc_at q p in
       let l = local_words c in
       let k = rooms (has_temp_room q sizes p u) (has_ctrl_room q sizes p u) e in
-      let temp : u.temp + max (l + length c.locals + length c.formals) (l + temp_need c) ≤ sizes.temp = leb-true (u.temp + max (l + length c.locals + length c.formals) (l + temp_need c)) sizes.temp k.0 in
+      let temp : u.temp + max (l + length c.locals + length c.formals) (l + temp_need c) ≤ sizes.temp =
+      leb-true (u.temp + max (l + length c.locals + length c.formals) (l + temp_need c)) sizes.temp k.0 in
       let ctrl : u.ctrl + (frame_of c + ctrl_need c) ≤ sizes.ctrl = leb-true (u.ctrl + (frame_of c + ctrl_need c)) sizes.ctrl k.1 in
       (more u.temp (local_words c) (temp_need c) (l + length c.locals + length c.formals) sizes.temp temp, omega (arith, ctrl))
     where
       more : (a l n m s : ℕ) → a + max m (l + n) ≤ s → a + l + n ≤ s
       more a l n m s h = omega (arith, h)
 
-  call_room : (l : Lack) (c : ℕ) (xs : List ℕ) (cs : List ConditionOf) (p : ℕ) (x : List ValueOf) (w : List Item) (fs : List Frame) (t : Tally) → lack_of q sizes c (used q p fs) ≡ l → CoversWork (proc_at q p) w → HaveWords q sizes p fs → MoveRoom q sizes (call_step q l c xs cs p x w fs t)
+  call_room : (l : Lack) (c : ℕ) (xs : List ℕ) (cs : List ConditionOf) (p : ℕ) (x : List ValueOf) (w : List Item) (fs : List Frame) (t : Tally)
+      → lack_of q sizes c (used q p fs) ≡ l → CoversWork (proc_at q p) w → HaveWords q sizes p fs → MoveRoom q sizes (call_step q l c xs cs p x w fs t)
   call_room Nothing c xs cs p x w fs t e h g =
       (open_room (proc_at q c) (body_of q c) [] (body_covered (proc_at q c)) tt, (room_left c (used q p fs) e, h, g))
   call_room Temporary c xs cs p x w fs t e h g = raise_room Space p x w fs (spend 15 7 t) h g
   call_room Control c xs cs p x w fs t e h g = raise_room Space p x w fs (spend 26 11 t) h g
 
-  apply_room : (r : Predef) (args : List Arg) (e : Effect) (p : ℕ) (x : List ValueOf) (w : List Item) (fs : List Frame) (t : Tally) → CoversWork (proc_at q p) w → HaveWords q sizes p fs → MoveRoom q sizes (apply_step r args e p x w fs t)
+  apply_room : (r : Predef) (args : List Arg) (e : Effect) (p : ℕ) (x : List ValueOf) (w : List Item) (fs : List Frame) (t : Tally)
+      → CoversWork (proc_at q p) w → HaveWords q sizes p fs → MoveRoom q sizes (apply_step r args e p x w fs t)
   apply_room r args (Normal u) p x w fs t h g = (settle_room (proc_at q p) w h, g)
   apply_room r args Fault p x w fs t h g = raise_room Routine p x w fs (predef_spend r Fault t) h g
   apply_room r args Beyond p x w fs t h g = raise_room Routine p x w fs (predef_spend r Beyond t) h g
 
-  do_room : (s : Stmt) (p : ℕ) (x : List ValueOf) (w : List Item) (fs : List Frame) (t : Tally) → Covers (proc_at q p) s → CoversWork (proc_at q p) w → HaveWords q sizes p fs → MoveRoom q sizes (do_step q sizes s p x w fs t)
+  do_room : (s : Stmt) (p : ℕ) (x : List ValueOf) (w : List Item) (fs : List Frame) (t : Tally) → Covers (proc_at q p) s → CoversWork (proc_at q p) w
+      → HaveWords q sizes p fs → MoveRoom q sizes (do_step q sizes s p x w fs t)
   do_room Skip p x w fs t f h g = (settle_room (proc_at q p) w h, g)
   do_room (NoOp place) p x w fs t f h g = (settle_room (proc_at q p) w h, g)
   do_room (Signal place c) p x w fs t f h g = raise_room c p x w fs (spend 4 3 t) h g
@@ -109,7 +117,8 @@ module _ (q : Program) (sizes : StackSizes) where
       right : Covers (proc_at q p) u
       right = (omega (arith, f.0), omega (arith, f.1))
 
-      pick : (b : Bool) → MoveRoom q sizes (either_move b (Next (At p x (open_on s (JoinThen place u ∷ w)) fs (spend 8 3 t))) (Next (At p x (open_on u (JoinOne place ∷ w)) fs (spend 9 4 t))))
+      pick : (b : Bool) → MoveRoom q sizes (either_move b (Next (At p x (open_on s (JoinThen place u ∷ w)) fs (spend 8 3 t)))
+          (Next (At p x (open_on u (JoinOne place ∷ w)) fs (spend 9 4 t))))
       pick true = (open_room (proc_at q p) s (JoinThen place u ∷ w) left h, g)
       pick false = (open_room (proc_at q p) u (JoinOne place ∷ w) right h, g)
   do_room (Begin place s cs u) p x w fs t f h g = (open_room (proc_at q p) (Begin place s cs u) w f h, g)

@@ -2,7 +2,8 @@
 use Rattle.std.proofs.Common.{◌≡◌, ℕ, zero, suc, ◌+◌, ◌-◌, ◌<◌, ◌≤◌, Bool, true, false, refl, sym, ap, subst, ◌∙◌, arith}
 use Rattle.gypsy_semantics.specs.Views.RunAgrees.{EndAgrees, RunAgrees}
 use Rattle.gypsy_semantics.specs.Machine.{Ended, Move, Next, State, gypsy_step}
-use Rattle.gypsy_semantics.specs.Views.RunView.{Finished, Ran, Running, Seen, Stage, after_move, answer_by, answer_from, answer_of, end_by, is_over, left_from, left_of, ran_on, meaning_run}
+use Rattle.gypsy_semantics.specs.Views.RunView.{Finished, Ran, Running, Seen, Stage, after_move, answer_by, answer_from, answer_of, end_by, is_over, left_from}
+use Rattle.gypsy_semantics.specs.Views.RunView.{left_of, ran_on, meaning_run}
 use Rattle.gypsy_semantics.specs.declared.answers.MeanRun.{MeanRun}
 use Rattle.gypsy_semantics.specs.declared.answers.MeanRun.TheVariants as ran
 use Rattle.gypsy_semantics.specs.declared.answers.Moved.{Moved}
@@ -17,7 +18,8 @@ next_by : (k : ℕ) (v : Seen) (a : Moved) → answer_of v ≡ a → meaning_run
 unfolding meaning_run
 next_by k v a e = ap (λ b. ran_on b (left_of v) (meaning_run k)) e
 
-pub run_left : (limit made : ℕ) (v : Seen) (r : Ran) (a : Moved) → made < limit → meaning_run (limit - made) v ≡ r → answer_of v ≡ a → ran_on a (left_of v) (meaning_run (limit - (made + 1))) ≡ r
+pub run_left : (limit made : ℕ) (v : Seen) (r : Ran) (a : Moved) → made < limit → meaning_run (limit - made) v ≡ r → answer_of v ≡ a
+    → ran_on a (left_of v) (meaning_run (limit - (made + 1))) ≡ r
 run_left limit made v r a lt e is =
     let one : limit - made ≡ suc (limit - (made + 1)) = omega (arith, lt) in
     sym (next_by (limit - (made + 1)) v a is) ∙ sym (ap (λ n. meaning_run n v) one) ∙ e
@@ -29,13 +31,15 @@ run_done limit made v r le e = let none : limit - made ≡ 0 = omega (arith, le)
 -- The answer of a run agrees with the meaning.
 
 module _ (k : ℕ) (rest : (w : Seen) → Reached w → RunAgrees (meaning_run k w).seen (meaning_run k w).run) where
-  move_agrees : (v : Seen) (g : State) (a : Move) → (r : Reached v) → v.stage ≡ Running g → IsAt v (Running g) r.made r.spent → gypsy_step v.program v.sizes g ≡ a →
+  move_agrees : (v : Seen) (g : State) (a : Move) → (r : Reached v) → v.stage ≡ Running g → IsAt v (Running g) r.made r.spent
+      → gypsy_step v.program v.sizes g ≡ a →
       let b = ran_on (answer_by a) (after_move v a) (meaning_run k) in RunAgrees b.seen b.run
   move_agrees v g (Next h) r e at step = rest (after_move v (Next h)) (move_reached v g r.made r.spent (Next h) r r.steps r.counted at step)
   move_agrees v g (Ended x c u) r e at step =
       end_agrees (after_move v (Ended x c u)) x c (move_reached v g r.made r.spent (Ended x c u) r r.steps r.counted at step) refl
 
-  from_agrees : (v : Seen) (s : Stage) → (r : Reached v) → v.stage ≡ s → let b = ran_on (answer_from v s) (left_from v s) (meaning_run k) in RunAgrees b.seen b.run
+  from_agrees : (v : Seen) (s : Stage) → (r : Reached v) → v.stage ≡ s → let b =
+      ran_on (answer_from v s) (left_from v s) (meaning_run k) in RunAgrees b.seen b.run
   from_agrees v (Running g) r e =
       let P : Stage → Type 0 = λ s. IsAt v s r.made r.spent in
       move_agrees v g (gypsy_step v.program v.sizes g) r e (subst P e r.at) refl

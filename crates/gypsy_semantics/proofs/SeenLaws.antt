@@ -9,7 +9,8 @@ use Rattle.gypsy_semantics.specs.Views.RunView.{StageFits}
 use Rattle.gypsy_semantics.specs.Kept.{MoveFits}
 use Rattle.gypsy_semantics.specs.Room.{MoveRoom, StateRoom}
 use Rattle.gypsy_semantics.specs.Machine.{At, Ended, Move, Next, gypsy_step}
-use Rattle.gypsy_semantics.specs.Views.RunView.{Finished, IsOfRun, Running, Seen, Stage, after, after_move, answer_of, left_from, left_of, opening, ran_on, meaning_run}
+use Rattle.gypsy_semantics.specs.Views.RunView.{Finished, IsOfRun, Running, Seen, Stage, after, after_move, answer_of, left_from, left_of, opening, ran_on}
+use Rattle.gypsy_semantics.specs.Views.RunView.{meaning_run}
 use Rattle.gypsy_semantics.specs.declared.answers.Moved.{Moved}
 use Rattle.gypsy_semantics.specs.declared.answers.Moved.TheVariants as moved
 use Rattle.gypsy_semantics.proofs.Keeping.{start_fits, step_keeps}

@@ -1,5 +1,6 @@
 -- What an accepted source gives: positions and numbers of 32 bits, and literals that are values.
-use Rattle.std.proofs.Common.{◌≡◌, ℕ, suc, ◌+◌, ◌<◌, ◌≤◌, ◌^◌, ℤ, pos, negsuc, List, [], ◌∷◌, ◌++◌, map, length, get_or, flat_map, nat_lt, ◌==◌, ◌||◌, cond, bytes_eq, Bool, true, false}
+use Rattle.std.proofs.Common.{◌≡◌, ℕ, suc, ◌+◌, ◌<◌, ◌≤◌, ◌^◌, ℤ, pos, negsuc, List, [], ◌∷◌, ◌++◌, map, length, get_or, flat_map, nat_lt, ◌==◌, ◌||◌, cond}
+use Rattle.std.proofs.Common.{bytes_eq, Bool, true, false}
 use Rattle.std.proofs.Common.{Some, None, unwrap_or, All, IsTrue, refl, arith, length-append, lt-ltb, ltb-true, leb-true, eqb-true, eq-eqb}
 use Rattle.std.specs.List.{list_all, position_or_len}
 use Rattle.std.proofs.lemmas.Bool.{and_parts, and_from}
@@ -24,7 +25,8 @@ use Rattle.gypsy_syntax.specs.Programs.{no_proc}
 use Rattle.gypsy_syntax.specs.ProgramFits.{ArgFits, ArgsFit, Each, ProcFits, StmtFits, slot_kind}
 use Rattle.gypsy_syntax.specs.Ranges.{is_in_range}
 use Rattle.gypsy_syntax.specs.ValuesFit.{ValueFits}
-use Rattle.gypsy_syntax.specs.Resolved.{argument_of, condition_names, item_of, items_of_all, local_value, place_among, position_of, procedure_of, program_of, statement_of, statement_of_all, value_items, variable_names, variable_types}
+use Rattle.gypsy_syntax.specs.Resolved.{argument_of, condition_names, item_of, items_of_all, local_value, place_among, position_of, procedure_of, program_of}
+use Rattle.gypsy_syntax.specs.Resolved.{statement_of, statement_of_all, value_items, variable_names, variable_types}
 use Rattle.gypsy_syntax.specs.Sources.{LiteralOf, integer, truth, character, array, ArgOf, variable, constant, LocalOf, ProcOf, SourceOf}
 use Rattle.gypsy_syntax.specs.Sources.{StmtOf, StmtsOf, no_op, signal, seq, loop, branch, begin, call, predef, no_parts, part}
 use Rattle.gypsy_syntax.specs.Views.SourceView.{items_of_list, literal_of, parts_of_list, stmt_of}
@@ -32,7 +34,8 @@ use Rattle.gypsy_syntax.proofs.FitsLaws.{keeps_fits}
 use Rattle.gypsy_syntax.proofs.RangeLaws.{range_item}
 use Rattle.gypsy_check.specs.Accepted.{IsAccepted}
 use Rattle.gypsy_check.specs.Declarations.{repeats, variables_of}
-use Rattle.gypsy_check.specs.Rules.{condition_name_breaches, local_breaches, main_breaches, name_breaches, procedure_breaches, size_breaches, statement_breaches, type_breaches, variable_breaches, violations}
+use Rattle.gypsy_check.specs.Rules.{condition_name_breaches, local_breaches, main_breaches, name_breaches, procedure_breaches, size_breaches}
+use Rattle.gypsy_check.specs.Rules.{statement_breaches, type_breaches, variable_breaches, violations}
 use Rattle.gypsy_check.specs.Types.{has_length}
 use Rattle.gypsy_check.proofs.CleanLaws.{four, three}
 use Rattle.gypsy_space.specs.Resolvable.{ConstantFits, ConstantsFit, IsResolvable, LocalFits, PartsFit}
@@ -96,7 +99,8 @@ items_are k (z ∷ zs) e =
 -- what fits is a value
 pub value_is : (v : ValueOf) → ValueFits v → is_value v.shape v.items ≡ true
 value_is v f =
-    and_from (length v.items == item_count v.shape) (list_all (λ z. is_item v.shape.kind z) v.items) (eq-eqb (length v.items) (item_count v.shape) f.number) (items_are v.shape.kind v.items f.items)
+    and_from (length v.items == item_count v.shape) (list_all (λ z. is_item v.shape.kind z) v.items)
+    (eq-eqb (length v.items) (item_count v.shape) f.number) (items_are v.shape.kind v.items f.items)
 
 -- the item of a simple literal, and those of a list
 pub item_in : (l : LiteralOf) → list_all (is_in_range Integer) (value_items l) ≡ true → is_in_range Integer (item_of l) ≡ true
@@ -136,7 +140,8 @@ module _ (s : SourceOf) (p : ProcOf) (shapes : List Shape) (n : ℕ) where
   arguments_fit : (k : Kind) (slots : List Slot) (args : List ArgOf) → ArgsFit shapes k slots (map (argument_of p) args) → All ConstantFits args
   arguments_fit k slots [] h = All-nil ConstantFits
   arguments_fit k [] (a ∷ args) h = absurd h
-  arguments_fit k (slot ∷ slots) (a ∷ args) h = All-cons ConstantFits a args (argument_fits slot.form (slot_kind k slot.kind) a h.0) (arguments_fit k slots args h.1)
+  arguments_fit k (slot ∷ slots) (a ∷ args) h =
+      All-cons ConstantFits a args (argument_fits slot.form (slot_kind k slot.kind) a h.0) (arguments_fit k slots args h.1)
 
   mutual
     constants_fit : (in_loop : Bool) (b : StmtOf) → StmtFits (program_of s) shapes n in_loop (statement_of s p b) → ConstantsFit b
@@ -156,14 +161,16 @@ module _ (s : SourceOf) (p : ProcOf) (shapes : List Shape) (n : ℕ) where
 -- ---- procedures
 
 -- the formals come before the locals
-lengths_of : (formals : List Decl) (types : List TypeText) → flat_map type_breaches (map (λ (d : Decl). d.shape) formals ++ types) ≡ [] → All (λ (d : Decl). IsTrue (has_length d.shape.length)) formals × (flat_map type_breaches types ≡ [])
+lengths_of : (formals : List Decl) (types : List TypeText) → flat_map type_breaches (map (λ (d : Decl). d.shape) formals ++ types) ≡ []
+    → All (λ (d : Decl). IsTrue (has_length d.shape.length)) formals × (flat_map type_breaches types ≡ [])
 lengths_of [] types e = (All-nil (λ (d : Decl). IsTrue (has_length d.shape.length)), e)
 lengths_of (d ∷ ds) types e =
     let h = append_none (type_breaches d.shape) (flat_map type_breaches (map (λ (d : Decl). d.shape) ds ++ types)) e in
     let k = lengths_of ds types h.1 in
     (All-cons (λ (d : Decl). IsTrue (has_length d.shape.length)) d ds (rule_holds (has_length d.shape.length) d.shape.place 7 h.0) k.0, k.1)
 
-locals_fit : (locals : List LocalOf) → flat_map type_breaches (map (λ (l : LocalOf). l.decl.shape) locals) ≡ [] → Each ValueFits (map local_value locals) → All LocalFits locals
+locals_fit : (locals : List LocalOf) → flat_map type_breaches (map (λ (l : LocalOf). l.decl.shape) locals) ≡ []
+    → Each ValueFits (map local_value locals) → All LocalFits locals
 locals_fit [] e f = All-nil LocalFits
 locals_fit (l ∷ ls) e f =
     let h = append_none (type_breaches l.decl.shape) (flat_map type_breaches (map (λ (l : LocalOf). l.decl.shape) ls)) e in
@@ -181,11 +188,13 @@ resolvable s p form clean fits =
       constants = constants_fit s p _ _ false p.body fits.body;
     }
 
-all_resolvable : (s : SourceOf) (ps : List ProcOf) → All FitsProcedure ps → flat_map (procedure_breaches s) ps ≡ [] → ((i : ℕ) → ProcFits (program_of s) (get_or (map (procedure_of s) ps) i no_proc)) → All IsResolvable ps
+all_resolvable : (s : SourceOf) (ps : List ProcOf) → All FitsProcedure ps → flat_map (procedure_breaches s) ps ≡ []
+    → ((i : ℕ) → ProcFits (program_of s) (get_or (map (procedure_of s) ps) i no_proc)) → All IsResolvable ps
 all_resolvable s [] form clean fits = All-nil IsResolvable
 all_resolvable s (p ∷ ps) form clean fits =
     let h = append_none (procedure_breaches s p) (flat_map (procedure_breaches s) ps) clean in
-    All-cons IsResolvable p ps (resolvable s p (All-head FitsProcedure p ps form) h.0 (fits 0)) (all_resolvable s ps (All-tail FitsProcedure p ps form) h.1 (λ i. fits (suc i)))
+    All-cons IsResolvable p ps (resolvable s p (All-head FitsProcedure p ps form) h.0 (fits 0))
+    (all_resolvable s ps (All-tail FitsProcedure p ps form) h.1 (λ i. fits (suc i)))
 
 pub source_form : (s : SourceOf) → IsAccepted s → FitsForm s
 source_form s a = keeps_fits s a.form
@@ -193,5 +202,6 @@ source_form s a = keeps_fits s a.form
 pub source_resolvable : (s : SourceOf) → IsAccepted s → All IsResolvable s.procs
 unfolding violations
 source_resolvable s a =
-    let clean = four (repeats 1 [] (map (λ (p : ProcOf). p.name) s.procs)) (main_breaches s) (flat_map name_breaches s.procs) (flat_map (procedure_breaches s) s.procs) a.rules in
+    let clean = four (repeats 1 [] (map (λ (p : ProcOf). p.name) s.procs)) (main_breaches s) (flat_map name_breaches s.procs)
+    (flat_map (procedure_breaches s) s.procs) a.rules in
     all_resolvable s s.procs (source_form s a).procs clean.3 a.fits.procs

@@ -1,5 +1,6 @@
 -- The table of a source's procedures, one procedure after the other.
-use Rattle.std.proofs.Common.{◌≡◌, ℕ, suc, ◌<◌, ◌+◌, List, [], ◌∷◌, ◌++◌, length, get_or, take, Bool, true, false, true≢false, cond, Option, Some, None, is_some, option_map, bytes_eq, refl, sym, ap, ◌∙◌, arith}
+use Rattle.std.proofs.Common.{◌≡◌, ℕ, suc, ◌<◌, ◌+◌, List, [], ◌∷◌, ◌++◌, length, get_or, take, Bool, true, false, true≢false, cond, Option, Some, None}
+use Rattle.std.proofs.Common.{is_some, option_map, bytes_eq, refl, sym, ap, ◌∙◌, arith}
 use Rattle.std.proofs.lemmas.List.{map_push, take_more, length-map, length-take-le}
 use Rattle.std.proofs.lemmas.Slice.Eq.{bytes_eq-Decides}
 use Rattle.gypsy_syntax.specs.declared.proc.Proc.{Proc}
@@ -10,10 +11,12 @@ use Rattle.gypsy_space.specs.Callees.{names_of}
 use Rattle.gypsy_space.proofs.PositionLaws.{place_among-append, place_or}
 
 -- the place among one name more
-place_among-push : (name : List ℕ) (ms : List (List ℕ)) (n : List ℕ) → place_among name (ms ++ n ∷ []) ≡ first_or (place_among name ms) (bytes_eq name n) (length ms)
+place_among-push : (name : List ℕ) (ms : List (List ℕ)) (n : List ℕ) → place_among name (ms ++ n ∷ [])
+    ≡ first_or (place_among name ms) (bytes_eq name n) (length ms)
 place_among-push name ms n =
     place_among-append name ms (n ∷ [])
-    ∙ ap (place_or (length ms) (place_among name ms)) (place_cons name n [] ∙ ap (λ (o : Option ℕ). cond (bytes_eq name n) (Some 0) (option_map suc o)) (place_nil name))
+    ∙ ap (place_or (length ms) (place_among name ms))
+    (place_cons name n [] ∙ ap (λ (o : Option ℕ). cond (bytes_eq name n) (Some 0) (option_map suc o)) (place_nil name))
     ∙ by_test (place_among name ms) (bytes_eq name n)
   where
     by_test : (o : Option ℕ) (b : Bool) → place_or (length ms) o (cond b (Some 0) None) ≡ first_or o b (length ms)

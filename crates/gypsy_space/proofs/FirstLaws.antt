@@ -30,13 +30,15 @@ first_none q = record {
   small = λ p. record { temp = omega arith; ctrl = omega arith; locals_words = omega arith; vars = omega arith; code_words = omega arith };
 }
 
-pub first_pushed : (q : Program) (k : ℕ) (ns : List Need) (n : Need) → AreFirst q k ns → n ≡ capped_need (need_of q k) → IsSmall n → AreFirst q (k + 1) (ns ++ n ∷ [])
+pub first_pushed : (q : Program) (k : ℕ) (ns : List Need) (n : Need) → AreFirst q k ns → n ≡ capped_need (need_of q k) → IsSmall n
+    → AreFirst q (k + 1) (ns ++ n ∷ [])
 first_pushed q k ns n f e s = record {
   number = length-append ns (n ∷ []) ∙ ap (λ i. i + 1) f.number;
   each = λ p lt.
       ⊎_elim
       (λ less. before ns n p (omega (arith, less, f.number)) ∙ f.each p less)
-      (λ more. let here : p ≡ k = omega (arith, lt, more) in at_end ns n p (omega (arith, here, f.number)) ∙ e ∙ ap (λ (i : ℕ). capped_need (need_of q i)) (sym here))
+      (λ more. let here : p ≡ k = omega (arith, lt, more) in at_end ns n p (omega (arith, here, f.number)) ∙ e
+      ∙ ap (λ (i : ℕ). capped_need (need_of q i)) (sym here))
       (cases_lt p k);
   small = small_all ns n f.small s;
 }

@@ -1,5 +1,6 @@
 -- Where a name stands first among those of two lists.
-use Rattle.std.proofs.Common.{◌≡◌, ℕ, suc, ◌+◌, List, [], ◌∷◌, ◌++◌, map, length, Bool, true, false, not, cond, Option, Some, None, option_map, nat_lt, bytes_eq, refl, sym, ap, ap₂, ◌∙◌, zero-add, arith}
+use Rattle.std.proofs.Common.{◌≡◌, ℕ, suc, ◌+◌, List, [], ◌∷◌, ◌++◌, map, length, Bool, true, false, not, cond, Option, Some, None, option_map, nat_lt}
+use Rattle.std.proofs.Common.{bytes_eq, refl, sym, ap, ap₂, ◌∙◌, zero-add, arith}
 use Rattle.std.specs.List.{position, position_or_len}
 use Rattle.std.specs.Option.{unwrap_or}
 use Rattle.std.proofs.lemmas.List.{length-map}
@@ -37,7 +38,8 @@ place_or-zero : (o : Option ℕ) → place_or 0 None o ≡ o
 place_or-zero None = refl
 place_or-zero (Some i) = ap Some (zero-add i)
 
-pub place_among-append : (name : List ℕ) (ms ns : List (List ℕ)) → place_among name (ms ++ ns) ≡ place_or (length ms) (place_among name ms) (place_among name ns)
+pub place_among-append : (name : List ℕ) (ms ns : List (List ℕ)) → place_among name (ms ++ ns)
+    ≡ place_or (length ms) (place_among name ms) (place_among name ns)
 place_among-append name [] ns = sym (ap (λ (m : Option ℕ). place_or 0 m (place_among name ns)) (place_nil name) ∙ place_or-zero (place_among name ns))
 place_among-append name (m ∷ ms) ns =
     place_cons name m (ms ++ ns)
@@ -45,7 +47,8 @@ place_among-append name (m ∷ ms) ns =
     ∙ ap (λ (o : Option ℕ). place_or (suc (length ms)) o (place_among name ns)) (sym (place_cons name m ms))
   where
     pick : (b : Bool) → place_among name (ms ++ ns) ≡ place_or (length ms) (place_among name ms) (place_among name ns) →
-        cond b (Some 0) (option_map suc (place_among name (ms ++ ns))) ≡ place_or (suc (length ms)) (cond b (Some 0) (option_map suc (place_among name ms))) (place_among name ns)
+        cond b (Some 0) (option_map suc (place_among name (ms ++ ns))) ≡ place_or (suc (length ms))
+        (cond b (Some 0) (option_map suc (place_among name ms))) (place_among name ns)
     pick true e = refl
     pick false e = ap (option_map suc) e ∙ place_or-suc (length ms) (place_among name ms) (place_among name ns)
 
@@ -58,15 +61,18 @@ position_two name key other xs ys =
     ∙ sym (place_among-append name (map key xs) (map other ys))
 
 -- the position of a variable and of a condition
-pub variable_position : (p : Proc) (name : List ℕ) (m o : Option ℕ) → m ≡ position (λ (d : Decl). bytes_eq name d.name.name) p.formals.items → o ≡ position (λ (l : Local). bytes_eq name l.decl.name.name) p.locals.items →
+pub variable_position : (p : Proc) (name : List ℕ) (m o : Option ℕ) → m ≡ position (λ (d : Decl). bytes_eq name d.name.name) p.formals.items
+    → o ≡ position (λ (l : Local). bytes_eq name l.decl.name.name) p.locals.items →
     unwrap_or (place_or (length p.formals.items) m o) 0 ≡ position_of name (variable_names (proc_of p))
 variable_position p name m o e f =
     ap (λ (i : Option ℕ). unwrap_or i 0)
     (ap₂ (place_or (length p.formals.items)) e f
     ∙ position_two name (λ (d : Decl). d.name.name) (λ (l : Local). l.decl.name.name) p.formals.items p.locals.items
-    ∙ ap (λ (ns : List (List ℕ)). place_among name (map (λ (d : Decl). d.name.name) p.formals.items ++ ns)) (sym (map-map (λ (l : LocalOf). l.decl.name.name) local_of p.locals.items)))
+    ∙ ap (λ (ns : List (List ℕ)). place_among name (map (λ (d : Decl). d.name.name) p.formals.items ++ ns))
+    (sym (map-map (λ (l : LocalOf). l.decl.name.name) local_of p.locals.items)))
 
-pub condition_position : (p : Proc) (name : List ℕ) (m o : Option ℕ) → m ≡ position (λ (n : Named). bytes_eq name n.name) p.conds.items → o ≡ position (λ (n : Named). bytes_eq name n.name) p.local_conds.items →
+pub condition_position : (p : Proc) (name : List ℕ) (m o : Option ℕ) → m ≡ position (λ (n : Named). bytes_eq name n.name) p.conds.items
+    → o ≡ position (λ (n : Named). bytes_eq name n.name) p.local_conds.items →
     unwrap_or (place_or (length p.conds.items) m o) 0 ≡ position_of name (condition_names (proc_of p))
 condition_position p name m o e f =
     ap (λ (i : Option ℕ). unwrap_or i 0)

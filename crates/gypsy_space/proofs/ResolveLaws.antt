@@ -21,12 +21,15 @@ followed-skip : (ns : List (Rc Node Global)) → followed ns Skip ≡ seen_state
 followed-skip [] = refl
 followed-skip (n ∷ ns) = ap (Seq (seen_statement n.value)) (followed-skip ns)
 
-module _ (s : SourceOf) (p : ProcOf) (ns : List (Rc Node Global)) (parts : List Text) (k : ℕ) (whole : Stmt) (so_far : followed ns (statement_of_all s p (parts_of_list (drop k parts))) ≡ whole) where
-  pub next_part : (n : Rc Node Global) (x : Text) → k < length parts → x ≡ get_or parts k x → seen_statement n.value ≡ statement_of s p (stmt_of x) → followed (ns ++ n ∷ []) (statement_of_all s p (parts_of_list (drop (k + 1) parts))) ≡ whole
+module _ (s : SourceOf) (p : ProcOf) (ns : List (Rc Node Global)) (parts : List Text) (k : ℕ) (whole : Stmt)
+    (so_far : followed ns (statement_of_all s p (parts_of_list (drop k parts))) ≡ whole) where
+  pub next_part : (n : Rc Node Global) (x : Text) → k < length parts → x ≡ get_or parts k x → seen_statement n.value ≡ statement_of s p (stmt_of x)
+      → followed (ns ++ n ∷ []) (statement_of_all s p (parts_of_list (drop (k + 1) parts))) ≡ whole
   next_part n x lt is e =
       let rest = statement_of_all s p (parts_of_list (drop (k + 1) parts)) in
       followed-push ns n rest
-      ∙ ap (followed ns) (ap (λ (st : Stmt). Seq st rest) e ∙ ap (λ (xs : List Text). statement_of_all s p (parts_of_list xs)) (sym (drop-item parts k x lt is)))
+      ∙ ap (followed ns) (ap (λ (st : Stmt). Seq st rest) e ∙ ap (λ (xs : List Text). statement_of_all s p (parts_of_list xs))
+      (sym (drop-item parts k x lt is)))
       ∙ so_far
 
   pub all_parts : length parts ≤ k → seen_statements ns ≡ whole

@@ -1,5 +1,6 @@
 -- No number of the needs of an accepted source is above 2^60, so what is counted is exact.
-use Rattle.std.proofs.Common.{◌≡◌, ℕ, zero, suc, ◌+◌, ◌*◌, ◌^◌, ◌<◌, ◌≤◌, List, [], ◌∷◌, ◌++◌, length, map, get_or, Bool, true, false, refl, ap, ◌∙◌, subst, arith}
+use Rattle.std.proofs.Common.{◌≡◌, ℕ, zero, suc, ◌+◌, ◌*◌, ◌^◌, ◌<◌, ◌≤◌, List, [], ◌∷◌, ◌++◌, length, map, get_or, Bool, true, false, refl, ap, ◌∙◌, subst}
+use Rattle.std.proofs.Common.{arith}
 use Rattle.std.specs.Prelude.{if◌then◌else◌, ◌==◌}
 use Rattle.std.proofs.lemmas.List.{length-map}
 use Rattle.stack_text.specs.declared.name.Named.{Named}
@@ -102,7 +103,8 @@ module _ (s : SourceOf) (p : ProcOf) (few : (i : ℕ) → AreFew (proc_at (progr
 
 -- ---- procedures
 
-body_small : (s : SourceOf) → ((i : ℕ) → AreFew (proc_at (program_of s) i)) → (ps : List ProcOf) (n : ℕ) → node_counts (nodes (map proc_tree ps)) ≤ n → (i : ℕ) →
+body_small : (s : SourceOf) → ((i : ℕ) → AreFew (proc_at (program_of s) i)) → (ps : List ProcOf) (n : ℕ) → node_counts (nodes (map proc_tree ps)) ≤ n
+    → (i : ℕ) →
     statement_words (program_of s) (get_or (map (procedure_of s) ps) i no_proc).body ≤ 400000 * n
 body_small s few [] n le i = omega arith
 body_small s few (p ∷ ps) n le zero =
@@ -141,7 +143,8 @@ need_exact s form fits i =
     same_need (need_of (program_of s) i) (omega (arith, own.words)) (omega (arith, own.vars)) (let code = code_small s form few i in omega (arith, code))
 
 -- what is counted for an accepted source is what it needs
-pub counted_needs : (s : SourceOf) → KeepsForm s → ProgramFits (program_of s) → (q : Program) → q ≡ program_of s → (ns : List Need) → AreCapped q ns → AreNeeds (program_of s) ns
+pub counted_needs : (s : SourceOf) → KeepsForm s → ProgramFits (program_of s) → (q : Program) → q ≡ program_of s → (ns : List Need) → AreCapped q ns
+    → AreNeeds (program_of s) ns
 counted_needs s form fits q is ns h =
     let k : AreCapped (program_of s) ns = subst (λ (r : Program). AreCapped r ns) is h in
     record { number = k.number; each = λ p lt. k.each p lt ∙ need_exact s form fits p }

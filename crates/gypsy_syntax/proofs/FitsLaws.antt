@@ -22,11 +22,16 @@ use Rattle.gypsy_syntax.specs.declared.keyword.Keyword.TheVariants as word
 use Rattle.gypsy_syntax.specs.declared.literal.Decl.{Decl}
 use Rattle.gypsy_syntax.specs.declared.literal.TypeText.{TypeText}
 use Rattle.gypsy_syntax.specs.GypsyReading.{KeepsForm}
-use Rattle.gypsy_syntax.specs.Fits.{FitsLength, FitsSimple, AllSimple, FitsLiteral, FitsArgument, FitsDecl, FitsLocal, FitsStatement, FitsStatements, FitsProcedure, FitsForm}
-use Rattle.gypsy_syntax.specs.Grammar.{named_in, names_in, is_word, number_at, number_in, kind_in, simple_type, array_type, type_in, is_character, simple_at, simple_in, literal_in, decl_in, local_in, arg_in, is_empty_list, statement_in, form_in, statements_in, are_few, procedure_in, source_in}
+use Rattle.gypsy_syntax.specs.Fits.{FitsLength, FitsSimple, AllSimple, FitsLiteral, FitsArgument, FitsDecl, FitsLocal, FitsStatement, FitsStatements}
+use Rattle.gypsy_syntax.specs.Fits.{FitsProcedure, FitsForm}
+use Rattle.gypsy_syntax.specs.Grammar.{named_in, names_in, is_word, number_at, number_in, kind_in, simple_type, array_type, type_in, is_character, simple_at}
+use Rattle.gypsy_syntax.specs.Grammar.{simple_in, literal_in, decl_in, local_in, arg_in, is_empty_list, statement_in, form_in, statements_in, are_few}
+use Rattle.gypsy_syntax.specs.Grammar.{procedure_in, source_in}
 use Rattle.gypsy_syntax.specs.Keywords.{keyword_named, kind_named}
-use Rattle.gypsy_syntax.specs.Made.{literals, statements, new_name, new_array, new_decl, new_local, new_list, new_seq, new_branch, new_begin, new_call, new_predef, new_proc, new_source}
-use Rattle.gypsy_syntax.specs.Places.{unplaced_literal, unplaced_literals, unplaced_arg, unplaced_decl, unplaced_local, unplaced_stmt, unplaced_stmts, unplaced_proc, without_places}
+use Rattle.gypsy_syntax.specs.Made.{literals, statements, new_name, new_array, new_decl, new_local, new_list, new_seq, new_branch, new_begin, new_call}
+use Rattle.gypsy_syntax.specs.Made.{new_predef, new_proc, new_source}
+use Rattle.gypsy_syntax.specs.Places.{unplaced_literal, unplaced_literals, unplaced_arg, unplaced_decl, unplaced_local, unplaced_stmt, unplaced_stmts}
+use Rattle.gypsy_syntax.specs.Places.{unplaced_proc, without_places}
 use Rattle.gypsy_syntax.specs.Printed.{tree_of}
 use Rattle.gypsy_syntax.specs.Sizes.{nesting, deepest}
 use Rattle.gypsy_syntax.specs.Sources.{LiteralOf, LiteralsOf, integer, truth, character, array, no_items, item, ArgOf, variable, constant}
@@ -66,7 +71,8 @@ fits_simple_at : (p : ℕ) (w : List ℕ) → Holds FitsSimple (simple_at p w)
 fits_simple_at p w = pick (is_numeral w) (is_character w) refl
   where
     pick : (n c : Bool) → is_character w ≡ c →
-        Holds FitsSimple (if n then Ok (integer p) ⊛ number_at p w else if c then Ok (character p) ⊛ number_at p (drop 1 w) else judged p 8 (is_truth_word w) (Ok (truth p (bytes_eq w (codes "true")))))
+        Holds FitsSimple (if n then Ok (integer p) ⊛ number_at p w else if c then Ok (character p) ⊛ number_at p (drop 1 w)
+        else judged p 8 (is_truth_word w) (Ok (truth p (bytes_eq w (codes "true")))))
     pick true c e = holds_one IsNumber FitsSimple (integer p) (number_at p w) (λ z h. h) (fits_number p w)
     pick false true e = holds_one IsNatural FitsSimple (character p) (number_at p (drop 1 w)) (λ z h. h) (fits_code p (drop 1 w) (character_digits w e))
     pick false false e = holds_judged FitsSimple p 8 (is_truth_word w) _ (λ h. record { of_value = tt })
@@ -87,7 +93,8 @@ all_simple (l ∷ ls) h = (All-head FitsSimple l ls h, all_simple ls (All-tail F
 
 fits_literal : (t : Node) → Holds FitsLiteral (literal_in t)
 fits_literal (atom p w) = holds_more FitsSimple FitsLiteral (simple_at p w) simple_is_value (fits_simple_at p w)
-fits_literal (list p ts) = holds_one (Fitting FitsSimple ts) FitsLiteral (new_list p) (each_of simple_in ts) (λ ls h. all_simple ls h.all) (fits_each FitsSimple simple_in fits_simple ts)
+fits_literal (list p ts) = holds_one (Fitting FitsSimple ts) FitsLiteral (new_list p) (each_of simple_in ts) (λ ls h. all_simple ls h.all)
+    (fits_each FitsSimple simple_in fits_simple ts)
 
 -- ---- types and declarations
 
@@ -100,7 +107,8 @@ fits_simple_type p (Some k) = record { of_value = tt }
 
 fits_array_type : (p : ℕ) (k : Option Kind) (n : Node) → Holds FitsType (array_type p k n)
 fits_array_type p None n = record { of_value = tt }
-fits_array_type p (Some k) n = holds_judged FitsType p 7 (is_atom_of is_numeral n) _ (λ pass. holds_one IsNumber FitsType (new_array p k) (number_in n) (λ z h. h) (fits_number_in n))
+fits_array_type p (Some k) n = holds_judged FitsType p 7 (is_atom_of is_numeral n)
+    _ (λ pass. holds_one IsNumber FitsType (new_array p k) (number_in n) (λ z h. h) (fits_number_in n))
 
 fits_type : (t : Node) → Holds FitsType (type_in t)
 fits_type (list p (more a (more k (more n none)))) = holds_judged FitsType p 7 (is_word (codes "array") a) _ (λ pass. fits_array_type p (kind_in k) n)
@@ -138,7 +146,8 @@ record FittedAll (ts : Nodes) (ss : List StmtOf) : Type 0 where
   nested : deepest (statements ss) ≤ depths ts
   count : length ss ≡ count_of ts
 
-fitted_seq : (p q : ℕ) (w : List ℕ) (t : Node) (ts : Nodes) (ss : List StmtOf) → FittedAll (more t ts) ss → Fitted (depth (list p (more (atom q w) (more t ts)))) (new_seq p ss)
+fitted_seq : (p q : ℕ) (w : List ℕ) (t : Node) (ts : Nodes) (ss : List StmtOf) → FittedAll (more t ts) ss
+    → Fitted (depth (list p (more (atom q w) (more t ts)))) (new_seq p ss)
 fitted_seq p q w t ts [] h = absurd (let n : 0 ≡ 1 + count_of ts = h.count in omega (arith, n))
 fitted_seq p q w t ts (s ∷ ss) h = record { fits = h.fits; nested = omega (arith, h.nested) }
 
@@ -151,33 +160,52 @@ mutual
   fits_form None p q w ts = record { of_value = tt }
   fits_form (Some word.NoOp) p q w none = record { of_value = record { fits = tt; nested = omega arith } }
   fits_form (Some word.Signal) p q w (more c none) =
-      holds_one IsNamed (Fitted (depth (list p (more (atom q w) (more c none))))) (signal p) (named_in c) (λ n h. record { fits = h; nested = omega arith }) (fits_name 3 c)
+      holds_one IsNamed (Fitted (depth (list p (more (atom q w) (more c none))))) (signal p) (named_in c)
+      (λ n h. record { fits = h; nested = omega arith }) (fits_name 3 c)
   fits_form (Some word.Seq) p q w (more s ss) =
-      holds_one (FittedAll (more s ss)) (Fitted (depth (list p (more (atom q w) (more s ss))))) (new_seq p) (Ok front ⊛ statement_in s ⊛ statements_in ss) (fitted_seq p q w s ss)
+      holds_one (FittedAll (more s ss)) (Fitted (depth (list p (more (atom q w) (more s ss))))) (new_seq p)
+      (Ok front ⊛ statement_in s ⊛ statements_in ss) (fitted_seq p q w s ss)
       (holds_two (Fitted (depth s)) (FittedAll ss) (FittedAll (more s ss)) front (statement_in s) (statements_in ss)
-      (λ x g xs h. record { fits = (g.fits, h.fits); nested = omega (arith, g.nested, h.nested); count = let n : length xs ≡ count_of ss = h.count in omega (arith, n) })
+      (λ x g xs h. record {
+        fits = (g.fits, h.fits);
+        nested = omega (arith, g.nested, h.nested);
+        count = let n : length xs ≡ count_of ss = h.count in
+            omega (arith, n);
+      })
       (fits_statement s) (fits_statements ss))
   fits_form (Some word.Loop) p q w (more s none) =
-      holds_one (Fitted (depth s)) (Fitted (depth (list p (more (atom q w) (more s none))))) (loop p) (statement_in s) (λ x h. record { fits = h.fits; nested = omega (arith, h.nested) }) (fits_statement s)
+      holds_one (Fitted (depth s)) (Fitted (depth (list p (more (atom q w) (more s none))))) (loop p) (statement_in s)
+      (λ x h. record { fits = h.fits; nested = omega (arith, h.nested) }) (fits_statement s)
   fits_form (Some word.If) p q w (more b (more s (more t none))) =
-      holds_three IsNamed (Fitted (depth s)) (Fitted (depth t)) (Fitted (depth (list p (more (atom q w) (more b (more s (more t none))))))) (new_branch p) (named_in b) (statement_in s) (statement_in t)
+      holds_three IsNamed (Fitted (depth s)) (Fitted (depth t)) (Fitted (depth (list p (more (atom q w) (more b (more s (more t none)))))))
+      (new_branch p) (named_in b) (statement_in s) (statement_in t)
       (λ n g x h y k. record { fits = (g, h.fits, k.fits); nested = omega (arith, h.nested, k.nested) }) (fits_name 3 b) (fits_statement s) (fits_statement t)
   fits_form (Some word.Begin) p q w (more s (more cs (more t none))) =
       by_empty (Fitted (depth (list p (more (atom q w) (more s (more cs (more t none))))))) p (is_empty_list cs) _
-      (λ some_. holds_three (Fitted (depth s)) (Handled cs) (Fitted (depth t)) (Fitted (depth (list p (more (atom q w) (more s (more cs (more t none))))))) (new_begin p) (statement_in s) (names_in cs) (statement_in t)
-      (λ x g ns h y k. record { fits = (g.fits, h.some, h.all, k.fits); nested = omega (arith, g.nested, k.nested) }) (fits_statement s) (fits_handled cs some_) (fits_statement t))
+      (λ some_. holds_three (Fitted (depth s)) (Handled cs) (Fitted (depth t))
+      (Fitted (depth (list p (more (atom q w) (more s (more cs (more t none))))))) (new_begin p) (statement_in s) (names_in cs) (statement_in t)
+      (λ x g ns h y k. record { fits = (g.fits, h.some, h.all, k.fits); nested = omega (arith, g.nested, k.nested) }) (fits_statement s)
+      (fits_handled cs some_) (fits_statement t))
   fits_form (Some word.Call) p q w (more f (more vs (more cs none))) =
-      holds_three IsNamed (FittingList IsNamed vs) (FittingList IsNamed cs) (Fitted (depth (list p (more (atom q w) (more f (more vs (more cs none))))))) (new_call p (place_of vs) (place_of cs)) (named_in f) (names_in vs) (names_in cs)
+      holds_three IsNamed (FittingList IsNamed vs) (FittingList IsNamed cs)
+      (Fitted (depth (list p (more (atom q w) (more f (more vs (more cs none))))))) (new_call p (place_of vs) (place_of cs)) (named_in f)
+      (names_in vs) (names_in cs)
       (λ n g xs h ys k. record { fits = (g, h.all, k.all); nested = omega (arith, h.deep) }) (fits_name 3 f) (fits_names vs) (fits_names cs)
   fits_form (Some (word.Predef which)) p q w ts =
-      holds_one (Fitting FitsArgument ts) (Fitted (depth (list p (more (atom q w) ts)))) (new_predef p which) (each_of arg_in ts) (λ xs h. record { fits = h.all; nested = omega arith }) (fits_each FitsArgument arg_in fits_argument ts)
+      holds_one (Fitting FitsArgument ts) (Fitted (depth (list p (more (atom q w) ts)))) (new_predef p which) (each_of arg_in ts)
+      (λ xs h. record { fits = h.all; nested = omega arith }) (fits_each FitsArgument arg_in fits_argument ts)
   fits_form (Some k) p q w ts = record { of_value = tt }
 
   fits_statements : (ts : Nodes) → Holds (FittedAll ts) (statements_in ts)
   fits_statements none = record { of_value = record { fits = tt; nested = omega arith; count = refl } }
   fits_statements (more s ss) =
       holds_two (Fitted (depth s)) (FittedAll ss) (FittedAll (more s ss)) front (statement_in s) (statements_in ss)
-      (λ x g xs h. record { fits = (g.fits, h.fits); nested = omega (arith, g.nested, h.nested); count = let n : length xs ≡ count_of ss = h.count in omega (arith, n) })
+      (λ x g xs h. record {
+        fits = (g.fits, h.fits);
+        nested = omega (arith, g.nested, h.nested);
+        count = let n : length xs ≡ count_of ss = h.count in
+            omega (arith, n);
+      })
       (fits_statement s) (fits_statements ss)
 
 -- ---- procedures and sources
@@ -197,7 +225,8 @@ fits_procedure (list p (more w (more name (more formals (more conds (more locals
     holds_judged FitsProcedure p 2 (is_word (codes "proc") w) _
     (λ pass. holds_judged FitsProcedure p 12 (are_few formals locals && are_few conds local_conds) _
     (λ few. let both = and_parts (are_few formals locals) (are_few conds local_conds) few in
-    holds_six IsNamed (FittingList FitsDecl formals) (FittingList IsNamed conds) (FittingList FitsLocal locals) (FittingList IsNamed local_conds) (Fitted (depth body)) FitsProcedure
+    holds_six IsNamed (FittingList FitsDecl formals) (FittingList IsNamed conds) (FittingList FitsLocal locals) (FittingList IsNamed local_conds)
+    (Fitted (depth body)) FitsProcedure
     (new_proc p) (named_in name) (list_or 4 decl_in formals) (names_in conds) (list_or 6 local_in locals) (names_in local_conds) (statement_in body)
     (λ n hn fs hf cs hc ls hl ds hd s hs. record {
       name = hn;
@@ -210,7 +239,8 @@ fits_procedure (list p (more w (more name (more formals (more conds (more locals
       few_conds = few_items conds local_conds (length cs) (length ds) both.1 hc.count hd.count;
       shallow = omega (arith, hs.nested, body_low);
     })
-    (fits_name 3 name) (fits_list 4 FitsDecl decl_in fits_decl formals) (fits_names conds) (fits_list 6 FitsLocal local_in fits_local locals) (fits_names local_conds) (fits_statement body)))
+    (fits_name 3 name) (fits_list 4 FitsDecl decl_in fits_decl formals) (fits_names conds) (fits_list 6 FitsLocal local_in fits_local locals)
+    (fits_names local_conds) (fits_statement body)))
 fits_procedure t low = record { of_value = tt }
 
 fits_procedures : (ts : Nodes) → depths ts ≤ 199 → Holds (Fitting FitsProcedure ts) (each_of procedure_in ts)

@@ -43,14 +43,16 @@ pub some_parts : (place : ℕ) (ts : List TextTree) (ss : Vec Stmt Global) → l
 some_parts place [] ss ne e = absurd (ne refl)
 some_parts place (t ∷ ts) ss ne e = rw e (ap Ok (sym (seq_is_new place ss)))
 
-pub fault_in_parts : (R : Type 0) (e : FormFault) (place : ℕ) (ts : List TextTree) → length ts ≢ 0 → IsFirstFault R e (statements_in (nodes_of ts)) → IsFirstFault R e (form_in (Some word.Seq) place (nodes_of ts))
+pub fault_in_parts : (R : Type 0) (e : FormFault) (place : ℕ) (ts : List TextTree) → length ts ≢ 0 → IsFirstFault R e (statements_in (nodes_of ts))
+    → IsFirstFault R e (form_in (Some word.Seq) place (nodes_of ts))
 fault_in_parts R e place [] ne h = absurd (ne refl)
 fault_in_parts R e place (t ∷ ts) ne h = first_of_value R e (new_seq place) (Ok front ⊛ statement_in (node_of t) ⊛ statements_in (nodes_of ts)) h
 
 -- a source by the word that it begins with, its main procedure's name, and what follows
 pub source_by_parts : (place : ℕ) (ts : List TextTree) (w main : TextTree) → 3 ≤ length ts → w ≡ get_or ts 0 w → main ≡ get_or ts 1 main
     → source_in (list place (nodes_of ts)) ≡ judged place 1 (is_word (codes "program") (node_of w))
-    (judged place 12 (nat_le (count_of (nodes_of (rest 2 ts))) 1000) (Ok (new_source place) ⊛ named_in (node_of main) ⊛ each_of procedure_in (nodes_of (rest 2 ts))))
+    (judged place 12 (nat_le (count_of (nodes_of (rest 2 ts))) 1000)
+    (Ok (new_source place) ⊛ named_in (node_of main) ⊛ each_of procedure_in (nodes_of (rest 2 ts))))
 source_by_parts place [] w main le w_is main_is = absurd (omega arith)
 source_by_parts place (t ∷ []) w main le w_is main_is = absurd (omega arith)
 source_by_parts place (t ∷ u ∷ []) w main le w_is main_is = absurd (omega arith)
@@ -62,13 +64,16 @@ short_source place (t ∷ []) lt = refl
 short_source place (t ∷ u ∷ []) lt = refl
 short_source place (t ∷ u ∷ v ∷ ts) lt = absurd (omega arith)
 
-pub statement_by_parts : (place : ℕ) (ts : List TextTree) (first : TextTree) (q : ℕ) (text : Bor (List ℕ)) (o : Option Keyword) → 1 ≤ length ts → first ≡ get_or ts 0 first → first ≡ Atom q text
+pub statement_by_parts : (place : ℕ) (ts : List TextTree) (first : TextTree) (q : ℕ) (text : Bor (List ℕ)) (o : Option Keyword) → 1 ≤ length ts
+    → first ≡ get_or ts 0 first → first ≡ Atom q text
     → keyword_named text.now ≡ o → statement_in (list place (nodes_of ts)) ≡ form_in o place (nodes_of (rest 1 ts))
 statement_by_parts place [] first q text o le first_is is_atom e = absurd (omega arith)
-statement_by_parts place (t ∷ ts) first q text o le first_is is_atom e = rw (sym first_is ∙ is_atom, node_of-atom q text, sym e, rest_is_drop 1 (Atom q text ∷ ts)) refl
+statement_by_parts place (t ∷ ts) first q text o le first_is is_atom e =
+    rw (sym first_is ∙ is_atom, node_of-atom q text, sym e, rest_is_drop 1 (Atom q text ∷ ts)) refl
 
 -- a procedure's seven items
-pub seven_parts : (ts : List TextTree) (a b c d e f g : TextTree) → length ts ≡ 7 → a ≡ get_or ts 0 a → b ≡ get_or ts 1 b → c ≡ get_or ts 2 c → d ≡ get_or ts 3 d → e ≡ get_or ts 4 e → f ≡ get_or ts 5 f
+pub seven_parts : (ts : List TextTree) (a b c d e f g : TextTree) → length ts ≡ 7 → a ≡ get_or ts 0 a → b ≡ get_or ts 1 b → c ≡ get_or ts 2 c
+    → d ≡ get_or ts 3 d → e ≡ get_or ts 4 e → f ≡ get_or ts 5 f
     → g ≡ get_or ts 6 g
     → nodes_of ts ≡ more (node_of a) (more (node_of b) (more (node_of c) (more (node_of d) (more (node_of e) (more (node_of f) (more (node_of g) none))))))
 seven_parts [] a b c d e f g n a_is b_is c_is d_is e_is f_is g_is = absurd (omega (arith, n))

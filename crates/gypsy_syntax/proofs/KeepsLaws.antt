@@ -22,7 +22,9 @@ use Rattle.stack_text.specs.Grammar.Parts.{count_of, list_or}
 use Rattle.stack_text.specs.Grammar.Printed.{list_tree, name_tree, unplaced_name}
 use Rattle.stack_text.specs.Values.{kind_name}
 use Rattle.stack_text.proofs.NumeralTextLaws.{value-signed_decimal, numeral-signed_decimal, digits-signed_decimal}
-use Rattle.stack_text.proofs.KeepsLaws.{Alike, AllAlike, Holds, IsRun, Keeps, KeepsEach, KeepsName, alike_list_length, alike_items, holds_at, holds_judged, holds_more, holds_one, holds_six, holds_three, holds_two, keeps_each, keeps_list, keeps_name, keeps_named, named_again, ok_one, ok_six, ok_three, ok_two, passes, well_formed}
+use Rattle.stack_text.proofs.KeepsLaws.{Alike, AllAlike, Holds, IsRun, Keeps, KeepsEach, KeepsName, alike_list_length, alike_items, holds_at, holds_judged}
+use Rattle.stack_text.proofs.KeepsLaws.{holds_more, holds_one, holds_six, holds_three, holds_two, keeps_each, keeps_list, keeps_name, keeps_named, named_again}
+use Rattle.stack_text.proofs.KeepsLaws.{ok_one, ok_six, ok_three, ok_two, passes, well_formed}
 use Rattle.stack_text.proofs.SharedLaws.{and_false}
 use Rattle.gypsy_syntax.specs.declared.keyword.Keyword.{Keyword}
 use Rattle.gypsy_syntax.specs.declared.keyword.Keyword.TheVariants as word
@@ -30,12 +32,17 @@ use Rattle.gypsy_syntax.specs.declared.literal.Decl.{Decl}
 use Rattle.gypsy_syntax.specs.declared.literal.TypeText.{TypeText}
 use Rattle.gypsy_syntax.specs.declared.predef.Predef.TheVariants as row
 use Rattle.gypsy_syntax.specs.GypsyReading.{KeepsForm}
-use Rattle.gypsy_syntax.specs.Grammar.{named_in, names_in, number_at, simple_type, array_type, type_in, is_character, simple_at, simple_in, literal_in, decl_in, local_in, arg_in, is_empty_list, statement_in, form_in, statements_in, are_few, procedure_in, source_in}
+use Rattle.gypsy_syntax.specs.Grammar.{named_in, names_in, number_at, simple_type, array_type, type_in, is_character, simple_at, simple_in, literal_in, decl_in}
+use Rattle.gypsy_syntax.specs.Grammar.{local_in, arg_in, is_empty_list, statement_in, form_in, statements_in, are_few, procedure_in, source_in}
 use Rattle.gypsy_syntax.specs.Keywords.{keyword_name, keyword_named, form_named, predef_named, kind_named}
-use Rattle.gypsy_syntax.specs.Made.{literals, statements, new_name, new_array, new_decl, new_local, new_list, new_seq, new_branch, new_begin, new_call, new_predef, new_proc, new_source}
-use Rattle.gypsy_syntax.specs.Places.{unplaced_type, unplaced_literal, unplaced_arg, unplaced_decl, unplaced_local, unplaced_stmt, unplaced_proc, without_places}
-use Rattle.gypsy_syntax.specs.Printed.{number_tree, type_tree, type_tree_by, literal_tree, literal_trees, arg_tree, decl_tree, local_tree, keyword_tree, stmt_tree, stmt_trees, proc_tree, tree_of}
-use Rattle.gypsy_syntax.specs.Sources.{LiteralOf, integer, truth, character, array, ArgOf, variable, constant, StmtOf, no_op, signal, seq, loop, LocalOf, ProcOf, SourceOf}
+use Rattle.gypsy_syntax.specs.Made.{literals, statements, new_name, new_array, new_decl, new_local, new_list, new_seq, new_branch, new_begin, new_call}
+use Rattle.gypsy_syntax.specs.Made.{new_predef, new_proc, new_source}
+use Rattle.gypsy_syntax.specs.Places.{unplaced_type, unplaced_literal, unplaced_arg, unplaced_decl, unplaced_local, unplaced_stmt, unplaced_proc}
+use Rattle.gypsy_syntax.specs.Places.{without_places}
+use Rattle.gypsy_syntax.specs.Printed.{number_tree, type_tree, type_tree_by, literal_tree, literal_trees, arg_tree, decl_tree, local_tree, keyword_tree}
+use Rattle.gypsy_syntax.specs.Printed.{stmt_tree, stmt_trees, proc_tree, tree_of}
+use Rattle.gypsy_syntax.specs.Sources.{LiteralOf, integer, truth, character, array, ArgOf, variable, constant, StmtOf, no_op, signal, seq, loop, LocalOf}
+use Rattle.gypsy_syntax.specs.Sources.{ProcOf, SourceOf}
 use Rattle.gypsy_syntax.proofs.PlacesLaws.{literals_unplaced, statements_unplaced}
 
 -- ---- numbers
@@ -57,7 +64,8 @@ pub record KeepsDigits (z : ℤ) : Type 0 where
   pub fits : fits_128_bits z ≡ true
 
 keeps_digits : (p : ℕ) (w : List ℕ) → is_digits w ≡ true → Holds KeepsDigits (number_at p w)
-keeps_digits p w h = holds_judged KeepsDigits p 11 (fits_128_bits (numeral_value w)) _ (λ k. record { of_value = record { digits = digits-signed_decimal w h k; fits = k } })
+keeps_digits p w h = holds_judged KeepsDigits p 11 (fits_128_bits (numeral_value w))
+    _ (λ k. record { of_value = record { digits = digits-signed_decimal w h k; fits = k } })
 
 -- ---- values
 
@@ -96,7 +104,9 @@ integer_kept p z h = let numeral = numeral-signed_decimal z h in
       bytes = signed_decimal z;
       tree_is = refl;
       run = number_run z h;
-      reads = ap (λ (b : Bool). if b then Ok (integer 0) ⊛ number_at 0 (signed_decimal z) else if is_character (signed_decimal z) then Ok (character 0) ⊛ number_at 0 (drop 1 (signed_decimal z)) else judged 0 8 (is_truth_word (signed_decimal z)) (Ok (truth 0 (bytes_eq (signed_decimal z) (codes "true"))))) numeral
+      reads = ap (λ (b : Bool). if b then Ok (integer 0) ⊛ number_at 0 (signed_decimal z) else if is_character (signed_decimal z)
+          then Ok (character 0) ⊛ number_at 0 (drop 1 (signed_decimal z)) else judged 0 8 (is_truth_word (signed_decimal z))
+          (Ok (truth 0 (bytes_eq (signed_decimal z) (codes "true"))))) numeral
           ∙ ok_one (integer 0) _ z (number_again z h);
       no_name = numeral_no_name (signed_decimal z) numeral;
     }
@@ -128,9 +138,11 @@ keeps_simple_at : (p : ℕ) (w : List ℕ) → Holds KeepsSimple (simple_at p w)
 keeps_simple_at p w = pick (is_numeral w) (is_character w) refl
   where
     pick : (n c : Bool) → is_character w ≡ c →
-        Holds KeepsSimple (if n then Ok (integer p) ⊛ number_at p w else if c then Ok (character p) ⊛ number_at p (drop 1 w) else judged p 8 (is_truth_word w) (Ok (truth p (bytes_eq w (codes "true")))))
+        Holds KeepsSimple (if n then Ok (integer p) ⊛ number_at p w else if c then Ok (character p) ⊛ number_at p (drop 1 w)
+        else judged p 8 (is_truth_word w) (Ok (truth p (bytes_eq w (codes "true")))))
     pick true c e = holds_one IsNumber KeepsSimple (integer p) (number_at p w) (integer_kept p) (keeps_number p w)
-    pick false true e = holds_one KeepsDigits KeepsSimple (character p) (number_at p (drop 1 w)) (character_kept p) (keeps_digits p (drop 1 w) (character_digits w e))
+    pick false true e =
+        holds_one KeepsDigits KeepsSimple (character p) (number_at p (drop 1 w)) (character_kept p) (keeps_digits p (drop 1 w) (character_digits w e))
     pick false false e = holds_judged KeepsSimple p 8 (is_truth_word w) _ (λ h. record { of_value = truth_kept p (bytes_eq w (codes "true")) })
 
 abbrev KeepsItem : Node → LiteralOf → Type 0
@@ -152,7 +164,8 @@ literal_nodes (l ∷ ls) = ap (more (literal_tree l)) (literal_nodes ls)
 list_kept : (p : ℕ) (ts : Nodes) (ls : List LiteralOf) → KeepsEach simple_in literal_tree unplaced_literal ts ls → KeepsLiteral (list p ts) (new_list p ls)
 list_kept p ts ls h = record {
   alike = subst (AllAlike ts) (sym (literal_nodes ls)) h.alike;
-  reads = ap (λ (us : Nodes). literal_in (list 0 us)) (literal_nodes ls) ∙ ok_one (new_list 0) _ (map unplaced_literal ls) h.reads ∙ ap (λ items. Ok (array 0 items)) (literals_unplaced ls);
+  reads = ap (λ (us : Nodes). literal_in (list 0 us)) (literal_nodes ls) ∙ ok_one (new_list 0) _ (map unplaced_literal ls) h.reads
+      ∙ ap (λ items. Ok (array 0 items)) (literals_unplaced ls);
 }
 
 keeps_literal : (t : Node) → Holds (KeepsLiteral t) (literal_in t)
@@ -160,7 +173,8 @@ keeps_literal (atom p w) =
     holds_more KeepsSimple (KeepsLiteral (atom p w)) (simple_at p w)
     (λ l k. record { alike = subst (Alike (atom p w)) (sym k.tree_is) k.run; reads = ap literal_in k.tree_is ∙ k.reads }) (keeps_simple_at p w)
 keeps_literal (list p ts) =
-    holds_one (KeepsEach simple_in literal_tree unplaced_literal ts) (KeepsLiteral (list p ts)) (new_list p) (each_of simple_in ts) (list_kept p ts) (keeps_each simple_in literal_tree unplaced_literal keeps_simple ts)
+    holds_one (KeepsEach simple_in literal_tree unplaced_literal ts) (KeepsLiteral (list p ts)) (new_list p) (each_of simple_in ts) (list_kept p ts)
+    (keeps_each simple_in literal_tree unplaced_literal keeps_simple ts)
 
 -- ---- types and declarations
 
@@ -209,7 +223,8 @@ keeps_type (list p (more (list q us) (more k (more n none)))) = record { of_valu
 keeps_type (list p (more (atom q v) (more (list r us) (more n none)))) =
     holds_judged (KeepsType (list p (more (atom q v) (more (list r us) (more n none))))) p 7 (bytes_eq v (codes "array")) _ (λ h. record { of_value = tt })
 keeps_type (list p (more (atom q v) (more (atom r w) (more (list s us) none)))) =
-    holds_judged (KeepsType (list p (more (atom q v) (more (atom r w) (more (list s us) none))))) p 7 (bytes_eq v (codes "array")) _ (λ h. no_array p _ s us (kind_named w))
+    holds_judged (KeepsType (list p (more (atom q v) (more (atom r w) (more (list s us) none))))) p 7 (bytes_eq v (codes "array"))
+    _ (λ h. no_array p _ s us (kind_named w))
 keeps_type (list p (more (atom q v) (more (atom r w) (more (atom s u) none)))) =
     holds_judged (KeepsType (array_node p q r s v w u)) p 7 (bytes_eq v (codes "array")) _ (λ h. keeps_array_type p q r s v w u (kind_named w))
 keeps_type (list p (more a (more k (more n (more t ts))))) = record { of_value = tt }
@@ -223,7 +238,11 @@ keeps_decl (list p none) = record { of_value = tt }
 keeps_decl (list p (more v none)) = record { of_value = tt }
 keeps_decl (list p (more v (more t none))) =
     holds_two (KeepsName v) (KeepsType t) (KeepsDecl (list p (more v (more t none)))) new_decl (named_in v) (type_in t)
-    (λ n g s h. record { alike = (g.alike, (h.alike, tt)); reads = ok_two new_decl _ _ (unplaced_name n) (unplaced_type s) (named_again 3 n g.is_named) h.reads })
+    (λ n g s h. record {
+      alike = (g.alike, (h.alike, tt));
+      reads = ok_two new_decl _ _ (unplaced_name n) (unplaced_type s) (named_again 3 n g.is_named)
+          h.reads;
+    })
     (keeps_name 3 v) (keeps_type t)
 keeps_decl (list p (more v (more t (more u ts)))) = record { of_value = tt }
 
@@ -236,7 +255,8 @@ keeps_local (list p none) = record { of_value = tt }
 keeps_local (list p (more v none)) = record { of_value = tt }
 keeps_local (list p (more v (more t none))) = record { of_value = tt }
 keeps_local (list p (more v (more t (more l none)))) =
-    holds_three (KeepsName v) (KeepsType t) (KeepsLiteral l) (KeepsLocal (list p (more v (more t (more l none))))) new_local (named_in v) (type_in t) (literal_in l)
+    holds_three (KeepsName v) (KeepsType t) (KeepsLiteral l) (KeepsLocal (list p (more v (more t (more l none))))) new_local (named_in v) (type_in t)
+    (literal_in l)
     (λ n g s h x k. record {
       alike = (g.alike, (h.alike, (k.alike, tt)));
       reads = ok_three new_local _ _ _ (unplaced_name n) (unplaced_type s) (unplaced_literal x) (named_again 3 n g.is_named) h.reads k.reads;
@@ -252,7 +272,8 @@ KeepsArg = Keeps arg_in arg_tree unplaced_arg
 -- a simple value is read again as an argument, since it is no name
 pub argument_again : (l : LiteralOf) (k : KeepsSimple l) → arg_in (literal_tree l) ≡ Ok (constant (unplaced_literal l))
 argument_again l k =
-    ap arg_in k.tree_is ∙ ap (λ (b : Bool). if b then Ok (variable (new_name 0 k.bytes)) else Ok constant ⊛ simple_at 0 k.bytes) k.no_name ∙ ok_one constant _ _ k.reads
+    ap arg_in k.tree_is ∙ ap (λ (b : Bool). if b then Ok (variable (new_name 0 k.bytes)) else Ok constant ⊛ simple_at 0 k.bytes) k.no_name
+    ∙ ok_one constant _ _ k.reads
 
 -- and so is a variable
 pub variable_again : (w : List ℕ) → is_name w ≡ true → arg_in (atom 0 w) ≡ Ok (variable (new_name 0 w))
@@ -303,11 +324,13 @@ keeps_names : (t : Node) → Holds (KeepsNames t) (names_in t)
 keeps_names = keeps_list 5 named_in name_tree unplaced_name (keeps_named 3)
 
 -- a statement is read by its first word
-pub statement_again : (k : Keyword) (s : StmtOf) (us : Nodes) → stmt_tree s ≡ list 0 (more (keyword_tree k) us) → form_in (Some k) 0 us ≡ Ok (unplaced_stmt s) → statement_in (stmt_tree s) ≡ Ok (unplaced_stmt s)
+pub statement_again : (k : Keyword) (s : StmtOf) (us : Nodes) → stmt_tree s ≡ list 0 (more (keyword_tree k) us)
+    → form_in (Some k) 0 us ≡ Ok (unplaced_stmt s) → statement_in (stmt_tree s) ≡ Ok (unplaced_stmt s)
 statement_again k s us e reads = ap statement_in e ∙ ap (λ (o : Option Keyword). form_in o 0 us) (keyword_again k) ∙ reads
 
 -- a statement of a form whose parts are kept
-form_kept : (p q : ℕ) (w : List ℕ) (ts : Nodes) (k : Keyword) (s : StmtOf) (us : Nodes) → stmt_tree s ≡ list 0 (more (keyword_tree k) us) → AllAlike ts us → form_in (Some k) 0 us ≡ Ok (unplaced_stmt s)
+form_kept : (p q : ℕ) (w : List ℕ) (ts : Nodes) (k : Keyword) (s : StmtOf) (us : Nodes) → stmt_tree s ≡ list 0 (more (keyword_tree k) us)
+    → AllAlike ts us → form_in (Some k) 0 us ≡ Ok (unplaced_stmt s)
     → KeepsStmt (list p (more (atom q w) ts)) s
 form_kept p q w ts k s us e h reads = record {
   alike = subst (Alike (list p (more (atom q w) ts))) (sym e) (keyword_run k, h);
@@ -318,10 +341,12 @@ stmt_nodes : (ss : List StmtOf) → stmt_trees (statements ss) ≡ nodes (map st
 stmt_nodes [] = refl
 stmt_nodes (s ∷ ss) = ap (more (stmt_tree s)) (stmt_nodes ss)
 
-seq_kept : (p q : ℕ) (w : List ℕ) (t : Node) (ts : Nodes) (ss : List StmtOf) → KeepsStmts (more t ts) ss → KeepsStmt (list p (more (atom q w) (more t ts))) (new_seq p ss)
+seq_kept : (p q : ℕ) (w : List ℕ) (t : Node) (ts : Nodes) (ss : List StmtOf) → KeepsStmts (more t ts) ss
+    → KeepsStmt (list p (more (atom q w) (more t ts))) (new_seq p ss)
 seq_kept p q w t ts [] h = absurd h.alike
 seq_kept p q w t ts (s ∷ ss) h =
-    form_kept p q w (more t ts) word.Seq (new_seq p (s ∷ ss)) (nodes (map stmt_tree (s ∷ ss))) (ap (λ (us : Nodes). list 0 (more (keyword_tree word.Seq) us)) (stmt_nodes (s ∷ ss))) h.alike
+    form_kept p q w (more t ts) word.Seq (new_seq p (s ∷ ss)) (nodes (map stmt_tree (s ∷ ss)))
+    (ap (λ (us : Nodes). list 0 (more (keyword_tree word.Seq) us)) (stmt_nodes (s ∷ ss))) h.alike
     (ok_one (new_seq 0) _ (map unplaced_stmt (s ∷ ss)) h.reads ∙ ap (λ parts. Ok (seq 0 parts)) (statements_unplaced (s ∷ ss)))
 
 alike_empty : (t u : Node) → Alike t u → is_empty_list u ≡ is_empty_list t
@@ -354,12 +379,14 @@ mutual
   keeps_form (Some word.Signal) p q w none = record { of_value = tt }
   keeps_form (Some word.Signal) p q w (more c none) =
       holds_one (KeepsName c) (KeepsStmt (list p (more (atom q w) (more c none)))) (signal p) (named_in c)
-      (λ n h. form_kept p q w (more c none) word.Signal (signal p n) (more (name_tree n) none) refl (h.alike, tt) (ok_one (signal 0) _ (unplaced_name n) (named_again 3 n h.is_named)))
+      (λ n h. form_kept p q w (more c none) word.Signal (signal p n) (more (name_tree n) none) refl (h.alike, tt)
+      (ok_one (signal 0) _ (unplaced_name n) (named_again 3 n h.is_named)))
       (keeps_name 3 c)
   keeps_form (Some word.Signal) p q w (more c (more t ts)) = record { of_value = tt }
   keeps_form (Some word.Seq) p q w none = record { of_value = tt }
   keeps_form (Some word.Seq) p q w (more s ss) =
-      holds_one (KeepsStmts (more s ss)) (KeepsStmt (list p (more (atom q w) (more s ss)))) (new_seq p) (Ok front ⊛ statement_in s ⊛ statements_in ss) (seq_kept p q w s ss)
+      holds_one (KeepsStmts (more s ss)) (KeepsStmt (list p (more (atom q w) (more s ss)))) (new_seq p) (Ok front ⊛ statement_in s ⊛ statements_in ss)
+      (seq_kept p q w s ss)
       (holds_two (KeepsStmt s) (KeepsStmts ss) (KeepsStmts (more s ss)) front (statement_in s) (statements_in ss)
       (λ x g xs h. record { alike = (g.alike, h.alike); reads = ok_two front _ _ (unplaced_stmt x) (map unplaced_stmt xs) g.reads h.reads })
       (keeps_statement s) (keeps_statements ss))
@@ -373,8 +400,10 @@ mutual
   keeps_form (Some word.If) p q w (more b none) = record { of_value = tt }
   keeps_form (Some word.If) p q w (more b (more s none)) = record { of_value = tt }
   keeps_form (Some word.If) p q w (more b (more s (more t none))) =
-      holds_three (KeepsName b) (KeepsStmt s) (KeepsStmt t) (KeepsStmt (list p (more (atom q w) (more b (more s (more t none)))))) (new_branch p) (named_in b) (statement_in s) (statement_in t)
-      (λ n g x h y k. form_kept p q w (more b (more s (more t none))) word.If (new_branch p n x y) (more (name_tree n) (more (stmt_tree x) (more (stmt_tree y) none))) refl (g.alike, (h.alike, (k.alike, tt)))
+      holds_three (KeepsName b) (KeepsStmt s) (KeepsStmt t) (KeepsStmt (list p (more (atom q w) (more b (more s (more t none)))))) (new_branch p)
+      (named_in b) (statement_in s) (statement_in t)
+      (λ n g x h y k. form_kept p q w (more b (more s (more t none))) word.If (new_branch p n x y)
+      (more (name_tree n) (more (stmt_tree x) (more (stmt_tree y) none))) refl (g.alike, (h.alike, (k.alike, tt)))
       (ok_three (new_branch 0) _ _ _ (unplaced_name n) (unplaced_stmt x) (unplaced_stmt y) (named_again 3 n g.is_named) h.reads k.reads))
       (keeps_name 3 b) (keeps_statement s) (keeps_statement t)
   keeps_form (Some word.If) p q w (more b (more s (more t (more u ts)))) = record { of_value = tt }
@@ -383,8 +412,10 @@ mutual
   keeps_form (Some word.Begin) p q w (more s (more cs none)) = record { of_value = tt }
   keeps_form (Some word.Begin) p q w (more s (more cs (more t none))) =
       by_empty (KeepsStmt (list p (more (atom q w) (more s (more cs (more t none)))))) p (is_empty_list cs) _
-      (λ some_. holds_three (KeepsStmt s) (KeepsNames cs) (KeepsStmt t) (KeepsStmt (list p (more (atom q w) (more s (more cs (more t none)))))) (new_begin p) (statement_in s) (names_in cs) (statement_in t)
-      (λ x g ns h y k. form_kept p q w (more s (more cs (more t none))) word.Begin (new_begin p x ns y) (more (stmt_tree x) (more (list_tree name_tree ns) (more (stmt_tree y) none))) refl (g.alike, (h.alike, (k.alike, tt)))
+      (λ some_. holds_three (KeepsStmt s) (KeepsNames cs) (KeepsStmt t) (KeepsStmt (list p (more (atom q w) (more s (more cs (more t none))))))
+      (new_begin p) (statement_in s) (names_in cs) (statement_in t)
+      (λ x g ns h y k. form_kept p q w (more s (more cs (more t none))) word.Begin (new_begin p x ns y)
+      (more (stmt_tree x) (more (list_tree name_tree ns) (more (stmt_tree y) none))) refl (g.alike, (h.alike, (k.alike, tt)))
       (begin_again (list_tree name_tree ns) _ _ (alike_empty cs (list_tree name_tree ns) h.alike ∙ some_)
       (ok_three (new_begin 0) _ _ _ (unplaced_stmt x) (map unplaced_name ns) (unplaced_stmt y) g.reads h.reads k.reads)))
       (keeps_statement s) (keeps_names cs) (keeps_statement t))
@@ -393,14 +424,17 @@ mutual
   keeps_form (Some word.Call) p q w (more f none) = record { of_value = tt }
   keeps_form (Some word.Call) p q w (more f (more vs none)) = record { of_value = tt }
   keeps_form (Some word.Call) p q w (more f (more vs (more cs none))) =
-      holds_three (KeepsName f) (KeepsNames vs) (KeepsNames cs) (KeepsStmt (list p (more (atom q w) (more f (more vs (more cs none)))))) (new_call p (place_of vs) (place_of cs)) (named_in f) (names_in vs) (names_in cs)
-      (λ n g xs h ys k. form_kept p q w (more f (more vs (more cs none))) word.Call (new_call p (place_of vs) (place_of cs) n xs ys) (more (name_tree n) (more (list_tree name_tree xs) (more (list_tree name_tree ys) none))) refl (g.alike, (h.alike, (k.alike, tt)))
+      holds_three (KeepsName f) (KeepsNames vs) (KeepsNames cs) (KeepsStmt (list p (more (atom q w) (more f (more vs (more cs none))))))
+      (new_call p (place_of vs) (place_of cs)) (named_in f) (names_in vs) (names_in cs)
+      (λ n g xs h ys k. form_kept p q w (more f (more vs (more cs none))) word.Call (new_call p (place_of vs) (place_of cs) n xs ys)
+      (more (name_tree n) (more (list_tree name_tree xs) (more (list_tree name_tree ys) none))) refl (g.alike, (h.alike, (k.alike, tt)))
       (ok_three (new_call 0 0 0) _ _ _ (unplaced_name n) (map unplaced_name xs) (map unplaced_name ys) (named_again 3 n g.is_named) h.reads k.reads))
       (keeps_name 3 f) (keeps_names vs) (keeps_names cs)
   keeps_form (Some word.Call) p q w (more f (more vs (more cs (more u ts)))) = record { of_value = tt }
   keeps_form (Some (word.Predef which)) p q w ts =
       holds_one (KeepsEach arg_in arg_tree unplaced_arg ts) (KeepsStmt (list p (more (atom q w) ts))) (new_predef p which) (each_of arg_in ts)
-      (λ xs h. form_kept p q w ts (word.Predef which) (new_predef p which xs) (nodes (map arg_tree xs)) refl h.alike (ok_one (new_predef 0 which) _ (map unplaced_arg xs) h.reads))
+      (λ xs h. form_kept p q w ts (word.Predef which) (new_predef p which xs) (nodes (map arg_tree xs)) refl h.alike
+      (ok_one (new_predef 0 which) _ (map unplaced_arg xs) h.reads))
       (keeps_each arg_in arg_tree unplaced_arg keeps_arg ts)
 
   keeps_statements : (ts : Nodes) → Holds (KeepsStmts ts) (statements_in ts)
@@ -422,21 +456,27 @@ abbrev KeepsProc : Node → ProcOf → Type 0
 KeepsProc = Keeps procedure_in proc_tree unplaced_proc
 
 abbrev proc_node : (p q : ℕ) → List ℕ → (name formals conds locals local_conds body : Node) → Node
-proc_node p q w name formals conds locals local_conds body = list p (more (atom q w) (more name (more formals (more conds (more locals (more local_conds (more body none)))))))
+proc_node p q w name formals conds locals local_conds body =
+    list p (more (atom q w) (more name (more formals (more conds (more locals (more local_conds (more body none)))))))
 
 proc_kept : (p q : ℕ) (w : List ℕ) (name formals conds locals local_conds body : Node) → (are_few formals locals && are_few conds local_conds) ≡ true →
-    (n : Named) → KeepsName name n → (fs : List Decl) → KeepsFormals formals fs → (cs : List Named) → KeepsNames conds cs → (ls : List LocalOf) → KeepsLocals locals ls →
-    (ds : List Named) → KeepsNames local_conds ds → (s : StmtOf) → KeepsStmt body s → KeepsProc (proc_node p q w name formals conds locals local_conds body) (new_proc p n fs cs ls ds s)
+    (n : Named) → KeepsName name n → (fs : List Decl) → KeepsFormals formals fs → (cs : List Named) → KeepsNames conds cs → (ls : List LocalOf)
+    → KeepsLocals locals ls →
+    (ds : List Named) → KeepsNames local_conds ds → (s : StmtOf) → KeepsStmt body s
+    → KeepsProc (proc_node p q w name formals conds locals local_conds body) (new_proc p n fs cs ls ds s)
 proc_kept p q w name formals conds locals local_conds body few n hn fs hf cs hc ls hl ds hd s hs =
     let formals_as = alike_list_length formals (list_tree decl_tree fs) hf.alike in
     let conds_as = alike_list_length conds (list_tree name_tree cs) hc.alike in
     let locals_as = alike_list_length locals (list_tree local_tree ls) hl.alike in
     let local_conds_as = alike_list_length local_conds (list_tree name_tree ds) hd.alike in
-    let still_few : (are_few (list_tree decl_tree fs) (list_tree local_tree ls) && are_few (list_tree name_tree cs) (list_tree name_tree ds)) ≡ true = rw (formals_as, conds_as, locals_as, local_conds_as) few in
+    let still_few : (are_few (list_tree decl_tree fs) (list_tree local_tree ls) && are_few (list_tree name_tree cs) (list_tree name_tree ds)) ≡ true =
+    rw (formals_as, conds_as, locals_as, local_conds_as) few in
     record {
       alike = ((omega arith, refl), (hn.alike, (hf.alike, (hc.alike, (hl.alike, (hd.alike, (hs.alike, tt)))))));
-      reads = passes 0 12 (are_few (list_tree decl_tree fs) (list_tree local_tree ls) && are_few (list_tree name_tree cs) (list_tree name_tree ds)) _ _ still_few
-          (ok_six (new_proc 0) _ _ _ _ _ _ (unplaced_name n) (map unplaced_decl fs) (map unplaced_name cs) (map unplaced_local ls) (map unplaced_name ds) (unplaced_stmt s)
+      reads = passes 0 12 (are_few (list_tree decl_tree fs) (list_tree local_tree ls) && are_few (list_tree name_tree cs) (list_tree name_tree ds))
+          _ _ still_few
+          (ok_six (new_proc 0) _ _ _ _ _ _ (unplaced_name n) (map unplaced_decl fs) (map unplaced_name cs) (map unplaced_local ls)
+          (map unplaced_name ds) (unplaced_stmt s)
           (named_again 3 n hn.is_named) hf.reads hc.reads hl.reads hd.reads hs.reads);
     }
 
@@ -471,7 +511,8 @@ KeepsSource = Keeps source_in tree_of without_places
 abbrev KeepsProcs : Nodes → List ProcOf → Type 0
 KeepsProcs = KeepsEach procedure_in proc_tree unplaced_proc
 
-source_kept : (p q : ℕ) (w : List ℕ) (main r : Node) (rs : Nodes) → nat_le (count_of (more r rs)) 1000 ≡ true → (n : Named) → KeepsName main n → (ps : List ProcOf) → KeepsProcs (more r rs) ps →
+source_kept : (p q : ℕ) (w : List ℕ) (main r : Node) (rs : Nodes) → nat_le (count_of (more r rs)) 1000 ≡ true → (n : Named) → KeepsName main n
+    → (ps : List ProcOf) → KeepsProcs (more r rs) ps →
     KeepsSource (list p (more (atom q w) (more main (more r rs)))) (new_source p n ps)
 source_kept p q w main r rs few n hn [] hp = absurd hp.alike
 source_kept p q w main r rs few n hn (x ∷ ps) hp =

@@ -1,6 +1,7 @@
 -- What fits the form keeps it, where its tree is not too large: the tree of each part is judged to be that part but for
 -- places, its atoms are runs, and it is shallow.
-use Rattle.std.proofs.Common.{◌∙◌, ◌≡◌, ℕ, suc, ◌+◌, ◌<◌, ◌≤◌, ◌^◌, max, true, false, leb, List, [], ◌∷◌, length, map, Option, Some, None, Ok, All, refl, sym, ap, subst, arith}
+use Rattle.std.proofs.Common.{◌∙◌, ◌≡◌, ℕ, suc, ◌+◌, ◌<◌, ◌≤◌, ◌^◌, max, true, false, leb, List, [], ◌∷◌, length, map, Option, Some, None, Ok, All, refl, sym}
+use Rattle.std.proofs.Common.{ap, subst, arith}
 use Rattle.std.specs.Prelude.{ℤ, ◌&&◌}
 use Rattle.std.proofs.lemmas.Bool.{le-leb}
 use Rattle.stack_text.specs.declared.name.Named.{Named}
@@ -18,15 +19,21 @@ use Rattle.gypsy_syntax.specs.declared.keyword.Keyword.TheVariants as word
 use Rattle.gypsy_syntax.specs.declared.literal.Decl.{Decl}
 use Rattle.gypsy_syntax.specs.declared.literal.TypeText.{TypeText}
 use Rattle.gypsy_syntax.specs.GypsyReading.{KeepsForm}
-use Rattle.gypsy_syntax.specs.Fits.{FitsLength, FitsSimple, AllSimple, FitsLiteral, FitsArgument, FitsDecl, FitsLocal, FitsStatement, FitsStatements, FitsProcedure, FitsForm}
-use Rattle.gypsy_syntax.specs.Grammar.{simple_type, type_in, simple_in, literal_in, decl_in, local_in, arg_in, is_empty_list, statement_in, form_in, statements_in, are_few, procedure_in, source_in}
-use Rattle.gypsy_syntax.specs.Made.{literals, statements, new_decl, new_local, new_list, new_seq, new_branch, new_begin, new_call, new_predef, new_proc, new_source}
-use Rattle.gypsy_syntax.specs.Places.{unplaced_type, unplaced_literal, unplaced_literals, unplaced_arg, unplaced_decl, unplaced_local, unplaced_stmt, unplaced_stmts, unplaced_proc, without_places}
-use Rattle.gypsy_syntax.specs.Printed.{type_tree, literal_tree, literal_trees, arg_tree, decl_tree, local_tree, keyword_tree, stmt_tree, stmt_trees, proc_tree, tree_of}
+use Rattle.gypsy_syntax.specs.Fits.{FitsLength, FitsSimple, AllSimple, FitsLiteral, FitsArgument, FitsDecl, FitsLocal, FitsStatement, FitsStatements}
+use Rattle.gypsy_syntax.specs.Fits.{FitsProcedure, FitsForm}
+use Rattle.gypsy_syntax.specs.Grammar.{simple_type, type_in, simple_in, literal_in, decl_in, local_in, arg_in, is_empty_list, statement_in, form_in}
+use Rattle.gypsy_syntax.specs.Grammar.{statements_in, are_few, procedure_in, source_in}
+use Rattle.gypsy_syntax.specs.Made.{literals, statements, new_decl, new_local, new_list, new_seq, new_branch, new_begin, new_call, new_predef, new_proc}
+use Rattle.gypsy_syntax.specs.Made.{new_source}
+use Rattle.gypsy_syntax.specs.Places.{unplaced_type, unplaced_literal, unplaced_literals, unplaced_arg, unplaced_decl, unplaced_local, unplaced_stmt}
+use Rattle.gypsy_syntax.specs.Places.{unplaced_stmts, unplaced_proc, without_places}
+use Rattle.gypsy_syntax.specs.Printed.{type_tree, literal_tree, literal_trees, arg_tree, decl_tree, local_tree, keyword_tree, stmt_tree, stmt_trees, proc_tree}
+use Rattle.gypsy_syntax.specs.Printed.{tree_of}
 use Rattle.gypsy_syntax.specs.Sizes.{nesting, deepest}
 use Rattle.gypsy_syntax.specs.Sources.{LiteralOf, LiteralsOf, integer, truth, character, array, no_items, item, ArgOf, variable, constant}
 use Rattle.gypsy_syntax.specs.Sources.{StmtOf, StmtsOf, no_op, signal, seq, loop, branch, begin, call, predef, no_parts, part, LocalOf, ProcOf, SourceOf}
-use Rattle.gypsy_syntax.proofs.KeepsLaws.{KeepsSimple, argument_again, array_again, begin_again, character_kept, integer_kept, keyword_run, kind_again, kind_run, number_run, statement_again, truth_kept, variable_again}
+use Rattle.gypsy_syntax.proofs.KeepsLaws.{KeepsSimple, argument_again, array_again, begin_again, character_kept, integer_kept, keyword_run, kind_again}
+use Rattle.gypsy_syntax.proofs.KeepsLaws.{kind_run, number_run, statement_again, truth_kept, variable_again}
 
 -- ---- values
 
@@ -63,7 +70,11 @@ made_items (item l ls) h =
     }
 
 simple_literal : (l : LiteralOf) → KeepsSimple l → Made literal_in literal_tree unplaced_literal 1 l
-simple_literal l k = record { reads = ap literal_in k.tree_is ∙ k.reads; runs = simple_runs l k; low = let one_ : depth (literal_tree l) ≡ 0 = simple_low l k in omega (arith, one_) }
+simple_literal l k = record {
+  reads = ap literal_in k.tree_is ∙ k.reads;
+  runs = simple_runs l k;
+  low = let one_ : depth (literal_tree l) ≡ 0 = simple_low l k in omega (arith, one_);
+}
 
 made_literal : (l : LiteralOf) → FitsLiteral l → Made literal_in literal_tree unplaced_literal 1 l
 made_literal (integer p z) h = simple_literal (integer p z) (made_simple (integer p z) h)
@@ -105,7 +116,8 @@ made_local l h =
     let m = made_type l.decl.shape h.decl.length in
     let v = made_literal l.value h.value in
     record {
-      reads = ok_three new_local _ _ _ (unplaced_name l.decl.name) (unplaced_type l.decl.shape) (unplaced_literal l.value) (named_again 3 l.decl.name h.decl.name) m.reads v.reads;
+      reads = ok_three new_local _ _ _ (unplaced_name l.decl.name) (unplaced_type l.decl.shape) (unplaced_literal l.value)
+          (named_again 3 l.decl.name h.decl.name) m.reads v.reads;
       runs = (name_is_run l.decl.name.name h.decl.name, (m.runs, (v.runs, tt)));
       low = omega (arith, m.low, v.low);
     }
@@ -129,7 +141,8 @@ record MadeParts (ss : StmtsOf) : Type 0 where
   low : depths (stmt_trees ss) ≤ deepest ss
 
 -- a statement from its first word and the trees after it
-made_form : (k : Keyword) (s : StmtOf) (us : Nodes) → stmt_tree s ≡ list 0 (more (keyword_tree k) us) → form_in (Some k) 0 us ≡ Ok (unplaced_stmt s) → AllAtomsAreRuns us → suc (depths us) ≤ nesting s → MadeStatement s
+made_form : (k : Keyword) (s : StmtOf) (us : Nodes) → stmt_tree s ≡ list 0 (more (keyword_tree k) us) → form_in (Some k) 0 us ≡ Ok (unplaced_stmt s)
+    → AllAtomsAreRuns us → suc (depths us) ≤ nesting s → MadeStatement s
 made_form k s us e reads runs low = record {
   reads = statement_again k s us e reads;
   runs = subst AtomsAreRuns (sym e) (keyword_run k, runs);
@@ -154,13 +167,15 @@ mutual
   made_statement : (s : StmtOf) → FitsStatement s → MadeStatement s
   made_statement (no_op p) h = made_form word.NoOp (no_op p) none refl refl tt (omega arith)
   made_statement (signal p c) h =
-      made_form word.Signal (signal p c) (more (name_tree c) none) refl (ok_one (signal 0) _ (unplaced_name c) (named_again 3 c h)) (name_is_run c.name h, tt) (omega arith)
+      made_form word.Signal (signal p c) (more (name_tree c) none) refl (ok_one (signal 0) _ (unplaced_name c) (named_again 3 c h))
+      (name_is_run c.name h, tt) (omega arith)
   made_statement (seq p no_parts) h = absurd h
   made_statement (seq p (part s ss)) h =
       let one_ = made_statement s h.0 in
       let others = made_parts ss h.1 in
       made_form word.Seq (seq p (part s ss)) (stmt_trees (part s ss)) refl
-      (ok_one (new_seq 0) _ (unplaced_stmt s ∷ others.parts) (ok_two front _ _ (unplaced_stmt s) others.parts one_.reads others.reads) ∙ ap (λ parts. Ok (seq 0 (part (unplaced_stmt s) parts))) others.same)
+      (ok_one (new_seq 0) _ (unplaced_stmt s ∷ others.parts) (ok_two front _ _ (unplaced_stmt s) others.parts one_.reads others.reads)
+      ∙ ap (λ parts. Ok (seq 0 (part (unplaced_stmt s) parts))) others.same)
       (one_.runs, others.runs) (omega (arith, one_.low, others.low))
   made_statement (loop p s) h =
       let one_ = made_statement s h in
@@ -176,7 +191,8 @@ mutual
       let names = made_names 3 cs h.2 in
       let two_ = made_statement t h.3 in
       made_form word.Begin (begin p s cs t) (more (stmt_tree s) (more (list_tree name_tree cs) (more (stmt_tree t) none))) refl
-      (begin_again (list_tree name_tree cs) _ _ (some_names cs h.1) (ok_three (new_begin 0) _ _ _ (unplaced_stmt s) (map unplaced_name cs) (unplaced_stmt t) one_.reads names.reads two_.reads))
+      (begin_again (list_tree name_tree cs) _ _ (some_names cs h.1)
+      (ok_three (new_begin 0) _ _ _ (unplaced_stmt s) (map unplaced_name cs) (unplaced_stmt t) one_.reads names.reads two_.reads))
       (one_.runs, (names.runs, (two_.runs, tt))) (omega (arith, one_.low, names.low, two_.low, nested s))
   made_statement (call p f q xs r cs) h =
       let actuals = made_names 3 xs h.1 in
@@ -186,7 +202,8 @@ mutual
       (name_is_run f.name h.0, (actuals.runs, (conds.runs, tt))) (omega (arith, actuals.low, conds.low))
   made_statement (predef p which args) h =
       let each = made_each FitsArgument arg_in arg_tree unplaced_arg 0 made_argument args h in
-      made_form (word.Predef which) (predef p which args) (nodes (map arg_tree args)) refl (ok_one (new_predef 0 which) _ (map unplaced_arg args) each.reads) each.runs (omega (arith, each.low))
+      made_form (word.Predef which) (predef p which args) (nodes (map arg_tree args)) refl
+      (ok_one (new_predef 0 which) _ (map unplaced_arg args) each.reads) each.runs (omega (arith, each.low))
 
   made_parts : (ss : StmtsOf) → FitsStatements ss → MadeParts ss
   made_parts no_parts h = record { parts = []; reads = refl; same = refl; runs = tt; low = omega arith }
@@ -203,7 +220,8 @@ mutual
 
 -- ---- procedures and sources
 
-few_of : {X Y : Type 0} (tree : X → Node) (other : Y → Node) (xs : List X) (ys : List Y) → count_of (nodes (map tree xs)) ≡ length xs → count_of (nodes (map other ys)) ≡ length ys → length xs + length ys ≤ 200 →
+few_of : {X Y : Type 0} (tree : X → Node) (other : Y → Node) (xs : List X) (ys : List Y) → count_of (nodes (map tree xs)) ≡ length xs
+    → count_of (nodes (map other ys)) ≡ length ys → length xs + length ys ≤ 200 →
     are_few (list_tree tree xs) (list_tree other ys) ≡ true
 few_of tree other xs ys e f le = let few : count_of (nodes (map tree xs)) + count_of (nodes (map other ys)) ≤ 200 = omega (arith, e, f, le) in le-leb _ 200 few
 
@@ -214,12 +232,16 @@ made_procedure p h =
     let locals = made_each FitsLocal local_in local_tree unplaced_local 2 made_local p.locals h.locals in
     let local_conds = made_names 3 p.local_conds h.local_conds in
     let body = made_statement p.body h.body in
-    let few : (are_few (list_tree decl_tree p.formals) (list_tree local_tree p.locals) && are_few (list_tree name_tree p.conds) (list_tree name_tree p.local_conds)) ≡ true =
-    and_true (are_few (list_tree decl_tree p.formals) (list_tree local_tree p.locals)) _ (few_of decl_tree local_tree p.formals p.locals formals.count locals.count h.few_variables)
+    let few : (are_few (list_tree decl_tree p.formals) (list_tree local_tree p.locals)
+    && are_few (list_tree name_tree p.conds) (list_tree name_tree p.local_conds)) ≡ true =
+    and_true (are_few (list_tree decl_tree p.formals) (list_tree local_tree p.locals))
+    _ (few_of decl_tree local_tree p.formals p.locals formals.count locals.count h.few_variables)
     (few_of name_tree name_tree p.conds p.local_conds conds.count local_conds.count h.few_conds) in
     record {
-      reads = passes 0 12 (are_few (list_tree decl_tree p.formals) (list_tree local_tree p.locals) && are_few (list_tree name_tree p.conds) (list_tree name_tree p.local_conds)) _ _ few
-          (ok_six (new_proc 0) _ _ _ _ _ _ (unplaced_name p.name) (map unplaced_decl p.formals) (map unplaced_name p.conds) (map unplaced_local p.locals) (map unplaced_name p.local_conds) (unplaced_stmt p.body)
+      reads = passes 0 12 (are_few (list_tree decl_tree p.formals) (list_tree local_tree p.locals)
+          && are_few (list_tree name_tree p.conds) (list_tree name_tree p.local_conds)) _ _ few
+          (ok_six (new_proc 0) _ _ _ _ _ _ (unplaced_name p.name) (map unplaced_decl p.formals) (map unplaced_name p.conds)
+          (map unplaced_local p.locals) (map unplaced_name p.local_conds) (unplaced_stmt p.body)
           (named_again 3 p.name h.name) formals.reads conds.reads locals.reads local_conds.reads body.reads);
       runs = ((omega arith, refl), (name_is_run p.name.name h.name, (formals.runs, (conds.runs, (locals.runs, (local_conds.runs, (body.runs, tt)))))));
       low = omega (arith, formals.low, conds.low, locals.low, local_conds.low, body.low, h.shallow);
@@ -228,7 +250,8 @@ made_procedure p h =
 made_source : (s : SourceOf) → FitsForm s → Made source_in tree_of without_places 200 s
 made_source s h = by_procs s.procs h.procs h.some_procs h.few_procs
   where
-    by_procs : (ps : List ProcOf) → All FitsProcedure ps → 0 < length ps → length ps ≤ 1000 → Made source_in tree_of without_places 200 (record s { procs = ps })
+    by_procs : (ps : List ProcOf) → All FitsProcedure ps → 0 < length ps → length ps ≤ 1000
+        → Made source_in tree_of without_places 200 (record s { procs = ps })
     by_procs [] fits some_ few = absurd (omega (arith, some_))
     by_procs (p ∷ ps) fits some_ few =
         let procs = made_each FitsProcedure procedure_in proc_tree unplaced_proc 199 made_procedure (p ∷ ps) fits in

@@ -10,13 +10,18 @@ use Rattle.stack_text.specs.declared.shape.Kind.{Kind}
 use Rattle.stack_text.specs.Grammar.Judged.{Judged, fault, front}
 use Rattle.stack_text.specs.Grammar.Parts.{count_of}
 use Rattle.stack_text.specs.Grammar.Printed.{unplaced_name}
-use Rattle.stack_text.proofs.PlacesLaws.{IsSame, agree_if, agree_judged, same_one, same_two, same_three, same_six, same_each, same_atom, same_count, same_list_length, same_name, same_list, unplaced_place}
+use Rattle.stack_text.proofs.PlacesLaws.{IsSame, agree_if, agree_judged, same_one, same_two, same_three, same_six, same_each, same_atom, same_count}
+use Rattle.stack_text.proofs.PlacesLaws.{same_list_length, same_name, same_list, unplaced_place}
 use Rattle.gypsy_syntax.specs.declared.keyword.Keyword.{Keyword}
 use Rattle.gypsy_syntax.specs.declared.keyword.Keyword.TheVariants as word
 use Rattle.gypsy_syntax.specs.Keywords.{keyword_named, kind_named}
-use Rattle.gypsy_syntax.specs.Grammar.{named_in, names_in, number_at, number_in, kind_in, simple_type, array_type, type_in, is_character, simple_at, simple_in, literal_in, decl_in, local_in, arg_in, is_empty_list, statement_in, form_in, statements_in, are_few, procedure_in, source_in}
-use Rattle.gypsy_syntax.specs.Made.{literals, statements, new_array, new_decl, new_local, new_list, new_seq, new_branch, new_begin, new_call, new_predef, new_proc, new_source}
-use Rattle.gypsy_syntax.specs.Places.{unplaced_type, unplaced_literal, unplaced_literals, unplaced_arg, unplaced_decl, unplaced_local, unplaced_stmt, unplaced_stmts, unplaced_proc, without_places}
+use Rattle.gypsy_syntax.specs.Grammar.{named_in, names_in, number_at, number_in, kind_in, simple_type, array_type, type_in, is_character, simple_at, simple_in}
+use Rattle.gypsy_syntax.specs.Grammar.{literal_in, decl_in, local_in, arg_in, is_empty_list, statement_in, form_in, statements_in, are_few, procedure_in}
+use Rattle.gypsy_syntax.specs.Grammar.{source_in}
+use Rattle.gypsy_syntax.specs.Made.{literals, statements, new_array, new_decl, new_local, new_list, new_seq, new_branch, new_begin, new_call, new_predef}
+use Rattle.gypsy_syntax.specs.Made.{new_proc, new_source}
+use Rattle.gypsy_syntax.specs.Places.{unplaced_type, unplaced_literal, unplaced_literals, unplaced_arg, unplaced_decl, unplaced_local, unplaced_stmt}
+use Rattle.gypsy_syntax.specs.Places.{unplaced_stmts, unplaced_proc, without_places}
 use Rattle.gypsy_syntax.specs.Sources.{LiteralOf, StmtOf, integer, truth, character, constant, array, item, seq, part, signal, loop}
 
 same_named : (t : Node) → IsSame unplaced_name (named_in t) (named_in (unplaced_tree t))
@@ -52,14 +57,16 @@ same_type (list p (more a none)) = record { both = tt }
 same_type (list p (more a (more k none))) = record { both = tt }
 same_type (list p (more a (more k (more n none)))) =
     agree_judged _ p 0 7 _ _ _ _ (same_atom _ a)
-    (subst (λ (o : Option Kind). IsSame unplaced_type (array_type p (kind_in k) n) (array_type 0 o (unplaced_tree n))) (sym (same_kind k)) (same_array_type p (kind_in k) n))
+    (subst (λ (o : Option Kind). IsSame unplaced_type (array_type p (kind_in k) n) (array_type 0 o (unplaced_tree n))) (sym (same_kind k))
+    (same_array_type p (kind_in k) n))
 same_type (list p (more a (more k (more n (more t ts))))) = record { both = tt }
 
 same_simple_at : (p : ℕ) (w : List ℕ) → IsSame unplaced_literal (simple_at p w) (simple_at 0 w)
 same_simple_at p w =
     agree_if _ (is_numeral w) _ _ _ _ (same_one (λ z. z) unplaced_literal (integer p) (integer 0) _ _ (λ z. refl) (same_number_at p w))
     (agree_if _ (is_character w) _ _ _ _ (same_one (λ z. z) unplaced_literal (character p) (character 0) _ _ (λ z. refl) (same_number_at p (drop 1 w)))
-    (agree_judged (λ x y. y ≡ unplaced_literal x) p 0 8 (is_truth_word w) (is_truth_word w) (Ok (truth p (bytes_eq w (codes "true")))) (Ok (truth 0 (bytes_eq w (codes "true")))) refl (record { both = refl })))
+    (agree_judged (λ x y. y ≡ unplaced_literal x) p 0 8 (is_truth_word w) (is_truth_word w) (Ok (truth p (bytes_eq w (codes "true"))))
+    (Ok (truth 0 (bytes_eq w (codes "true")))) refl (record { both = refl })))
 
 same_simple : (t : Node) → IsSame unplaced_literal (simple_in t) (simple_in (unplaced_tree t))
 same_simple (atom p w) = same_simple_at p w
@@ -71,13 +78,15 @@ literals_unplaced (l ∷ ls) = ap (item (unplaced_literal l)) (literals_unplaced
 
 same_literal : (t : Node) → IsSame unplaced_literal (literal_in t) (literal_in (unplaced_tree t))
 same_literal (atom p w) = same_simple_at p w
-same_literal (list p ts) = same_one (map unplaced_literal) unplaced_literal (new_list p) (new_list 0) _ _ (λ ls. ap (array 0) (literals_unplaced ls)) (same_each unplaced_literal simple_in same_simple ts)
+same_literal (list p ts) = same_one (map unplaced_literal) unplaced_literal (new_list p) (new_list 0) _ _ (λ ls. ap (array 0) (literals_unplaced ls))
+    (same_each unplaced_literal simple_in same_simple ts)
 
 same_decl : (t : Node) → IsSame unplaced_decl (decl_in t) (decl_in (unplaced_tree t))
 same_decl (atom p w) = record { both = tt }
 same_decl (list p none) = record { both = tt }
 same_decl (list p (more v none)) = record { both = tt }
-same_decl (list p (more v (more t none))) = same_two unplaced_name unplaced_type unplaced_decl new_decl new_decl _ _ _ _ (λ n s. refl) (same_named v) (same_type t)
+same_decl (list p (more v (more t none))) =
+    same_two unplaced_name unplaced_type unplaced_decl new_decl new_decl _ _ _ _ (λ n s. refl) (same_named v) (same_type t)
 same_decl (list p (more v (more t (more u ts)))) = record { both = tt }
 
 same_local : (t : Node) → IsSame unplaced_local (local_in t) (local_in (unplaced_tree t))
@@ -86,11 +95,13 @@ same_local (list p none) = record { both = tt }
 same_local (list p (more v none)) = record { both = tt }
 same_local (list p (more v (more t none))) = record { both = tt }
 same_local (list p (more v (more t (more l none)))) =
-    same_three unplaced_name unplaced_type unplaced_literal unplaced_local new_local new_local _ _ _ _ _ _ (λ n s x. refl) (same_named v) (same_type t) (same_literal l)
+    same_three unplaced_name unplaced_type unplaced_literal unplaced_local new_local new_local _ _ _ _ _ _ (λ n s x. refl) (same_named v) (same_type t)
+    (same_literal l)
 same_local (list p (more v (more t (more l (more u ts))))) = record { both = tt }
 
 same_arg : (t : Node) → IsSame unplaced_arg (arg_in t) (arg_in (unplaced_tree t))
-same_arg (atom p w) = agree_if _ (is_name w) _ _ _ _ (record { both = refl }) (same_one unplaced_literal unplaced_arg constant constant _ _ (λ l. refl) (same_simple_at p w))
+same_arg (atom p w) = agree_if _ (is_name w) _ _ _ _ (record { both = refl })
+    (same_one unplaced_literal unplaced_arg constant constant _ _ (λ l. refl) (same_simple_at p w))
 same_arg (list p ts) = record { both = tt }
 
 same_empty : (t : Node) → is_empty_list (unplaced_tree t) ≡ is_empty_list t
@@ -98,8 +109,10 @@ same_empty (atom p w) = refl
 same_empty (list p none) = refl
 same_empty (list p (more t ts)) = refl
 
-same_unless : (p : ℕ) (b c : Bool) (r s : Judged StmtOf) → c ≡ b → IsSame unplaced_stmt r s → IsSame unplaced_stmt (if b then fault p 10 else r) (if c then fault 0 10 else s)
-same_unless p b c r s e h = subst (λ (d : Bool). IsSame unplaced_stmt (if b then fault p 10 else r) (if d then fault 0 10 else s)) (sym e) (agree_if _ b _ _ _ _ (record { both = tt }) h)
+same_unless : (p : ℕ) (b c : Bool) (r s : Judged StmtOf) → c ≡ b → IsSame unplaced_stmt r s
+    → IsSame unplaced_stmt (if b then fault p 10 else r) (if c then fault 0 10 else s)
+same_unless p b c r s e h = subst (λ (d : Bool). IsSame unplaced_stmt (if b then fault p 10 else r) (if d then fault 0 10 else s)) (sym e)
+    (agree_if _ b _ _ _ _ (record { both = tt }) h)
 
 pub statements_unplaced : (ss : List StmtOf) → statements (map unplaced_stmt ss) ≡ unplaced_stmts (statements ss)
 statements_unplaced [] = refl
@@ -130,29 +143,34 @@ mutual
   same_form (Some word.If) p (more b none) = record { both = tt }
   same_form (Some word.If) p (more b (more s none)) = record { both = tt }
   same_form (Some word.If) p (more b (more s (more t none))) =
-      same_three unplaced_name unplaced_stmt unplaced_stmt unplaced_stmt (new_branch p) (new_branch 0) _ _ _ _ _ _ (λ n x y. refl) (same_named b) (same_statement s) (same_statement t)
+      same_three unplaced_name unplaced_stmt unplaced_stmt unplaced_stmt (new_branch p) (new_branch 0) _ _ _ _ _ _ (λ n x y. refl) (same_named b)
+      (same_statement s) (same_statement t)
   same_form (Some word.If) p (more b (more s (more t (more u ts)))) = record { both = tt }
   same_form (Some word.Begin) p none = record { both = tt }
   same_form (Some word.Begin) p (more s none) = record { both = tt }
   same_form (Some word.Begin) p (more s (more cs none)) = record { both = tt }
   same_form (Some word.Begin) p (more s (more cs (more t none))) =
       same_unless p (is_empty_list cs) (is_empty_list (unplaced_tree cs)) _ _ (same_empty cs)
-      (same_three unplaced_stmt (map unplaced_name) unplaced_stmt unplaced_stmt (new_begin p) (new_begin 0) _ _ _ _ _ _ (λ x ns y. refl) (same_statement s) (same_names cs) (same_statement t))
+      (same_three unplaced_stmt (map unplaced_name) unplaced_stmt unplaced_stmt (new_begin p) (new_begin 0) _ _ _ _ _ _ (λ x ns y. refl)
+      (same_statement s) (same_names cs) (same_statement t))
   same_form (Some word.Begin) p (more s (more cs (more t (more u ts)))) = record { both = tt }
   same_form (Some word.Call) p none = record { both = tt }
   same_form (Some word.Call) p (more f none) = record { both = tt }
   same_form (Some word.Call) p (more f (more vs none)) = record { both = tt }
   same_form (Some word.Call) p (more f (more vs (more cs none))) =
-      same_three unplaced_name (map unplaced_name) (map unplaced_name) unplaced_stmt (new_call p (place_of vs) (place_of cs)) (new_call 0 (place_of (unplaced_tree vs)) (place_of (unplaced_tree cs))) _ _ _ _ _ _
+      same_three unplaced_name (map unplaced_name) (map unplaced_name) unplaced_stmt (new_call p (place_of vs) (place_of cs))
+      (new_call 0 (place_of (unplaced_tree vs)) (place_of (unplaced_tree cs))) _ _ _ _ _ _
       (λ n xs ys. unplaced_place vs (λ q. new_call 0 q (place_of (unplaced_tree cs)) (unplaced_name n) (map unplaced_name xs) (map unplaced_name ys))
       ∙ unplaced_place cs (λ q. new_call 0 0 q (unplaced_name n) (map unplaced_name xs) (map unplaced_name ys)))
       (same_named f) (same_names vs) (same_names cs)
   same_form (Some word.Call) p (more f (more vs (more cs (more u ts)))) = record { both = tt }
-  same_form (Some (word.Predef which)) p ts = same_one (map unplaced_arg) unplaced_stmt (new_predef p which) (new_predef 0 which) _ _ (λ xs. refl) (same_each unplaced_arg arg_in same_arg ts)
+  same_form (Some (word.Predef which)) p ts =
+      same_one (map unplaced_arg) unplaced_stmt (new_predef p which) (new_predef 0 which) _ _ (λ xs. refl) (same_each unplaced_arg arg_in same_arg ts)
 
   same_statements : (ts : Nodes) → IsSame (map unplaced_stmt) (statements_in ts) (statements_in (all_without_places ts))
   same_statements none = record { both = refl }
-  same_statements (more t ts) = same_two unplaced_stmt (map unplaced_stmt) (map unplaced_stmt) front front _ _ _ _ (λ x xs. refl) (same_statement t) (same_statements ts)
+  same_statements (more t ts) =
+      same_two unplaced_stmt (map unplaced_stmt) (map unplaced_stmt) front front _ _ _ _ (λ x xs. refl) (same_statement t) (same_statements ts)
 
 same_few : (a b c d : Node) → (are_few (unplaced_tree a) (unplaced_tree b) && are_few (unplaced_tree c) (unplaced_tree d)) ≡ (are_few a b && are_few c d)
 same_few a b c d = rw (same_list_length a, same_list_length b, same_list_length c, same_list_length d) refl
@@ -169,7 +187,8 @@ same_procedure (list p (more w (more name (more formals (more conds (more locals
 same_procedure (list p (more w (more name (more formals (more conds (more locals (more local_conds (more body none)))))))) =
     agree_judged _ p 0 2 _ _ _ _ (same_atom _ w)
     (agree_judged _ p 0 12 _ _ _ _ (same_few formals locals conds local_conds)
-    (same_six unplaced_name (map unplaced_decl) (map unplaced_name) (map unplaced_local) (map unplaced_name) unplaced_stmt unplaced_proc (new_proc p) (new_proc 0) _ _ _ _ _ _ _ _ _ _ _ _ (λ n fs cs ls ds b. refl)
+    (same_six unplaced_name (map unplaced_decl) (map unplaced_name) (map unplaced_local) (map unplaced_name) unplaced_stmt unplaced_proc (new_proc p)
+    (new_proc 0) _ _ _ _ _ _ _ _ _ _ _ _ (λ n fs cs ls ds b. refl)
     (same_named name)
     (same_list 4 unplaced_decl decl_in same_decl formals)
     (same_names conds)
@@ -189,4 +208,5 @@ same_source (list p (more w (more main none))) = record { both = tt }
 same_source (list p (more w (more main (more q qs)))) =
     agree_judged _ p 0 1 _ _ _ _ (same_atom _ w)
     (agree_judged _ p 0 12 _ _ _ _ (same_source_count (more q qs))
-    (same_two unplaced_name (map unplaced_proc) without_places (new_source p) (new_source 0) _ _ _ _ (λ n ps. refl) (same_named main) (same_each unplaced_proc procedure_in same_procedure (more q qs))))
+    (same_two unplaced_name (map unplaced_proc) without_places (new_source p) (new_source 0) _ _ _ _ (λ n ps. refl) (same_named main)
+    (same_each unplaced_proc procedure_in same_procedure (more q qs))))

@@ -12,7 +12,8 @@ use Rattle.stack_text.proofs.PartTextLaws.{spells_list, unplaced_all}
 use Rattle.stack_text.proofs.PrintLaws.{Spells-tree_text}
 use Rattle.gypsy_syntax.specs.declared.literal.Decl.{Decl}
 use Rattle.gypsy_syntax.specs.GypsyReading.{KeepsForm, ReadsAs, gypsy_reader}
-use Rattle.gypsy_syntax.specs.Printed.{type_tree_by, truth_tree, literal_tree, literal_trees, arg_tree, decl_tree, local_tree, stmt_tree, stmt_trees, proc_tree, proc_text, source_head, tree_of, gypsy_text}
+use Rattle.gypsy_syntax.specs.Printed.{type_tree_by, truth_tree, literal_tree, literal_trees, arg_tree, decl_tree, local_tree, stmt_tree, stmt_trees, proc_tree}
+use Rattle.gypsy_syntax.specs.Printed.{proc_text, source_head, tree_of, gypsy_text}
 use Rattle.gypsy_syntax.specs.Sources.{LiteralOf, LiteralsOf, integer, truth, character, array, no_items, item, ArgOf, variable, constant}
 use Rattle.gypsy_syntax.specs.Sources.{StmtOf, StmtsOf, no_op, signal, seq, loop, branch, begin, call, predef, no_parts, part, LocalOf, ProcOf, SourceOf}
 use Rattle.gypsy_syntax.proofs.PlacesLaws.{same_source}
@@ -68,7 +69,13 @@ mutual
 
 plain_proc : (p : ProcOf) → unplaced_tree (proc_tree p) ≡ proc_tree p
 plain_proc p =
-    rw (unplaced_all decl_tree plain_decl p.formals, unplaced_all name_tree (λ n. refl) p.conds, unplaced_all local_tree plain_local p.locals, unplaced_all name_tree (λ n. refl) p.local_conds, plain_stmt p.body) refl
+    rw (
+      unplaced_all decl_tree plain_decl p.formals,
+      unplaced_all name_tree (λ n. refl) p.conds,
+      unplaced_all local_tree plain_local p.locals,
+      unplaced_all name_tree (λ n. refl) p.local_conds,
+      plain_stmt p.body,
+    ) refl
 
 plain_source : (s : SourceOf) → unplaced_tree (tree_of s) ≡ tree_of s
 plain_source s = rw (unplaced_all proc_tree plain_proc s.procs) refl

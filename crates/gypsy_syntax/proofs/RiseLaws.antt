@@ -9,14 +9,17 @@ use Rattle.stack_text.specs.Trees.{Node, Nodes, atom, list, none, more, place_of
 use Rattle.stack_text.specs.declared.shape.Kind.{Kind}
 use Rattle.stack_text.specs.Grammar.Judged.{Judged, ◌⊛◌, fault, front, judged}
 use Rattle.stack_text.specs.Grammar.Parts.{count_of, is_atom_of}
-use Rattle.stack_text.proofs.RiseLaws.{Up, Rising, higher, starts, apply_up, goes_on, goes_on_with_each, at_fault, is_judged, place_within, named_up, only, both, apply_value, list_up}
+use Rattle.stack_text.proofs.RiseLaws.{Up, Rising, higher, starts, apply_up, goes_on, goes_on_with_each, at_fault, is_judged, place_within, named_up, only}
+use Rattle.stack_text.proofs.RiseLaws.{both, apply_value, list_up}
 use Rattle.gypsy_syntax.specs.declared.keyword.Keyword.{Keyword}
 use Rattle.gypsy_syntax.specs.declared.keyword.Keyword.TheVariants as word
 use Rattle.gypsy_syntax.specs.Keywords.{keyword_named, kind_named}
 use Rattle.gypsy_syntax.specs.Made.{new_name, new_simple, new_array, new_decl, new_local, new_list}
 use Rattle.gypsy_syntax.specs.Made.{new_seq, new_branch, new_begin, new_call, new_predef, new_proc, new_source}
 use Rattle.gypsy_syntax.specs.Sources.{integer, truth, character, variable, constant, no_op, signal, loop}
-use Rattle.gypsy_syntax.specs.Grammar.{named_in, names_in, is_word, number_at, number_in, kind_in, simple_type, array_type, type_in, is_character, simple_at, simple_in, literal_in, decl_in, local_in, arg_in, is_empty_list, statement_in, form_in, statements_in, are_few, procedure_in, source_in}
+use Rattle.gypsy_syntax.specs.Grammar.{named_in, names_in, is_word, number_at, number_in, kind_in, simple_type, array_type, type_in, is_character, simple_at}
+use Rattle.gypsy_syntax.specs.Grammar.{simple_in, literal_in, decl_in, local_in, arg_in, is_empty_list, statement_in, form_in, statements_in, are_few}
+use Rattle.gypsy_syntax.specs.Grammar.{procedure_in, source_in}
 
 name_up : Rising named_in
 name_up = named_up 3
@@ -38,7 +41,8 @@ simple_type_up : (k : Option Kind) (low p high : ℕ) → low ≤ p → p < high
 simple_type_up None low p high le lt = at_fault low p 7 high le lt
 simple_type_up (Some k) low p high le lt = starts (new_simple p k) low high (omega arith)
 
-array_type_up : (k : Option Kind) (low p mid : ℕ) (n : Node) (high : ℕ) → low ≤ p → p < high → low ≤ mid → AllInOrder mid (more n none) high → Up low (array_type p k n) high
+array_type_up : (k : Option Kind) (low p mid : ℕ) (n : Node) (high : ℕ) → low ≤ p → p < high → low ≤ mid → AllInOrder mid (more n none) high
+    → Up low (array_type p k n) high
 array_type_up None low p mid n high le lt le_mid o = at_fault low p 7 high le lt
 array_type_up (Some k) low p mid n high le lt le_mid o = is_judged p 7 (is_atom_of is_numeral n) le lt (only (new_array p k) number_up low mid n high le_mid o)
 
@@ -50,7 +54,8 @@ type_up = record { up = up }
         let o = h.2 in
         let first = place_within (p + 1) a o.0 o.1 in
         let second = place_within o.0 k o.2.0 o.2.1 in
-        is_judged p 7 (is_word (codes "array") a) h.0 h.1 (array_type_up (kind_in k) low p o.2.0 n high h.0 h.1 (omega (arith, h.0, first.0, first.1, second.0, second.1)) o.2.2)
+        is_judged p 7 (is_word (codes "array") a) h.0 h.1
+        (array_type_up (kind_in k) low p o.2.0 n high h.0 h.1 (omega (arith, h.0, first.0, first.1, second.0, second.1)) o.2.2)
     up low (atom p bytes) high h = simple_type_up (kind_named bytes) low p high h.0 h.1
     up low (list p none) high h = at_fault low p 7 high h.0 h.1
     up low (list p (more t none)) high h = at_fault low p 7 high h.0 h.1
@@ -60,7 +65,8 @@ type_up = record { up = up }
 simple_at_up : (low p : ℕ) (bytes : List ℕ) (high : ℕ) → low ≤ p → p < high → Up low (simple_at p bytes) high
 simple_at_up low p bytes high le lt = pick (is_numeral bytes) (is_character bytes)
   where
-    pick : (n c : Bool) → Up low (if n then Ok (integer p) ⊛ number_at p bytes else if c then Ok (character p) ⊛ number_at p (drop 1 bytes) else judged p 8 (is_truth_word bytes) (Ok (truth p (bytes_eq bytes (codes "true"))))) high
+    pick : (n c : Bool) → Up low (if n then Ok (integer p) ⊛ number_at p bytes else if c then Ok (character p) ⊛ number_at p (drop 1 bytes)
+        else judged p 8 (is_truth_word bytes) (Ok (truth p (bytes_eq bytes (codes "true"))))) high
     pick true c = apply_value (integer p) (number_at_up low p bytes high le lt)
     pick false true = apply_value (character p) (number_at_up low p (drop 1 bytes) high le lt)
     pick false false = is_judged p 8 (is_truth_word bytes) le lt (starts (truth p (bytes_eq bytes (codes "true"))) low high (omega arith))
@@ -96,7 +102,8 @@ local_up = record { up = up }
     up low (list p (more v (more t (more value none)))) high h =
         let o = h.2 in
         higher
-        (goes_on (goes_on (goes_on (starts new_local low (p + 1) (omega (arith, h.0))) name_up v o.0 o.1) type_up t o.2.0 o.2.1) literal_up value o.2.2.0 o.2.2.1)
+        (goes_on (goes_on (goes_on (starts new_local low (p + 1) (omega (arith, h.0))) name_up v o.0 o.1) type_up t o.2.0 o.2.1) literal_up value
+        o.2.2.0 o.2.2.1)
         high o.2.2.2
     up low (atom p bytes) high h = at_fault low p 6 high h.0 h.1
     up low (list p none) high h = at_fault low p 6 high h.0 h.1
@@ -107,7 +114,8 @@ local_up = record { up = up }
 arg_up : Rising arg_in
 arg_up = record { up = up }
   where
-    pick : (test : Bool) (low p : ℕ) (bytes : List ℕ) (high : ℕ) → low ≤ p → p < high → Up low (if test then Ok (variable (new_name p bytes)) else Ok constant ⊛ simple_at p bytes) high
+    pick : (test : Bool) (low p : ℕ) (bytes : List ℕ) (high : ℕ) → low ≤ p → p < high
+        → Up low (if test then Ok (variable (new_name p bytes)) else Ok constant ⊛ simple_at p bytes) high
     pick true low p bytes high le lt = starts (variable (new_name p bytes)) low high (omega arith)
     pick false low p bytes high le lt = apply_value constant (simple_at_up low p bytes high le lt)
 
@@ -115,36 +123,43 @@ arg_up = record { up = up }
     up low (atom p bytes) high h = pick (is_name bytes) low p bytes high h.0 h.1
     up low (list p ts) high h = at_fault low p 8 high h.0 h.1
 
-unless : {X : Type 0} → (test : Bool) (p rule : ℕ) → {low : ℕ} {r : Judged X} {high : ℕ} → low ≤ p → p < high → Up low r high → Up low (if test then fault p rule else r) high
+unless : {X : Type 0} → (test : Bool) (p rule : ℕ) → {low : ℕ} {r : Judged X} {high : ℕ} → low ≤ p → p < high → Up low r high
+    → Up low (if test then fault p rule else r) high
 unless true p rule {low = low} {high = high} le lt h = at_fault low p rule high le lt
 unless false p rule le lt h = h
 
 mutual
   statement_rises : (low : ℕ) (t : Node) (high : ℕ) → InOrder low t high → Up low (statement_in t) high
-  statement_rises low (list p (more (atom q bytes) ts)) high h = form_rises (keyword_named bytes) low p h.2.0 ts high h.0 (omega (arith, h.2.1.0, h.2.1.1)) h.1 h.2.2
+  statement_rises low (list p (more (atom q bytes) ts)) high h =
+      form_rises (keyword_named bytes) low p h.2.0 ts high h.0 (omega (arith, h.2.1.0, h.2.1.1)) h.1 h.2.2
   statement_rises low (atom p bytes) high h = at_fault low p 9 high h.0 h.1
   statement_rises low (list p none) high h = at_fault low p 9 high h.0 h.1
   statement_rises low (list p (more (list q us) ts)) high h = at_fault low p 9 high h.0 h.1
 
-  form_rises : (k : Option Keyword) (low p mid : ℕ) (ts : Nodes) (high : ℕ) → low ≤ p → p < mid → p < high → AllInOrder mid ts high → Up low (form_in k p ts) high
+  form_rises : (k : Option Keyword) (low p mid : ℕ) (ts : Nodes) (high : ℕ) → low ≤ p → p < mid → p < high → AllInOrder mid ts high
+      → Up low (form_in k p ts) high
   form_rises None low p mid ts high le lt under o = at_fault low p 9 high le under
   form_rises (Some word.NoOp) low p mid none high le lt under o = starts (no_op p) low high (omega arith)
   form_rises (Some word.Signal) low p mid (more c none) high le lt under o = only (signal p) name_up low mid c high (omega arith) o
   form_rises (Some word.Seq) low p mid (more s ss) high le lt under o =
       apply_value (new_seq p) (apply_up (apply_up (starts front low mid (omega arith)) (statement_rises mid s o.0 o.1)) (statements_rise o.0 ss high o.2))
-  form_rises (Some word.Loop) low p mid (more s none) high le lt under o = higher (apply_up (starts (loop p) low mid (omega arith)) (statement_rises mid s o.0 o.1)) high o.2
+  form_rises (Some word.Loop) low p mid (more s none) high le lt under o =
+      higher (apply_up (starts (loop p) low mid (omega arith)) (statement_rises mid s o.0 o.1)) high o.2
   form_rises (Some word.If) low p mid (more b (more s (more t none))) high le lt under o =
       higher
-      (apply_up (apply_up (goes_on (starts (new_branch p) low mid (omega arith)) name_up b o.0 o.1) (statement_rises o.0 s o.2.0 o.2.1)) (statement_rises o.2.0 t o.2.2.0 o.2.2.1))
+      (apply_up (apply_up (goes_on (starts (new_branch p) low mid (omega arith)) name_up b o.0 o.1) (statement_rises o.0 s o.2.0 o.2.1))
+      (statement_rises o.2.0 t o.2.2.0 o.2.2.1))
       high o.2.2.2
   form_rises (Some word.Begin) low p mid (more s (more cs (more t none))) high le lt under o =
       unless (is_empty_list cs) p 10 le under
       (higher
-      (apply_up (goes_on (apply_up (starts (new_begin p) low mid (omega arith)) (statement_rises mid s o.0 o.1)) names_up cs o.2.0 o.2.1) (statement_rises o.2.0 t o.2.2.0 o.2.2.1))
+      (apply_up (goes_on (apply_up (starts (new_begin p) low mid (omega arith)) (statement_rises mid s o.0 o.1)) names_up cs o.2.0 o.2.1)
+      (statement_rises o.2.0 t o.2.2.0 o.2.2.1))
       high o.2.2.2)
   form_rises (Some word.Call) low p mid (more f (more vs (more cs none))) high le lt under o =
       higher
-      (goes_on (goes_on (goes_on (starts (new_call p (place_of vs) (place_of cs)) low mid (omega arith)) name_up f o.0 o.1) names_up vs o.2.0 o.2.1) names_up cs o.2.2.0 o.2.2.1)
+      (goes_on (goes_on (goes_on (starts (new_call p (place_of vs) (place_of cs)) low mid (omega arith)) name_up f o.0 o.1) names_up vs o.2.0 o.2.1)
+      names_up cs o.2.2.0 o.2.2.1)
       high o.2.2.2
   form_rises (Some (word.Predef which)) low p mid ts high le lt under o = goes_on_with_each (starts (new_predef p which) low mid (omega arith)) arg_up ts high o
   form_rises (Some k) low p mid ts high le lt under o = at_fault low p 10 high le under

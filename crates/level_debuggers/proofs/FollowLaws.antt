@@ -9,7 +9,8 @@ use Rattle.level_debuggers.specs.declared.script_end.ScriptEnd.TheVariants as en
 use Rattle.level_debuggers.specs.Transcripts.{Followed, IsLeftBy, IsLeftIn, IsSaid, follow_on, followed, said_to}
 
 -- a line after which the script goes on
-went_on : (text new : List ℕ) (line : Line) (lines : List Line) (s t : SessionOf) → IsSaid (said_to line s) text new None t → followed text (line ∷ lines) s ≡ followed new lines t
+went_on : (text new : List ℕ) (line : Line) (lines : List Line) (s t : SessionOf) → IsSaid (said_to line s) text new None t
+    → followed text (line ∷ lines) s ≡ followed new lines t
 unfolding followed
 went_on text new line lines s t h =
     ap (λ (e : Option ScriptEnd). follow_on text (said_to line s) e (λ text s. followed text lines s)) (sym h.1)

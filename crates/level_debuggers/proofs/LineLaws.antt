@@ -41,7 +41,8 @@ use Rattle.level_debuggers.specs.Levels.{LevelOf, Gypsy, Piton, Fm, has_places, 
 use Rattle.level_debuggers.specs.Texts.{mark_text, no_mark}
 use Rattle.level_debuggers.specs.declared.script_end.ScriptEnd.{ScriptEnd}
 use Rattle.level_debuggers.specs.declared.script_end.ScriptEnd.TheVariants as end
-use Rattle.level_debuggers.specs.Transcripts.{Followed, Said, arrival_text, arrived_said, attach_with, detach_with, ends_with, follow_on, followed, places_said, run_text, said_by, said_to}
+use Rattle.level_debuggers.specs.Transcripts.{Followed, Said, arrival_text, arrived_said, attach_with, detach_with, ends_with, follow_on, followed, places_said}
+use Rattle.level_debuggers.specs.Transcripts.{run_text, said_by, said_to}
 use Rattle.level_debuggers.specs.Transcripts.{tally_said, watch_name, words_said}
 use Rattle.level_debuggers.specs.Walks.{SessionOf, stepped}
 use Rattle.level_debuggers.specs.WholeLines.{AreLines, AnswersAreLines, TranscriptsAreLines}

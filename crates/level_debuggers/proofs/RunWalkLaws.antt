@@ -35,7 +35,8 @@ walks_none level = record { whole = refl; leads = refl }
 
 -- ---- of the processor
 
-fm_makes : (run : FmLevelOf) (u : machine.Fm) → pc_of run.state ≢ run.image.final_pc → fm_step run.state ≡ Ok u → next_of (Fm run) ≡ Makes (fm_event run) (Fm (record run { state = u }))
+fm_makes : (run : FmLevelOf) (u : machine.Fm) → pc_of run.state ≢ run.image.final_pc → fm_step run.state ≡ Ok u
+    → next_of (Fm run) ≡ Makes (fm_event run) (Fm (record run { state = u }))
 fm_makes run u apart step =
     ap (λ (b : Bool). lifted Fm (cond b Over (fm_after run (fm_step run.state)))) (ne_eqb (pc_of run.state) run.image.final_pc apart)
     ∙ ap (λ (r : Result machine.Fm Outside). lifted Fm (fm_after run r)) step
@@ -43,12 +44,14 @@ fm_makes run u apart step =
 same_state : (s t : machine.Fm) → let r : Result machine.Fm Outside = Ok s in r ≡ Ok t → s ≡ t
 same_state s t e = cc
 
-machines_by : (n : ℕ) (run : FmLevelOf) (t : machine.Fm) (r : Result machine.Fm Outside) → fm_step run.state ≡ r → then_on r (fm_run n) ≡ Ok t → Avoids run.state run.image.final_pc (suc n)
+machines_by : (n : ℕ) (run : FmLevelOf) (t : machine.Fm) (r : Result machine.Fm Outside) → fm_step run.state ≡ r → then_on r (fm_run n) ≡ Ok t
+    → Avoids run.state run.image.final_pc (suc n)
     → ((u : machine.Fm) → fm_run n u ≡ Ok t → Avoids u run.image.final_pc n → WalksTo n (Fm (record run { state = u })) (Fm (record run { state = t })))
     → WalksTo (suc n) (Fm run) (Fm (record run { state = t }))
 unfolding fm_run
 machines_by n run t (Ok u) is rest apart later =
-    walks_on n (Fm run) (Fm (record run { state = u })) (Fm (record run { state = t })) (fm_event run) (fm_makes run u (apart 0 run.state (omega arith) refl) is)
+    walks_on n (Fm run) (Fm (record run { state = u })) (Fm (record run { state = t })) (fm_event run)
+    (fm_makes run u (apart 0 run.state (omega arith) refl) is)
     (later u rest (λ j v lt e. apart (suc j) v (omega (arith, lt)) (ap (λ (r : Result machine.Fm Outside). then_on r (fm_run j)) is ∙ e)))
 machines_by n run t (Err fault) is rest apart later = absurd cc
 
@@ -89,17 +92,20 @@ machines_arrive address k run t first apart =
 
 -- ---- of Piton's machine
 
-piton_makes : (run : PitonLevelOf) (q : PitonState) (f : Frame) (fs frames : List Frame) → frames ≡ f ∷ fs → piton_step (system_in run.checked) run.seen.state ≡ Ok q →
+piton_makes : (run : PitonLevelOf) (q : PitonState) (f : Frame) (fs frames : List Frame) → frames ≡ f ∷ fs
+    → piton_step (system_in run.checked) run.seen.state ≡ Ok q →
     lifted Piton (piton_from run frames) ≡ lifted Piton (piton_after run (seen_step (system_in run.checked) run.seen))
 piton_makes run q f fs [] e step = absurd cc
 piton_makes run q f fs (g ∷ gs) e step = refl
 
-seen_makes : (s : SystemView) (v : Seen) (q : PitonState) (f : Frame) (fs frames : List Frame) → frames ≡ f ∷ fs → piton_step s v.state ≡ Ok q → seen_from s v frames ≡ Ok (seen_after s v q)
+seen_makes : (s : SystemView) (v : Seen) (q : PitonState) (f : Frame) (fs frames : List Frame) → frames ≡ f ∷ fs → piton_step s v.state ≡ Ok q
+    → seen_from s v frames ≡ Ok (seen_after s v q)
 unfolding views.then_on
 seen_makes s v q f fs [] e step = absurd cc
 seen_makes s v q f fs (g ∷ gs) e step = ap (λ (r : Result PitonState ErrorKind). views.then_on r (λ q. Ok (seen_after s v q))) step
 
-system_makes : (run : PitonLevelOf) (q : PitonState) (f : Frame) (fs : List Frame) → run.seen.state.frames ≡ f ∷ fs → piton_step (system_in run.checked) run.seen.state ≡ Ok q →
+system_makes : (run : PitonLevelOf) (q : PitonState) (f : Frame) (fs : List Frame) → run.seen.state.frames ≡ f ∷ fs
+    → piton_step (system_in run.checked) run.seen.state ≡ Ok q →
     next_of (Piton run) ≡ Makes (piton_event run) (Piton (record run { seen = seen_after (system_in run.checked) run.seen q }))
 system_makes run q f fs e step =
     piton_makes run q f fs run.seen.state.frames e step
@@ -121,7 +127,8 @@ walks_from s n cost x y (more {j = j} {n = m} {p = p} {q = p'} {r = q} f fs here
     let spent : step_cost S v.state ≡ step_cost s p = ap (λ (s : SystemView). step_cost s v.state) same ∙ ap (step_cost s) e in
     let steps : saturated (saturated (v.steps + 1) + j) ≡ saturated (v.steps + suc j) = omega arith in
     let counted : saturated (saturated (v.counted + step_cost S v.state) + m) ≡ saturated (v.counted + (step_cost s p + m)) = omega arith in
-    let seen : advanced w j m q ≡ advanced v (suc j) (step_cost s p + m) q = λ i. record { state = q; ctrl = v.ctrl; temp = v.temp; steps = steps i; counted = counted i } in
+    let seen : advanced w j m q ≡ advanced v (suc j) (step_cost s p + m) q =
+    λ i. record { state = q; ctrl = v.ctrl; temp = v.temp; steps = steps i; counted = counted i } in
     walks_on j (Piton run) (Piton (record run { seen = w })) (Piton (record run { seen = advanced v (suc j) (step_cost s p + m) q })) (piton_event run)
     (system_makes run p' f fs (ap (λ (p : PitonState). p.frames) e ∙ here) step')
     (subst (λ (u : Seen). WalksTo j (Piton (record run { seen = w })) (Piton (record run { seen = u }))) seen

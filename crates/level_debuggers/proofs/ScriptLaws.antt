@@ -44,7 +44,8 @@ attach_goes_on : (number : ℕ) (word : WatchWord) (s : SessionOf) (o : Option S
 attach_goes_on number word s (Some after) e = absurd cc
 attach_goes_on number word s None e = absurd cc
 
-detach_goes_on : (number : ℕ) (word : WatchWord) (s : SessionOf) (o : Option (Tally × SessionOf)) → (detach_with number (rule_of_word word) s o).end ≡ Some end.Done → ⊥
+detach_goes_on : (number : ℕ) (word : WatchWord) (s : SessionOf) (o : Option (Tally × SessionOf))
+    → (detach_with number (rule_of_word word) s o).end ≡ Some end.Done → ⊥
 detach_goes_on number word s (Some found) e = absurd cc
 detach_goes_on number word s None e = absurd cc
 
@@ -71,7 +72,8 @@ never_done number (command.Words address count) s e = words_go_on number s (word
 never_done number (command.Until there limit) s e = until_goes_on number (has_places s.level there) (arrived there limit s) s e
 
 -- it leads the run as far as the steps that it asks for
-attach_stays : (number : ℕ) (word : WatchWord) (s : SessionOf) (o : Option (Watching × List Watching)) → (attach_with number word s (attached_with s o)).session.level ≡ s.level
+attach_stays : (number : ℕ) (word : WatchWord) (s : SessionOf) (o : Option (Watching × List Watching))
+    → (attach_with number word s (attached_with s o)).session.level ≡ s.level
 attach_stays number word s (Some found) = refl
 attach_stays number word s None = refl
 
@@ -108,7 +110,8 @@ line_walks number (command.Until there limit) s =
 
 -- ---- all lines
 
-walks_by : (text : List ℕ) (said : Said) (e : Option ScriptEnd) (lines : List Line) (n : ℕ) (level : LevelOf) → (e ≡ Some end.Done → ⊥) → said.session.level ≡ (walk n level).level →
+walks_by : (text : List ℕ) (said : Said) (e : Option ScriptEnd) (lines : List Line) (n : ℕ) (level : LevelOf) → (e ≡ Some end.Done → ⊥)
+    → said.session.level ≡ (walk n level).level →
     ((text : List ℕ) (s : SessionOf) → (followed text lines s).end ≡ end.Done
     → (followed text lines s).session.level ≡ (walk (steps_of lines s.level) s.level).level) →
     (follow_on text said e (λ text s. followed text lines s)).end ≡ end.Done →
@@ -127,7 +130,8 @@ scripts_walk text (first ∷ lines) s done =
     (λ text s. scripts_walk text lines s) done
 
 both_by : (text : List ℕ) (said : Said) (e : Option ScriptEnd) (lines more : List Line) → (e ≡ Some end.Done → ⊥) →
-    ((text : List ℕ) (s : SessionOf) → (followed text lines s).end ≡ end.Done → followed text (lines ++ more) s ≡ followed (followed text lines s).text more (followed text lines s).session) →
+    ((text : List ℕ) (s : SessionOf) → (followed text lines s).end ≡ end.Done → followed text (lines ++ more) s
+    ≡ followed (followed text lines s).text more (followed text lines s).session) →
     (follow_on text said e (λ text s. followed text lines s)).end ≡ end.Done →
     follow_on text said e (λ text s. followed text (lines ++ more) s)
     ≡ followed (follow_on text said e (λ text s. followed text lines s)).text more (follow_on text said e (λ text s. followed text lines s)).session
@@ -142,7 +146,8 @@ followed_both text [] more s done = refl
 followed_both text (first ∷ lines) more s done =
     both_by text (said_to first s) (said_to first s).end lines more (never_done first.line first.command s) (λ text s. followed_both text lines more s) done
 
-up_said : (text : List ℕ) (after : List Line) (number : ℕ) (s : SessionOf) → followed text (up_line number ∷ after) s ≡ followed (text ++ up_text s.level) after s
+up_said : (text : List ℕ) (after : List Line) (number : ℕ) (s : SessionOf) → followed text (up_line number ∷ after) s
+    ≡ followed (text ++ up_text s.level) after s
 unfolding followed
 up_said text after number s = refl
 
@@ -214,7 +219,8 @@ not_over level k (Makes event after) e = refl
 first_by : (m k : ℕ) (level : LevelOf) (next : Next LevelOf) →
     ((start : LevelOf) → GoesOn (m + k) start → GoesOn m start × GoesOn k (walk m start).level) →
     length (walk_on level (walk (m + k)) next).events ≡ suc (m + k) → is_over (next_of (walk_on level (walk (m + k)) next).level) ≡ false →
-    (length (walk_on level (walk m) next).events ≡ suc m) × (is_over (next_of (walk_on level (walk m) next).level) ≡ false) × GoesOn k (walk_on level (walk m) next).level
+    (length (walk_on level (walk m) next).events ≡ suc m) × (is_over (next_of (walk_on level (walk m) next).level) ≡ false)
+    × GoesOn k (walk_on level (walk m) next).level
 first_by m k level Over later whole going = absurd (omega arith)
 first_by m k level (Stops stop) later whole going = absurd (omega arith)
 first_by m k level (Makes event after) later whole going =
@@ -245,12 +251,14 @@ moved_by n made steps (Stops stop) e going = ap (λ (b : Bool). cond b (run.Move
 moved_by n made steps (Makes event after) e going = refl
 
 step_said_by : (text : List ℕ) (r : SessionRun) (n : ℕ) (s t : SessionOf) (lines : List Line) → r ≡ run.Moved n →
-    follow_on text record { text = run_text r; end = run_end r; session = t } (run_end r) (λ text s. followed text lines s) ≡ followed (text ++ run_text (run.Moved n)) lines t
+    follow_on text record { text = run_text r; end = run_end r; session = t } (run_end r) (λ text s. followed text lines s)
+    ≡ followed (text ++ run_text (run.Moved n)) lines t
 step_said_by text r n s t lines e =
     ap (λ (x : SessionRun). follow_on text record { text = run_text x; end = run_end x; session = t } (run_end x) (λ text s. followed text lines s)) e
 
 one_said : (text : List ℕ) (number n : ℕ) (c : Command) (s : SessionOf) (lines : List Line) → c ≡ command.Step n → GoesOn n s.level →
-    follow_on text (said_by number c s) (said_by number c s).end (λ text s. followed text lines s) ≡ followed (text ++ run_text (run.Moved n)) lines (stepped n s).session
+    follow_on text (said_by number c s) (said_by number c s).end (λ text s. followed text lines s)
+    ≡ followed (text ++ run_text (run.Moved n)) lines (stepped n s).session
 one_said text number n c s lines e h =
     ap (λ (x : Command). follow_on text (said_by number x s) (said_by number x s).end (λ text s. followed text lines s)) e
     ∙ step_said_by text (stepped n s).run n s (stepped n s).session lines
@@ -279,7 +287,8 @@ up_says_moment text said before after number s ask h =
 
 -- ---- what was said stays
 
-stays_by : (text : List ℕ) (said : Said) (e : Option ScriptEnd) (go : List ℕ → SessionOf → Followed) → ((t : List ℕ) (s : SessionOf) → (more : List ℕ) × ((go t s).text ≡ t ++ more)) →
+stays_by : (text : List ℕ) (said : Said) (e : Option ScriptEnd) (go : List ℕ → SessionOf → Followed)
+    → ((t : List ℕ) (s : SessionOf) → (more : List ℕ) × ((go t s).text ≡ t ++ more)) →
     (more : List ℕ) × ((follow_on text said e go).text ≡ text ++ more)
 stays_by text said None go later =
     let rest = later (text ++ said.text) said.session in

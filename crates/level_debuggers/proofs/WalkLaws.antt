@@ -13,7 +13,8 @@ use Rattle.level_debuggers.specs.declared.session.SessionRun.TheVariants as run
 use Rattle.level_debuggers.specs.Levels.{LevelOf, next_of}
 use Rattle.level_debuggers.specs.Steps.{Next, Over, Stops, Makes, IsAdvance, is_over}
 use Rattle.level_debuggers.specs.Tallies.{Watching, tally_step, told}
-use Rattle.level_debuggers.specs.Walks.{Walk, with_event, walk_on, walk, SessionOf, after_event, after_walk, refused_after, ends_by, stepped_by, stepped, HasMadeSome, SessionsGoOn}
+use Rattle.level_debuggers.specs.Walks.{Walk, with_event, walk_on, walk, SessionOf, after_event, after_walk, refused_after, ends_by, stepped_by, stepped}
+use Rattle.level_debuggers.specs.Walks.{HasMadeSome, SessionsGoOn}
 
 -- One step more.
 more_from : (i : ℕ) (level after : LevelOf) (event : Event) (next : Next LevelOf)
@@ -121,7 +122,10 @@ answer_at m n old new next made le is stop =
     let there : next_of (walk m old.level).level ≡ next = ap next_of level ∙ is in
     let stays : walk n old.level ≡ walk m old.level = walk_stays m n old.level le (subst_stop (sym there) stop) in
     ap (stepped_by n old) stays
-    ∙ ap (λ (k : ℕ). record { run = ends_by n k (after_walk old (walk m old.level)).steps (next_of (walk m old.level).level); session = after_walk old (walk m old.level) }) made.whole
+    ∙ ap (λ (k : ℕ). record {
+      run = ends_by n k (after_walk old (walk m old.level)).steps (next_of (walk m old.level).level);
+      session = after_walk old (walk m old.level);
+    }) made.whole
     ∙ ap (λ (x : Next LevelOf). record { run = ends_by n m (after_walk old (walk m old.level)).steps x; session = after_walk old (walk m old.level) }) there
     ∙ ap (λ (s : SessionOf). record { run = ends_by n m s.steps next; session = s }) (sym made.comes)
   where

@@ -10,7 +10,8 @@ use Rattle.gypsy_syntax.specs.Programs.{ConditionOf, Leave, Routine, Space, Decl
 use Rattle.gypsy_syntax.specs.Programs.{Stmt, Skip, NoOp, Signal, Seq, Loop, If, Begin, Call, Apply}
 use Rattle.gypsy_space.specs.Needs.{StackSizes, greatest, temp_need, ctrl_need, local_words, frame_of, main_used, with_call, call_need, has_room}
 use Rattle.gypsy_semantics.specs.Calls.{is_passed_on, matching, main_way, copied_in, copied_out, main_start, main_formals}
-use Rattle.gypsy_semantics.specs.Meaning.{MeaningOutcome, Done, Unfinished, then_do, either_way, caught, round_end, returned, if_room, evaluate, main_end, meaning}
+use Rattle.gypsy_semantics.specs.Meaning.{MeaningOutcome, Done, Unfinished, then_do, either_way, caught, round_end, returned, if_room, evaluate, main_end}
+use Rattle.gypsy_semantics.specs.Meaning.{meaning}
 
 -- ---- a program with 0 in all its places
 
@@ -103,7 +104,8 @@ matching_bare q p cs Routine = refl
 matching_bare q p cs Space = refl
 matching_bare q p cs (Declared i) = ap (λ (d : Proc). cond (nat_lt i d.conds) (get_or cs i Routine) Routine) (proc_bare q p)
 
-returned_bare : (q : Program) (p : ℕ) (xs : List ℕ) (cs : List ConditionOf) (x : List ValueOf) (o : MeaningOutcome) → returned (bare_program q) p xs cs x o ≡ returned q p xs cs x o
+returned_bare : (q : Program) (p : ℕ) (xs : List ℕ) (cs : List ConditionOf) (x : List ValueOf) (o : MeaningOutcome)
+    → returned (bare_program q) p xs cs x o ≡ returned q p xs cs x o
 returned_bare q p xs cs x (Done y None) = refl
 returned_bare q p xs cs x (Done y (Some c)) = ap (λ (d : ConditionOf). Done (copied_out xs y x) (Some d)) (matching_bare q p cs c)
 returned_bare q p xs cs x Unfinished = refl
@@ -135,29 +137,36 @@ then_same o p f g e h = ap (λ (r : MeaningOutcome). then_do r f) e ∙ ap (then
 round_same : (o p : MeaningOutcome) (f g : List ValueOf → MeaningOutcome) → o ≡ p → ((x : List ValueOf) → f x ≡ g x) → round_end o f ≡ round_end p g
 round_same o p f g e h = ap (λ (r : MeaningOutcome). round_end r f) e ∙ ap (round_end p) (λ i x. h x i)
 
-caught_same : (o p : MeaningOutcome) (cs : List ConditionOf) (f g : List ValueOf → MeaningOutcome) → o ≡ p → ((x : List ValueOf) → f x ≡ g x) → caught o cs f ≡ caught p cs g
+caught_same : (o p : MeaningOutcome) (cs : List ConditionOf) (f g : List ValueOf → MeaningOutcome) → o ≡ p → ((x : List ValueOf) → f x ≡ g x)
+    → caught o cs f ≡ caught p cs g
 caught_same o p cs f g e h = ap (λ (r : MeaningOutcome). caught r cs f) e ∙ ap (caught p cs) (λ i x. h x i)
 
-evaluate_bare : (q : Program) (sizes : StackSizes) (n : ℕ) (s : Stmt) (u : StackSizes) (x : List ValueOf) → evaluate (bare_program q) sizes n (bare_statement s) u x ≡ evaluate q sizes n s u x
+evaluate_bare : (q : Program) (sizes : StackSizes) (n : ℕ) (s : Stmt) (u : StackSizes) (x : List ValueOf)
+    → evaluate (bare_program q) sizes n (bare_statement s) u x ≡ evaluate q sizes n s u x
 evaluate_bare q sizes zero s u x = refl
 evaluate_bare q sizes (suc n) Skip u x = refl
 evaluate_bare q sizes (suc n) (NoOp place) u x = refl
 evaluate_bare q sizes (suc n) (Signal place c) u x = refl
 evaluate_bare q sizes (suc n) (Seq a b) u x =
-    then_same (evaluate (bare_program q) sizes (suc n) (bare_statement a) u x) (evaluate q sizes (suc n) a u x) (evaluate (bare_program q) sizes (suc n) (bare_statement b) u) (evaluate q sizes (suc n) b u)
+    then_same (evaluate (bare_program q) sizes (suc n) (bare_statement a) u x) (evaluate q sizes (suc n) a u x)
+    (evaluate (bare_program q) sizes (suc n) (bare_statement b) u) (evaluate q sizes (suc n) b u)
     (evaluate_bare q sizes (suc n) a u x) (evaluate_bare q sizes (suc n) b u)
 evaluate_bare q sizes (suc n) (Loop place s) u x =
-    round_same (evaluate (bare_program q) sizes (suc n) (bare_statement s) u x) (evaluate q sizes (suc n) s u x) (evaluate (bare_program q) sizes n (bare_statement (Loop place s)) u) (evaluate q sizes n (Loop place s) u)
+    round_same (evaluate (bare_program q) sizes (suc n) (bare_statement s) u x) (evaluate q sizes (suc n) s u x)
+    (evaluate (bare_program q) sizes n (bare_statement (Loop place s)) u) (evaluate q sizes n (Loop place s) u)
     (evaluate_bare q sizes (suc n) s u x) (evaluate_bare q sizes n (Loop place s) u)
-evaluate_bare q sizes (suc n) (If place b s w) u x = ap₂ (either_way (is_true_value (value_at x b))) (evaluate_bare q sizes (suc n) s u x) (evaluate_bare q sizes (suc n) w u x)
+evaluate_bare q sizes (suc n) (If place b s w) u x =
+    ap₂ (either_way (is_true_value (value_at x b))) (evaluate_bare q sizes (suc n) s u x) (evaluate_bare q sizes (suc n) w u x)
 evaluate_bare q sizes (suc n) (Begin place s cs w) u x =
-    caught_same (evaluate (bare_program q) sizes (suc n) (bare_statement s) u x) (evaluate q sizes (suc n) s u x) cs (evaluate (bare_program q) sizes (suc n) (bare_statement w) u) (evaluate q sizes (suc n) w u)
+    caught_same (evaluate (bare_program q) sizes (suc n) (bare_statement s) u x) (evaluate q sizes (suc n) s u x) cs
+    (evaluate (bare_program q) sizes (suc n) (bare_statement w) u) (evaluate q sizes (suc n) w u)
     (evaluate_bare q sizes (suc n) s u x) (evaluate_bare q sizes (suc n) w u)
 evaluate_bare q sizes (suc n) (Call place p xs cs) u x =
     let body = ap (λ (c : Proc). c.body) (proc_bare q p) in
     let used = used_bare q p u in
     let copied = copied_bare q p xs x in
-    let inner : evaluate (bare_program q) sizes n (body_of (bare_program q) p) (with_call (bare_program q) p u) (copied_in (bare_program q) p xs x) ≡ evaluate q sizes n (body_of q p) (with_call q p u) (copied_in q p xs x) =
+    let inner : evaluate (bare_program q) sizes n (body_of (bare_program q) p) (with_call (bare_program q) p u) (copied_in (bare_program q) p xs x)
+    ≡ evaluate q sizes n (body_of q p) (with_call q p u) (copied_in q p xs x) =
     (λ i. evaluate (bare_program q) sizes n (body i) (used i) (copied i)) ∙ evaluate_bare q sizes n (body_of q p) (with_call q p u) (copied_in q p xs x) in
     let room = room_bare q sizes p u in
     (λ i. if_room (room i) x (returned (bare_program q) p xs cs x (inner i)))
@@ -177,7 +186,8 @@ meaning_bare q sizes v n =
     let body = ap (λ (c : Proc). c.body) (proc_bare q q.main) in
     let used = main_used_bare q in
     let start = start_bare q v in
-    let inner : evaluate (bare_program q) sizes n (body_of (bare_program q) q.main) (main_used (bare_program q)) (main_start (bare_program q) v) ≡ evaluate q sizes n (body_of q q.main) (main_used q) (main_start q v) =
+    let inner : evaluate (bare_program q) sizes n (body_of (bare_program q) q.main) (main_used (bare_program q)) (main_start (bare_program q) v)
+    ≡ evaluate q sizes n (body_of q q.main) (main_used q) (main_start q v) =
     (λ i. evaluate (bare_program q) sizes n (body i) (used i) (start i)) ∙ evaluate_bare q sizes n (body_of q q.main) (main_used q) (main_start q v) in
     ap (main_end (bare_program q)) inner ∙ end_bare q (evaluate q sizes n (body_of q q.main) (main_used q) (main_start q v))
 
@@ -189,7 +199,8 @@ main_shapes q = (proc_at q q.main).formals
 module _ (q r : Program) (same : bare_program q ≡ bare_program r) where
   pub same_shapes : main_shapes q ≡ main_shapes r
   same_shapes =
-      sym (ap (λ (c : Proc). c.formals) (proc_bare q q.main)) ∙ ap (λ (p : Program). (proc_at p p.main).formals) same ∙ ap (λ (c : Proc). c.formals) (proc_bare r r.main)
+      sym (ap (λ (c : Proc). c.formals) (proc_bare q q.main)) ∙ ap (λ (p : Program). (proc_at p p.main).formals) same
+      ∙ ap (λ (c : Proc). c.formals) (proc_bare r r.main)
 
   pub same_meaning : (sizes : StackSizes) (v : List ValueOf) (n : ℕ) → meaning q sizes v n ≡ meaning r sizes v n
   same_meaning sizes v n = sym (meaning_bare q sizes v n) ∙ ap (λ (p : Program). meaning p sizes v n) same ∙ meaning_bare r sizes v n

@@ -17,17 +17,22 @@ use Rattle.gypsy_syntax.specs.declared.slot.Form.{Form}
 use Rattle.gypsy_syntax.specs.declared.slot.Form.TheVariants.{Simple, Array, Literal}
 use Rattle.gypsy_syntax.specs.declared.slot.Slot.{Slot}
 use Rattle.gypsy_syntax.specs.Effects.{same_int}
-use Rattle.gypsy_syntax.specs.Places.{unplaced_type, unplaced_literal, unplaced_literals, unplaced_arg, unplaced_decl, unplaced_local, unplaced_stmt, unplaced_stmts, unplaced_proc, without_places}
+use Rattle.gypsy_syntax.specs.Places.{unplaced_type, unplaced_literal, unplaced_literals, unplaced_arg, unplaced_decl, unplaced_local, unplaced_stmt}
+use Rattle.gypsy_syntax.specs.Places.{unplaced_stmts, unplaced_proc, without_places}
 use Rattle.gypsy_syntax.specs.Predefined.{slots_of}
 use Rattle.gypsy_syntax.specs.Ranges.{is_in_range}
 use Rattle.gypsy_syntax.specs.Resolved.{place_among, variable_names, variable_types, procedure_names, is_leave_name, is_routine_name, is_space_name}
-use Rattle.gypsy_syntax.specs.Sources.{LiteralOf, LiteralsOf, integer, truth, character, array, no_items, item, literal_place, ArgOf, variable, constant, arg_place}
+use Rattle.gypsy_syntax.specs.Sources.{LiteralOf, LiteralsOf, integer, truth, character, array, no_items, item, literal_place, ArgOf, variable, constant}
+use Rattle.gypsy_syntax.specs.Sources.{arg_place}
 use Rattle.gypsy_syntax.specs.Sources.{StmtOf, StmtsOf, no_op, signal, seq, loop, branch, begin, call, predef, no_parts, part, LocalOf, ProcOf, SourceOf}
 use Rattle.gypsy_syntax.specs.Resolved.{procedure_at, procedure_named}
 use Rattle.gypsy_check.specs.Arguments.{kind_of_type, kind_of_literal, kind_of, is_wanted, settled_by, is_undeclared}
 use Rattle.gypsy_check.specs.Declarations.{is_predefined, type_at, type_of, is_condition, variables_of, conditions_of, is_among, repeats}
-use Rattle.gypsy_check.specs.Rules.{literal_breaches, items_breaches, raised_breaches, handled_breaches, handlers_breaches, undeclared, is_of_type, test_breaches, actuals_breaches, data_breaches, callee_breaches, actual_name_breaches, call_breaches}
-use Rattle.gypsy_check.specs.Rules.{slots_breaches, argument_breaches, predef_breaches, statement_breaches, parts_breaches, is_reserved, condition_breaches, type_breaches, local_breaches, variable_breaches, condition_name_breaches, size_breaches, procedure_breaches, name_breaches, violations}
+use Rattle.gypsy_check.specs.Rules.{literal_breaches, items_breaches, raised_breaches, handled_breaches, handlers_breaches, undeclared, is_of_type}
+use Rattle.gypsy_check.specs.Rules.{test_breaches, actuals_breaches, data_breaches, callee_breaches, actual_name_breaches, call_breaches}
+use Rattle.gypsy_check.specs.Rules.{slots_breaches, argument_breaches, predef_breaches, statement_breaches, parts_breaches, is_reserved, condition_breaches}
+use Rattle.gypsy_check.specs.Rules.{type_breaches, local_breaches, variable_breaches, condition_name_breaches, size_breaches, procedure_breaches, name_breaches}
+use Rattle.gypsy_check.specs.Rules.{violations}
 use Rattle.gypsy_check.specs.Types.{same_type, is_boolean, has_length, is_of_kind, are_of_kind, item_number, suits, words_of_length, words_of_types}
 use Rattle.mini_gypsy.proofs.PlaceLaws.{map_over, kind_same, variables_same, conditions_same, procedures_same}
 
@@ -63,7 +68,8 @@ if_same false false a b c d e h k = k
 if_same true false a b c d e h k = absurd cc
 if_same false true a b c d e h k = absurd cc
 
-all_same : {X : Type 0} (f g : X → List Breach) (u : X → X) → ((x : X) → AreSame (f x) (g (u x))) → (xs : List X) → AreSame (flat_map f xs) (flat_map g (map u xs))
+all_same : {X : Type 0} (f g : X → List Breach) (u : X → X) → ((x : X) → AreSame (f x) (g (u x))) → (xs : List X)
+    → AreSame (flat_map f xs) (flat_map g (map u xs))
 all_same f g u each [] = none_same
 all_same f g u each (x ∷ xs) = join_same (f x) (g (u x)) (flat_map f xs) (flat_map g (map u xs)) (each x) (all_same f g u each xs)
 
@@ -77,7 +83,8 @@ count_same {X} {Y} u xs ys = ap (λ (n : ℕ). n == length ys) (length-map xs u)
 repeats_same : (rule : ℕ) (earlier : List (List ℕ)) (ns : List Named) → AreSame (repeats rule earlier ns) (repeats rule earlier (map unplaced_name ns))
 repeats_same rule earlier [] = none_same
 repeats_same rule earlier (n ∷ ns) =
-    join_same (when (is_among n.name earlier) n.place rule) (when (is_among n.name earlier) 0 rule) (repeats rule (n.name ∷ earlier) ns) (repeats rule (n.name ∷ earlier) (map unplaced_name ns))
+    join_same (when (is_among n.name earlier) n.place rule) (when (is_among n.name earlier) 0 rule) (repeats rule (n.name ∷ earlier) ns)
+    (repeats rule (n.name ∷ earlier) (map unplaced_name ns))
     (moved rule n.place 0 (is_among n.name earlier)) (repeats_same rule (n.name ∷ earlier) ns)
 
 -- ---- literals
@@ -92,7 +99,8 @@ mutual
   items_break_same : (ls : LiteralsOf) → AreSame (items_breaches ls) (items_breaches (unplaced_literals ls))
   items_break_same no_items = none_same
   items_break_same (item l ls) =
-      join_same (literal_breaches l) (literal_breaches (unplaced_literal l)) (items_breaches ls) (items_breaches (unplaced_literals ls)) (literal_breaks_same l) (items_break_same ls)
+      join_same (literal_breaches l) (literal_breaches (unplaced_literal l)) (items_breaches ls) (items_breaches (unplaced_literals ls))
+      (literal_breaks_same l) (items_break_same ls)
 
 number_same : (ls : LiteralsOf) → item_number (unplaced_literals ls) ≡ item_number ls
 number_same no_items = refl
@@ -146,7 +154,8 @@ type_same p name =
 declared_same : (p : ProcOf) (name : List ℕ) → is_none (type_of (unplaced_proc p) name) ≡ is_none (type_of p name)
 declared_same p name = ap is_none (type_same p name) ∙ none_over unplaced_type (type_of p name)
 
-passes_same : (test : TypeText → Bool) → ((t : TypeText) → test (unplaced_type t) ≡ test t) → (o : Option TypeText) → is_of_type test (option_map unplaced_type o) ≡ is_of_type test o
+passes_same : (test : TypeText → Bool) → ((t : TypeText) → test (unplaced_type t) ≡ test t) → (o : Option TypeText)
+    → is_of_type test (option_map unplaced_type o) ≡ is_of_type test o
 passes_same test same None = refl
 passes_same test same (Some t) = same t
 
@@ -183,26 +192,31 @@ module _ (p : ProcOf) where
   handlers_same cs =
       join_same _ _ _ _ (all_same (handled_breaches p) (handled_breaches (unplaced_proc p)) unplaced_name handled_same cs) (repeats_same 13 [] cs)
 
-  of_type_same : (test : TypeText → Bool) → ((t : TypeText) → test (unplaced_type t) ≡ test t) → (name : List ℕ) → is_of_type test (type_of (unplaced_proc p) name) ≡ is_of_type test (type_of p name)
+  of_type_same : (test : TypeText → Bool) → ((t : TypeText) → test (unplaced_type t) ≡ test t) → (name : List ℕ)
+      → is_of_type test (type_of (unplaced_proc p) name) ≡ is_of_type test (type_of p name)
   of_type_same test same name = ap (is_of_type test) (type_same p name) ∙ passes_same test same (type_of p name)
 
   test_same : (n : Named) → AreSame (test_breaches p n) (test_breaches (unplaced_proc p) (unplaced_name n))
   test_same n = join_same _ _ _ _ (undeclared_same n) (when_same 15 n.place 0 _ _ (ap not (of_type_same is_boolean (λ t. refl) n.name)))
 
   actuals_same : (ds : List Decl) (ns : List Named) →
-      AreSame (actuals_breaches p (map (λ (d : Decl). d.shape) ds) ns) (actuals_breaches (unplaced_proc p) (map (λ (d : Decl). d.shape) (map unplaced_decl ds)) (map unplaced_name ns))
+      AreSame (actuals_breaches p (map (λ (d : Decl). d.shape) ds) ns)
+      (actuals_breaches (unplaced_proc p) (map (λ (d : Decl). d.shape) (map unplaced_decl ds)) (map unplaced_name ns))
   actuals_same [] ns = none_same
   actuals_same (d ∷ ds) [] = none_same
-  actuals_same (d ∷ ds) (n ∷ ns) = join_same _ _ _ _ (when_same 21 n.place 0 _ _ (ap not (of_type_same (same_type d.shape) (λ t. refl) n.name))) (actuals_same ds ns)
+  actuals_same (d ∷ ds) (n ∷ ns) =
+      join_same _ _ _ _ (when_same 21 n.place 0 _ _ (ap not (of_type_same (same_type d.shape) (λ t. refl) n.name))) (actuals_same ds ns)
 
-  data_same : (callee : ProcOf) (place other : ℕ) (xs : List Named) → AreSame (data_breaches p callee place xs) (data_breaches (unplaced_proc p) (unplaced_proc callee) other (map unplaced_name xs))
+  data_same : (callee : ProcOf) (place other : ℕ) (xs : List Named) → AreSame (data_breaches p callee place xs)
+      (data_breaches (unplaced_proc p) (unplaced_proc callee) other (map unplaced_name xs))
   data_same callee place other xs =
       if_same _ _ _ _ _ _
       (let m = length-map xs unplaced_name in let n = length-map callee.formals unplaced_decl in λ i. m i == n i)
       (actuals_same callee.formals xs) (moved 18 place other true)
 
   callee_same : (o : Option ProcOf) (xs_place cs_place : ℕ) (xs cs : List Named) →
-      AreSame (callee_breaches p o xs_place xs cs_place cs) (callee_breaches (unplaced_proc p) (option_map unplaced_proc o) 0 (map unplaced_name xs) 0 (map unplaced_name cs))
+      AreSame (callee_breaches p o xs_place xs cs_place cs)
+      (callee_breaches (unplaced_proc p) (option_map unplaced_proc o) 0 (map unplaced_name xs) 0 (map unplaced_name cs))
   callee_same None xs_place cs_place xs cs = none_same
   callee_same (Some callee) xs_place cs_place xs cs =
       join_same _ _ _ _ (data_same callee xs_place 0 xs)
@@ -228,14 +242,16 @@ module _ (p : ProcOf) where
   kind_of_same form (variable n) = ap (kind_of_type form) (type_same p n.name) ∙ kind_of_type_same form (type_of p n.name)
   kind_of_same form (constant l) = kind_of_literal_same form l
 
-  slots_same : (settled : Option Kind) (slots : List Slot) (args : List ArgOf) → AreSame (slots_breaches p settled slots args) (slots_breaches (unplaced_proc p) settled slots (map unplaced_arg args))
+  slots_same : (settled : Option Kind) (slots : List Slot) (args : List ArgOf) → AreSame (slots_breaches p settled slots args)
+      (slots_breaches (unplaced_proc p) settled slots (map unplaced_arg args))
   slots_same settled [] args = none_same
   slots_same settled (slot ∷ slots) [] = none_same
   slots_same settled (slot ∷ slots) (a ∷ args) =
       let kind : kind_of (unplaced_proc p) slot.form (unplaced_arg a) ≡ kind_of p slot.form a = kind_of_same slot.form a in
       join_same _ _ _ _
       (when_same 23 (arg_place a) (arg_place (unplaced_arg a)) _ _ (ap (λ (k : Option Kind). not (is_wanted settled slot.kind k)) kind))
-      (subst (λ (k : Option Kind). AreSame (slots_breaches p (settled_by settled slot.kind (kind_of p slot.form a)) slots args) (slots_breaches (unplaced_proc p) (settled_by settled slot.kind k) slots (map unplaced_arg args)))
+      (subst (λ (k : Option Kind). AreSame (slots_breaches p (settled_by settled slot.kind (kind_of p slot.form a)) slots args)
+      (slots_breaches (unplaced_proc p) (settled_by settled slot.kind k) slots (map unplaced_arg args)))
       (sym kind) (slots_same (settled_by settled slot.kind (kind_of p slot.form a)) slots args))
 
   argument_breaks_same : (a : ArgOf) → AreSame (argument_breaches p a) (argument_breaches (unplaced_proc p) (unplaced_arg a))
@@ -246,15 +262,18 @@ module _ (p : ProcOf) where
   is_undeclared_same (variable n) = declared_same p n.name
   is_undeclared_same (constant l) = refl
 
-  predef_same : (place : ℕ) (slots : List Slot) (args : List ArgOf) → AreSame (predef_breaches p place slots args) (predef_breaches (unplaced_proc p) 0 slots (map unplaced_arg args))
+  predef_same : (place : ℕ) (slots : List Slot) (args : List ArgOf) → AreSame (predef_breaches p place slots args)
+      (predef_breaches (unplaced_proc p) 0 slots (map unplaced_arg args))
   predef_same place slots args =
       join_same _ _ _ _ (all_same (argument_breaches p) (argument_breaches (unplaced_proc p)) unplaced_arg argument_breaks_same args)
       (if_same _ _ _ _ _ _ (count_same unplaced_arg args slots)
-      (if_same _ _ _ _ _ _ (any_same (is_undeclared p) (is_undeclared (unplaced_proc p)) unplaced_arg is_undeclared_same args) none_same (slots_same None slots args))
+      (if_same _ _ _ _ _ _ (any_same (is_undeclared p) (is_undeclared (unplaced_proc p)) unplaced_arg is_undeclared_same args) none_same
+      (slots_same None slots args))
       (moved 22 place 0 true))
 
 call_same : (s : SourceOf) (p : ProcOf) (in_loop : Bool) (callee : Named) (xs_place cs_place : ℕ) (xs cs : List Named) →
-    AreSame (call_breaches s p in_loop callee xs_place xs cs_place cs) (call_breaches (without_places s) (unplaced_proc p) in_loop (unplaced_name callee) 0 (map unplaced_name xs) 0 (map unplaced_name cs))
+    AreSame (call_breaches s p in_loop callee xs_place xs cs_place cs)
+    (call_breaches (without_places s) (unplaced_proc p) in_loop (unplaced_name callee) 0 (map unplaced_name xs) 0 (map unplaced_name cs))
 call_same s p in_loop callee xs_place cs_place xs cs =
     join_same _ _ _ _
     (join_same _ _ _ _
@@ -264,11 +283,13 @@ call_same s p in_loop callee xs_place cs_place xs cs =
     (moved 17 callee.place 0 (bytes_eq callee.name s.main.name)))
     (actual_names_same p xs))
     (all_same (raised_breaches p in_loop) (raised_breaches (unplaced_proc p) in_loop) unplaced_name (raised_same p in_loop) cs))
-    (subst (λ (o : Option ProcOf). AreSame (callee_breaches p (procedure_named s callee.name) xs_place xs cs_place cs) (callee_breaches (unplaced_proc p) o 0 (map unplaced_name xs) 0 (map unplaced_name cs)))
+    (subst (λ (o : Option ProcOf). AreSame (callee_breaches p (procedure_named s callee.name) xs_place xs cs_place cs)
+    (callee_breaches (unplaced_proc p) o 0 (map unplaced_name xs) 0 (map unplaced_name cs)))
     (sym (procedure_same s callee.name)) (callee_same p (procedure_named s callee.name) xs_place cs_place xs cs))
 
 mutual
-  statement_breaks_same : (s : SourceOf) (p : ProcOf) (in_loop : Bool) (b : StmtOf) → AreSame (statement_breaches s p in_loop b) (statement_breaches (without_places s) (unplaced_proc p) in_loop (unplaced_stmt b))
+  statement_breaks_same : (s : SourceOf) (p : ProcOf) (in_loop : Bool) (b : StmtOf)
+      → AreSame (statement_breaches s p in_loop b) (statement_breaches (without_places s) (unplaced_proc p) in_loop (unplaced_stmt b))
   statement_breaks_same s p in_loop (no_op place) = none_same
   statement_breaks_same s p in_loop (signal place c) = raised_same p in_loop c
   statement_breaks_same s p in_loop (seq place parts) = parts_break_same s p in_loop parts
@@ -280,7 +301,8 @@ mutual
   statement_breaks_same s p in_loop (call place callee xs_place xs cs_place cs) = call_same s p in_loop callee xs_place cs_place xs cs
   statement_breaks_same s p in_loop (predef place which args) = predef_same p place (slots_of which) args
 
-  parts_break_same : (s : SourceOf) (p : ProcOf) (in_loop : Bool) (bs : StmtsOf) → AreSame (parts_breaches s p in_loop bs) (parts_breaches (without_places s) (unplaced_proc p) in_loop (unplaced_stmts bs))
+  parts_break_same : (s : SourceOf) (p : ProcOf) (in_loop : Bool) (bs : StmtsOf)
+      → AreSame (parts_breaches s p in_loop bs) (parts_breaches (without_places s) (unplaced_proc p) in_loop (unplaced_stmts bs))
   parts_break_same s p in_loop no_parts = none_same
   parts_break_same s p in_loop (part b bs) = join_same _ _ _ _ (statement_breaks_same s p in_loop b) (parts_break_same s p in_loop bs)
 
@@ -313,7 +335,8 @@ module _ (p : ProcOf) where
       join_same _ _ _ _
       (join_same _ _ _ _
       (subst (λ (ns : List Named). AreSame (repeats 4 [] (variables_of p)) (repeats 4 [] ns)) (sym variables_of_same) (repeats_same 4 [] (variables_of p)))
-      (subst (λ (ts : List TypeText). AreSame (flat_map type_breaches (variable_types p)) (flat_map type_breaches ts)) (sym (types_same p)) (all_same type_breaches type_breaches unplaced_type type_breaks_same (variable_types p))))
+      (subst (λ (ts : List TypeText). AreSame (flat_map type_breaches (variable_types p)) (flat_map type_breaches ts)) (sym (types_same p))
+      (all_same type_breaches type_breaches unplaced_type type_breaks_same (variable_types p))))
       (all_same local_breaches local_breaches unplaced_local local_breaks_same p.locals)
 
   condition_breaks_same : (n : Named) → AreSame (condition_breaches n) (condition_breaches (unplaced_name n))
@@ -322,7 +345,8 @@ module _ (p : ProcOf) where
   condition_names_same : AreSame (condition_name_breaches p) (condition_name_breaches (unplaced_proc p))
   condition_names_same =
       subst (λ (ns : List Named). AreSame (condition_name_breaches p) (repeats 5 [] ns ++ flat_map condition_breaches ns)) (sym conditions_of_same)
-      (join_same _ _ _ _ (repeats_same 5 [] (conditions_of p)) (all_same condition_breaches condition_breaches unplaced_name condition_breaks_same (conditions_of p)))
+      (join_same _ _ _ _ (repeats_same 5 [] (conditions_of p))
+      (all_same condition_breaches condition_breaches unplaced_name condition_breaks_same (conditions_of p)))
 
   words_same : (ts : List TypeText) → words_of_types (map unplaced_type ts) ≡ words_of_types ts
   words_same [] = refl
@@ -336,7 +360,8 @@ module _ (p : ProcOf) where
 module _ (s : SourceOf) where
   procedure_breaks_same : (p : ProcOf) → AreSame (procedure_breaches s p) (procedure_breaches (without_places s) (unplaced_proc p))
   procedure_breaks_same p =
-      join_same _ _ _ _ (join_same _ _ _ _ (join_same _ _ _ _ (variable_breaks_same p) (condition_names_same p)) (size_same p)) (statement_breaks_same s p false p.body)
+      join_same _ _ _ _ (join_same _ _ _ _ (join_same _ _ _ _ (variable_breaks_same p) (condition_names_same p)) (size_same p))
+      (statement_breaks_same s p false p.body)
 
   name_breaks_same : (p : ProcOf) → AreSame (name_breaches p) (name_breaches (unplaced_proc p))
   name_breaks_same p = moved 2 p.name.place 0 (is_predefined p.name.name)
@@ -352,7 +377,8 @@ module _ (s : SourceOf) where
       join_same _ _ _ _
       (join_same _ _ _ _
       (join_same _ _ _ _
-      (subst (λ (ns : List Named). AreSame (repeats 1 [] (map (λ (p : ProcOf). p.name) s.procs)) (repeats 1 [] ns)) (sym procedure_names_same) (repeats_same 1 [] (map (λ (p : ProcOf). p.name) s.procs)))
+      (subst (λ (ns : List Named). AreSame (repeats 1 [] (map (λ (p : ProcOf). p.name) s.procs)) (repeats 1 [] ns)) (sym procedure_names_same)
+      (repeats_same 1 [] (map (λ (p : ProcOf). p.name) s.procs)))
       (when_same 3 s.main.place 0 _ _ (ap is_none (procedure_same s s.main.name) ∙ none_over unplaced_proc (procedure_named s s.main.name))))
       (all_same name_breaches name_breaches unplaced_proc name_breaks_same s.procs))
       (all_same (procedure_breaches s) (procedure_breaches (without_places s)) unplaced_proc procedure_breaks_same s.procs)

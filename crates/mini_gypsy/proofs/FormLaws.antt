@@ -18,7 +18,8 @@ use Rattle.mini_syntax.specs.declared.sort.Sort.{Sort}
 use Rattle.mini_syntax.specs.declared.sort.Sort.TheVariants.{Int, Bool}
 use Rattle.mini_syntax.specs.Language.{Exp, Variable, Number, Truth, Before, Between, Stmt, Nothing, Then, Assign, While, If}
 use Rattle.mini_syntax.specs.Lawful.{IsLawful, levels, size_of, part_count}
-use Rattle.mini_gypsy.specs.Lowered.{decl_of, temporary_local, locals_from, temporary_name, temporaries, argument, set_name, value_parts, statement_parts, block_parts, choice_parts, leave, main_procedure, lowered}
+use Rattle.mini_gypsy.specs.Lowered.{decl_of, temporary_local, locals_from, temporary_name, temporaries, argument, set_name, value_parts, statement_parts}
+use Rattle.mini_gypsy.specs.Lowered.{block_parts, choice_parts, leave, main_procedure, lowered}
 use Rattle.mini_syntax.specs.Lawful.{nth_name}
 use Rattle.mini_syntax.specs.Names.{is_variable_name}
 use Rattle.mini_syntax.specs.Sorted.{depth, depths, IsSorted, AreFine}
@@ -57,16 +58,22 @@ module _ (names : List (List ℕ)) (sorts : List Sort) (named : (i : ℕ) (s : S
   values_fit k (Truth b) sorted small = (two_fit (argument (temporary_name Bool k)) (constant (truth 0 b)) (temporary_is_name Bool k (omega arith)) tt, tt)
   values_fit k (Before op e) sorted small =
       let some = depth_some e in
-      parts_fit (value_parts names k e) (new_predef 0 (prefix_row op) (argument (temporary_name (prefix_sort op) k) ∷ argument (temporary_name (sort_of e) k) ∷ []) ∷ [])
-      (values_fit k e sorted.0 small)
-      (two_fit (argument (temporary_name (prefix_sort op) k)) (argument (temporary_name (sort_of e) k)) (temporary_is_name (prefix_sort op) k (omega arith)) (temporary_is_name (sort_of e) k (omega arith)), tt)
+      parts_fit (value_parts names k e) (new_predef 0 (prefix_row op)
+      (argument (temporary_name (prefix_sort op) k) ∷ argument (temporary_name (sort_of e) k) ∷ []) ∷ [])
+      (values_fit k e sorted.0 small) (
+        two_fit (argument (temporary_name (prefix_sort op) k)) (argument (temporary_name (sort_of e) k))
+            (temporary_is_name (prefix_sort op) k (omega arith)) (temporary_is_name (sort_of e) k (omega arith)),
+        tt,
+      )
   values_fit k (Between op a b) sorted small =
       let some = depth_some b in
-      let last = new_predef 0 (infix_row op) (argument (temporary_name (infix_sort op) k) ∷ argument (temporary_name (sort_of a) k) ∷ argument (temporary_name (sort_of b) (suc k)) ∷ []) in
+      let last = new_predef 0 (infix_row op) (argument (temporary_name (infix_sort op) k) ∷ argument (temporary_name (sort_of a) k)
+      ∷ argument (temporary_name (sort_of b) (suc k)) ∷ []) in
       parts_fit (value_parts names k a) (value_parts names (suc k) b ++ last ∷ []) (values_fit k a sorted.0 (omega arith))
       (parts_fit (value_parts names (suc k) b) (last ∷ []) (values_fit (suc k) b sorted.1 (omega arith)) (
         three_fit (argument (temporary_name (infix_sort op) k)) (argument (temporary_name (sort_of a) k)) (argument (temporary_name (sort_of b) (suc k)))
-            (temporary_is_name (infix_sort op) k (omega arith)) (temporary_is_name (sort_of a) k (omega arith)) (temporary_is_name (sort_of b) (suc k) (omega arith)),
+            (temporary_is_name (infix_sort op) k (omega arith)) (temporary_is_name (sort_of a) k (omega arith))
+            (temporary_is_name (sort_of b) (suc k) (omega arith)),
         tt,
       ))
 
@@ -75,16 +82,22 @@ module _ (names : List (List ℕ)) (sorts : List Sort) (named : (i : ℕ) (s : S
   statements_fit Nothing fine = tt
   statements_fit (Then s t) fine = parts_fit (statement_parts names s) (statement_parts names t) (statements_fit s fine.0) (statements_fit t fine.1)
   statements_fit (Assign i e) fine =
-      parts_fit (value_parts names 0 e) (set_name (nth_name names i) (temporary_name (sort_of e) 0) ∷ []) (values_fit 0 e fine.1.sorted (omega (arith, fine.1.shallow)))
-      (two_fit (argument (nth_name names i)) (argument (temporary_name (sort_of e) 0)) (named i (sort_of e) fine.0) (temporary_is_name (sort_of e) 0 (omega arith)), tt)
+      parts_fit (value_parts names 0 e) (set_name (nth_name names i) (temporary_name (sort_of e) 0) ∷ [])
+      (values_fit 0 e fine.1.sorted (omega (arith, fine.1.shallow))) (
+        two_fit (argument (nth_name names i)) (argument (temporary_name (sort_of e) 0)) (named i (sort_of e) fine.0)
+            (temporary_is_name (sort_of e) 0 (omega arith)),
+        tt,
+      )
   statements_fit (While e s) fine = (
     seq_fits (value_parts names 0 e) (choice_parts (block_parts (statement_parts names s)) leave)
-        (parts_fit (value_parts names 0 e) (choice_parts (block_parts (statement_parts names s)) leave ∷ []) (values_fit 0 e fine.0.sorted (omega (arith, fine.0.shallow)))
+        (parts_fit (value_parts names 0 e) (choice_parts (block_parts (statement_parts names s)) leave ∷ [])
+        (values_fit 0 e fine.0.sorted (omega (arith, fine.0.shallow)))
         ((temporary_is_name Bool 0 (omega arith), (tt, statements_fit s fine.1), refl), tt)),
     tt,
   )
   statements_fit (If e s t) fine =
-      parts_fit (value_parts names 0 e) (choice_parts (block_parts (statement_parts names s)) (block_parts (statement_parts names t)) ∷ []) (values_fit 0 e fine.0.sorted (omega (arith, fine.0.shallow)))
+      parts_fit (value_parts names 0 e) (choice_parts (block_parts (statement_parts names s)) (block_parts (statement_parts names t)) ∷ [])
+      (values_fit 0 e fine.0.sorted (omega (arith, fine.0.shallow)))
       ((temporary_is_name Bool 0 (omega arith), (tt, statements_fit s fine.1), (tt, statements_fit t fine.2)), tt)
 
 -- ---- nesting
@@ -103,10 +116,17 @@ values_shallow names k (Before op e) =
     let first = values_shallow names k e in
     omega (arith, deepest_append (value_parts names k e) last, first)
 values_shallow names k (Between op a b) =
-    let last = new_predef 0 (infix_row op) (argument (temporary_name (infix_sort op) k) ∷ argument (temporary_name (sort_of a) k) ∷ argument (temporary_name (sort_of b) (suc k)) ∷ []) ∷ [] in
+    let last = new_predef 0 (infix_row op) (argument (temporary_name (infix_sort op) k) ∷ argument (temporary_name (sort_of a) k)
+    ∷ argument (temporary_name (sort_of b) (suc k)) ∷ []) ∷ [] in
     let first = values_shallow names k a in
     let second = values_shallow names (suc k) b in
-    omega (arith, deepest_append (value_parts names k a) (value_parts names (suc k) b ++ last), deepest_append (value_parts names (suc k) b) last, first, second)
+    omega (
+      arith,
+      deepest_append (value_parts names k a) (value_parts names (suc k) b ++ last),
+      deepest_append (value_parts names (suc k) b) last,
+      first,
+      second,
+    )
 
 statements_shallow : (names : List (List ℕ)) (s : Stmt) → deepest (statements (statement_parts names s)) ≤ 1 + 4 * levels s
 unfolding statement_parts
@@ -126,7 +146,14 @@ statements_shallow names (If e s t) =
     let first = values_shallow names 0 e in
     let second = statements_shallow names s in
     let third = statements_shallow names t in
-    omega (arith, deepest_append (value_parts names 0 e) (choice_parts (block_parts (statement_parts names s)) (block_parts (statement_parts names t)) ∷ []), first, second, third)
+    omega (
+      arith,
+      deepest_append (value_parts names 0 e)
+          (choice_parts (block_parts (statement_parts names s)) (block_parts (statement_parts names t)) ∷ []),
+      first,
+      second,
+      third,
+    )
 
 -- ---- how many atoms and lists
 
@@ -144,7 +171,8 @@ values_small names k (Before op e) =
     let first = values_small names k e in
     omega (arith, size_append (value_parts names k e) last, first)
 values_small names k (Between op a b) =
-    let last = new_predef 0 (infix_row op) (argument (temporary_name (infix_sort op) k) ∷ argument (temporary_name (sort_of a) k) ∷ argument (temporary_name (sort_of b) (suc k)) ∷ []) ∷ [] in
+    let last = new_predef 0 (infix_row op) (argument (temporary_name (infix_sort op) k) ∷ argument (temporary_name (sort_of a) k)
+    ∷ argument (temporary_name (sort_of b) (suc k)) ∷ []) ∷ [] in
     let first = values_small names k a in
     let second = values_small names (suc k) b in
     omega (arith, size_append (value_parts names k a) (value_parts names (suc k) b ++ last), size_append (value_parts names (suc k) b) last, first, second)
@@ -167,14 +195,22 @@ statements_small names (If e s t) =
     let first = values_small names 0 e in
     let second = statements_small names s in
     let third = statements_small names t in
-    omega (arith, size_append (value_parts names 0 e) (choice_parts (block_parts (statement_parts names s)) (block_parts (statement_parts names t)) ∷ []), first, second, third)
+    omega (
+      arith,
+      size_append (value_parts names 0 e)
+          (choice_parts (block_parts (statement_parts names s)) (block_parts (statement_parts names t)) ∷ []),
+      first,
+      second,
+      third,
+    )
 
 -- ---- the whole
 
 formals_fit : (ds : List Declared) → Each (λ d. is_variable_name d.name ≡ true) ds → All FitsDecl (map (λ (d : Declared). decl_of d.name d.sort) ds)
 formals_fit [] good = All-nil FitsDecl
 formals_fit (d ∷ ds) good =
-    All-cons FitsDecl (decl_of d.name d.sort) (map (λ (e : Declared). decl_of e.name e.sort) ds) record { name = variable_is_name d.name good.0; length = tt } (formals_fit ds good.1)
+    All-cons FitsDecl (decl_of d.name d.sort) (map (λ (e : Declared). decl_of e.name e.sort) ds)
+    record { name = variable_is_name d.name good.0; length = tt } (formals_fit ds good.1)
 
 local_fits : (s : Sort) (k : ℕ) → k < depths → FitsLocal (temporary_local s k)
 local_fits Int k lt = record { decl = record { name = temporary_is_name Int k lt; length = tt }; value = refl }
@@ -184,7 +220,8 @@ locals_fit : (s : Sort) (k count : ℕ) (rest : List LocalOf) → k + count ≤ 
 unfolding locals_from
 locals_fit s k zero rest le fits = fits
 locals_fit s k (suc count) rest le fits =
-    All-cons FitsLocal (temporary_local s k) (locals_from s (k + 1) count ++ rest) (local_fits s k (omega arith)) (locals_fit s (k + 1) count rest (omega arith) fits)
+    All-cons FitsLocal (temporary_local s k) (locals_from s (k + 1) count ++ rest) (local_fits s k (omega arith))
+    (locals_fit s (k + 1) count rest (omega arith) fits)
 
 all_bools : All FitsLocal (locals_from Bool 0 depths ++ [])
 all_bools = locals_fit Bool 0 depths [] (omega arith) (All-nil FitsLocal)

@@ -57,7 +57,8 @@ held_there (r ∷ sorts) (v ∷ d) (suc i) s h e =
     let rest = held_there sorts d i s h.1 e in
     record { below = let lt = rest.below in omega arith; holds = rest.holds }
 
-pub held_set : (sorts : List Sort) (d : List ValueOf) (i : ℕ) (s : Sort) (v : ValueOf) → AreHeld sorts d → slice_get sorts i ≡ Some s → Holds (worth_in s v) v → AreHeld sorts (slice_set d i v)
+pub held_set : (sorts : List Sort) (d : List ValueOf) (i : ℕ) (s : Sort) (v : ValueOf) → AreHeld sorts d → slice_get sorts i ≡ Some s
+    → Holds (worth_in s v) v → AreHeld sorts (slice_set d i v)
 held_set [] d i s v h e holds = cc
 held_set (r ∷ sorts) [] i s v h e holds = absurd h
 held_set (r ∷ sorts) (w ∷ d) zero s v h e holds =

@@ -25,7 +25,8 @@ pub lawful_read : (text : List ℕ) (program : made.InfixProgram) → ReadsText 
 lawful_read text program r =
     subst (λ (ds : List Declared). IsLawful ds (block_in program.body.items)) (sym r.declared) (subst (IsLawful (declared_of r.tree)) (sym r.body) r.lawful)
 
-pub text_lowers : (text : List ℕ) (program : made.InfixProgram) (s : SourceOf) → ReadsText text program → KeepsForm s → s ≡ lowered program.declared.items (block_in program.body.items) → Lowers text s
+pub text_lowers : (text : List ℕ) (program : made.InfixProgram) (s : SourceOf) → ReadsText text program → KeepsForm s
+    → s ≡ lowered program.declared.items (block_in program.body.items) → Lowers text s
 text_lowers text program s r form is =
     let ds = declared_of r.tree in
     let b = body_of r.tree in
@@ -49,7 +50,8 @@ one_source text s t a b =
 pub no_fault : (text : List ℕ) (rule place : ℕ) (s : SourceOf) → IsFault text rule place → Lowers text s → ⊥
 no_fault text rule place s f a = either_way text rule place a.program f a.faultless
 
-pub fault_read : (text : List ℕ) (rule place : ℕ) → IsFault text rule place → (found : TextReading text) → lowering_by found ≡ Err record { place = place; rule = rule }
+pub fault_read : (text : List ℕ) (rule place : ℕ) → IsFault text rule place → (found : TextReading text)
+    → lowering_by found ≡ Err record { place = place; rule = rule }
 fault_read text rule place f (faultless p is) = absurd (either_way text rule place p f is)
 fault_read text rule place f (faulty b g) =
     let same = one_fault text b.rule b.place rule place g f in

@@ -67,7 +67,8 @@ one_held v Bool e fits =
     and_first true e = refl
     and_first false e = cc
 
-all_held : (ds : List Declared) (v : List ValueOf) → VarsFit (map (λ (d : Decl). shape_of d.shape) (map (λ (d : Declared). decl_of d.name d.sort) ds)) v → AreHeld (map (λ (d : Declared). d.sort) ds) v
+all_held : (ds : List Declared) (v : List ValueOf) → VarsFit (map (λ (d : Decl). shape_of d.shape) (map (λ (d : Declared). decl_of d.name d.sort) ds)) v
+    → AreHeld (map (λ (d : Declared). d.sort) ds) v
 all_held [] [] fits = tt
 all_held [] (w ∷ v) fits = absurd fits
 all_held (d ∷ ds) [] fits = absurd fits
@@ -79,7 +80,8 @@ temporaries_count : length (map local_value temporaries) ≡ 2 * depths
 unfolding temporaries locals_from
 temporaries_count = refl
 
-formals_count : (ds : List Declared) → length (map (λ (d : Decl). shape_of d.shape) (map (λ (d : Declared). decl_of d.name d.sort) ds)) ≡ length (map (λ (d : Declared). d.sort) ds)
+formals_count : (ds : List Declared) → length (map (λ (d : Decl). shape_of d.shape) (map (λ (d : Declared). decl_of d.name d.sort) ds))
+    ≡ length (map (λ (d : Declared). d.sort) ds)
 formals_count [] = refl
 formals_count (d ∷ ds) = ap suc (formals_count ds)
 
@@ -96,18 +98,22 @@ body_is ds s lawful =
     let sorts = map (λ (d : Declared). d.sort) ds in
     ap (gypsy.Seq (gypsy.NoOp 0))
     (all_in_turn q p (statement_parts names s)
-    ∙ ap in_turn (statements_are q p names sorts (knows ds s (all_named ds lawful.names) lawful.apart) s lawful.fine ∙ ap (λ (n : ℕ). statement_steps n s) (sorts_count ds)))
+    ∙ ap in_turn (statements_are q p names sorts (knows ds s (all_named ds lawful.names) lawful.apart) s lawful.fine
+    ∙ ap (λ (n : ℕ). statement_steps n s) (sorts_count ds)))
 
 -- what main ends with is what the program does
-ends_so : (q : Program) (sorts : List Sort) (count : length (proc_at q q.main).formals ≡ length sorts) (r o : MeaningOutcome) → Follows sorts r o → main_end q o ≡ r
+ends_so : (q : Program) (sorts : List Sort) (count : length (proc_at q q.main).formals ≡ length sorts) (r o : MeaningOutcome) → Follows sorts r o
+    → main_end q o ≡ r
 unfolding main_formals main_way is_passed_on
 ends_so q sorts count (Done d None) o follows =
     ap (main_end q) follows.is
-    ∙ ap (λ (x : List ValueOf). Done x None) (ap (λ (n : ℕ). take n (d ++ follows.rest)) (count ∙ sym (held_length sorts d follows.held)) ∙ take-append_seam d follows.rest)
+    ∙ ap (λ (x : List ValueOf). Done x None)
+    (ap (λ (n : ℕ). take n (d ++ follows.rest)) (count ∙ sym (held_length sorts d follows.held)) ∙ take-append_seam d follows.rest)
 ends_so q sorts count (Done d (Some Leave)) o follows = absurd follows.ending
 ends_so q sorts count (Done d (Some Routine)) o follows =
     ap (main_end q) follows.is
-    ∙ ap (λ (x : List ValueOf). Done x (Some Routine)) (ap (λ (n : ℕ). take n (d ++ follows.rest)) (count ∙ sym (held_length sorts d follows.held)) ∙ take-append_seam d follows.rest)
+    ∙ ap (λ (x : List ValueOf). Done x (Some Routine))
+    (ap (λ (n : ℕ). take n (d ++ follows.rest)) (count ∙ sym (held_length sorts d follows.held)) ∙ take-append_seam d follows.rest)
 ends_so q sorts count (Done d (Some Space)) o follows = absurd follows.ending
 ends_so q sorts count (Done d (Some (gypsy.Declared i))) o follows = absurd follows.ending
 ends_so q sorts count Unfinished o follows = ap (main_end q) follows
@@ -123,7 +129,8 @@ lowered_means ds s lawful sizes v (suc m) fits =
     let t : List ValueOf = map local_value temporaries in
     let follows = (statements_follow q sizes (main_used q) sorts s lawful.fine).at (suc m) v t (all_held ds v fits) temporaries_count in
     ap (λ (b : gypsy.Stmt). main_end q (evaluate q sizes (suc m) b (main_used q) (v ++ t))) (body_is ds s lawful)
-    ∙ ends_so q sorts (formals_count ds) (program_run s v (suc m)) (evaluate q sizes (suc m) (in_turn (statement_steps (length sorts) s)) (main_used q) (v ++ t)) follows
+    ∙ ends_so q sorts (formals_count ds) (program_run s v (suc m))
+    (evaluate q sizes (suc m) (in_turn (statement_steps (length sorts) s)) (main_used q) (v ++ t)) follows
 
 pub means_same : (ds : List Declared) (s : Stmt) → IsLawful ds s → MeansSame (program_of (lowered ds s)) s
 means_same ds s lawful = record {

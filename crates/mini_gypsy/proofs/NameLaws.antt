@@ -1,5 +1,6 @@
 -- Where the names of main's variables stand: the declared ones, and then the temporaries.
-use Rattle.std.proofs.Common.{◌≡◌, ℕ, zero, suc, ◌+◌, ◌<◌, List, [], ◌∷◌, ◌++◌, map, length, cond, bytes_eq, Bool, true, false, Option, Some, None, is_none, option_map, refl, sym, ap, ◌∙◌, arith, true≢false}
+use Rattle.std.proofs.Common.{◌≡◌, ℕ, zero, suc, ◌+◌, ◌<◌, List, [], ◌∷◌, ◌++◌, map, length, cond, bytes_eq, Bool, true, false, Option, Some, None, is_none}
+use Rattle.std.proofs.Common.{option_map, refl, sym, ap, ◌∙◌, arith, true≢false}
 use Rattle.std.specs.Prelude.{slice_get, ◌==◌, ◌&&◌, ◌||◌, nat_le, IsTrue}
 use Rattle.std.specs.List.{list_all}
 use Rattle.std.proofs.lemmas.Bool.{agree_below_at, eqb-true, and_parts}
@@ -93,11 +94,14 @@ get_map g [] i y e = cc
 get_map g (x ∷ xs) zero y e = (x, refl, cc)
 get_map g (x ∷ xs) (suc i) y e = get_map g xs i y e
 
-temporary_shape : (s : Sort) (k : ℕ) → k < depths → slice_get (map (λ (l : LocalOf). l.decl.shape) temporaries) (temporary s k) ≡ Some (new_simple 0 (kind_of s))
+temporary_shape : (s : Sort) (k : ℕ) → k < depths → slice_get (map (λ (l : LocalOf). l.decl.shape) temporaries) (temporary s k)
+    ≡ Some (new_simple 0 (kind_of s))
 unfolding temporaries locals_from
-temporary_shape sort.Int k lt = get_front (map (λ (l : LocalOf). l.decl.shape) (locals_from sort.Int 0 depths)) (map (λ (l : LocalOf). l.decl.shape) (locals_from sort.Bool 0 depths)) k (new_simple 0 (kind_of sort.Int)) (from_at sort.Int 0 depths k lt)
+temporary_shape sort.Int k lt = get_front (map (λ (l : LocalOf). l.decl.shape) (locals_from sort.Int 0 depths))
+    (map (λ (l : LocalOf). l.decl.shape) (locals_from sort.Bool 0 depths)) k (new_simple 0 (kind_of sort.Int)) (from_at sort.Int 0 depths k lt)
 temporary_shape sort.Bool k lt =
-    get_after (map (λ (l : LocalOf). l.decl.shape) (locals_from sort.Int 0 depths)) (map (λ (l : LocalOf). l.decl.shape) (locals_from sort.Bool 0 depths)) k depths refl
+    get_after (map (λ (l : LocalOf). l.decl.shape) (locals_from sort.Int 0 depths))
+    (map (λ (l : LocalOf). l.decl.shape) (locals_from sort.Bool 0 depths)) k depths refl
     ∙ from_at sort.Bool 0 depths k lt
 
 -- What is known of the names of main's variables.
@@ -108,7 +112,8 @@ pub record Knows (names : List (List ℕ)) (sorts : List Sort) (p : ProcOf) : Ty
   pub temporary_type : (s : Sort) (k : ℕ) → k < depths → type_of p (temporary_name s k) ≡ Some (new_simple 0 (kind_of s))
 
 -- each declared name is one
-pub all_named : (ds : List Declared) → list_all (λ (d : Declared). is_variable_name d.name) ds ≡ true → Each (λ (d : Declared). is_variable_name d.name ≡ true) ds
+pub all_named : (ds : List Declared) → list_all (λ (d : Declared). is_variable_name d.name) ds ≡ true
+    → Each (λ (d : Declared). is_variable_name d.name ≡ true) ds
 all_named [] h = tt
 all_named (d ∷ ds) h =
     let k = and_parts (is_variable_name d.name) (list_all (λ (e : Declared). is_variable_name e.name) ds) h in
@@ -129,10 +134,12 @@ marked name s k good = by_test (bytes_eq (temporary_name s k) name) refl
     by_test false e = refl
     by_test true e =
         let same : temporary_name s k ≡ name = (bytes_eq-Decides (temporary_name s k) name).0 e in
-        let words : list_all is_word_byte name ≡ true = all_words (begins_with_letter name) (list_all is_word_byte name) (nat_le (length name) 60) (is_none (word_named name)) good in
+        let words : list_all is_word_byte name ≡ true =
+        all_words (begins_with_letter name) (list_all is_word_byte name) (nat_le (length name) 60) (is_none (word_named name)) good in
         absurd (true≢false (sym words ∙ ap (list_all is_word_byte) (sym same) ∙ no_mark))
 
-unmarked : (ds : List Declared) (s : Sort) (k : ℕ) → Each (λ d. is_variable_name d.name ≡ true) ds → is_among (temporary_name s k) (map (λ d. d.name) ds) ≡ false
+unmarked : (ds : List Declared) (s : Sort) (k : ℕ) → Each (λ d. is_variable_name d.name ≡ true) ds
+    → is_among (temporary_name s k) (map (λ d. d.name) ds) ≡ false
 unmarked [] s k h = refl
 unmarked (d ∷ ds) s k h = rw (marked d.name s k h.0) (unmarked ds s k h.1)
 
@@ -163,7 +170,8 @@ pub knows : (ds : List Declared) (b : Stmt) → Each (λ d. is_variable_name d.n
     Knows (map (λ d. d.name) ds) (map (λ d. d.sort) ds) (main_procedure ds b)
 knows ds b good apart = record {
   declared_place = stands;
-  declared_type = λ i s e. ap (type_at (variable_types p)) (stands i s e) ∙ get_front shapes (map (λ (l : LocalOf). l.decl.shape) temporaries) i (new_simple 0 (kind_of s)) (declared_shape ds i s e);
+  declared_type = λ i s e. ap (type_at (variable_types p)) (stands i s e) ∙ get_front shapes (map (λ (l : LocalOf). l.decl.shape) temporaries) i
+      (new_simple 0 (kind_of s)) (declared_shape ds i s e);
   temporary_stands = after;
   temporary_type = λ s k lt.
       ap (type_at (variable_types p)) (after s k lt)
@@ -193,4 +201,5 @@ knows ds b good apart = record {
 
     after : (s : Sort) (k : ℕ) → k < depths → place_among (temporary_name s k) (variable_names p) ≡ Some (length names + temporary s k)
     after s k lt =
-        ap (place_among (temporary_name s k)) whole ∙ place_after (temporary_name s k) names others (temporary s k) (unmarked ds s k good) (temporary_place s k lt)
+        ap (place_among (temporary_name s k)) whole ∙ place_after (temporary_name s k) names others (temporary s k) (unmarked ds s k good)
+        (temporary_place s k lt)

@@ -20,7 +20,8 @@ one_pushed old new made s pushed is =
     ap (map stmt_of) pushed ∙ map-append stmt_of old (made ∷ []) ∙ ap (λ (z : StmtOf). map stmt_of old ++ z ∷ []) is
 
 -- the parts of an expression that has one
-pub leaf_pushed : (names : List (List ℕ)) (k : ℕ) (e : Exp) (s : StmtOf) (old new : List Made) (made : Made) → value_parts names k e ≡ s ∷ [] → new ≡ old ++ made ∷ [] → stmt_of made ≡ s →
+pub leaf_pushed : (names : List (List ℕ)) (k : ℕ) (e : Exp) (s : StmtOf) (old new : List Made) (made : Made) → value_parts names k e ≡ s ∷ []
+    → new ≡ old ++ made ∷ [] → stmt_of made ≡ s →
     map stmt_of new ≡ map stmt_of old ++ value_parts names k e
 leaf_pushed names k e s old new made parts pushed is = one_pushed old new made s pushed is ∙ ap (λ (ss : List StmtOf). map stmt_of old ++ ss) (sym parts)
 
@@ -42,12 +43,14 @@ pub between_pushed : (names : List (List ℕ)) (k : ℕ) (op : Infix) (whole a b
     → whole ≡ Between op a b → r ≡ sort_of a → s ≡ sort_of b
     → map stmt_of one ≡ map stmt_of old ++ value_parts names k a
     → map stmt_of two ≡ map stmt_of one ++ value_parts names (suc k) b
-    → stmt_of made ≡ new_predef 0 (infix_row op) (argument (temporary_name (infix_sort op) k) ∷ argument (temporary_name r k) ∷ argument (temporary_name s (suc k)) ∷ [])
+    → stmt_of made ≡ new_predef 0 (infix_row op)
+    (argument (temporary_name (infix_sort op) k) ∷ argument (temporary_name r k) ∷ argument (temporary_name s (suc k)) ∷ [])
     → new ≡ two ++ made ∷ []
     → map stmt_of new ≡ map stmt_of old ++ value_parts names k whole
 unfolding value_parts
 between_pushed names k op whole a b r s old one two new made is left right first second last pushed =
-    let call : Sort → Sort → StmtOf = λ i j. new_predef 0 (infix_row op) (argument (temporary_name (infix_sort op) k) ∷ argument (temporary_name i k) ∷ argument (temporary_name j (suc k)) ∷ []) in
+    let call : Sort → Sort → StmtOf = λ i j. new_predef 0 (infix_row op)
+    (argument (temporary_name (infix_sort op) k) ∷ argument (temporary_name i k) ∷ argument (temporary_name j (suc k)) ∷ []) in
     let end : StmtOf = call (sort_of a) (sort_of b) in
     one_pushed two new made end pushed (last ∙ ap₂ call left right)
     ∙ ap (λ (ss : List StmtOf). ss ++ end ∷ []) (second ∙ ap (λ (ss : List StmtOf). ss ++ value_parts names (suc k) b) first)
@@ -99,7 +102,8 @@ while_is names e b whole old new then made block is =
 
 pub if_is : (names : List (List ℕ)) (e : Exp) (b d whole : Stmt) (old new : List StmtOf) (then otherwise : StmtOf)
     → new ≡ old ++ (value_parts names 0 e ++ choice_parts then otherwise ∷ [])
-    → then ≡ block_parts (statement_parts names b) → otherwise ≡ block_parts (statement_parts names d) → whole ≡ If e b d → new ≡ old ++ statement_parts names whole
+    → then ≡ block_parts (statement_parts names b) → otherwise ≡ block_parts (statement_parts names d) → whole ≡ If e b d
+    → new ≡ old ++ statement_parts names whole
 unfolding statement_parts
 if_is names e b d whole old new then otherwise made one two is =
     made

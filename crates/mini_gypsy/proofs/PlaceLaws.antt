@@ -7,10 +7,13 @@ use Rattle.stack_text.specs.declared.name.Named.{Named}
 use Rattle.stack_text.specs.declared.shape.Kind.TheVariants.{Integer}
 use Rattle.stack_text.specs.Grammar.Printed.{unplaced_name}
 use Rattle.gypsy_syntax.specs.declared.literal.Decl.{Decl}
-use Rattle.gypsy_syntax.specs.Places.{unplaced_literal, unplaced_literals, unplaced_arg, unplaced_decl, unplaced_local, unplaced_stmt, unplaced_stmts, unplaced_proc, without_places}
+use Rattle.gypsy_syntax.specs.Places.{unplaced_literal, unplaced_literals, unplaced_arg, unplaced_decl, unplaced_local, unplaced_stmt, unplaced_stmts}
+use Rattle.gypsy_syntax.specs.Places.{unplaced_proc, without_places}
 use Rattle.gypsy_syntax.specs.Programs.{Leave, Routine, Space, Declared, Var, Lit, simple}
 use Rattle.gypsy_syntax.specs.Programs.{Signal, Seq, Loop, If, Begin, Call, Apply}
-use Rattle.gypsy_syntax.specs.Resolved.{position_of, variable_names, condition_names, procedure_names, shape_of, item_of, items_of_all, value_items, literal_kind, literal_value, local_value, is_leave_name, is_routine_name, is_space_name, cond_of, variable_of, argument_of, statement_of, statement_of_all, procedure_of, program_of}
+use Rattle.gypsy_syntax.specs.Resolved.{position_of, variable_names, condition_names, procedure_names, shape_of, item_of, items_of_all, value_items}
+use Rattle.gypsy_syntax.specs.Resolved.{literal_kind, literal_value, local_value, is_leave_name, is_routine_name, is_space_name, cond_of, variable_of}
+use Rattle.gypsy_syntax.specs.Resolved.{argument_of, statement_of, statement_of_all, procedure_of, program_of}
 use Rattle.gypsy_syntax.specs.Sources.{LiteralOf, LiteralsOf, integer, truth, character, array, no_items, item, ArgOf, variable, constant}
 use Rattle.gypsy_syntax.specs.Sources.{StmtOf, StmtsOf, no_op, signal, seq, loop, branch, begin, call, predef, no_parts, part, LocalOf, ProcOf, SourceOf}
 use Rattle.mini_gypsy.proofs.BareLaws.{bare_statement, bare_procedure, bare_program}
@@ -81,7 +84,8 @@ module _ (p : ProcOf) where
   cond_same : (n : Named) → cond_of (unplaced_proc p) (unplaced_name n) ≡ cond_of p n
   cond_same n =
       ap (λ (names : List (List ℕ)).
-      if is_leave_name n.name then Leave else if is_routine_name n.name then Routine else if is_space_name n.name then Space else Declared (position_of n.name names))
+      if is_leave_name n.name then Leave else if is_routine_name n.name then Routine else if is_space_name n.name then Space
+      else Declared (position_of n.name names))
       (conditions_same p)
 
   conds_same : (ns : List Named) → map (cond_of (unplaced_proc p)) (map unplaced_name ns) ≡ map (cond_of p) ns
@@ -101,7 +105,8 @@ module _ (p : ProcOf) where
   arguments_same = map_over (argument_of (unplaced_proc p)) unplaced_arg (argument_of p) argument_same
 
 mutual
-  statement_same : (s : SourceOf) (p : ProcOf) (b : StmtOf) → statement_of (without_places s) (unplaced_proc p) (unplaced_stmt b) ≡ bare_statement (statement_of s p b)
+  statement_same : (s : SourceOf) (p : ProcOf) (b : StmtOf) → statement_of (without_places s) (unplaced_proc p) (unplaced_stmt b)
+      ≡ bare_statement (statement_of s p b)
   statement_same s p (no_op place) = refl
   statement_same s p (signal place c) = ap (Signal 0) (cond_same p c)
   statement_same s p (seq place parts) = parts_same s p parts
@@ -123,7 +128,8 @@ mutual
       λ i. Call 0 (to i) (data_actuals i) (actuals i)
   statement_same s p (predef place which args) = ap (Apply 0 which) (arguments_same p args)
 
-  parts_same : (s : SourceOf) (p : ProcOf) (bs : StmtsOf) → statement_of_all (without_places s) (unplaced_proc p) (unplaced_stmts bs) ≡ bare_statement (statement_of_all s p bs)
+  parts_same : (s : SourceOf) (p : ProcOf) (bs : StmtsOf) → statement_of_all (without_places s) (unplaced_proc p) (unplaced_stmts bs)
+      ≡ bare_statement (statement_of_all s p bs)
   parts_same s p no_parts = refl
   parts_same s p (part b bs) = ap₂ Seq (statement_same s p b) (parts_same s p bs)
 

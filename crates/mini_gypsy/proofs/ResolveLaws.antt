@@ -52,7 +52,8 @@ module _ (q : SourceOf) (p : ProcOf) (names : List (List ℕ)) (sorts : List Sor
   three_are which a b c x y z e f g =
       ap₂ (λ (v w : Arg). gypsy.Apply 0 which (v ∷ w ∷ argument_of p c ∷ [])) e f ∙ ap (λ (w : Arg). gypsy.Apply 0 which (x ∷ y ∷ w ∷ [])) g
 
-  joined : (cs bs : List StmtOf) (xs ys : List gypsy.Stmt) → map (statement_of q p) cs ≡ xs → map (statement_of q p) bs ≡ ys → map (statement_of q p) (cs ++ bs) ≡ xs ++ ys
+  joined : (cs bs : List StmtOf) (xs ys : List gypsy.Stmt) → map (statement_of q p) cs ≡ xs → map (statement_of q p) bs ≡ ys
+      → map (statement_of q p) (cs ++ bs) ≡ xs ++ ys
   joined cs bs xs ys e f = map-append (statement_of q p) cs bs ∙ ap₂ (λ (us vs : List gypsy.Stmt). us ++ vs) e f
 
   one_more : (s : StmtOf) (t : gypsy.Stmt) → statement_of q p s ≡ t → map (statement_of q p) (s ∷ []) ≡ t ∷ []
@@ -70,27 +71,36 @@ module _ (q : SourceOf) (p : ProcOf) (names : List (List ℕ)) (sorts : List Sor
       ap (λ (x : Arg). gypsy.Apply 0 row.MgSimpleConstantAssignment (x ∷ Lit (truth_value b) ∷ []) ∷ []) (temporary_is Bool k (omega arith))
   values_are k (Before op e) sorted small =
       let some = depth_some e in
-      joined (value_parts names k e) (new_predef 0 (prefix_row op) (argument (temporary_name (prefix_sort op) k) ∷ argument (temporary_name (sort_of e) k) ∷ []) ∷ [])
-      (value_steps (length names) k e) (gypsy.Apply 0 (prefix_row op) (Var (temporary_at (length names) (prefix_sort op) k) ∷ Var (temporary_at (length names) (sort_of e) k) ∷ []) ∷ [])
+      joined (value_parts names k e) (new_predef 0 (prefix_row op)
+      (argument (temporary_name (prefix_sort op) k) ∷ argument (temporary_name (sort_of e) k) ∷ []) ∷ [])
+      (value_steps (length names) k e) (gypsy.Apply 0 (prefix_row op)
+      (Var (temporary_at (length names) (prefix_sort op) k) ∷ Var (temporary_at (length names) (sort_of e) k) ∷ []) ∷ [])
       (values_are k e sorted.0 small)
-      (ap₂ (λ (x y : Arg). gypsy.Apply 0 (prefix_row op) (x ∷ y ∷ []) ∷ []) (temporary_is (prefix_sort op) k (omega arith)) (temporary_is (sort_of e) k (omega arith)))
+      (ap₂ (λ (x y : Arg). gypsy.Apply 0 (prefix_row op) (x ∷ y ∷ []) ∷ []) (temporary_is (prefix_sort op) k (omega arith))
+      (temporary_is (sort_of e) k (omega arith)))
   values_are k (Between op a b) sorted small =
       let some = depth_some b in
-      let last = new_predef 0 (infix_row op) (argument (temporary_name (infix_sort op) k) ∷ argument (temporary_name (sort_of a) k) ∷ argument (temporary_name (sort_of b) (suc k)) ∷ []) in
-      let step = gypsy.Apply 0 (infix_row op) (Var (temporary_at (length names) (infix_sort op) k) ∷ Var (temporary_at (length names) (sort_of a) k) ∷ Var (temporary_at (length names) (sort_of b) (suc k)) ∷ []) in
-      joined (value_parts names k a) (value_parts names (suc k) b ++ last ∷ []) (value_steps (length names) k a) (value_steps (length names) (suc k) b ++ step ∷ [])
+      let last = new_predef 0 (infix_row op) (argument (temporary_name (infix_sort op) k) ∷ argument (temporary_name (sort_of a) k)
+      ∷ argument (temporary_name (sort_of b) (suc k)) ∷ []) in
+      let step = gypsy.Apply 0 (infix_row op) (Var (temporary_at (length names) (infix_sort op) k) ∷ Var (temporary_at (length names) (sort_of a) k)
+      ∷ Var (temporary_at (length names) (sort_of b) (suc k)) ∷ []) in
+      joined (value_parts names k a) (value_parts names (suc k) b ++ last ∷ []) (value_steps (length names) k a)
+      (value_steps (length names) (suc k) b ++ step ∷ [])
       (values_are k a sorted.0 (omega arith))
       (joined (value_parts names (suc k) b) (last ∷ []) (value_steps (length names) (suc k) b) (step ∷ [])
       (values_are (suc k) b sorted.1 (omega arith))
       (one_more last step
-      (three_are (infix_row op) (argument (temporary_name (infix_sort op) k)) (argument (temporary_name (sort_of a) k)) (argument (temporary_name (sort_of b) (suc k)))
-      (Var (temporary_at (length names) (infix_sort op) k)) (Var (temporary_at (length names) (sort_of a) k)) (Var (temporary_at (length names) (sort_of b) (suc k)))
+      (three_are (infix_row op) (argument (temporary_name (infix_sort op) k)) (argument (temporary_name (sort_of a) k))
+      (argument (temporary_name (sort_of b) (suc k)))
+      (Var (temporary_at (length names) (infix_sort op) k)) (Var (temporary_at (length names) (sort_of a) k))
+      (Var (temporary_at (length names) (sort_of b) (suc k)))
       (temporary_is (infix_sort op) k (omega arith)) (temporary_is (sort_of a) k (omega arith)) (temporary_is (sort_of b) (suc k) (omega arith)))))
 
   block_is : (parts : List StmtOf) (steps : List gypsy.Stmt) → map (statement_of q p) parts ≡ steps → statement_of q p (block_parts parts) ≡ block_of steps
   block_is parts steps e = ap (gypsy.Seq (gypsy.NoOp 0)) (all_in_turn q p parts ∙ ap in_turn e)
 
-  choice_is : (s t : StmtOf) (a b : gypsy.Stmt) → statement_of q p s ≡ a → statement_of q p t ≡ b → statement_of q p (choice_parts s t) ≡ choice_of (length names) a b
+  choice_is : (s t : StmtOf) (a b : gypsy.Stmt) → statement_of q p s ≡ a → statement_of q p t ≡ b
+      → statement_of q p (choice_parts s t) ≡ choice_of (length names) a b
   choice_is s t a b e f =
       ap₂ (λ (x y : gypsy.Stmt). gypsy.If 0 (unwrap_or (place p) 0) x y) e f
       ∙ ap (λ (o : Option ℕ). gypsy.If 0 (unwrap_or o 0) a b) (known.temporary_stands Bool 0 (omega arith))
@@ -102,21 +112,26 @@ module _ (q : SourceOf) (p : ProcOf) (names : List (List ℕ)) (sorts : List Sor
   unfolding statement_parts statement_steps
   statements_are Nothing fine = refl
   statements_are (Then s t) fine =
-      joined (statement_parts names s) (statement_parts names t) (statement_steps (length names) s) (statement_steps (length names) t) (statements_are s fine.0) (statements_are t fine.1)
+      joined (statement_parts names s) (statement_parts names t) (statement_steps (length names) s) (statement_steps (length names) t)
+      (statements_are s fine.0) (statements_are t fine.1)
   statements_are (Assign i e) fine =
-      joined (value_parts names 0 e) (set_name (nth_name names i) (temporary_name (sort_of e) 0) ∷ []) (value_steps (length names) 0 e) (set_variable i (temporary_at (length names) (sort_of e) 0) ∷ [])
+      joined (value_parts names 0 e) (set_name (nth_name names i) (temporary_name (sort_of e) 0) ∷ []) (value_steps (length names) 0 e)
+      (set_variable i (temporary_at (length names) (sort_of e) 0) ∷ [])
       (values_are 0 e fine.1.sorted (omega (arith, fine.1.shallow)))
-      (ap₂ (λ (x y : Arg). gypsy.Apply 0 row.MgSimpleVariableAssignment (x ∷ y ∷ []) ∷ []) (declared_is i (sort_of e) fine.0) (temporary_is (sort_of e) 0 (omega arith)))
+      (ap₂ (λ (x y : Arg). gypsy.Apply 0 row.MgSimpleVariableAssignment (x ∷ y ∷ []) ∷ []) (declared_is i (sort_of e) fine.0)
+      (temporary_is (sort_of e) 0 (omega arith)))
   statements_are (While e s) fine =
       let block = block_parts (statement_parts names s) in
       let block' = block_of (statement_steps (length names) s) in
       ap (λ (x : gypsy.Stmt). gypsy.Loop 0 x ∷ [])
       (all_in_turn q p (value_parts names 0 e ++ choice_parts block leave ∷ [])
       ∙ ap in_turn
-      (joined (value_parts names 0 e) (choice_parts block leave ∷ []) (value_steps (length names) 0 e) (choice_of (length names) block' (gypsy.Signal 0 gypsy.Leave) ∷ [])
+      (joined (value_parts names 0 e) (choice_parts block leave ∷ []) (value_steps (length names) 0 e)
+      (choice_of (length names) block' (gypsy.Signal 0 gypsy.Leave) ∷ [])
       (values_are 0 e fine.0.sorted (omega (arith, fine.0.shallow)))
       (one_more (choice_parts block leave) (choice_of (length names) block' (gypsy.Signal 0 gypsy.Leave))
-      (choice_is block leave block' (gypsy.Signal 0 gypsy.Leave) (block_is (statement_parts names s) (statement_steps (length names) s) (statements_are s fine.1)) refl))))
+      (choice_is block leave block' (gypsy.Signal 0 gypsy.Leave)
+      (block_is (statement_parts names s) (statement_steps (length names) s) (statements_are s fine.1)) refl))))
   statements_are (If e s t) fine =
       let yes_block = block_parts (statement_parts names s) in
       let yes_steps = block_of (statement_steps (length names) s) in

@@ -30,7 +30,8 @@ use Rattle.mini_syntax.specs.declared.operator.Infix.TheVariants.{Or, And, AtMos
 use Rattle.mini_syntax.specs.Operands.{prefix_takes, infix_takes}
 use Rattle.mini_syntax.specs.Language.{Exp, Variable, Number, Truth, Before, Between, Stmt, Nothing, Then, Assign, While, If}
 use Rattle.mini_syntax.specs.Lawful.{AreApart, IsLawful}
-use Rattle.mini_gypsy.specs.Lowered.{kind_of, decl_of, locals_from, temporary_name, temporaries, argument, set_name, value_parts, statement_parts, block_parts, choice_parts, leave, main_procedure, lowered}
+use Rattle.mini_gypsy.specs.Lowered.{kind_of, decl_of, locals_from, temporary_name, temporaries, argument, set_name, value_parts, statement_parts, block_parts}
+use Rattle.mini_gypsy.specs.Lowered.{choice_parts, leave, main_procedure, lowered}
 use Rattle.mini_syntax.specs.Lawful.{nth_name}
 use Rattle.mini_syntax.specs.Names.{is_variable_name}
 use Rattle.mini_syntax.specs.Sorted.{depth, IsSorted, AreFine}
@@ -54,7 +55,8 @@ module _ (q : SourceOf) (p : ProcOf) where
       predef_breaches p 0 (slots_of row.MgSimpleConstantAssignment) (argument a ∷ constant (truth 0 b) ∷ []) ≡ []
   truth_clean b a f = rw f refl
 
-  prefix_clean : (op : Prefix) (s : Sort) (c a : List ℕ) → prefix_takes op s ≡ true → type_of p c ≡ Some (new_simple 0 (kind_of (prefix_sort op))) → type_of p a ≡ Some (new_simple 0 (kind_of s)) →
+  prefix_clean : (op : Prefix) (s : Sort) (c a : List ℕ) → prefix_takes op s ≡ true → type_of p c ≡ Some (new_simple 0 (kind_of (prefix_sort op)))
+      → type_of p a ≡ Some (new_simple 0 (kind_of s)) →
       predef_breaches p 0 (slots_of (prefix_row op)) (argument c ∷ argument a ∷ []) ≡ []
   prefix_clean Not Int c a takes f g = cc
   prefix_clean Not Bool c a takes f g = rw (f, g) refl
@@ -93,7 +95,8 @@ module _ (q : SourceOf) (p : ProcOf) where
   infix_clean Multiply Bool Int c a b takes f g h = cc
   infix_clean Multiply Bool Bool c a b takes f g h = cc
 
-  parts_append : (l : std.Bool) (xs ys : List StmtOf) → parts_breaches q p l (statements xs) ≡ [] → parts_breaches q p l (statements ys) ≡ [] → parts_breaches q p l (statements (xs ++ ys)) ≡ []
+  parts_append : (l : std.Bool) (xs ys : List StmtOf) → parts_breaches q p l (statements xs) ≡ [] → parts_breaches q p l (statements ys) ≡ []
+      → parts_breaches q p l (statements (xs ++ ys)) ≡ []
   parts_append l [] ys e f = f
   parts_append l (s ∷ xs) ys e f =
       let k = append_none (statement_breaches q p l s) (parts_breaches q p l (statements xs)) e in
@@ -106,7 +109,8 @@ module _ (q : SourceOf) (p : ProcOf) where
     values_clean : (l : std.Bool) (k : ℕ) (e : Exp) → IsSorted sorts e → k + depth e ≤ depths → parts_breaches q p l (statements (value_parts names k e)) ≡ []
     unfolding value_parts
     values_clean l k (Variable s i) sorted small =
-        one_clean l (set_name (temporary_name s k) (nth_name names i)) (set_clean s (temporary_name s k) (nth_name names i) (known.temporary_type s k (omega arith)) (known.declared_type i s sorted))
+        one_clean l (set_name (temporary_name s k) (nth_name names i))
+        (set_clean s (temporary_name s k) (nth_name names i) (known.temporary_type s k (omega arith)) (known.declared_type i s sorted))
     values_clean l k (Number n) sorted small =
         one_clean l (new_predef 0 row.MgSimpleConstantAssignment (argument (temporary_name Int k) ∷ constant (integer 0 (pos n)) ∷ []))
         (number_clean n (temporary_name Int k) sorted (known.temporary_type Int k (omega arith)))
@@ -121,23 +125,30 @@ module _ (q : SourceOf) (p : ProcOf) where
         (known.temporary_type (prefix_sort op) k (omega arith)) (known.temporary_type (sort_of e) k (omega arith))))
     values_clean l k (Between op a b) sorted small =
         let some = depth_some b in
-        let last = new_predef 0 (infix_row op) (argument (temporary_name (infix_sort op) k) ∷ argument (temporary_name (sort_of a) k) ∷ argument (temporary_name (sort_of b) (suc k)) ∷ []) in
+        let last = new_predef 0 (infix_row op) (argument (temporary_name (infix_sort op) k) ∷ argument (temporary_name (sort_of a) k)
+        ∷ argument (temporary_name (sort_of b) (suc k)) ∷ []) in
         parts_append l (value_parts names k a) (value_parts names (suc k) b ++ last ∷ []) (values_clean l k a sorted.0 (omega arith))
         (parts_append l (value_parts names (suc k) b) (last ∷ []) (values_clean l (suc k) b sorted.1 (omega arith))
-        (one_clean l last (infix_clean op (sort_of a) (sort_of b) (temporary_name (infix_sort op) k) (temporary_name (sort_of a) k) (temporary_name (sort_of b) (suc k)) sorted.2
-        (known.temporary_type (infix_sort op) k (omega arith)) (known.temporary_type (sort_of a) k (omega arith)) (known.temporary_type (sort_of b) (suc k) (omega arith)))))
+        (one_clean l last (infix_clean op (sort_of a) (sort_of b) (temporary_name (infix_sort op) k) (temporary_name (sort_of a) k)
+        (temporary_name (sort_of b) (suc k)) sorted.2
+        (known.temporary_type (infix_sort op) k (omega arith)) (known.temporary_type (sort_of a) k (omega arith))
+        (known.temporary_type (sort_of b) (suc k) (omega arith)))))
 
-    choice_clean : (l : std.Bool) (s t : StmtOf) → statement_breaches q p l s ≡ [] → statement_breaches q p l t ≡ [] → statement_breaches q p l (choice_parts s t) ≡ []
+    choice_clean : (l : std.Bool) (s t : StmtOf) → statement_breaches q p l s ≡ [] → statement_breaches q p l t ≡ []
+        → statement_breaches q p l (choice_parts s t) ≡ []
     choice_clean l s t e f = rw (known.temporary_type Bool 0 (omega arith)) (both_none (statement_breaches q p l s) (statement_breaches q p l t) e f)
 
     statements_clean : (l : std.Bool) (s : Stmt) → AreFine sorts s → parts_breaches q p l (statements (statement_parts names s)) ≡ []
     unfolding statement_parts
     statements_clean l Nothing fine = refl
-    statements_clean l (Then s t) fine = parts_append l (statement_parts names s) (statement_parts names t) (statements_clean l s fine.0) (statements_clean l t fine.1)
+    statements_clean l (Then s t) fine =
+        parts_append l (statement_parts names s) (statement_parts names t) (statements_clean l s fine.0) (statements_clean l t fine.1)
     statements_clean l (Assign i e) fine =
-        parts_append l (value_parts names 0 e) (set_name (nth_name names i) (temporary_name (sort_of e) 0) ∷ []) (values_clean l 0 e fine.1.sorted (omega (arith, fine.1.shallow)))
+        parts_append l (value_parts names 0 e) (set_name (nth_name names i) (temporary_name (sort_of e) 0) ∷ [])
+        (values_clean l 0 e fine.1.sorted (omega (arith, fine.1.shallow)))
         (one_clean l (set_name (nth_name names i) (temporary_name (sort_of e) 0))
-        (set_clean (sort_of e) (nth_name names i) (temporary_name (sort_of e) 0) (known.declared_type i (sort_of e) fine.0) (known.temporary_type (sort_of e) 0 (omega arith))))
+        (set_clean (sort_of e) (nth_name names i) (temporary_name (sort_of e) 0) (known.declared_type i (sort_of e) fine.0)
+        (known.temporary_type (sort_of e) 0 (omega arith))))
     statements_clean l (While e s) fine =
         let block = block_parts (statement_parts names s) in
         one_clean l (loop 0 (new_seq 0 (value_parts names 0 e ++ choice_parts block leave ∷ [])))
@@ -155,7 +166,8 @@ or_none : (a b : std.Bool) → a ≡ false → b ≡ false → (a || b) ≡ fals
 or_none a b e f = ap₂ (λ (x y : std.Bool). x || y) e f
 
 -- among more names, none of which these are
-repeats_apart : (rule : ℕ) (known earlier : List (List ℕ)) (ns : List Named) → Each (λ (n : Named). is_among n.name earlier ≡ false) ns → repeats rule known ns ≡ [] → repeats rule (known ++ earlier) ns ≡ []
+repeats_apart : (rule : ℕ) (known earlier : List (List ℕ)) (ns : List Named) → Each (λ (n : Named). is_among n.name earlier ≡ false) ns
+    → repeats rule known ns ≡ [] → repeats rule (known ++ earlier) ns ≡ []
 repeats_apart rule known earlier [] apart e = refl
 repeats_apart rule known earlier (n ∷ ns) apart e =
     let k = append_none (when (is_among n.name known) n.place rule) (repeats rule (n.name ∷ known) ns) e in
@@ -183,10 +195,12 @@ each_append : {X : Type 0} (P : X → Type 0) (xs ys : List X) → Each P xs →
 each_append P [] ys e f = f
 each_append P (x ∷ xs) ys e f = (e.0, each_append P xs ys e.1 f)
 
-temporaries_miss : (earlier : List (List ℕ)) → NoneTemporary earlier → Each (λ (n : Named). is_among n.name earlier ≡ false) (map (λ (l : LocalOf). l.decl.name) temporaries)
+temporaries_miss : (earlier : List (List ℕ)) → NoneTemporary earlier → Each (λ (n : Named). is_among n.name earlier ≡ false)
+    (map (λ (l : LocalOf). l.decl.name) temporaries)
 unfolding temporaries locals_from
 temporaries_miss earlier none =
-    each_append (λ (n : Named). is_among n.name earlier ≡ false) (map (λ (l : LocalOf). l.decl.name) (locals_from Int 0 depths)) (map (λ (l : LocalOf). l.decl.name) (locals_from Bool 0 depths))
+    each_append (λ (n : Named). is_among n.name earlier ≡ false) (map (λ (l : LocalOf). l.decl.name) (locals_from Int 0 depths))
+    (map (λ (l : LocalOf). l.decl.name) (locals_from Bool 0 depths))
     (locals_miss earlier Int 0 depths (omega arith) none) (locals_miss earlier Bool 0 depths (omega arith) none)
 
 temporaries_differ : repeats 4 [] (map (λ (l : LocalOf). l.decl.name) temporaries) ≡ []
@@ -194,15 +208,23 @@ unfolding temporaries locals_from
 temporaries_differ = refl
 
 variables_differ : (ds : List Declared) (earlier : List (List ℕ)) → Each (λ d. is_variable_name d.name ≡ true) ds → AreApart (map (λ d. d.name) ds) →
-    ((i : ℕ) → i < length (map (λ (d : Declared). d.name) ds) → is_among (nth_name (map (λ (d : Declared). d.name) ds) i) earlier ≡ false) → NoneTemporary earlier →
+    ((i : ℕ) → i < length (map (λ (d : Declared). d.name) ds) → is_among (nth_name (map (λ (d : Declared). d.name) ds) i) earlier ≡ false)
+    → NoneTemporary earlier →
     repeats 4 earlier (map (λ (d : Decl). d.name) (map (λ (d : Declared). decl_of d.name d.sort) ds) ++ map (λ (l : LocalOf). l.decl.name) temporaries) ≡ []
-variables_differ [] earlier good apart new none = repeats_apart 4 [] earlier (map (λ (l : LocalOf). l.decl.name) temporaries) (temporaries_miss earlier none) temporaries_differ
+variables_differ [] earlier good apart new none =
+    repeats_apart 4 [] earlier (map (λ (l : LocalOf). l.decl.name) temporaries) (temporaries_miss earlier none) temporaries_differ
 variables_differ (d ∷ ds) earlier good apart new none =
-    both_none (when (is_among d.name earlier) 0 4) (repeats 4 (d.name ∷ earlier) (map (λ (e : Decl). e.name) (map (λ (e : Declared). decl_of e.name e.sort) ds) ++ map (λ (l : LocalOf). l.decl.name) temporaries))
+    both_none (when (is_among d.name earlier) 0 4)
+    (repeats 4 (d.name ∷ earlier) (map (λ (e : Decl). e.name) (map (λ (e : Declared). decl_of e.name e.sort) ds)
+    ++ map (λ (l : LocalOf). l.decl.name) temporaries))
     (ap (λ (b : std.Bool). when b 0 4) (new 0 (omega arith)))
     (variables_differ ds (d.name ∷ earlier) good.1 apart.1
-    (λ i lt. or_none (bytes_eq (nth_name (map (λ (e : Declared). e.name) ds) i) d.name) (is_among (nth_name (map (λ (e : Declared). e.name) ds) i) earlier) (apart.0 i lt) (new (suc i) (omega arith)))
-    record { misses = λ s k lt. or_none (bytes_eq (temporary_name s k) d.name) (is_among (temporary_name s k) earlier) (marked d.name s k good.0) (none.misses s k lt) })
+    (λ i lt. or_none (bytes_eq (nth_name (map (λ (e : Declared). e.name) ds) i) d.name)
+    (is_among (nth_name (map (λ (e : Declared). e.name) ds) i) earlier) (apart.0 i lt) (new (suc i) (omega arith)))
+    record {
+      misses = λ s k lt. or_none (bytes_eq (temporary_name s k) d.name) (is_among (temporary_name s k) earlier) (marked d.name s k good.0)
+          (none.misses s k lt);
+    })
 
 -- Types.
 
@@ -222,7 +244,8 @@ local_values : flat_map local_breaches temporaries ≡ []
 unfolding temporaries locals_from
 local_values = refl
 
-formal_words : (ds : List Declared) → words_of_types (map (λ (d : Decl). d.shape) (map (λ (d : Declared). decl_of d.name d.sort) ds) ++ map (λ (l : LocalOf). l.decl.shape) temporaries) ≡ length ds + 82
+formal_words : (ds : List Declared) → words_of_types
+    (map (λ (d : Decl). d.shape) (map (λ (d : Declared). decl_of d.name d.sort) ds) ++ map (λ (l : LocalOf). l.decl.shape) temporaries) ≡ length ds + 82
 unfolding temporaries locals_from
 formal_words [] = refl
 formal_words (d ∷ ds) = let rest = formal_words ds in omega (arith, rest)
@@ -232,13 +255,16 @@ variables_clean ds s lawful =
     let names = map (λ (d : Declared). d.name) ds in
     rw (
       variables_differ ds [] (all_named ds lawful.names) lawful.apart (λ i lt. refl) record { misses = λ r k lt. refl },
-      types_append type_breaches (map (λ (d : Decl). d.shape) (map (λ (d : Declared). decl_of d.name d.sort) ds)) (map (λ (l : LocalOf). l.decl.shape) temporaries) (formal_types ds) local_types,
+      types_append type_breaches (map (λ (d : Decl). d.shape) (map (λ (d : Declared). decl_of d.name d.sort) ds))
+          (map (λ (l : LocalOf). l.decl.shape) temporaries) (formal_types ds) local_types,
       local_values,
       formal_words ds,
       le-ltb 65536 (length ds + 82) (omega (arith, lawful.few)),
     )
-    (statements_clean (lowered ds s) (main_procedure ds s) names (map (λ (d : Declared). d.sort) ds) (knows ds s (all_named ds lawful.names) lawful.apart) false s lawful.fine)
+    (statements_clean (lowered ds s) (main_procedure ds s) names (map (λ (d : Declared). d.sort) ds)
+    (knows ds s (all_named ds lawful.names) lawful.apart) false s lawful.fine)
 
 pub lowered_clean : (ds : List Declared) (s : Stmt) → IsLawful ds s → violations (lowered ds s) ≡ []
 unfolding violations keyword_name form_named predef_named place_among
-lowered_clean ds s lawful = both_none [] (procedure_breaches (lowered ds s) (main_procedure ds s) ++ []) refl (both_none (procedure_breaches (lowered ds s) (main_procedure ds s)) [] (variables_clean ds s lawful) refl)
+lowered_clean ds s lawful = both_none [] (procedure_breaches (lowered ds s) (main_procedure ds s) ++ []) refl
+    (both_none (procedure_breaches (lowered ds s) (main_procedure ds s)) [] (variables_clean ds s lawful) refl)

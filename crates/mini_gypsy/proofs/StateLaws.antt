@@ -25,7 +25,8 @@ write_temporary n d t i v e =
     set-append_right d t n (n + i) v e (omega arith) ∙ ap (λ (k : ℕ). d ++ slice_set t k v) back
 
 -- one after the other
-then_through : (o : MeaningOutcome) (f g h : List ValueOf → MeaningOutcome) → ((y : List ValueOf) → f y ≡ then_do (g y) h) → then_do o f ≡ then_do (then_do o g) h
+then_through : (o : MeaningOutcome) (f g h : List ValueOf → MeaningOutcome) → ((y : List ValueOf) → f y ≡ then_do (g y) h)
+    → then_do o f ≡ then_do (then_do o g) h
 then_through (Done x None) f g h e = e x
 then_through (Done x (Some c)) f g h e = refl
 then_through Unfinished f g h e = refl

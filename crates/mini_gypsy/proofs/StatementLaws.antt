@@ -47,7 +47,8 @@ Follows sorts Unfinished o = o ≡ Unfinished
 abbrev pub FollowsFrom : List Sort → (List ValueOf → MeaningOutcome) → (List ValueOf → MeaningOutcome) → Type 0
 FollowsFrom sorts f g = (d t : List ValueOf) → AreHeld sorts d → length t ≡ 2 * depths → Follows sorts (f d) (g (d ++ t))
 
-pub follows_then : (sorts : List Sort) (r o : MeaningOutcome) (f g : List ValueOf → MeaningOutcome) → Follows sorts r o → FollowsFrom sorts f g → Follows sorts (then_do r f) (then_do o g)
+pub follows_then : (sorts : List Sort) (r o : MeaningOutcome) (f g : List ValueOf → MeaningOutcome) → Follows sorts r o → FollowsFrom sorts f g
+    → Follows sorts (then_do r f) (then_do o g)
 follows_then sorts (Done d None) o f g first next =
     subst (Follows sorts (f d)) (sym (ap (λ (p : MeaningOutcome). then_do p g) first.is)) (next d first.rest first.held first.many)
 follows_then sorts (Done d (Some c)) o f g first next = record {
@@ -64,7 +65,8 @@ follows_by : (sorts : List Sort) (r o p : MeaningOutcome) → o ≡ p → Follow
 follows_by sorts r o p e follows = subst (Follows sorts r) (sym e) follows
 
 -- a round of a loop whose round is over: the next one
-follows_round : (sorts : List Sort) (r o : MeaningOutcome) (f g : List ValueOf → MeaningOutcome) → Follows sorts r o → FollowsFrom sorts f g → Follows sorts (then_do r f) (round_end o g)
+follows_round : (sorts : List Sort) (r o : MeaningOutcome) (f g : List ValueOf → MeaningOutcome) → Follows sorts r o → FollowsFrom sorts f g
+    → Follows sorts (then_do r f) (round_end o g)
 follows_round sorts (Done d None) o f g first next =
     subst (Follows sorts (f d)) (sym (ap (λ (p : MeaningOutcome). round_end p g) first.is)) (next d first.rest first.held first.many)
 follows_round sorts (Done d (Some Leave)) o f g first next = absurd first.ending
@@ -81,7 +83,8 @@ follows_round sorts Unfinished o f g first next = ap (λ (p : MeaningOutcome). r
 
 module _ (q : Program) (sizes u : StackSizes) (sorts : List Sort) where
   -- after the steps of an expression, one more statement
-  value_then : (m : ℕ) (e : Exp) (w : Worth) (d t : List ValueOf) (last : gypsy.Stmt) (puts : Puts q sizes u m (length sorts) (value_steps (length sorts) 0 e) 0 (sort_of e) w d t) →
+  value_then : (m : ℕ) (e : Exp) (w : Worth) (d t : List ValueOf) (last : gypsy.Stmt)
+      (puts : Puts q sizes u m (length sorts) (value_steps (length sorts) 0 e) 0 (sort_of e) w d t) →
       evaluate q sizes (suc m) (in_turn (value_steps (length sorts) 0 e ++ last ∷ [])) u (d ++ t)
       ≡ then_do (ended w (d ++ puts.after)) (evaluate q sizes (suc m) (in_turn (last ∷ [])) u)
   value_then m e w d t last puts =
@@ -89,15 +92,18 @@ module _ (q : Program) (sizes u : StackSizes) (sorts : List Sort) where
       ∙ ap (λ (o : MeaningOutcome). then_do o (evaluate q sizes (suc m) (in_turn (last ∷ [])) u)) puts.runs
 
   -- a variable is set to another's value
-  variable_set : (m i j : ℕ) (x : List ValueOf) (v : ValueOf) → value_at x j ≡ v → evaluate q sizes (suc m) (in_turn (set_variable i j ∷ [])) u x ≡ Done (slice_set x i v) None
+  variable_set : (m i j : ℕ) (x : List ValueOf) (v : ValueOf) → value_at x j ≡ v
+      → evaluate q sizes (suc m) (in_turn (set_variable i j ∷ [])) u x ≡ Done (slice_set x i v) None
   unfolding predef_effect effect_by values_of target_of
   variable_set m i j x v e = turn_one q sizes m u (set_variable i j) x ∙ ap (λ (w : ValueOf). Done (slice_set x i w) None) e
 
   -- an assignment
-  assign_follows : (m i : ℕ) (e : Exp) (d t : List ValueOf) → AreHeld sorts d → length t ≡ 2 * depths → slice_get sorts i ≡ Some (sort_of e) → IsFine sorts (sort_of e) e →
+  assign_follows : (m i : ℕ) (e : Exp) (d t : List ValueOf) → AreHeld sorts d → length t ≡ 2 * depths → slice_get sorts i ≡ Some (sort_of e)
+      → IsFine sorts (sort_of e) e →
       Follows sorts (assigned i (expression_value e d) d)
       (evaluate q sizes (suc m) (in_turn (value_steps (length sorts) 0 e ++ set_variable i (temporary_at (length sorts) (sort_of e) 0) ∷ [])) u (d ++ t))
-  assign_follows m i e d t held many there fine = by_worth (expression_value e d) (value_sort e d) (values_put q sizes u m n sorts e 0 d t count many (omega (arith, fine.shallow)) fine.sorted held)
+  assign_follows m i e d t held many there fine = by_worth (expression_value e d) (value_sort e d)
+      (values_put q sizes u m n sorts e 0 d t count many (omega (arith, fine.shallow)) fine.sorted held)
     where
       n : ℕ
       n = length sorts
@@ -117,23 +123,27 @@ module _ (q : Program) (sizes u : StackSizes) (sorts : List Sort) where
       is_there : i < length d
       is_there = (held_there sorts d i s held there).below
 
-      set_to : (y : List ValueOf) (v : ValueOf) → value_at y (temporary s 0) ≡ v → evaluate q sizes (suc m) (in_turn (last ∷ [])) u (d ++ y) ≡ Done (slice_set d i v ++ y) None
+      set_to : (y : List ValueOf) (v : ValueOf) → value_at y (temporary s 0) ≡ v
+          → evaluate q sizes (suc m) (in_turn (last ∷ [])) u (d ++ y) ≡ Done (slice_set d i v ++ y) None
       set_to y v e =
           variable_set m i (temporary_at n s 0) (d ++ y) v (read_temporary n d y (temporary s 0) count ∙ e)
           ∙ ap (λ (x : List ValueOf). Done x None) (write_declared d y i v is_there)
 
-      by_worth : (w : Worth) → HasSort s w → Puts q sizes u m n steps 0 s w d t → Follows sorts (assigned i w d) (evaluate q sizes (suc m) (in_turn (steps ++ last ∷ [])) u (d ++ t))
+      by_worth : (w : Worth) → HasSort s w → Puts q sizes u m n steps 0 s w d t → Follows sorts (assigned i w d)
+          (evaluate q sizes (suc m) (in_turn (steps ++ last ∷ [])) u (d ++ t))
       by_worth (Number z) same puts = record {
         rest = puts.after;
         many = puts.many ∙ many;
-        held = held_set sorts d i s (integer_value z) held there (subst (λ (r : Sort). Holds (worth_in r (integer_value z)) (integer_value z)) (sym same) (number_again z));
+        held = held_set sorts d i s (integer_value z) held there
+            (subst (λ (r : Sort). Holds (worth_in r (integer_value z)) (integer_value z)) (sym same) (number_again z));
         ending = tt;
         is = value_then m e (Number z) d t last puts ∙ set_to puts.after (integer_value z) puts.holds;
       }
       by_worth (Truth b) same puts = record {
         rest = puts.after;
         many = puts.many ∙ many;
-        held = held_set sorts d i s (truth_value b) held there (subst (λ (r : Sort). Holds (worth_in r (truth_value b)) (truth_value b)) (sym same) (truth_again b));
+        held = held_set sorts d i s (truth_value b) held there
+            (subst (λ (r : Sort). Holds (worth_in r (truth_value b)) (truth_value b)) (sym same) (truth_again b));
         ending = tt;
         is = value_then m e (Truth b) d t last puts ∙ set_to puts.after (truth_value b) puts.holds;
       }
@@ -150,8 +160,11 @@ module _ (q : Program) (sizes u : StackSizes) (sorts : List Sort) where
   truth_is true = refl
   truth_is false = refl
 
-  choose : (m : ℕ) (e : Exp) (a b : gypsy.Stmt) (d t : List ValueOf) → AreHeld sorts d → length t ≡ 2 * depths → IsFine sorts Bool e → Chooses m e a b (expression_value e d) d t
-  choose m e a b d t held many fine = by_worth (expression_value e d) (subst (λ (r : Sort). HasSort r (expression_value e d)) fine.same (value_sort e d)) (values_put q sizes u m n sorts e 0 d t count many (omega (arith, fine.shallow)) fine.sorted held)
+  choose : (m : ℕ) (e : Exp) (a b : gypsy.Stmt) (d t : List ValueOf) → AreHeld sorts d → length t ≡ 2 * depths → IsFine sorts Bool e
+      → Chooses m e a b (expression_value e d) d t
+  choose m e a b d t held many fine = by_worth (expression_value e d)
+      (subst (λ (r : Sort). HasSort r (expression_value e d)) fine.same (value_sort e d))
+      (values_put q sizes u m n sorts e 0 d t count many (omega (arith, fine.shallow)) fine.sorted held)
     where
       n : ℕ
       n = length sorts
@@ -170,7 +183,8 @@ module _ (q : Program) (sizes u : StackSizes) (sorts : List Sort) where
       by_worth (Truth c) same puts =
           let x : List ValueOf = d ++ puts.after in
           let read : value_at x (temporary_at n Bool 0) ≡ truth_value c =
-          read_temporary n d puts.after (temporary Bool 0) count ∙ subst (λ (r : Sort). value_at puts.after (temporary r 0) ≡ truth_value c) fine.same puts.holds in
+          read_temporary n d puts.after (temporary Bool 0) count ∙ subst (λ (r : Sort). value_at puts.after (temporary r 0) ≡ truth_value c) fine.same
+          puts.holds in
           record {
             after = puts.after;
             many = puts.many ∙ many;
@@ -183,11 +197,15 @@ module _ (q : Program) (sizes u : StackSizes) (sorts : List Sort) where
 
   -- at every bound, the steps follow the statement
   pub record StepsFollow (s : Stmt) (ss : List gypsy.Stmt) : Type 0 where
-    pub at : (m : ℕ) (d t : List ValueOf) → AreHeld sorts d → length t ≡ 2 * depths → Follows sorts (program_run s d m) (evaluate q sizes m (in_turn ss) u (d ++ t))
+    pub at : (m : ℕ) (d t : List ValueOf) → AreHeld sorts d → length t ≡ 2 * depths
+        → Follows sorts (program_run s d m) (evaluate q sizes m (in_turn ss) u (d ++ t))
 
   -- a loop of a test, a block, and `leave`
-  loop_follows : (e : Exp) (s : Stmt) (ss : List gypsy.Stmt) → IsFine sorts Bool e → StepsFollow s ss → (m : ℕ) (d t : List ValueOf) → AreHeld sorts d → length t ≡ 2 * depths →
-      Follows sorts (program_run (While e s) d m) (evaluate q sizes m (gypsy.Loop 0 (in_turn (value_steps (length sorts) 0 e ++ choice_of (length sorts) (block_of ss) (gypsy.Signal 0 Leave) ∷ []))) u (d ++ t))
+  loop_follows : (e : Exp) (s : Stmt) (ss : List gypsy.Stmt) → IsFine sorts Bool e → StepsFollow s ss → (m : ℕ) (d t : List ValueOf) → AreHeld sorts d
+      → length t ≡ 2 * depths →
+      Follows sorts (program_run (While e s) d m)
+      (evaluate q sizes m (gypsy.Loop 0 (in_turn
+      (value_steps (length sorts) 0 e ++ choice_of (length sorts) (block_of ss) (gypsy.Signal 0 Leave) ∷ []))) u (d ++ t))
   unfolding program_run
   loop_follows e s ss fine body zero d t held many = refl
   loop_follows e s ss fine body (suc m) d t held many =
@@ -211,13 +229,16 @@ module _ (q : Program) (sizes u : StackSizes) (sorts : List Sort) where
           (round_end (by_test w (d ++ y) (evaluate q sizes (suc m) (in_turn ss) u (d ++ y)) (Done (d ++ y) (Some Leave))) again)
       by_worth (Number z) y many' later = record { rest = y; many = many'; held = held; ending = tt; is = refl }
       by_worth (Truth true) y many' later =
-          follows_round sorts (program_run s d (suc m)) (evaluate q sizes (suc m) (in_turn ss) u (d ++ y)) (λ z. program_run (While e s) z m) again (body.at (suc m) d y held many') later
+          follows_round sorts (program_run s d (suc m)) (evaluate q sizes (suc m) (in_turn ss) u (d ++ y)) (λ z. program_run (While e s) z m) again
+          (body.at (suc m) d y held many') later
       by_worth (Truth false) y many' later = record { rest = y; many = many'; held = held; ending = tt; is = refl }
       by_worth Fault y many' later = record { rest = y; many = many'; held = held; ending = tt; is = refl }
 
   -- one of two
-  if_follows : (e : Exp) (s s' : Stmt) (ss ss' : List gypsy.Stmt) → IsFine sorts Bool e → StepsFollow s ss → StepsFollow s' ss' → (m : ℕ) (d t : List ValueOf) → AreHeld sorts d → length t ≡ 2 * depths →
-      Follows sorts (program_run (If e s s') d (suc m)) (evaluate q sizes (suc m) (in_turn (value_steps (length sorts) 0 e ++ choice_of (length sorts) (block_of ss) (block_of ss') ∷ [])) u (d ++ t))
+  if_follows : (e : Exp) (s s' : Stmt) (ss ss' : List gypsy.Stmt) → IsFine sorts Bool e → StepsFollow s ss → StepsFollow s' ss'
+      → (m : ℕ) (d t : List ValueOf) → AreHeld sorts d → length t ≡ 2 * depths →
+      Follows sorts (program_run (If e s s') d (suc m))
+      (evaluate q sizes (suc m) (in_turn (value_steps (length sorts) 0 e ++ choice_of (length sorts) (block_of ss) (block_of ss') ∷ [])) u (d ++ t))
   unfolding program_run
   if_follows e s s' ss ss' fine one other m d t held many =
       let chosen = choose m e (block_of ss) (block_of ss') d t held many fine in
@@ -241,27 +262,32 @@ module _ (q : Program) (sizes u : StackSizes) (sorts : List Sort) where
   unfolding program_run statement_steps
   statements_follow Nothing fine = record { at = nothing }
     where
-      nothing : (m : ℕ) (d t : List ValueOf) → AreHeld sorts d → length t ≡ 2 * depths → Follows sorts (program_run Nothing d m) (evaluate q sizes m (in_turn []) u (d ++ t))
+      nothing : (m : ℕ) (d t : List ValueOf) → AreHeld sorts d → length t ≡ 2 * depths
+          → Follows sorts (program_run Nothing d m) (evaluate q sizes m (in_turn []) u (d ++ t))
       nothing zero d t held many = refl
       nothing (suc m) d t held many = record { rest = t; many = many; held = held; ending = tt; is = refl }
   statements_follow (Then s s') fine = record { at = in_order (statements_follow s fine.0) (statements_follow s' fine.1) }
     where
       in_order : StepsFollow s (statement_steps (length sorts) s) → StepsFollow s' (statement_steps (length sorts) s') →
           (m : ℕ) (d t : List ValueOf) → AreHeld sorts d → length t ≡ 2 * depths →
-          Follows sorts (program_run (Then s s') d m) (evaluate q sizes m (in_turn (statement_steps (length sorts) s ++ statement_steps (length sorts) s')) u (d ++ t))
+          Follows sorts (program_run (Then s s') d m)
+          (evaluate q sizes m (in_turn (statement_steps (length sorts) s ++ statement_steps (length sorts) s')) u (d ++ t))
       in_order one other zero d t held many = refl
       in_order one other (suc m) d t held many =
           let ss = statement_steps (length sorts) s in
           let ss' = statement_steps (length sorts) s' in
           let rest : List ValueOf → MeaningOutcome = evaluate q sizes (suc m) (in_turn ss') u in
-          follows_by sorts (program_run (Then s s') d (suc m)) (evaluate q sizes (suc m) (in_turn (ss ++ ss')) u (d ++ t)) (then_do (evaluate q sizes (suc m) (in_turn ss) u (d ++ t)) rest)
+          follows_by sorts (program_run (Then s s') d (suc m)) (evaluate q sizes (suc m) (in_turn (ss ++ ss')) u (d ++ t))
+          (then_do (evaluate q sizes (suc m) (in_turn ss) u (d ++ t)) rest)
           (turn_append q sizes m u ss ss' (d ++ t))
           (follows_then sorts (program_run s d (suc m)) (evaluate q sizes (suc m) (in_turn ss) u (d ++ t)) (λ y. program_run s' y (suc m)) rest
           (one.at (suc m) d t held many) (λ d' t' held' many'. other.at (suc m) d' t' held' many'))
   statements_follow (Assign i e) fine = record { at = assign }
     where
       assign : (m : ℕ) (d t : List ValueOf) → AreHeld sorts d → length t ≡ 2 * depths →
-          Follows sorts (program_run (Assign i e) d m) (evaluate q sizes m (in_turn (value_steps (length sorts) 0 e ++ set_variable i (temporary_at (length sorts) (sort_of e) 0) ∷ [])) u (d ++ t))
+          Follows sorts (program_run (Assign i e) d m)
+          (evaluate q sizes m (in_turn (value_steps (length sorts) 0 e ++ set_variable i (temporary_at (length sorts) (sort_of e) 0) ∷ [])) u
+          (d ++ t))
       assign zero d t held many = refl
       assign (suc m) d t held many = assign_follows m i e d t held many fine.0 fine.1
   statements_follow (While e s) fine = record { at = loop (statements_follow s fine.1) }
@@ -270,13 +296,17 @@ module _ (q : Program) (sizes u : StackSizes) (sorts : List Sort) where
           Follows sorts (program_run (While e s) d m) (evaluate q sizes m (in_turn (statement_steps (length sorts) (While e s))) u (d ++ t))
       loop body zero d t held many = refl
       loop body (suc m) d t held many =
-          let whole = gypsy.Loop 0 (in_turn (value_steps (length sorts) 0 e ++ choice_of (length sorts) (block_of (statement_steps (length sorts) s)) (gypsy.Signal 0 Leave) ∷ [])) in
-          follows_by sorts (program_run (While e s) d (suc m)) (evaluate q sizes (suc m) (in_turn (whole ∷ [])) u (d ++ t)) (evaluate q sizes (suc m) whole u (d ++ t))
+          let whole = gypsy.Loop 0 (in_turn (value_steps (length sorts) 0 e ++ choice_of (length sorts) (block_of (statement_steps (length sorts) s))
+          (gypsy.Signal 0 Leave) ∷ [])) in
+          follows_by sorts (program_run (While e s) d (suc m)) (evaluate q sizes (suc m) (in_turn (whole ∷ [])) u (d ++ t))
+          (evaluate q sizes (suc m) whole u (d ++ t))
           (turn_one q sizes m u whole (d ++ t))
           (loop_follows e s (statement_steps (length sorts) s) fine.0 body (suc m) d t held many)
   statements_follow (If e s s') fine = record { at = choice (statements_follow s fine.1) (statements_follow s' fine.2) }
     where
-      choice : StepsFollow s (statement_steps (length sorts) s) → StepsFollow s' (statement_steps (length sorts) s') → (m : ℕ) (d t : List ValueOf) → AreHeld sorts d → length t ≡ 2 * depths →
+      choice : StepsFollow s (statement_steps (length sorts) s) → StepsFollow s' (statement_steps (length sorts) s') → (m : ℕ) (d t : List ValueOf)
+          → AreHeld sorts d → length t ≡ 2 * depths →
           Follows sorts (program_run (If e s s') d m) (evaluate q sizes m (in_turn (statement_steps (length sorts) (If e s s'))) u (d ++ t))
       choice one other zero d t held many = refl
-      choice one other (suc m) d t held many = if_follows e s s' (statement_steps (length sorts) s) (statement_steps (length sorts) s') fine.0 one other m d t held many
+      choice one other (suc m) d t held many =
+          if_follows e s s' (statement_steps (length sorts) s) (statement_steps (length sorts) s') fine.0 one other m d t held many

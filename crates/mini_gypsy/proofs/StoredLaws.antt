@@ -54,7 +54,8 @@ stands text program few is =
       means = means_again (program_of again.0) (program_of source) body (bare_same again.0 source again.2) (lowered_means ds body lawful);
     }
 
-pub stored_short : (text : List ℕ) (program : InfixProgram) → length text ≤ 2 ^ 20 → IsFaultless text program → length (stored_text program) ≤ 60 * length text + 2000
+pub stored_short : (text : List ℕ) (program : InfixProgram) → length text ≤ 2 ^ 20 → IsFaultless text program
+    → length (stored_text program) ≤ 60 * length text + 2000
 stored_short text program few is =
     let short = free_is_lawful text program is.read.program few is.read.free is.clean in
     let whole = lowered_short (declared_of program) (body_of program) short.lawful in

@@ -21,7 +21,8 @@ use Rattle.mini_syntax.specs.declared.sort.Sort.{Sort}
 use Rattle.mini_syntax.specs.declared.sort.Sort.TheVariants.{Int, Bool}
 use Rattle.mini_syntax.specs.Language.{Exp, Variable, Number, Truth, Before, Between, Stmt, Nothing, Then, Assign, While, If}
 use Rattle.mini_gypsy.proofs.NameLaws.{all_named}
-use Rattle.mini_gypsy.specs.Lowered.{decl_of, locals_from, temporaries, temporary_name, argument, set_name, value_parts, statement_parts, block_parts, choice_parts, leave, main_procedure, lowered}
+use Rattle.mini_gypsy.specs.Lowered.{decl_of, locals_from, temporaries, temporary_name, argument, set_name, value_parts, statement_parts, block_parts}
+use Rattle.mini_gypsy.specs.Lowered.{choice_parts, leave, main_procedure, lowered}
 use Rattle.mini_syntax.specs.Lawful.{nth_name}
 use Rattle.mini_syntax.specs.Lawful.{IsLawful}
 use Rattle.mini_syntax.specs.Names.{is_variable_name}
@@ -49,7 +50,8 @@ three_atoms a b c =
     let first = length-append a (32 ∷ (b ++ (32 ∷ (c ++ [])))) in
     omega (arith, length-append (a ++ (32 ∷ (b ++ (32 ∷ (c ++ []))))) (41 ∷ []), first, second, last)
 
-four_atoms : (a b c d : List ℕ) → length (tree_text (tree_of_all (atom 0 a ∷ atom 0 b ∷ atom 0 c ∷ atom 0 d ∷ []))) ≡ 5 + length a + length b + length c + length d
+four_atoms : (a b c d : List ℕ) → length (tree_text (tree_of_all (atom 0 a ∷ atom 0 b ∷ atom 0 c ∷ atom 0 d ∷ []))) ≡ 5 + length a + length b + length c
+    + length d
 four_atoms a b c d =
     let last = length-append d [] in
     let third = length-append c (32 ∷ (d ++ [])) in
@@ -65,17 +67,20 @@ two_length : (r : Predef) (a b : List ℕ) → length (tree_text (stmt_tree (new
 unfolding keyword_name
 two_length r a b = let short = row_short r in omega (arith, three_atoms (predef_name r) a b, short)
 
-three_length : (r : Predef) (a b c : List ℕ) → length (tree_text (stmt_tree (new_predef 0 r (argument a ∷ argument b ∷ argument c ∷ [])))) ≤ 37 + length a + length b + length c
+three_length : (r : Predef) (a b c : List ℕ) → length (tree_text (stmt_tree (new_predef 0 r (argument a ∷ argument b ∷ argument c ∷ [])))) ≤ 37
+    + length a + length b + length c
 unfolding keyword_name
 three_length r a b c = let short = row_short r in omega (arith, four_atoms (predef_name r) a b c, short)
 
-number_length : (a : List ℕ) (n : ℕ) → n < 2 ^ 31 → length (tree_text (stmt_tree (new_predef 0 row.MgSimpleConstantAssignment (argument a ∷ constant (integer 0 (pos n)) ∷ [])))) ≤ 46 + length a
+number_length : (a : List ℕ) (n : ℕ) → n < 2 ^ 31 → length
+    (tree_text (stmt_tree (new_predef 0 row.MgSimpleConstantAssignment (argument a ∷ constant (integer 0 (pos n)) ∷ [])))) ≤ 46 + length a
 unfolding keyword_name
 number_length a n lt =
     let short = length-decimal-le 10 n (omega arith) (omega arith) (omega arith) in
     omega (arith, three_atoms (predef_name row.MgSimpleConstantAssignment) a (decimal n), short)
 
-truth_length : (a : List ℕ) (b : std.Bool) → length (tree_text (stmt_tree (new_predef 0 row.MgSimpleConstantAssignment (argument a ∷ constant (truth 0 b) ∷ [])))) ≤ 41 + length a
+truth_length : (a : List ℕ) (b : std.Bool) → length
+    (tree_text (stmt_tree (new_predef 0 row.MgSimpleConstantAssignment (argument a ∷ constant (truth 0 b) ∷ [])))) ≤ 41 + length a
 unfolding keyword_name
 truth_length a true = omega (arith, three_atoms (predef_name row.MgSimpleConstantAssignment) a (codes "true"))
 truth_length a false = omega (arith, three_atoms (predef_name row.MgSimpleConstantAssignment) a (codes "false"))
@@ -85,17 +90,37 @@ module _ (names : List (List ℕ)) (sorts : List Sort) (some : (i : ℕ) (s : So
   unfolding value_parts
   values_length k (Variable s i) sorted =
       let long = some i s sorted in
-      omega (arith, one_part (set_name (temporary_name s k) (nth_name names i)) [], two_length row.MgSimpleVariableAssignment (temporary_name s k) (nth_name names i), long)
+      omega (
+        arith,
+        one_part (set_name (temporary_name s k) (nth_name names i)) [],
+        two_length row.MgSimpleVariableAssignment (temporary_name s k) (nth_name names i),
+        long,
+      )
   values_length k (Number n) sorted =
-      omega (arith, one_part (new_predef 0 row.MgSimpleConstantAssignment (argument (temporary_name Int k) ∷ constant (integer 0 (pos n)) ∷ [])) [], number_length (temporary_name Int k) n sorted)
+      omega (
+        arith,
+        one_part (new_predef 0 row.MgSimpleConstantAssignment (argument (temporary_name Int k) ∷ constant (integer 0 (pos n)) ∷ [])) [],
+        number_length (temporary_name Int k) n sorted,
+      )
   values_length k (Truth b) sorted =
-      omega (arith, one_part (new_predef 0 row.MgSimpleConstantAssignment (argument (temporary_name Bool k) ∷ constant (truth 0 b) ∷ [])) [], truth_length (temporary_name Bool k) b)
+      omega (
+        arith,
+        one_part (new_predef 0 row.MgSimpleConstantAssignment (argument (temporary_name Bool k) ∷ constant (truth 0 b) ∷ [])) [],
+        truth_length (temporary_name Bool k) b,
+      )
   values_length k (Before op e) sorted =
       let last = new_predef 0 (prefix_row op) (argument (temporary_name (prefix_sort op) k) ∷ argument (temporary_name (sort_of e) k) ∷ []) in
       let first = values_length k e sorted.0 in
-      omega (arith, parts_append (value_parts names k e) (last ∷ []), one_part last [], two_length (prefix_row op) (temporary_name (prefix_sort op) k) (temporary_name (sort_of e) k), first)
+      omega (
+        arith,
+        parts_append (value_parts names k e) (last ∷ []),
+        one_part last [],
+        two_length (prefix_row op) (temporary_name (prefix_sort op) k) (temporary_name (sort_of e) k),
+        first,
+      )
   values_length k (Between op a b) sorted =
-      let last = new_predef 0 (infix_row op) (argument (temporary_name (infix_sort op) k) ∷ argument (temporary_name (sort_of a) k) ∷ argument (temporary_name (sort_of b) (suc k)) ∷ []) in
+      let last = new_predef 0 (infix_row op) (argument (temporary_name (infix_sort op) k) ∷ argument (temporary_name (sort_of a) k)
+      ∷ argument (temporary_name (sort_of b) (suc k)) ∷ []) in
       let first = values_length k a sorted.0 in
       let second = values_length (suc k) b sorted.1 in
       omega (
@@ -122,7 +147,8 @@ list_length t ts =
 two_nodes : (a b : Node) → length (tree_text (list 0 (more a (more b none)))) ≡ 3 + length (tree_text a) + length (tree_text b)
 two_nodes a b = omega (arith, list_length a (more b none), spaced_more b none)
 
-four_nodes : (a b c d : Node) → length (tree_text (list 0 (more a (more b (more c (more d none)))))) ≡ 5 + length (tree_text a) + length (tree_text b) + length (tree_text c) + length (tree_text d)
+four_nodes : (a b c d : Node) → length (tree_text (list 0 (more a (more b (more c (more d none)))))) ≡ 5 + length (tree_text a) + length (tree_text b)
+    + length (tree_text c) + length (tree_text d)
 four_nodes a b c d =
     omega (arith, list_length a (more b (more c (more d none))), spaced_more b (more c (more d none)), spaced_more c (more d none), spaced_more d none)
 
@@ -159,7 +185,13 @@ module _ (names : List (List ℕ)) (sorts : List Sort) (some : (i : ℕ) (s : So
   statements_length (Assign i e) fine =
       let last = set_name (nth_name names i) (temporary_name (sort_of e) 0) in
       let first = values_length names sorts some 0 e fine.1.sorted in
-      omega (arith, parts_append (value_parts names 0 e) (last ∷ []), one_part last [], two_length row.MgSimpleVariableAssignment (nth_name names i) (temporary_name (sort_of e) 0), first)
+      omega (
+        arith,
+        parts_append (value_parts names 0 e) (last ∷ []),
+        one_part last [],
+        two_length row.MgSimpleVariableAssignment (nth_name names i) (temporary_name (sort_of e) 0),
+        first,
+      )
   statements_length (While e s) fine =
       let block = block_parts (statement_parts names s) in
       let choice = choice_parts block leave in
@@ -186,7 +218,17 @@ module _ (names : List (List ℕ)) (sorts : List Sort) (some : (i : ℕ) (s : So
       let first = values_length names sorts some 0 e fine.0.sorted in
       let second = statements_length s fine.1 in
       let third = statements_length t fine.2 in
-      omega (arith, parts_append (value_parts names 0 e) (choice ∷ []), one_part choice [], choice_length block other, block_length (statement_parts names s), block_length (statement_parts names t), first, second, third)
+      omega (
+        arith,
+        parts_append (value_parts names 0 e) (choice ∷ []),
+        one_part choice [],
+        choice_length block other,
+        block_length (statement_parts names s),
+        block_length (statement_parts names t),
+        first,
+        second,
+        third,
+      )
 
 -- ---- the whole
 
@@ -201,20 +243,31 @@ formals_length : (ds : List Declared) → length (spaced_text (nodes (map decl_t
 formals_length [] = omega arith
 formals_length (d ∷ ds) =
     let rest = formals_length ds in
-    omega (arith, spaced_more (decl_tree (decl_of d.name d.sort)) (nodes (map decl_tree (map (λ (e : Declared). decl_of e.name e.sort) ds))), decl_length d, rest)
+    omega (
+      arith,
+      spaced_more (decl_tree (decl_of d.name d.sort)) (nodes (map decl_tree (map (λ (e : Declared). decl_of e.name e.sort) ds))),
+      decl_length d,
+      rest,
+    )
 
 formals_tree : (ds : List Declared) → length (tree_text (list_tree decl_tree (map (λ (d : Declared). decl_of d.name d.sort) ds))) ≤ 2 + 60 * declared_bytes ds
 formals_tree [] = omega arith
 formals_tree (d ∷ ds) =
     let rest = formals_length ds in
-    omega (arith, list_length (decl_tree (decl_of d.name d.sort)) (nodes (map decl_tree (map (λ (e : Declared). decl_of e.name e.sort) ds))), decl_length d, rest)
+    omega (
+      arith,
+      list_length (decl_tree (decl_of d.name d.sort)) (nodes (map decl_tree (map (λ (e : Declared). decl_of e.name e.sort) ds))),
+      decl_length d,
+      rest,
+    )
 
 locals_tree : length (tree_text (list_tree local_tree temporaries)) ≡ 1559
 unfolding temporaries locals_from digits
 locals_tree = refl
 
 seven_nodes : (a b c d e f g : Node) → length (tree_text (list 0 (more a (more b (more c (more d (more e (more f (more g none)))))))))
-    ≡ 8 + length (tree_text a) + length (tree_text b) + length (tree_text c) + length (tree_text d) + length (tree_text e) + length (tree_text f) + length (tree_text g)
+    ≡ 8 + length (tree_text a) + length (tree_text b) + length (tree_text c) + length (tree_text d) + length (tree_text e) + length (tree_text f)
+    + length (tree_text g)
 seven_nodes a b c d e f g =
     omega (
       arith,
@@ -227,7 +280,9 @@ seven_nodes a b c d e f g =
       spaced_more g none,
     )
 
-procedure_length : (ds : List Declared) (s : Stmt) → length (proc_text (main_procedure ds s)) ≡ 16 + length (tree_text (list_tree decl_tree (map (λ (d : Declared). decl_of d.name d.sort) ds))) + 2 + length (tree_text (list_tree local_tree temporaries)) + 2 + length (tree_text (stmt_tree (main_procedure ds s).body))
+procedure_length : (ds : List Declared) (s : Stmt) → length (proc_text (main_procedure ds s)) ≡ 16
+    + length (tree_text (list_tree decl_tree (map (λ (d : Declared). decl_of d.name d.sort) ds))) + 2
+    + length (tree_text (list_tree local_tree temporaries)) + 2 + length (tree_text (stmt_tree (main_procedure ds s).body))
 procedure_length ds s =
     seven_nodes (atom 0 (codes "proc")) (atom 0 (codes "main")) (list_tree decl_tree (map (λ (d : Declared). decl_of d.name d.sort) ds)) (list 0 none)
     (list_tree local_tree temporaries) (list 0 none) (stmt_tree (main_procedure ds s).body)
@@ -243,10 +298,12 @@ one_line head text =
 text_length : (ds : List Declared) (s : Stmt) → length (gypsy_text (lowered ds s)) ≡ 16 + length (proc_text (main_procedure ds s))
 text_length ds s = one_line (codes "program main") (proc_text (main_procedure ds s))
 
-all_short : (t p f l b parts d st : ℕ) → t ≡ 16 + p → p ≡ 16 + f + 2 + l + 2 + b → f ≤ 2 + 60 * d → l ≡ 1559 → b ≡ 13 + parts → parts ≤ 60 * st → t ≤ 60 * (d + st) + 2000
+all_short : (t p f l b parts d st : ℕ) → t ≡ 16 + p → p ≡ 16 + f + 2 + l + 2 + b → f ≤ 2 + 60 * d → l ≡ 1559 → b ≡ 13 + parts → parts ≤ 60 * st
+    → t ≤ 60 * (d + st) + 2000
 all_short t p f l b parts d st a e g h i j = omega arith
 
-some_bytes : (ds : List Declared) (i : ℕ) (s : Sort) → Each (λ d. is_variable_name d.name ≡ true) ds → slice_get (map (λ (d : Declared). d.sort) ds) i ≡ Some s → 0 < length (nth_name (map (λ (d : Declared). d.name) ds) i)
+some_bytes : (ds : List Declared) (i : ℕ) (s : Sort) → Each (λ d. is_variable_name d.name ≡ true) ds
+    → slice_get (map (λ (d : Declared). d.sort) ds) i ≡ Some s → 0 < length (nth_name (map (λ (d : Declared). d.name) ds) i)
 some_bytes [] i s good e = cc
 some_bytes (d ∷ ds) zero s good e = begins d.name good.0
   where
@@ -260,6 +317,8 @@ pub lowered_short : (ds : List Declared) (s : Stmt) → IsLawful ds s → length
 lowered_short ds s lawful =
     let names = map (λ (d : Declared). d.name) ds in
     let body = statements_length names (map (λ (d : Declared). d.sort) ds) (λ i r e. some_bytes ds i r (all_named ds lawful.names) e) s lawful.fine in
-    all_short (length (gypsy_text (lowered ds s))) (length (proc_text (main_procedure ds s))) (length (tree_text (list_tree decl_tree (map (λ (d : Declared). decl_of d.name d.sort) ds))))
+    all_short (length (gypsy_text (lowered ds s))) (length (proc_text (main_procedure ds s)))
+    (length (tree_text (list_tree decl_tree (map (λ (d : Declared). decl_of d.name d.sort) ds))))
     (length (tree_text (list_tree local_tree temporaries))) (length (tree_text (stmt_tree (main_procedure ds s).body))) (parts_length (statement_parts names s))
-    (declared_bytes ds) (stmt_bytes names s) (text_length ds s) (procedure_length ds s) (formals_tree ds) locals_tree (block_length (statement_parts names s)) body
+    (declared_bytes ds) (stmt_bytes names s) (text_length ds s) (procedure_length ds s) (formals_tree ds) locals_tree
+    (block_length (statement_parts names s)) body

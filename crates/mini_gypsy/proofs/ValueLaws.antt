@@ -25,7 +25,8 @@ use Rattle.mini_gypsy.specs.Steps.{in_turn, temporary, temporary_at, prefix_row,
 use Rattle.mini_syntax.specs.Sorted.{depths}
 use Rattle.mini_syntax.specs.Operands.{sort_of, prefix_sort, infix_sort}
 use Rattle.mini_gypsy.proofs.StateLaws.{read_declared, read_temporary, write_temporary, turn_append, turn_one}
-use Rattle.mini_gypsy.proofs.RowLaws.{effect_of, applied_worth, prefix_number, prefix_truth, infix_numbers, infix_truths, no_mixed, no_mixed_either, prefix_fault, infix_fault, infix_second}
+use Rattle.mini_gypsy.proofs.RowLaws.{effect_of, applied_worth, prefix_number, prefix_truth, infix_numbers, infix_truths, no_mixed, no_mixed_either}
+use Rattle.mini_gypsy.proofs.RowLaws.{prefix_fault, infix_fault, infix_second}
 use Rattle.mini_gypsy.proofs.HeldLaws.{HasSort, Holds, AreHeld, held_there, held_effect, value_sort}
 
 -- with routineerror where it is a fault
@@ -150,24 +151,31 @@ module _ (q : Program) (sizes u : StackSizes) (m n : ℕ) where
 
   put_prefix : (op : Prefix) (steps : List gypsy.Stmt) (r : Sort) (w : Worth) (k : ℕ) (d t : List ValueOf) → length d ≡ n → length t ≡ 2 * depths → k < depths →
       prefix_takes op r ≡ true → HasSort r w → Puts steps k r w d t →
-      Puts (steps ++ gypsy.Apply 0 (prefix_row op) (Var (temporary_at n (prefix_sort op) k) ∷ Var (temporary_at n r k) ∷ []) ∷ []) k (prefix_sort op) (prefix_worth op w) d t
+      Puts (steps ++ gypsy.Apply 0 (prefix_row op) (Var (temporary_at n (prefix_sort op) k) ∷ Var (temporary_at n r k) ∷ []) ∷ []) k (prefix_sort op)
+      (prefix_worth op w) d t
   put_prefix op steps r (Number z) k d t count many small takes same puts =
       let x : List ValueOf = d ++ puts.after in
       let read = read_temporary n d puts.after (temporary r k) count ∙ puts.holds in
       let takes' : prefix_takes op Int ≡ true = sym (ap (prefix_takes op) same) ∙ takes in
-      put_then steps (gypsy.Apply 0 (prefix_row op) (Var (temporary_at n (prefix_sort op) k) ∷ Var (temporary_at n r k) ∷ []) ∷ []) k (prefix_sort op) (prefix_worth op (Number z)) d t puts.after puts.runs puts.many puts.keeps
+      put_then steps (gypsy.Apply 0 (prefix_row op) (Var (temporary_at n (prefix_sort op) k) ∷ Var (temporary_at n r k) ∷ []) ∷ []) k (prefix_sort op)
+      (prefix_worth op (Number z)) d t puts.after puts.runs puts.many puts.keeps
       (put_one (prefix_row op) (Var (temporary_at n r k) ∷ []) k (prefix_sort op) (prefix_worth op (Number z)) d puts.after count (puts.many ∙ many) small
-      (prefix_effect op r (integer_value z) x (temporary_at n (prefix_sort op) k) (temporary_at n r k) read ∙ prefix_number op (value_at x (temporary_at n (prefix_sort op) k)) z takes'))
+      (prefix_effect op r (integer_value z) x (temporary_at n (prefix_sort op) k) (temporary_at n r k) read
+      ∙ prefix_number op (value_at x (temporary_at n (prefix_sort op) k)) z takes'))
   put_prefix op steps r (Truth b) k d t count many small takes same puts =
       let x : List ValueOf = d ++ puts.after in
       let read = read_temporary n d puts.after (temporary r k) count ∙ puts.holds in
       let takes' : prefix_takes op Bool ≡ true = sym (ap (prefix_takes op) same) ∙ takes in
-      put_then steps (gypsy.Apply 0 (prefix_row op) (Var (temporary_at n (prefix_sort op) k) ∷ Var (temporary_at n r k) ∷ []) ∷ []) k (prefix_sort op) (prefix_worth op (Truth b)) d t puts.after puts.runs puts.many puts.keeps
+      put_then steps (gypsy.Apply 0 (prefix_row op) (Var (temporary_at n (prefix_sort op) k) ∷ Var (temporary_at n r k) ∷ []) ∷ []) k (prefix_sort op)
+      (prefix_worth op (Truth b)) d t puts.after puts.runs puts.many puts.keeps
       (put_one (prefix_row op) (Var (temporary_at n r k) ∷ []) k (prefix_sort op) (prefix_worth op (Truth b)) d puts.after count (puts.many ∙ many) small
-      (prefix_effect op r (truth_value b) x (temporary_at n (prefix_sort op) k) (temporary_at n r k) read ∙ prefix_truth op (value_at x (temporary_at n (prefix_sort op) k)) b takes'))
+      (prefix_effect op r (truth_value b) x (temporary_at n (prefix_sort op) k) (temporary_at n r k) read
+      ∙ prefix_truth op (value_at x (temporary_at n (prefix_sort op) k)) b takes'))
   put_prefix op steps r Fault k d t count many small takes same puts =
-      same_worth (steps ++ gypsy.Apply 0 (prefix_row op) (Var (temporary_at n (prefix_sort op) k) ∷ Var (temporary_at n r k) ∷ []) ∷ []) k (prefix_sort op) Fault (prefix_worth op Fault) d t (sym (prefix_fault op))
-      (put_fault steps (gypsy.Apply 0 (prefix_row op) (Var (temporary_at n (prefix_sort op) k) ∷ Var (temporary_at n r k) ∷ []) ∷ []) k k r (prefix_sort op) d t (omega arith) puts)
+      same_worth (steps ++ gypsy.Apply 0 (prefix_row op) (Var (temporary_at n (prefix_sort op) k) ∷ Var (temporary_at n r k) ∷ []) ∷ []) k
+      (prefix_sort op) Fault (prefix_worth op Fault) d t (sym (prefix_fault op))
+      (put_fault steps (gypsy.Apply 0 (prefix_row op) (Var (temporary_at n (prefix_sort op) k) ∷ Var (temporary_at n r k) ∷ []) ∷ []) k k r
+      (prefix_sort op) d t (omega arith) puts)
 
   -- an operator between its operands, whose values stand in the temporaries
   infix_effect : (op : Infix) (y z : ValueOf) (x : List ValueOf) (i j l : ℕ) → value_at x j ≡ y → value_at x l ≡ z →
@@ -176,7 +184,8 @@ module _ (q : Program) (sizes u : StackSizes) (m n : ℕ) where
   infix_effect op y z x i j l e f = ap₂ (λ (v w : ValueOf). effect_by (infix_row op) (value_at (value_at x i ∷ v ∷ w ∷ []))) e f
 
   -- what it does with the values of its operands
-  infix_does : (op : Infix) (r s : Sort) (v w : Worth) (x : List ValueOf) (i j l : ℕ) → infix_takes op r s ≡ true → HasSort r v → HasSort s w → v ≢ Fault → w ≢ Fault →
+  infix_does : (op : Infix) (r s : Sort) (v w : Worth) (x : List ValueOf) (i j l : ℕ) → infix_takes op r s ≡ true → HasSort r v → HasSort s w
+      → v ≢ Fault → w ≢ Fault →
       Holds v (value_at x j) → Holds w (value_at x l) →
       predef_effect (infix_row op) (values_of x (Var i ∷ Var j ∷ Var l ∷ [])) ≡ effect_of (infix_worth op v w)
   infix_does op r s (Number y) (Number z) x i j l takes p e f g a b =
@@ -192,15 +201,19 @@ module _ (q : Program) (sizes u : StackSizes) (m n : ℕ) where
   infix_does op r s Fault w x i j l takes p e f g a b = absurd (f refl)
 
   -- once the first operand's value stands
-  put_second : (op : Infix) (steps : List gypsy.Stmt) (r s : Sort) (v w : Worth) (k : ℕ) (d t : List ValueOf) → length d ≡ n → length t ≡ 2 * depths → suc k < depths →
+  put_second : (op : Infix) (steps : List gypsy.Stmt) (r s : Sort) (v w : Worth) (k : ℕ) (d t : List ValueOf) → length d ≡ n → length t ≡ 2 * depths
+      → suc k < depths →
       infix_takes op r s ≡ true → HasSort r v → HasSort s w → v ≢ Fault → Holds v (value_at t (temporary r k)) → Puts steps (suc k) s w d t →
-      Puts (steps ++ gypsy.Apply 0 (infix_row op) (Var (temporary_at n (infix_sort op) k) ∷ Var (temporary_at n r k) ∷ Var (temporary_at n s (suc k)) ∷ []) ∷ []) k (infix_sort op) (infix_worth op v w) d t
+      Puts (steps ++ gypsy.Apply 0 (infix_row op)
+      (Var (temporary_at n (infix_sort op) k) ∷ Var (temporary_at n r k) ∷ Var (temporary_at n s (suc k)) ∷ []) ∷ []) k (infix_sort op)
+      (infix_worth op v w) d t
   put_second op steps r s v w k d t count many small takes p e f held puts = by_worth w e puts
     where
       call : gypsy.Stmt
       call = gypsy.Apply 0 (infix_row op) (Var (temporary_at n (infix_sort op) k) ∷ Var (temporary_at n r k) ∷ Var (temporary_at n s (suc k)) ∷ [])
 
-      all : (w : Worth) → HasSort s w → w ≢ Fault → (puts : Puts steps (suc k) s w d t) → evaluate q sizes (suc m) (in_turn steps) u (d ++ t) ≡ Done (d ++ puts.after) None →
+      all : (w : Worth) → HasSort s w → w ≢ Fault → (puts : Puts steps (suc k) s w d t)
+          → evaluate q sizes (suc m) (in_turn steps) u (d ++ t) ≡ Done (d ++ puts.after) None →
           Puts (steps ++ call ∷ []) k (infix_sort op) (infix_worth op v w) d t
       all w e g puts runs =
           let x : List ValueOf = d ++ puts.after in
@@ -209,7 +222,8 @@ module _ (q : Program) (sizes u : StackSizes) (m n : ℕ) where
           let second : Holds w (value_at x (temporary_at n s (suc k))) =
           subst (Holds w) (sym (read_temporary n d puts.after (temporary s (suc k)) count)) puts.holds in
           put_then steps (call ∷ []) k (infix_sort op) (infix_worth op v w) d t puts.after runs puts.many (λ i j lt. puts.keeps i j (omega arith))
-          (put_one (infix_row op) (Var (temporary_at n r k) ∷ Var (temporary_at n s (suc k)) ∷ []) k (infix_sort op) (infix_worth op v w) d puts.after count (puts.many ∙ many) (omega arith)
+          (put_one (infix_row op) (Var (temporary_at n r k) ∷ Var (temporary_at n s (suc k)) ∷ []) k (infix_sort op) (infix_worth op v w) d puts.after
+          count (puts.many ∙ many) (omega arith)
           (infix_does op r s v w x (temporary_at n (infix_sort op) k) (temporary_at n r k) (temporary_at n s (suc k)) takes p e f g first second))
 
       by_worth : (w : Worth) → HasSort s w → Puts steps (suc k) s w d t → Puts (steps ++ call ∷ []) k (infix_sort op) (infix_worth op v w) d t
@@ -219,15 +233,20 @@ module _ (q : Program) (sizes u : StackSizes) (m n : ℕ) where
           same_worth (steps ++ call ∷ []) k (infix_sort op) Fault (infix_worth op v Fault) d t (sym (infix_second op v))
           (put_fault steps (call ∷ []) (suc k) k s (infix_sort op) d t (omega arith) puts)
 
-  put_infix : (op : Infix) (first second : List gypsy.Stmt) (r s : Sort) (v w : Worth) (k : ℕ) (d t : List ValueOf) → length d ≡ n → length t ≡ 2 * depths → suc k < depths →
-      infix_takes op r s ≡ true → HasSort r v → HasSort s w → Puts first k r v d t → ((t' : List ValueOf) → length t' ≡ 2 * depths → Puts second (suc k) s w d t') →
-      Puts (first ++ (second ++ gypsy.Apply 0 (infix_row op) (Var (temporary_at n (infix_sort op) k) ∷ Var (temporary_at n r k) ∷ Var (temporary_at n s (suc k)) ∷ []) ∷ [])) k (infix_sort op) (infix_worth op v w) d t
+  put_infix : (op : Infix) (first second : List gypsy.Stmt) (r s : Sort) (v w : Worth) (k : ℕ) (d t : List ValueOf) → length d ≡ n
+      → length t ≡ 2 * depths → suc k < depths →
+      infix_takes op r s ≡ true → HasSort r v → HasSort s w → Puts first k r v d t
+      → ((t' : List ValueOf) → length t' ≡ 2 * depths → Puts second (suc k) s w d t') →
+      Puts (first ++ (second ++ gypsy.Apply 0 (infix_row op)
+      (Var (temporary_at n (infix_sort op) k) ∷ Var (temporary_at n r k) ∷ Var (temporary_at n s (suc k)) ∷ []) ∷ [])) k (infix_sort op)
+      (infix_worth op v w) d t
   put_infix op first second r s v w k d t count many small takes p e puts next = by_worth v p puts
     where
       call : gypsy.Stmt
       call = gypsy.Apply 0 (infix_row op) (Var (temporary_at n (infix_sort op) k) ∷ Var (temporary_at n r k) ∷ Var (temporary_at n s (suc k)) ∷ [])
 
-      all : (v : Worth) → HasSort r v → v ≢ Fault → (puts : Puts first k r v d t) → evaluate q sizes (suc m) (in_turn first) u (d ++ t) ≡ Done (d ++ puts.after) None →
+      all : (v : Worth) → HasSort r v → v ≢ Fault → (puts : Puts first k r v d t)
+          → evaluate q sizes (suc m) (in_turn first) u (d ++ t) ≡ Done (d ++ puts.after) None →
           Puts (first ++ (second ++ call ∷ [])) k (infix_sort op) (infix_worth op v w) d t
       all v p f puts runs =
           put_then first (second ++ call ∷ []) k (infix_sort op) (infix_worth op v w) d t puts.after runs puts.many puts.keeps
@@ -249,7 +268,8 @@ module _ (q : Program) (sizes u : StackSizes) (m n : ℕ) where
       put_one row.MgSimpleVariableAssignment (Var i ∷ []) k s (worth_in s (value_at d i)) d t count many (omega arith)
       (copied (d ++ t) (temporary_at n s k) i (read_declared d t i there.below) ∙ held_effect s (value_at d i) there.holds)
     where
-      copied : (x : List ValueOf) (j i : ℕ) {v : ValueOf} → value_at x i ≡ v → predef_effect row.MgSimpleVariableAssignment (values_of x (Var j ∷ Var i ∷ [])) ≡ Normal v
+      copied : (x : List ValueOf) (j i : ℕ) {v : ValueOf} → value_at x i ≡ v → predef_effect row.MgSimpleVariableAssignment
+          (values_of x (Var j ∷ Var i ∷ [])) ≡ Normal v
       copied x j i e = ap Normal e
   values_put sorts (language.Number c) k d t count many small sorted held =
       put_one row.MgSimpleConstantAssignment (Lit (integer_value (pos c)) ∷ []) k Int (Number (pos c)) d t count many (omega arith) refl

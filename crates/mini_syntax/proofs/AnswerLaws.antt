@@ -15,7 +15,8 @@ use Rattle.mini_syntax.proofs.GoesOnLaws.{is_whole}
 use Rattle.mini_syntax.proofs.TokenLaws.{FreeAfter, Walked, stops, ends_so, walk}
 
 -- a program is never at its end where more is expected
-not_over : (text : List ℕ) (st : List Expected) → taken (Some at_start) (tokens_in text) ≡ Some st → is_over st ≡ false → (p : InfixProgram) → IsProgram text p → ⊥
+not_over : (text : List ℕ) (st : List Expected) → taken (Some at_start) (tokens_in text) ≡ Some st → is_over st ≡ false → (p : InfixProgram)
+    → IsProgram text p → ⊥
 not_over text st e over p is =
     let whole : Some (end_of p.forms) ≡ Some st = sym (program_taken p) ∙ ap (taken (Some at_start)) (sym is) ∙ e in
     let same : end_of p.forms ≡ st = cc in
@@ -29,14 +30,17 @@ read text = by_walk (walk [] (tokens_in text) at_start refl)
     by_breaches p is None none = faultless p record { read = is; clean = none_least (breaches p) none }
     by_breaches p is (Some breach) some = faulty breach (of_program p is some)
 
-    by_over : (st : List Expected) → taken (Some at_start) (tokens_in text) ≡ Some st → FreeAfter [] (tokens_in text) → (b : std.Bool) → is_over st ≡ b → TextReading text
+    by_over : (st : List Expected) → taken (Some at_start) (tokens_in text) ≡ Some st → FreeAfter [] (tokens_in text) → (b : std.Bool) → is_over st ≡ b
+        → TextReading text
     by_over st e f false over =
-        faulty record { place = length text; rule = 2 } (of_tokens (inr record { free = f.free; no_program = not_over text st e over; rule_is = refl; at = refl }))
+        faulty record { place = length text; rule = 2 }
+        (of_tokens (inr record { free = f.free; no_program = not_over text st e over; rule_is = refl; at = refl }))
     by_over st e f true over =
         let whole = is_whole (tokens_in text) st e over in
         by_breaches whole.0 record { program = sym whole.1; free = f.free } (least (breaches whole.0)) refl
 
     by_walk : Walked [] (tokens_in text) → TextReading text
     by_walk (stops pre t post rule e f b first) =
-        faulty record { place = place_of t; rule = rule } (of_tokens (inl record { before = pre; token = t; after = post; parts = e; free = f.free; breaks = b; least = first; at = refl }))
+        faulty record { place = place_of t; rule = rule }
+        (of_tokens (inl record { before = pre; token = t; after = post; parts = e; free = f.free; breaks = b; least = first; at = refl }))
     by_walk (ends_so st e f) = by_over st e f (is_over st) refl

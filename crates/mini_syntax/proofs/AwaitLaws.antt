@@ -37,7 +37,8 @@ stepped st st' t old ts is e c = record {
 
 pub refused : (st : List Expected) (t : Token) (old ts : List Token) → old ≡ t ∷ ts → takes st (kind_of t) ≡ None → Completes st old → ⊥
 refused st t old ts is e c =
-    let both : None ≡ Some c.last = sym (none_taken ts) ∙ sym (ap (λ (o : Option (List Expected)). taken o ts) e) ∙ sym (ap (taken (Some st)) is) ∙ c.taken_is in
+    let both : None ≡ Some c.last =
+    sym (none_taken ts) ∙ sym (ap (λ (o : Option (List Expected)). taken o ts) e) ∙ sym (ap (taken (Some st)) is) ∙ c.taken_is in
     cc
 
 -- where something is wanted, a token is left
@@ -55,7 +56,8 @@ nothing_left (t ∷ ts) c = absurd (refused [] t (t ∷ ts) ts refl refl c)
 
 -- ---- what is left out at the next token
 
-skipped : (x : Expected) (st : List Expected) (ts : List Token) → may_be_empty x ≡ true → (ts ≢ [] → takes (x ∷ st) (next_kind ts) ≡ takes st (next_kind ts)) → Completes (x ∷ st) ts → Completes st ts
+skipped : (x : Expected) (st : List Expected) (ts : List Token) → may_be_empty x ≡ true
+    → (ts ≢ [] → takes (x ∷ st) (next_kind ts) ≡ takes st (next_kind ts)) → Completes (x ∷ st) ts → Completes st ts
 skipped x st [] e skip c =
     let stack : x ∷ st ≡ c.last = let same : Some (x ∷ st) ≡ Some c.last = c.taken_is in cc in
     record { last = st; taken_is = refl; over = sym (ap (λ (b : std.Bool). b && is_over st) e) ∙ ap is_over stack ∙ c.over }
@@ -105,7 +107,8 @@ operates op c st t old ts is e done = pick (may_follow op c) refl
 
 -- ---- a mark that is wanted
 
-mark_wanted : (m : Mark) (st : List Expected) (k : TokenKind) (last : List Expected) (ts : List Token) → taken (takes (wants.Mark m ∷ st) k) ts ≡ Some last → k ≡ kind.Mark m
+mark_wanted : (m : Mark) (st : List Expected) (k : TokenKind) (last : List Expected) (ts : List Token)
+    → taken (takes (wants.Mark m ∷ st) k) ts ≡ Some last → k ≡ kind.Mark m
 mark_wanted m st (kind.Mark n) last ts e = pick (same_mark m n) refl
   where
     pick : (b : std.Bool) → same_mark m n ≡ b → kind.Mark n ≡ kind.Mark m
@@ -122,7 +125,8 @@ sort_is sort (kind.Word (word.Sort s)) e = let same : sort ≡ s = cc in ap (λ 
 sort_is sort k e = cc
 
 -- the mark is the next token
-pub next_is_mark : (m : Mark) (st : List Expected) (t : Token) (old ts : List Token) → old ≡ t ∷ ts → Completes (wants.Mark m ∷ st) old → t ≡ mark_at (place_of t) m
+pub next_is_mark : (m : Mark) (st : List Expected) (t : Token) (old ts : List Token) → old ≡ t ∷ ts → Completes (wants.Mark m ∷ st) old
+    → t ≡ mark_at (place_of t) m
 next_is_mark m st t old ts is c =
     let e : taken (takes (wants.Mark m ∷ st) (kind_of t)) ts ≡ Some c.last = sym (ap (taken (Some (wants.Mark m ∷ st))) is) ∙ c.taken_is in
     token_is t ∙ ap (λ (k : TokenKind). token_of k (place_of t) (bytes_of t)) (mark_wanted m st (kind_of t) c.last ts e)
@@ -141,13 +145,15 @@ same_is mark.OpenBlock = refl
 same_is mark.CloseBlock = refl
 
 -- and then the rest is wanted
-pub after_mark : (m : Mark) (place : ℕ) (st : List Expected) (old ts : List Token) → old ≡ mark_at place m ∷ ts → Completes (wants.Mark m ∷ st) old → Completes st ts
+pub after_mark : (m : Mark) (place : ℕ) (st : List Expected) (old ts : List Token) → old ≡ mark_at place m ∷ ts → Completes (wants.Mark m ∷ st) old
+    → Completes st ts
 after_mark m place st old ts is c =
     let here : takes (wants.Mark m ∷ st) (kind.Mark m) ≡ Some st = rw (same_is m) refl in
     stepped (wants.Mark m ∷ st) st (mark_at place m) old ts is here c
 
 -- `else`
-else_wanted : (st : List Expected) (k : TokenKind) (last : List Expected) (ts : List Token) → taken (takes (wants.Else ∷ st) k) ts ≡ Some last → k ≡ kind.Word word.Else
+else_wanted : (st : List Expected) (k : TokenKind) (last : List Expected) (ts : List Token) → taken (takes (wants.Else ∷ st) k) ts ≡ Some last
+    → k ≡ kind.Word word.Else
 else_wanted st (kind.Word word.Else) last ts e = refl
 else_wanted st k last ts e = let both : None ≡ Some last = sym (none_taken ts) ∙ e in cc
 
@@ -167,7 +173,8 @@ next_is_name st t old ts is c =
     name_wanted st (kind_of t) c.last ts e
 
 -- an operand begins with one of these
-operand_wanted : (st : List Expected) (k : TokenKind) (last : List Expected) (ts : List Token) → taken (takes (wants.Operand ∷ st) k) ts ≡ Some last → None ≡ factor_kind k → ⊥
+operand_wanted : (st : List Expected) (k : TokenKind) (last : List Expected) (ts : List Token) → taken (takes (wants.Operand ∷ st) k) ts ≡ Some last
+    → None ≡ factor_kind k → ⊥
 operand_wanted st kind.Name last ts e none = cc
 operand_wanted st kind.Number last ts e none = cc
 operand_wanted st (kind.Word (word.Truth b)) last ts e none = cc
@@ -176,7 +183,8 @@ operand_wanted st (kind.Mark mark.Minus) last ts e none = cc
 operand_wanted st (kind.Mark mark.Open) last ts e none = cc
 operand_wanted st k last ts e none = let both : None ≡ Some last = sym (none_taken ts) ∙ e in cc
 
-pub next_is_operand : (st : List Expected) (t : Token) (old ts : List Token) → old ≡ t ∷ ts → Completes (wants.Operand ∷ st) old → None ≡ factor_kind (kind_of t) → ⊥
+pub next_is_operand : (st : List Expected) (t : Token) (old ts : List Token) → old ≡ t ∷ ts → Completes (wants.Operand ∷ st) old
+    → None ≡ factor_kind (kind_of t) → ⊥
 next_is_operand st t old ts is c none =
     let e : taken (takes (wants.Operand ∷ st) (kind_of t)) ts ≡ Some c.last = sym (ap (taken (Some (wants.Operand ∷ st))) is) ∙ c.taken_is in
     operand_wanted st (kind_of t) c.last ts e none

@@ -29,9 +29,11 @@ is_refused n e = pick (is_too_large n) refl e
     pick false p h = absurd cc
 
 -- the digit at hand, and those after it
-pub digits_next : (digits : List ℕ) (i n d : ℕ) → i < length digits → number_after n (drop i digits) ≡ number_after (10 * n + (get_or digits i d - 48)) (drop (i + 1) digits)
+pub digits_next : (digits : List ℕ) (i n d : ℕ) → i < length digits → number_after n (drop i digits)
+    ≡ number_after (10 * n + (get_or digits i d - 48)) (drop (i + 1) digits)
 digits_next digits i n d lt = ap (number_after n) (drop_more digits i d lt)
 
 -- the digits so far are too many
-pub digits_large : (digits : List ℕ) (n : ℕ) (rest : List ℕ) → is_too_large n ≡ true → number_after n rest ≡ number_of digits → None ≡ if_small (number_of digits)
+pub digits_large : (digits : List ℕ) (n : ℕ) (rest : List ℕ) → is_too_large n ≡ true → number_after n rest ≡ number_of digits
+    → None ≡ if_small (number_of digits)
 digits_large digits n rest large so_far = rw (sym (ap is_too_large so_far) ∙ stays_large n rest large) refl

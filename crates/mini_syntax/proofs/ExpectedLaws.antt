@@ -100,7 +100,8 @@ none_leads : (st : List Expected) → Leads st [] st
 none_leads st = record { on = λ vs. refl }
 
 -- statements in a block, and the end of the block
-inside_leads : (fs : Forms) (closing : ℕ) (rest : List Expected) → Leads (wants.MoreStatements ∷ wants.Mark mark.CloseBlock ∷ rest) (forms_tokens fs) (wants.MoreStatements ∷ wants.Mark mark.CloseBlock ∷ rest) →
+inside_leads : (fs : Forms) (closing : ℕ) (rest : List Expected) → Leads (wants.MoreStatements ∷ wants.Mark mark.CloseBlock ∷ rest) (forms_tokens fs)
+    (wants.MoreStatements ∷ wants.Mark mark.CloseBlock ∷ rest) →
     Leads (wants.MoreStatements ∷ wants.Mark mark.CloseBlock ∷ rest) (forms_tokens fs ++ mark_at closing mark.CloseBlock ∷ []) rest
 inside_leads fs closing rest inside =
     join (forms_tokens fs) (mark_at closing mark.CloseBlock ∷ []) inside
@@ -156,7 +157,8 @@ pub decl_leads : (d : Decl) (rest : List Expected) → Leads (wants.MoreDeclarat
 decl_leads d rest =
     before (wants.MoreDeclarations ∷ rest) (wants.Name ∷ wants.Mark mark.Semicolon ∷ wants.MoreDeclarations ∷ rest) (wants.MoreDeclarations ∷ rest)
     (word_at d.start (word.Sort d.sort)) (name_at d.place d.name ∷ mark_at d.closing mark.Semicolon ∷ []) refl
-    (before (wants.Name ∷ wants.Mark mark.Semicolon ∷ wants.MoreDeclarations ∷ rest) (wants.Mark mark.Semicolon ∷ wants.MoreDeclarations ∷ rest) (wants.MoreDeclarations ∷ rest)
+    (before (wants.Name ∷ wants.Mark mark.Semicolon ∷ wants.MoreDeclarations ∷ rest) (wants.Mark mark.Semicolon ∷ wants.MoreDeclarations ∷ rest)
+    (wants.MoreDeclarations ∷ rest)
     (name_at d.place d.name) (mark_at d.closing mark.Semicolon ∷ []) refl
     (one (wants.Mark mark.Semicolon ∷ wants.MoreDeclarations ∷ rest) (wants.MoreDeclarations ∷ rest) (mark_at d.closing mark.Semicolon) refl))
 
@@ -167,7 +169,8 @@ decls_lead (d ∷ ds) rest = join (decl_tokens d) (decls_tokens ds) (decl_leads 
 -- ---- programs
 
 -- a statement may begin where declarations were expected
-skip : (t : Token) (ts : List Token) (to : List Expected) → takes at_start (kind_of t) ≡ takes (wants.MoreStatements ∷ []) (kind_of t) → Leads (wants.MoreStatements ∷ []) (t ∷ ts) to → Leads at_start (t ∷ ts) to
+skip : (t : Token) (ts : List Token) (to : List Expected) → takes at_start (kind_of t) ≡ takes (wants.MoreStatements ∷ []) (kind_of t)
+    → Leads (wants.MoreStatements ∷ []) (t ∷ ts) to → Leads at_start (t ∷ ts) to
 skip t ts to e a = record { on = λ vs. ap (λ (o : Option (List Expected)). taken o (ts ++ vs)) e ∙ a.on vs }
 
 first_form : (f : Form) → form_binds f ≡ true → Leads at_start (form_tokens f) (wants.MoreStatements ∷ [])

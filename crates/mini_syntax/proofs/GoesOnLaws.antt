@@ -240,7 +240,8 @@ at_stack : (st st' : List Expected) (ts : List Token) → Some st ≡ Some st' �
 at_stack st st' ts e d = let same : st ≡ st' = cc in subst (λ (s : List Expected). Rest s ts) (sym same) d
 
 -- nothing is given for what may be left out
-left_out : (x : Expected) (none : Given x) (rest : List Expected) (t : Token) (ts : List Token) → given_tokens x none ≡ [] → Before rest t ts → Before (x ∷ rest) t ts
+left_out : (x : Expected) (none : Given x) (rest : List Expected) (t : Token) (ts : List Token) → given_tokens x none ≡ [] → Before rest t ts
+    → Before (x ∷ rest) t ts
 left_out x none rest t ts e d = record { all = (none, d.all); is = ap (λ (us : List Token). us ++ all_tokens rest d.all) e ∙ d.is }
 
 front : (t u : Token) (ts us : List Token) → t ≡ u → us ≡ ts → u ∷ us ≡ t ∷ ts
@@ -406,7 +407,8 @@ module _ (t : Token) (place : ℕ) (bytes : List ℕ) where
         );
         is =
             assign_before x.0 x.1.0 place bytes g.all.0 y.0 y.1.0.forms (all_tokens rest y.1.1)
-            ∙ front t (name_at place bytes) ts (all_tokens (wants.Mark mark.Becomes ∷ expression (wants.Mark mark.Semicolon ∷ wants.MoreStatements ∷ rest)) g.all) is g.is;
+            ∙ front t (name_at place bytes) ts (all_tokens
+            (wants.Mark mark.Becomes ∷ expression (wants.Mark mark.Semicolon ∷ wants.MoreStatements ∷ rest)) g.all) is g.is;
       }
   step_back (wants.MoreStatements ∷ rest) st' (kind.Word word.While) is e ts d =
       let g = at_stack (expression (a_block (wants.MoreStatements ∷ rest))) st' ts e d in
@@ -458,7 +460,8 @@ taken_back : (ts : List Token) (st st' : List Expected) → taken (Some st) ts �
 taken_back [] st st' e us d = at_stack st st' us e d
 taken_back (t ∷ ts) st st' e us d = pick (takes st (kind_of t)) refl e (λ mid h. taken_back ts mid st' h us d)
   where
-    pick : (o : Option (List Expected)) → takes st (kind_of t) ≡ o → taken o ts ≡ Some st' → ((mid : List Expected) → taken (Some mid) ts ≡ Some st' → Rest mid (ts ++ us)) → Rest st (t ∷ (ts ++ us))
+    pick : (o : Option (List Expected)) → takes st (kind_of t) ≡ o → taken o ts ≡ Some st'
+        → ((mid : List Expected) → taken (Some mid) ts ≡ Some st' → Rest mid (ts ++ us)) → Rest st (t ∷ (ts ++ us))
     pick None p h later = let both = sym (none_taken ts) ∙ h in cc
     pick (Some mid) p h later =
         let b = step_back t (place_of t) (bytes_of t) st mid (kind_of t) (token_is t) p (ts ++ us) (later mid h) in

@@ -1,5 +1,6 @@
 -- What is judged token by token is what keeps a text from being a program.
-use Rattle.std.proofs.Common.{◌≡◌, ◌⊎◌, inl, inr, ℕ, ◌+◌, ◌-◌, ◌<◌, ◌≤◌, List, [], ◌∷◌, ◌++◌, length, drop, map, true, false, cond, Option, Some, None, refl, sym, ap, subst, ◌∙◌, append_assoc, arith}
+use Rattle.std.proofs.Common.{◌≡◌, ◌⊎◌, inl, inr, ℕ, ◌+◌, ◌-◌, ◌<◌, ◌≤◌, List, [], ◌∷◌, ◌++◌, length, drop, map, true, false, cond, Option, Some, None, refl}
+use Rattle.std.proofs.Common.{sym, ap, subst, ◌∙◌, append_assoc, arith}
 use Rattle.std.specs.Prelude.{nat_le, reverse}
 use Rattle.std.specs.Prelude as std
 use Rattle.std.specs.List.{slice_range}
@@ -12,7 +13,8 @@ use Rattle.mini_syntax.specs.declared.lexer.TokenKind.{TokenKind}
 use Rattle.mini_syntax.specs.declared.lexer.TokenKind.TheVariants as kind
 use Rattle.mini_syntax.specs.declared.lexer.TokenSpan.{TokenSpan}
 use Rattle.mini_syntax.specs.Expected.{at_start, is_over, taken, takes}
-use Rattle.mini_syntax.specs.Faults.{AreFree, BreaksAt, BreaksFirst, EndsEarly, blocks, brackets, count_of, no_program, no_token, open_blocks, open_brackets, operators, too_many}
+use Rattle.mini_syntax.specs.Faults.{AreFree, BreaksAt, BreaksFirst, EndsEarly, blocks, brackets, count_of, no_program, no_token, open_blocks, open_brackets}
+use Rattle.mini_syntax.specs.Faults.{operators, too_many}
 use Rattle.mini_syntax.specs.Faults.{begins_expression, closes_block, closes_bracket, is_operator, opens_block, opens_bracket}
 use Rattle.mini_syntax.specs.Grammar.{GoesOn, IsProgram, InfixProgram}
 use Rattle.mini_syntax.specs.Internal.Judging.{counted, IsBelow, counts_of, is_over_limit, is_wrong, Judges, limit_of, tally}
@@ -39,7 +41,8 @@ counts_more ts t =
     let b = one_more closes_bracket ts t in
     let d = one_more opens_block ts t in
     let e = one_more closes_block ts t in
-    let g : operators (ts ++ t ∷ []) ≡ cond (begins_expression (kind_of t)) 0 (tally (operators ts) (is_operator (kind_of t))) = operators_append 0 ts (t ∷ []) in
+    let g : operators (ts ++ t ∷ []) ≡ cond (begins_expression (kind_of t)) 0 (tally (operators ts) (is_operator (kind_of t))) =
+    operators_append 0 ts (t ∷ []) in
     λ i. record { opened_brackets = a i; closed_brackets = b i; opened_blocks = d i; closed_blocks = e i; operators = g i }
 
 -- ---- one token
@@ -75,7 +78,8 @@ record Only (before : List Token) (t : Token) (other : ℕ) : Type 0 where
   which : ((other ≡ 3) × (((opens_bracket (kind_of t) ≡ true) × (40 ≤ open_brackets before)) ⊎ ((opens_block (kind_of t) ≡ true) × (40 ≤ open_blocks before))))
       ⊎ ((other ≡ 4) × (is_operator (kind_of t) ≡ true) × (40 ≤ operators before))
 
-only : (before : List Token) (t : Token) → is_wrong (kind_of t) ≡ false → GoesOn (before ++ t ∷ []) → (other : ℕ) → BreaksAt before t other → Only before t other
+only : (before : List Token) (t : Token) → is_wrong (kind_of t) ≡ false → GoesOn (before ++ t ∷ []) → (other : ℕ) → BreaksAt before t other
+    → Only before t other
 only before t e goes other (no_token place) = cc
 only before t e goes other (no_program u n) = absurd (n goes)
 only before t e goes other (brackets u g o l) = record { which = inl (refl, inl (o, l)) }
@@ -95,7 +99,8 @@ not_over test m n e holds le = pick (nat_le (n + 40) m) refl
 three_least : (before : List Token) (t : Token) (other : ℕ) → Only before t other → 3 ≤ other
 three_least before t other o = by_which o.which
   where
-    by_which : ((other ≡ 3) × (((opens_bracket (kind_of t) ≡ true) × (40 ≤ open_brackets before)) ⊎ ((opens_block (kind_of t) ≡ true) × (40 ≤ open_blocks before))))
+    by_which : ((other ≡ 3) × (((opens_bracket (kind_of t) ≡ true) × (40 ≤ open_brackets before))
+        ⊎ ((opens_block (kind_of t) ≡ true) × (40 ≤ open_blocks before))))
         ⊎ ((other ≡ 4) × (is_operator (kind_of t) ≡ true) × (40 ≤ operators before)) → 3 ≤ other
     by_which (inl x) = let e = x.0 in omega (arith, e)
     by_which (inr x) = let e = x.0 in omega (arith, e)
@@ -106,8 +111,10 @@ module _ (before : List Token) (t : Token) (right : is_wrong (kind_of t) ≡ fal
       (other : ℕ) → BreaksAt before t other → (other ≡ 4) × (is_operator (kind_of t) ≡ true) × (40 ≤ operators before)
   nothing_else ex ey other b = by_which (only before t right goes other b).which
     where
-      by_which : ((other ≡ 3) × (((opens_bracket (kind_of t) ≡ true) × (40 ≤ open_brackets before)) ⊎ ((opens_block (kind_of t) ≡ true) × (40 ≤ open_blocks before))))
-          ⊎ ((other ≡ 4) × (is_operator (kind_of t) ≡ true) × (40 ≤ operators before)) → (other ≡ 4) × (is_operator (kind_of t) ≡ true) × (40 ≤ operators before)
+      by_which : ((other ≡ 3) × (((opens_bracket (kind_of t) ≡ true) × (40 ≤ open_brackets before))
+          ⊎ ((opens_block (kind_of t) ≡ true) × (40 ≤ open_blocks before))))
+          ⊎ ((other ≡ 4) × (is_operator (kind_of t) ≡ true) × (40 ≤ operators before)) → (other ≡ 4) × (is_operator (kind_of t) ≡ true)
+          × (40 ≤ operators before)
       by_which (inl (e, inl x)) = absurd (not_over (opens_bracket (kind_of t)) (count_of opens_bracket before) (count_of closes_bracket before) ex x.0 x.1)
       by_which (inl (e, inr x)) = absurd (not_over (opens_block (kind_of t)) (count_of opens_block before) (count_of closes_block before) ey x.0 x.1)
       by_which (inr x) = x
@@ -119,14 +126,19 @@ module _ (before : List Token) (t : Token) (right : is_wrong (kind_of t) ≡ fal
       (is_over_limit (is_operator (kind_of t)) (operators before) 0) refl refl refl
     where
       pick : (x y z : std.Bool) → is_over_limit (opens_bracket (kind_of t)) (count_of opens_bracket before) (count_of closes_bracket before) ≡ x →
-          is_over_limit (opens_block (kind_of t)) (count_of opens_block before) (count_of closes_block before) ≡ y → is_over_limit (is_operator (kind_of t)) (operators before) 0 ≡ z →
+          is_over_limit (opens_block (kind_of t)) (count_of opens_block before) (count_of closes_block before) ≡ y
+          → is_over_limit (is_operator (kind_of t)) (operators before) 0 ≡ z →
           Verdict before t (cond x (Some 3) (cond y (Some 3) (cond z (Some 4) None)))
       pick true y z ex ey ez =
-          let h = and_parts (opens_bracket (kind_of t)) (nat_le (count_of closes_bracket before + 40) (count_of opens_bracket before)) ex in
-          (brackets t goes h.0 (full (count_of opens_bracket before) (count_of closes_bracket before) h.1), λ other b. three_least before t other (only before t right goes other b))
+          let h = and_parts (opens_bracket (kind_of t)) (nat_le (count_of closes_bracket before + 40) (count_of opens_bracket before)) ex in (
+            brackets t goes h.0 (full (count_of opens_bracket before) (count_of closes_bracket before) h.1),
+            λ other b. three_least before t other (only before t right goes other b),
+          )
       pick false true z ex ey ez =
-          let h = and_parts (opens_block (kind_of t)) (nat_le (count_of closes_block before + 40) (count_of opens_block before)) ey in
-          (blocks t goes h.0 (full (count_of opens_block before) (count_of closes_block before) h.1), λ other b. three_least before t other (only before t right goes other b))
+          let h = and_parts (opens_block (kind_of t)) (nat_le (count_of closes_block before + 40) (count_of opens_block before)) ey in (
+            blocks t goes h.0 (full (count_of opens_block before) (count_of closes_block before) h.1),
+            λ other b. three_least before t other (only before t right goes other b),
+          )
       pick false false true ex ey ez =
           let h = and_parts (is_operator (kind_of t)) (nat_le (0 + 40) (operators before)) ez in
           let le : 0 + 40 ≤ operators before = leb-true (0 + 40) (operators before) h.1 in
@@ -135,7 +147,8 @@ module _ (before : List Token) (t : Token) (right : is_wrong (kind_of t) ≡ fal
           let h = nothing_else ex ey rule b in
           not_over (is_operator (kind_of t)) (operators before) 0 ez h.1 (let le : 40 ≤ operators before = h.2 in omega (arith, le))
 
-pub taken_one : (before : List Token) (t : Token) (old : List Expected) → taken (Some at_start) before ≡ Some old → taken (Some at_start) (before ++ t ∷ []) ≡ takes old (kind_of t)
+pub taken_one : (before : List Token) (t : Token) (old : List Expected) → taken (Some at_start) before ≡ Some old
+    → taken (Some at_start) (before ++ t ∷ []) ≡ takes old (kind_of t)
 taken_one before t old e =
     taken_append (Some at_start) before (t ∷ []) ∙ ap (λ (o : Option (List Expected)). taken o (t ∷ [])) e ∙ taken_end (takes old (kind_of t))
   where
@@ -208,11 +221,13 @@ place_is text found = pick found.kind
     pick (kind.Mark m) = refl
     pick kind.Wrong = refl
 
-module _ (text : List ℕ) (at : ℕ) (ls : List Lexeme) (old new : List Expected) (n : Counts) (found : TokenSpan) (st : Stands text at ls old n) (f : FindsToken text at found) where
+module _ (text : List ℕ) (at : ℕ) (ls : List Lexeme) (old new : List Expected) (n : Counts) (found : TokenSpan) (st : Stands text at ls old n)
+    (f : FindsToken text at found) where
   verdict : (rule : Option ℕ) → Judges old n found.kind rule new → Verdict (seen ls) (token_in text found) rule
   verdict rule j =
       token_verdict old new rule (seen ls) (token_in text found)
-      (subst (λ (k : TokenKind). Judges old (counts_of (seen ls)) k rule new) (sym (kind_is text found)) (subst (λ (m : Counts). Judges old m found.kind rule new) (sym st.counts_are) j)) st.taken_is
+      (subst (λ (k : TokenKind). Judges old (counts_of (seen ls)) k rule new) (sym (kind_is text found))
+      (subst (λ (m : Counts). Judges old m found.kind rule new) (sym st.counts_are) j)) st.taken_is
 
   -- the first token that breaks a rule
   pub breaks_first : (rule : ℕ) → Judges old n found.kind (Some rule) new → BreaksFirst text rule found.start
@@ -234,7 +249,8 @@ module _ (text : List ℕ) (at : ℕ) (ls : List Lexeme) (old new : List Expecte
   now_taken (judging.not_taken w none r) = cc
   now_taken (judging.taken w some r) = some
 
-  pub goes_further : (l : Lexeme) (more : List Lexeme) → token_seen l ≡ token_in text found → more ≡ ls ++ l ∷ [] → Judges old n found.kind None new → Stands text found.«end» more new (counted n found.kind)
+  pub goes_further : (l : Lexeme) (more : List Lexeme) → token_seen l ≡ token_in text found → more ≡ ls ++ l ∷ [] → Judges old n found.kind None new
+      → Stands text found.«end» more new (counted n found.kind)
   goes_further l more is pushed j =
       let all : seen more ≡ seen ls ++ token_in text found ∷ [] = ap seen pushed ∙ map_push token_seen ls l ∙ ap (λ (t : Token). seen ls ++ t ∷ []) is in
       record {
@@ -245,12 +261,14 @@ module _ (text : List ℕ) (at : ℕ) (ls : List Lexeme) (old new : List Expecte
         taken_is =
             ap (taken (Some at_start)) all ∙ taken_one (seen ls) (token_in text found) (reverse old) st.taken_is
             ∙ ap (takes (reverse old)) (kind_is text found) ∙ now_taken j;
-        counts_are = ap counts_of all ∙ counts_more (seen ls) (token_in text found) ∙ ap (λ (k : TokenKind). counted (counts_of (seen ls)) k) (kind_is text found) ∙ ap (λ (m : Counts). counted m found.kind) st.counts_are;
+        counts_are = ap counts_of all ∙ counts_more (seen ls) (token_in text found)
+            ∙ ap (λ (k : TokenKind). counted (counts_of (seen ls)) k) (kind_is text found) ∙ ap (λ (m : Counts). counted m found.kind) st.counts_are;
       }
 
 -- ---- the text's end
 
-module _ (text : List ℕ) (at : ℕ) (ls : List Lexeme) (stack : List Expected) (n : Counts) (st : Stands text at ls stack n) (none : tokens between at (drop at text) ≡ []) where
+module _ (text : List ℕ) (at : ℕ) (ls : List Lexeme) (stack : List Expected) (n : Counts) (st : Stands text at ls stack n)
+    (none : tokens between at (drop at text) ≡ []) where
   pub all_seen : seen ls ≡ tokens_in text
   all_seen = sym (st.parts ∙ ap (λ (ts : List Token). seen ls ++ ts) none ∙ append-nil (seen ls))
 
@@ -264,7 +282,8 @@ module _ (text : List ℕ) (at : ℕ) (ls : List Lexeme) (stack : List Expected)
   ends_early over = record {
     free = all_free;
     no_program = λ p is.
-        let both_are : Some (end_of p.forms) ≡ Some (reverse stack) = sym (program_taken p) ∙ ap (taken (Some at_start)) (sym is ∙ sym all_seen) ∙ st.taken_is in
+        let both_are : Some (end_of p.forms) ≡ Some (reverse stack) =
+        sym (program_taken p) ∙ ap (taken (Some at_start)) (sym is ∙ sym all_seen) ∙ st.taken_is in
         let ends : end_of p.forms ≡ reverse stack = cc in
         let bad = sym (over_end p.forms) ∙ ap is_over ends ∙ over in
         cc;

@@ -1,5 +1,6 @@
 -- A program within the limits that breaks no rule can be lowered.
-use Rattle.std.proofs.Common.{◌≡◌, ℕ, zero, suc, ◌+◌, ◌^◌, ◌<◌, ◌≤◌, max, List, [], ◌∷◌, ◌++◌, map, length, bytes_eq, true, false, cond, Option, Some, None, is_none, is_some, option_map, refl, sym, ap, ap₂, subst, ◌∙◌, append_assoc, arith}
+use Rattle.std.proofs.Common.{◌≡◌, ℕ, zero, suc, ◌+◌, ◌^◌, ◌<◌, ◌≤◌, max, List, [], ◌∷◌, ◌++◌, map, length, bytes_eq, true, false, cond, Option, Some, None}
+use Rattle.std.proofs.Common.{is_none, is_some, option_map, refl, sym, ap, ap₂, subst, ◌∙◌, append_assoc, arith}
 use Rattle.std.specs.Prelude.{slice_get, ◌==◌, ◌&&◌}
 use Rattle.std.specs.Prelude as std
 use Rattle.std.specs.List.{list_all}
@@ -8,7 +9,9 @@ use Rattle.std.proofs.lemmas.List.{length-append}
 use Rattle.std.proofs.lemmas.Slice.Eq.{bytes_eq-Decides}
 use Rattle.stack_text.specs.Breaches.{when}
 use Rattle.stack_text.proofs.SharedLaws.{rule_holds, rule_fails}
-use Rattle.mini_syntax.specs.Breaches.{breaches, body_of, decl_breaches, decls_breaches, declared_by, declared_of, is_too_large, named_from, names_of, number_of, or_first, variable_named, sort_named, infix_breaches, prefix_breaches, same_sort, assigns_breaches, test_breaches}
+use Rattle.mini_syntax.specs.Breaches.{breaches, body_of, decl_breaches, decls_breaches, declared_by, declared_of, is_too_large, named_from, names_of}
+use Rattle.mini_syntax.specs.Breaches.{number_of, or_first, variable_named, sort_named, infix_breaches, prefix_breaches, same_sort, assigns_breaches}
+use Rattle.mini_syntax.specs.Breaches.{test_breaches}
 use Rattle.mini_syntax.specs.Breaches.{expression_breaches, expression_sort, expression_exp}
 use Rattle.mini_syntax.specs.Breaches.{form_breaches, block_breaches, forms_breaches, form_stmt, block_stmt, forms_stmt}
 use Rattle.mini_syntax.specs.declared.program.Declared.{Declared}
@@ -50,7 +53,8 @@ found_there : (n : ℕ) (ds : List Declared) (name : List ℕ) (v : Variable) �
 found_there n [] name v e = cc
 found_there n (d ∷ ds) name v e = pick (bytes_eq name d.name) refl e (λ rest. found_there (n + 1) ds name v rest)
   where
-    pick : (b : std.Bool) → bytes_eq name d.name ≡ b → cond b (Some record { index = n; sort = d.sort }) (named_from (n + 1) ds name) ≡ Some v → (named_from (n + 1) ds name ≡ Some v → IsThere (n + 1) ds name v) → IsThere n (d ∷ ds) name v
+    pick : (b : std.Bool) → bytes_eq name d.name ≡ b → cond b (Some record { index = n; sort = d.sort }) (named_from (n + 1) ds name) ≡ Some v
+        → (named_from (n + 1) ds name ≡ Some v → IsThere (n + 1) ds name v) → IsThere n (d ∷ ds) name v
     pick true p q later =
         let same : record { index = n; sort = d.sort } ≡ v = cc in
         record {
@@ -71,7 +75,8 @@ variable_there : (ds : List Declared) (name : List ℕ) → is_none (variable_na
 variable_there ds name e = found_there 0 ds name (or_first (variable_named ds name)) (some_found (variable_named ds name) e)
 
 -- a name that is declared is the one at its position
-pub name_there : (ds : List Declared) (name : List ℕ) → is_none (variable_named ds name) ≡ false → nth_name (names_of ds) (or_first (variable_named ds name)).index ≡ name
+pub name_there : (ds : List Declared) (name : List ℕ) → is_none (variable_named ds name) ≡ false
+    → nth_name (names_of ds) (or_first (variable_named ds name)).index ≡ name
 name_there ds name e =
     let v = variable_there ds name e in
     let at : (or_first (variable_named ds name)).index ≡ v.i = omega (arith, v.index) in
@@ -101,7 +106,8 @@ infix_known ds place op s t a b p r e = record {
   sort = refl;
 }
 
-prefix_known : (ds : List Declared) (place : ℕ) (op : Prefix) (s : Option Sort) (a : Exp) → Known ds s a → prefix_breaches place op s ≡ [] → Known ds (Some (prefix_sort op)) (language.Before op a)
+prefix_known : (ds : List Declared) (place : ℕ) (op : Prefix) (s : Option Sort) (a : Exp) → Known ds s a → prefix_breaches place op s ≡ []
+    → Known ds (Some (prefix_sort op)) (language.Before op a)
 prefix_known ds place op s a p e = record {
   sorted = (p.sorted, rule_holds (prefix_takes op (sort_of a)) place 7 (sym (ap (prefix_breaches place op) p.sort) ∙ e));
   sort = refl;
@@ -203,7 +209,8 @@ few_declared earlier (d ∷ ds) le h =
     omega (arith, rest, longer)
 
 -- a name that isn't found is none of these
-none_named : (n : ℕ) (front : List Declared) (d : Declared) (back : List Declared) (name : List ℕ) → is_some (named_from n (front ++ d ∷ back) name) ≡ false → bytes_eq name d.name ≡ false
+none_named : (n : ℕ) (front : List Declared) (d : Declared) (back : List Declared) (name : List ℕ)
+    → is_some (named_from n (front ++ d ∷ back) name) ≡ false → bytes_eq name d.name ≡ false
 none_named n [] d back name e = pick (bytes_eq name d.name) e
   where
     pick : (b : std.Bool) → is_some (cond b (Some record { index = n; sort = d.sort }) (named_from (n + 1) back name)) ≡ false → b ≡ false
@@ -217,7 +224,8 @@ none_named n (c ∷ front) d back name e = pick (bytes_eq name c.name) e (λ res
     pick false q later = later q
 
 -- a later name is none of the earlier ones
-new_names : (front : List Declared) (d : Declared) (back : List Declared) (ds : List Decl) → decls_breaches (front ++ d ∷ back) ds ≡ [] → (i : ℕ) → i < length (map (λ (e : Decl). e.name) ds) →
+new_names : (front : List Declared) (d : Declared) (back : List Declared) (ds : List Decl) → decls_breaches (front ++ d ∷ back) ds ≡ [] → (i : ℕ)
+    → i < length (map (λ (e : Decl). e.name) ds) →
     bytes_eq (nth_name (map (λ (e : Decl). e.name) ds) i) d.name ≡ false
 new_names front d back [] h i lt = absurd (omega arith)
 new_names front d back (e ∷ ds) h zero lt =
@@ -239,7 +247,8 @@ declared_names : (ds : List Decl) → map (λ (d : Declared). d.name) (map decla
 declared_names [] = refl
 declared_names (d ∷ ds) = ap (λ (ns : List (List ℕ)). d.name ∷ ns) (declared_names ds)
 
-declared_good : (ds : List Decl) → list_all (λ (d : Decl). is_variable_name d.name) ds ≡ true → list_all (λ (d : Declared). is_variable_name d.name) (map declared_by ds) ≡ true
+declared_good : (ds : List Decl) → list_all (λ (d : Decl). is_variable_name d.name) ds ≡ true
+    → list_all (λ (d : Declared). is_variable_name d.name) (map declared_by ds) ≡ true
 declared_good [] h = refl
 declared_good (d ∷ ds) h = pick (is_variable_name d.name) (list_all (λ (e : Decl). is_variable_name e.name) ds) (declared_good ds) h
   where

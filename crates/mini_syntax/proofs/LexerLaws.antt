@@ -1,5 +1,6 @@
 -- One byte of a text after the other.
-use Rattle.std.proofs.Common.{◌≡◌, ℕ, ◌+◌, ◌-◌, ◌<◌, ◌≤◌, List, [], ◌∷◌, ◌++◌, length, get_or, drop, ⊎_elim, true, false, cond, Option, Some, None, refl, sym, ap, subst, ◌∙◌, append_assoc, arith}
+use Rattle.std.proofs.Common.{◌≡◌, ℕ, ◌+◌, ◌-◌, ◌<◌, ◌≤◌, List, [], ◌∷◌, ◌++◌, length, get_or, drop, ⊎_elim, true, false, cond, Option, Some, None, refl, sym}
+use Rattle.std.proofs.Common.{ap, subst, ◌∙◌, append_assoc, arith}
 use Rattle.std.specs.Prelude.{◌==◌, ◌||◌}
 use Rattle.std.specs.Prelude as std
 use Rattle.std.specs.Char.{is_ascii_alphabetic, is_ascii_digit}
@@ -14,7 +15,8 @@ use Rattle.mini_syntax.specs.declared.lexer.TokenKind.TheVariants as kind
 use Rattle.mini_syntax.specs.declared.lexer.TokenSpan.{TokenSpan}
 use Rattle.mini_syntax.specs.declared.mark.Mark.{Mark}
 use Rattle.mini_syntax.specs.Names.{is_word_byte}
-use Rattle.mini_syntax.specs.Tokens.{Token, number_at, mark_at, Mode, after_fresh, begins, fresh, is_blank, is_pair, mark_of, mark_token, next, longest_run, tokens, word_kind, word_token}
+use Rattle.mini_syntax.specs.Tokens.{Token, number_at, mark_at, Mode, after_fresh, begins, fresh, is_blank, is_pair, mark_of, mark_token, next, longest_run}
+use Rattle.mini_syntax.specs.Tokens.{tokens, word_kind, word_token}
 use Rattle.mini_syntax.specs.Tokens as mode
 use Rattle.mini_syntax.specs.Internal.TokenSpans.{FindsToken, run_mode, run_test}
 use Rattle.mini_syntax.proofs.SpanLaws.{no_pair}
@@ -22,7 +24,8 @@ use Rattle.mini_syntax.proofs.SpanLaws.{no_pair}
 -- ---- one byte
 
 pub tokens_step : (m : Mode) (text : List ℕ) (at : ℕ) → at < length text →
-    tokens m at (drop at text) ≡ begins m at (get_or text at 0) (drop (at + 1) text) ++ tokens (next m (get_or text at 0) (drop (at + 1) text)) (at + 1) (drop (at + 1) text)
+    tokens m at (drop at text) ≡ begins m at (get_or text at 0) (drop (at + 1) text)
+    ++ tokens (next m (get_or text at 0) (drop (at + 1) text)) (at + 1) (drop (at + 1) text)
 unfolding tokens
 tokens_step m text at lt = rw (drop_more text at 0 lt) refl
 
@@ -42,14 +45,16 @@ run_past test text at le = rw (drop_all at text le) refl
 pub run_goes_on : (test : ℕ → std.Bool) (text : List ℕ) (from at : ℕ) → from ≤ at → at < length text → test (get_or text at 0) ≡ true →
     slice_range text from at ++ longest_run test (drop at text) ≡ slice_range text from (at + 1) ++ longest_run test (drop (at + 1) text)
 run_goes_on test text from at le lt e =
-    ap (λ (r : List ℕ). slice_range text from at ++ r) (run_step test text at lt ∙ ap (λ (c : std.Bool). cond c (get_or text at 0 ∷ longest_run test (drop (at + 1) text)) []) e)
+    ap (λ (r : List ℕ). slice_range text from at ++ r)
+    (run_step test text at lt ∙ ap (λ (c : std.Bool). cond c (get_or text at 0 ∷ longest_run test (drop (at + 1) text)) []) e)
     ∙ sym (append_assoc (slice_range text from at) (get_or text at 0 ∷ []) (longest_run test (drop (at + 1) text)))
     ∙ ap (λ (r : List ℕ). r ++ longest_run test (drop (at + 1) text)) (sym (slice_range-more text from at le lt))
 
 pub run_over : (test : ℕ → std.Bool) (text : List ℕ) (at : ℕ) → at < length text → test (get_or text at 0) ≡ false → longest_run test (drop at text) ≡ []
 run_over test text at lt e = run_step test text at lt ∙ ap (λ (c : std.Bool). cond c (get_or text at 0 ∷ longest_run test (drop (at + 1) text)) []) e
 
-pub run_ends : (test : ℕ → std.Bool) (text : List ℕ) (from at : ℕ) → longest_run test (drop from text) ≡ slice_range text from at ++ longest_run test (drop at text) → longest_run test (drop at text) ≡ [] →
+pub run_ends : (test : ℕ → std.Bool) (text : List ℕ) (from at : ℕ) → longest_run test (drop from text) ≡ slice_range text from at
+    ++ longest_run test (drop at text) → longest_run test (drop at text) ≡ [] →
     slice_range text from at ≡ longest_run test (drop from text)
 run_ends test text from at is over = sym (is ∙ ap (λ (r : List ℕ). slice_range text from at ++ r) over ∙ append-nil (slice_range text from at))
 
@@ -62,7 +67,8 @@ mode_goes_on runs.Word text at lt e =
 mode_goes_on runs.Number text at lt e =
     let rest = drop (at + 1) text in
     tokens_step mode.in_number text at lt
-    ∙ ap (λ (c : std.Bool). cond c [] (fresh at (get_or text at 0) rest) ++ tokens (cond c mode.in_number (after_fresh (get_or text at 0) rest)) (at + 1) rest) e
+    ∙ ap (λ (c : std.Bool). cond c [] (fresh at (get_or text at 0) rest) ++ tokens (cond c mode.in_number (after_fresh (get_or text at 0) rest))
+    (at + 1) rest) e
 
 pub mode_over : (run : Run) (text : List ℕ) (at : ℕ) → at < length text → run_test run (get_or text at 0) ≡ false →
     tokens (run_mode run) at (drop at text) ≡ tokens mode.between at (drop at text)
@@ -74,7 +80,8 @@ mode_over runs.Word text at lt e =
 mode_over runs.Number text at lt e =
     let rest = drop (at + 1) text in
     tokens_step mode.in_number text at lt
-    ∙ ap (λ (c : std.Bool). cond c [] (fresh at (get_or text at 0) rest) ++ tokens (cond c mode.in_number (after_fresh (get_or text at 0) rest)) (at + 1) rest) e
+    ∙ ap (λ (c : std.Bool). cond c [] (fresh at (get_or text at 0) rest) ++ tokens (cond c mode.in_number (after_fresh (get_or text at 0) rest))
+    (at + 1) rest) e
     ∙ sym (tokens_step mode.between text at lt)
 
 -- ---- what begins with a byte
@@ -104,10 +111,12 @@ blank text at lt e = tokens_step mode.between text at lt ∙ skips (get_or text 
 -- a byte's token, where it isn't blank, by what the byte is
 abbrev pub begun : (blank letter digit : std.Bool) (at byte : ℕ) (rest : List ℕ) → List Token
 begun blank letter digit at byte rest =
-    cond blank [] (cond letter (word_token at (longest_run is_word_byte (byte ∷ rest)) ∷ []) (cond digit (number_at at (longest_run is_ascii_digit (byte ∷ rest)) ∷ []) (mark_token at (mark_of byte rest) ∷ []))) ++
+    cond blank [] (cond letter (word_token at (longest_run is_word_byte (byte ∷ rest)) ∷ [])
+    (cond digit (number_at at (longest_run is_ascii_digit (byte ∷ rest)) ∷ []) (mark_token at (mark_of byte rest) ∷ []))) ++
     tokens (cond letter mode.in_word (cond digit mode.in_number (cond (is_pair (mark_of byte rest)) mode.in_pair mode.between))) (at + 1) rest
 
-pub begins_with : (text : List ℕ) (at : ℕ) (a b c : std.Bool) → at < length text → is_blank (get_or text at 0) ≡ a → is_ascii_alphabetic (get_or text at 0) ≡ b →
+pub begins_with : (text : List ℕ) (at : ℕ) (a b c : std.Bool) → at < length text → is_blank (get_or text at 0) ≡ a
+    → is_ascii_alphabetic (get_or text at 0) ≡ b →
     is_ascii_digit (get_or text at 0) ≡ c → tokens mode.between at (drop at text) ≡ begun a b c at (get_or text at 0) (drop (at + 1) text)
 begins_with text at a b c lt ea eb ec =
     tokens_step mode.between text at lt
@@ -124,13 +133,15 @@ letter_goes_on b e = pick (is_in_range 48 57 b) (is_in_range 65 90 b) (is_in_ran
     pick false false true e = refl
     pick false false false e = cc
 
-run_is_long : (test : ℕ → std.Bool) (text : List ℕ) (at to : ℕ) → at < length text → test (get_or text at 0) ≡ true → slice_range text at to ≡ longest_run test (drop at text) → at < to
+run_is_long : (test : ℕ → std.Bool) (text : List ℕ) (at to : ℕ) → at < length text → test (get_or text at 0) ≡ true
+    → slice_range text at to ≡ longest_run test (drop at text) → at < to
 run_is_long test text at to lt e is =
     let long = ap length (is ∙ run_step test text at lt ∙ ap (λ (c : std.Bool). cond c (get_or text at 0 ∷ longest_run test (drop (at + 1) text)) []) e) in
     omega (arith, long, length-take (to - at) (drop at text))
 
 -- a word that ends at a place
-pub word_found : (text : List ℕ) (at to : ℕ) → at < length text → is_blank (get_or text at 0) ≡ false → is_ascii_alphabetic (get_or text at 0) ≡ true → at ≤ to → to ≤ length text →
+pub word_found : (text : List ℕ) (at to : ℕ) → at < length text → is_blank (get_or text at 0) ≡ false → is_ascii_alphabetic (get_or text at 0) ≡ true
+    → at ≤ to → to ≤ length text →
     slice_range text at to ≡ longest_run is_word_byte (drop at text) → tokens mode.in_word at (drop at text) ≡ tokens mode.between to (drop to text) →
     FindsToken text at (record { kind = word_kind (slice_range text at to); start = at; «end» = to })
 word_found text at to lt visible letter le within is rest =
@@ -144,8 +155,10 @@ word_found text at to lt visible letter le within is rest =
     }
 
 -- a number
-pub number_found : (text : List ℕ) (at to : ℕ) → at < length text → is_blank (get_or text at 0) ≡ false → is_ascii_alphabetic (get_or text at 0) ≡ false → is_ascii_digit (get_or text at 0) ≡ true →
-    at ≤ to → to ≤ length text → slice_range text at to ≡ longest_run is_ascii_digit (drop at text) → tokens mode.in_number at (drop at text) ≡ tokens mode.between to (drop to text) →
+pub number_found : (text : List ℕ) (at to : ℕ) → at < length text → is_blank (get_or text at 0) ≡ false → is_ascii_alphabetic (get_or text at 0) ≡ false
+    → is_ascii_digit (get_or text at 0) ≡ true →
+    at ≤ to → to ≤ length text → slice_range text at to ≡ longest_run is_ascii_digit (drop at text)
+    → tokens mode.in_number at (drop at text) ≡ tokens mode.between to (drop to text) →
     FindsToken text at (record { kind = kind.Number; start = at; «end» = to })
 number_found text at to lt visible letter digit le within is rest =
     record {
@@ -166,7 +179,8 @@ pair_rest byte text at e = ⊎_elim (λ lt. lt) (λ le. absurd (bad le)) (cases_
 pair_over : (text : List ℕ) (at : ℕ) → at < length text → tokens mode.in_pair at (drop at text) ≡ tokens mode.between (at + 1) (drop (at + 1) text)
 pair_over text at lt = tokens_step mode.in_pair text at lt
 
-pub mark_found : (text : List ℕ) (at to : ℕ) (m : Mark) → at < length text → is_blank (get_or text at 0) ≡ false → is_ascii_alphabetic (get_or text at 0) ≡ false → is_ascii_digit (get_or text at 0) ≡ false →
+pub mark_found : (text : List ℕ) (at to : ℕ) (m : Mark) → at < length text → is_blank (get_or text at 0) ≡ false
+    → is_ascii_alphabetic (get_or text at 0) ≡ false → is_ascii_digit (get_or text at 0) ≡ false →
     Some m ≡ mark_of (get_or text at 0) (drop (at + 1) text) → to ≡ cond (is_pair (Some m)) (at + 2) (at + 1) →
     FindsToken text at (record { kind = kind.Mark m; start = at; «end» = to })
 mark_found text at to m lt visible letter digit is ends =
@@ -194,7 +208,8 @@ mark_found text at to m lt visible letter digit is ends =
         }
 
 -- a byte with which no token begins
-pub wrong_found : (text : List ℕ) (at : ℕ) → at < length text → is_blank (get_or text at 0) ≡ false → is_ascii_alphabetic (get_or text at 0) ≡ false → is_ascii_digit (get_or text at 0) ≡ false →
+pub wrong_found : (text : List ℕ) (at : ℕ) → at < length text → is_blank (get_or text at 0) ≡ false → is_ascii_alphabetic (get_or text at 0) ≡ false
+    → is_ascii_digit (get_or text at 0) ≡ false →
     None ≡ mark_of (get_or text at 0) (drop (at + 1) text) → FindsToken text at (record { kind = kind.Wrong; start = at; «end» = at + 1 })
 wrong_found text at lt visible letter digit is = record {
   tokens_are = begins_with text at false false false lt visible letter digit
@@ -203,7 +218,8 @@ wrong_found text at lt visible letter digit is = record {
 }
 
 -- a token after what separates tokens
-pub later_token : (text : List ℕ) (from at : ℕ) (found : TokenSpan) → from ≤ at → tokens mode.between from (drop from text) ≡ tokens mode.between at (drop at text) →
+pub later_token : (text : List ℕ) (from at : ℕ) (found : TokenSpan) → from ≤ at → tokens mode.between from (drop from text)
+    ≡ tokens mode.between at (drop at text) →
     FindsToken text at found → FindsToken text from found
 later_token text from at found le same f = record {
   tokens_are = same ∙ f.tokens_are;

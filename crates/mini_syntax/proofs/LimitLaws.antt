@@ -13,7 +13,8 @@ use Rattle.mini_syntax.specs.declared.operator.Prefix.{Prefix}
 use Rattle.mini_syntax.specs.declared.operator.Prefix.TheVariants.{Not, Minus}
 use Rattle.mini_syntax.specs.declared.word.Word.{Word}
 use Rattle.mini_syntax.specs.declared.word.Word.TheVariants as word
-use Rattle.mini_syntax.specs.Faults.{AreFree, blocks, brackets, too_many, begins_expression, closes_block, closes_bracket, count_of, is_operator, open_blocks, open_brackets, operators, operators_from, opens_block, opens_bracket}
+use Rattle.mini_syntax.specs.Faults.{AreFree, blocks, brackets, too_many, begins_expression, closes_block, closes_bracket, count_of, is_operator, open_blocks}
+use Rattle.mini_syntax.specs.Faults.{open_brackets, operators, operators_from, opens_block, opens_bracket}
 use Rattle.mini_syntax.specs.Grammar.{Expression, unary, binary, group, expression_tokens, prefix_token}
 use Rattle.mini_syntax.specs.Grammar.{Form, assign, loop, branch, Block, block, Forms, no_forms, form, Decl, InfixProgram, GoesOn, IsProgram}
 use Rattle.mini_syntax.specs.Grammar.{form_tokens, block_tokens, forms_tokens, decl_tokens, decls_tokens, program_tokens}
@@ -34,7 +35,8 @@ abbrev Keeps : List Token → List Token → Type 0
 Keeps before [] = Unit {0}
 Keeps before (t ∷ ts) = Fits before t × Keeps (before ++ t ∷ []) ts
 
-fits_at : (p : InfixProgram) (before : List Token) (t : Token) (after : List Token) → AreFree (program_tokens p) → program_tokens p ≡ before ++ t ∷ after → Fits before t
+fits_at : (p : InfixProgram) (before : List Token) (t : Token) (after : List Token) → AreFree (program_tokens p)
+    → program_tokens p ≡ before ++ t ∷ after → Fits before t
 fits_at p before t after free is = record {
   bracket = λ h. ⊎_elim (λ lt. lt) (λ le. absurd (free before t after 3 is (brackets t goes h le))) (cases_lt (open_brackets before) 40);
   block = λ h. ⊎_elim (λ lt. lt) (λ le. absurd (free before t after 3 is (blocks t goes h le))) (cases_lt (open_blocks before) 40);
@@ -78,7 +80,16 @@ record Even (ts : List Token) (ops : ℕ) : Type 0 where
 -- an operator between
 even_infix : (a b : List Token) (t : Token) (m n : ℕ) → Even a m → Even b n → Even (t ∷ []) 1 → Even (a ++ t ∷ b) (suc (m + n))
 even_infix a b t m n l r o = record {
-  brackets = omega (arith, l.brackets, r.brackets, o.brackets, count_append opens_bracket a (t ∷ b), count_append closes_bracket a (t ∷ b), count_append opens_bracket (t ∷ []) b, count_append closes_bracket (t ∷ []) b);
+  brackets = omega (
+    arith,
+    l.brackets,
+    r.brackets,
+    o.brackets,
+    count_append opens_bracket a (t ∷ b),
+    count_append closes_bracket a (t ∷ b),
+    count_append opens_bracket (t ∷ []) b,
+    count_append closes_bracket (t ∷ []) b,
+  );
   opened = omega (arith, l.opened, r.opened, o.opened, count_append opens_block a (t ∷ b), count_append opens_block (t ∷ []) b);
   closed = omega (arith, l.closed, r.closed, o.closed, count_append closes_block a (t ∷ b), count_append closes_block (t ∷ []) b);
   operators = λ k.
@@ -100,7 +111,8 @@ even_prefix a t m o l = record {
   brackets = omega (arith, l.brackets, o.brackets, count_append opens_bracket (t ∷ []) a, count_append closes_bracket (t ∷ []) a);
   opened = omega (arith, l.opened, o.opened, count_append opens_block (t ∷ []) a);
   closed = omega (arith, l.closed, o.closed, count_append closes_block (t ∷ []) a);
-  operators = λ k. operators_append k (t ∷ []) a ∙ l.operators (operators_from k (t ∷ [])) ∙ ap (λ (x : ℕ). x + m) (o.operators k) ∙ (let sums : k + 1 + m ≡ k + suc m = omega arith in sums);
+  operators = λ k. operators_append k (t ∷ []) a ∙ l.operators (operators_from k (t ∷ [])) ∙ ap (λ (x : ℕ). x + m) (o.operators k)
+      ∙ (let sums : k + 1 + m ≡ k + suc m = omega arith in sums);
 }
 
 expression_even : (e : Expression) → Even (expression_tokens e) (expression_operators e)
@@ -141,8 +153,10 @@ after_even before ts n k ops even le s = record {
   small = le;
 }
 
-infix_within : (before a b : List Token) (t : Token) (n k l m c d : ℕ) → Keeps before (a ++ t ∷ b) → Stands before n k → Even a l → Even (t ∷ []) 1 → is_operator (kind_of t) ≡ true
-    → (Keeps before a → Within n k c l) → ((before' : List Token) (k' : ℕ) → Keeps before' b → Stands before' n k' → Within n k' d m) → Within n k (max c d) (suc (l + m))
+infix_within : (before a b : List Token) (t : Token) (n k l m c d : ℕ) → Keeps before (a ++ t ∷ b) → Stands before n k → Even a l → Even (t ∷ []) 1
+    → is_operator (kind_of t) ≡ true
+    → (Keeps before a → Within n k c l) → ((before' : List Token) (k' : ℕ) → Keeps before' b → Stands before' n k' → Within n k' d m)
+    → Within n k (max c d) (suc (l + m))
 infix_within before a b t n k l m c d keeps s even one is left right =
     let parts = keeps_parts before a (t ∷ b) keeps in
     let first = left parts.first in
@@ -261,7 +275,8 @@ level_after before ts m l c = record {
 }
 
 -- where an expression begins
-stands_at : (before : List Token) (t : Token) (m : ℕ) → Level before m → opens_bracket (kind_of t) ≡ false → closes_bracket (kind_of t) ≡ false → begins_expression (kind_of t) ≡ true → Stands (before ++ t ∷ []) 0 0
+stands_at : (before : List Token) (t : Token) (m : ℕ) → Level before m → opens_bracket (kind_of t) ≡ false → closes_bracket (kind_of t) ≡ false
+    → begins_expression (kind_of t) ≡ true → Stands (before ++ t ∷ []) 0 0
 stands_at before t m l a b c = record {
   brackets =
       let one : count_of opens_bracket (t ∷ []) ≡ 0 = rw a refl in
@@ -291,7 +306,8 @@ mutual
   form_within : (f : Form) (before : List Token) (m : ℕ) → Keeps before (form_tokens f) → Level before m → SmallForm f m
   form_within (assign place name becomes e closing) before m keeps l =
       let named : List Token = before ++ name_at place name ∷ [] in
-      let s = stands_at named (mark_at becomes mark.Becomes) m (level_after before (name_at place name ∷ []) m l record { brackets = refl; blocks = refl }) refl refl refl in
+      let s = stands_at named (mark_at becomes mark.Becomes) m
+      (level_after before (name_at place name ∷ []) m l record { brackets = refl; blocks = refl }) refl refl refl in
       let parts = keeps_parts (named ++ mark_at becomes mark.Becomes ∷ []) (expression_tokens e) (mark_at closing mark.Semicolon ∷ []) keeps.1.1 in
       record { small = expression_small (named ++ mark_at becomes mark.Becomes ∷ []) e parts.first s; blocks = omega (arith, l.few) }
   form_within (loop place e b) before m keeps l =
@@ -312,7 +328,8 @@ mutual
       let at : List Token = (before ++ w ∷ []) ++ expression_tokens e in
       let two = keeps_parts at (block_tokens b) (other ∷ block_tokens c) parts.second in
       let first = block_within b at m two.first here in
-      let there = level_after (at ++ block_tokens b) (other ∷ []) m (level_after at (block_tokens b) m here (block_closed b)) (closed_word otherwise word.Else) in
+      let there =
+      level_after (at ++ block_tokens b) (other ∷ []) m (level_after at (block_tokens b) m here (block_closed b)) (closed_word otherwise word.Else) in
       let second = block_within c ((at ++ block_tokens b) ++ other ∷ []) m two.second.1 there in
       record { small = (expression_small (before ++ w ∷ []) e parts.first s, first.small, second.small); blocks = omega (arith, first.blocks, second.blocks) }
 
@@ -326,7 +343,8 @@ mutual
         blocks = omega (arith, l.blocks, count_append opens_block before (opening ∷ []), count_append closes_block before (opening ∷ []));
         few = omega (arith, lt, l.blocks);
       } in
-      let inner = forms_within fs (before ++ opening ∷ []) (suc m) (keeps_parts (before ++ opening ∷ []) (forms_tokens fs) (mark_at closing mark.CloseBlock ∷ []) keeps.1).first next in
+      let inner = forms_within fs (before ++ opening ∷ []) (suc m)
+      (keeps_parts (before ++ opening ∷ []) (forms_tokens fs) (mark_at closing mark.CloseBlock ∷ []) keeps.1).first next in
       record { small = inner.small; blocks = omega (arith, inner.blocks) }
 
   forms_within : (fs : Forms) (before : List Token) (m : ℕ) → Keeps before (forms_tokens fs) → Level before m → SmallForms fs m
@@ -352,7 +370,8 @@ pub free_within : (p : InfixProgram) → AreFree (program_tokens p) → IsWithin
 free_within p free =
     let parts = keeps_parts [] (decls_tokens p.decls) (forms_tokens p.forms) (keeps_all p [] (program_tokens p) free refl) in
     let closed = decls_closed p.decls in
-    let w = forms_within p.forms (decls_tokens p.decls) 0 parts.second record { brackets = closed.brackets; blocks = omega (arith, closed.blocks); few = omega arith } in
+    let w = forms_within p.forms (decls_tokens p.decls) 0 parts.second
+    record { brackets = closed.brackets; blocks = omega (arith, closed.blocks); few = omega arith } in
     record { small = w.small; blocks = omega (arith, w.blocks) }
 
 -- a text of which no token breaks a rule, and whose program breaks none

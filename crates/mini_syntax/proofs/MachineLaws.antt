@@ -24,10 +24,12 @@ met old new top k a e is =
 pub refused : (old new : List Expected) (top : Expected) (k : TokenKind) → old ≡ new ++ top ∷ [] → Refused ≡ answer_of top k → takes (reverse old) k ≡ None
 refused old new top k e is = met old new top k Refused e is
 
-pub left_out : (old new : List Expected) (top : Expected) (k : TokenKind) → old ≡ new ++ top ∷ [] → LeftOut ≡ answer_of top k → takes (reverse old) k ≡ takes (reverse new) k
+pub left_out : (old new : List Expected) (top : Expected) (k : TokenKind) → old ≡ new ++ top ∷ [] → LeftOut ≡ answer_of top k
+    → takes (reverse old) k ≡ takes (reverse new) k
 left_out old new top k e is = met old new top k LeftOut e is
 
-pub then_more : (old mid new : List Expected) (top : Expected) (k : TokenKind) (what : Push) → old ≡ mid ++ top ∷ [] → Then what ≡ answer_of top k → reverse new ≡ pushed what (reverse mid) →
+pub then_more : (old mid new : List Expected) (top : Expected) (k : TokenKind) (what : Push) → old ≡ mid ++ top ∷ [] → Then what ≡ answer_of top k
+    → reverse new ≡ pushed what (reverse mid) →
     takes (reverse old) k ≡ Some (reverse new)
 then_more old mid new top k what e is more = met old mid top k (Then what) e is ∙ ap Some (sym more)
 
@@ -44,7 +46,8 @@ pub over_all : (items : List Expected) → list_all may_be_empty items ≡ is_ov
 over_all [] = refl
 over_all (x ∷ items) =
     let turned : reverse (x ∷ items) ≡ reverse items ++ x ∷ [] = reverse-append (x ∷ []) items in
-    ap (λ (c : std.Bool). may_be_empty x && c) (over_all items) ∙ pick (may_be_empty x) (list_all may_be_empty (reverse items)) ∙ sym (all_append (reverse items) (x ∷ [])) ∙ ap (list_all may_be_empty) (sym turned)
+    ap (λ (c : std.Bool). may_be_empty x && c) (over_all items) ∙ pick (may_be_empty x) (list_all may_be_empty (reverse items))
+    ∙ sym (all_append (reverse items) (x ∷ [])) ∙ ap (list_all may_be_empty) (sym turned)
   where
     pick : (p q : std.Bool) → (p && q) ≡ (q && (p && true))
     pick true true = refl

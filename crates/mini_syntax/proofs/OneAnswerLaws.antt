@@ -14,7 +14,8 @@ one_fault text rule place other there (of_tokens f) (of_program q read least_is)
 one_fault text rule place other there (of_program p read least_is) (of_tokens g) = absurd (none text other there p read.free read.program g)
 one_fault text rule place other there (of_program p read least_is) (of_program q read' least_is') =
     let same : p ≡ q = program_is text p q read.program read'.program in
-    let both : Some record { place = place; rule = rule } ≡ Some record { place = there; rule = other } = sym least_is ∙ ap (λ (x : InfixProgram). least (breaches x)) same ∙ least_is' in
+    let both : Some record { place = place; rule = rule } ≡ Some record { place = there; rule = other } =
+    sym least_is ∙ ap (λ (x : InfixProgram). least (breaches x)) same ∙ least_is' in
     let breach : record { place = place; rule = rule } ≡ record { place = there; rule = other } = cc in
     (ap (λ (b : Breach). b.rule) breach, ap (λ (b : Breach). b.place) breach)
 

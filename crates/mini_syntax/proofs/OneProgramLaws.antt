@@ -297,7 +297,8 @@ mutual
       let tails : (forms_tokens fs ++ mark_at q mark.CloseBlock ∷ []) ++ us ≡ (forms_tokens fs' ++ mark_at q' mark.CloseBlock ∷ []) ++ vs = cc in
       let h =
       forms_same fs fs' (mark_at q mark.CloseBlock ∷ us) (mark_at q' mark.CloseBlock ∷ vs) x y (at_brace q us) (at_brace q' vs)
-      (sym (append_assoc (forms_tokens fs) (mark_at q mark.CloseBlock ∷ []) us) ∙ tails ∙ append_assoc (forms_tokens fs') (mark_at q' mark.CloseBlock ∷ []) vs) in
+      (sym (append_assoc (forms_tokens fs) (mark_at q mark.CloseBlock ∷ []) us) ∙ tails
+      ∙ append_assoc (forms_tokens fs') (mark_at q' mark.CloseBlock ∷ []) vs) in
       let same_fs : fs ≡ fs' = h.tree in
       let ends : mark_at q mark.CloseBlock ∷ us ≡ mark_at q' mark.CloseBlock ∷ vs = h.rest in
       let same_q : q ≡ q' = cc in
@@ -324,7 +325,8 @@ abbrev begins_decl : TokenKind → std.Bool
 begins_decl (kind.Word (word.Sort s)) = true
 begins_decl k = false
 
-decls_same : (ds es : List Decl) (us vs : List Token) → begins_decl (next_kind us) ≡ false → begins_decl (next_kind vs) ≡ false → decls_tokens ds ++ us ≡ decls_tokens es ++ vs → Same ds es us vs
+decls_same : (ds es : List Decl) (us vs : List Token) → begins_decl (next_kind us) ≡ false → begins_decl (next_kind vs) ≡ false
+    → decls_tokens ds ++ us ≡ decls_tokens es ++ vs → Same ds es us vs
 decls_same [] [] us vs a b is = record { tree = refl; rest = is }
 decls_same [] (e ∷ es) us vs a b is = let bad = sym a ∙ ap (λ (ts : List Token). begins_decl (next_kind ts)) is in cc
 decls_same (d ∷ ds) [] us vs a b is = let bad = sym b ∙ ap (λ (ts : List Token). begins_decl (next_kind ts)) (sym is) in cc

@@ -31,7 +31,8 @@ pub record WholeRead (ts : List Token) (ds : List Declared) (body : List Stateme
   pub means : block_in body ≡ body_of tree
   pub breach_is : breach ≡ least (breaches tree)
 
-pub whole_read : {ts mid new : List Token} {ds : List Declared} {b1 b2 : Option Breach} {body : List Statement} → ReadsDecls ds ts mid None b1 → ReadsForms ds mid new b1 b2 body → new ≡ [] →
+pub whole_read : {ts mid new : List Token} {ds : List Declared} {b1 b2 : Option Breach} {body : List Statement} → ReadsDecls ds ts mid None b1
+    → ReadsForms ds mid new b1 b2 body → new ≡ [] →
     WholeRead ts ds body b2
 whole_read {b1 = b1} {b2 = b2} d f empty = record {
   tree = record { decls = d.trees; forms = f.tree; bound = f.bound };
@@ -56,7 +57,8 @@ lexemes_few text ls e le = omega (arith, ap length e, length-map ls token_seen, 
 
 -- ---- the text's answer
 
-module _ (text : List ℕ) (ts : List Token) (reading : Reading) (tokens : ts ≡ tokens_in text) (free : AreFree (tokens_in text)) (r : ReadsProgram ts reading) where
+module _ (text : List ℕ) (ts : List Token) (reading : Reading) (tokens : ts ≡ tokens_in text) (free : AreFree (tokens_in text))
+    (r : ReadsProgram ts reading) where
   is_program : IsProgram text r.tree
   is_program = sym tokens ∙ r.tokens_are
 

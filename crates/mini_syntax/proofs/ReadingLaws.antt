@@ -1,5 +1,6 @@
 -- What the reader has read, step by step: what the next tokens complete, and the tree that they make.
-use Rattle.std.proofs.Common.{◌≡◌, ℕ, suc, ◌+◌, ◌<◌, ◌≤◌, List, [], ◌∷◌, ◌++◌, map, length, Option, Some, None, is_none, true, false, refl, sym, ap, ap₂, ◌∙◌, append_assoc, arith}
+use Rattle.std.proofs.Common.{◌≡◌, ℕ, suc, ◌+◌, ◌<◌, ◌≤◌, List, [], ◌∷◌, ◌++◌, map, length, Option, Some, None, is_none, true, false, refl, sym, ap, ap₂, ◌∙◌}
+use Rattle.std.proofs.Common.{append_assoc, arith}
 use Rattle.std.specs.Prelude.{◌&&◌, option_map}
 use Rattle.std.specs.Prelude as std
 use Rattle.std.proofs.lemmas.Bool.{and_parts}
@@ -96,12 +97,16 @@ after_expression ds old new best next typed st r c =
 -- ---- statements
 
 -- an assignment
-pub assignment_read : (ds : List Declared) (l : Lexeme) (becomes closing : ℕ) (old t1 t2 t3 new : List Token) (b1 b2 b3 b4 : Option Breach) (found : Option Variable) (index : ℕ) (sort : Option Sort) (value : Typed) (statement : Statement) →
+pub assignment_read : (ds : List Declared) (l : Lexeme) (becomes closing : ℕ) (old t1 t2 t3 new : List Token) (b1 b2 b3 b4 : Option Breach)
+    (found : Option Variable) (index : ℕ) (sort : Option Sort) (value : Typed) (statement : Statement) →
     old ≡ token_seen l ∷ t1 → l.kind ≡ kind.Name → t1 ≡ mark_at becomes mark.Becomes ∷ t2 →
     Reads any_level ds t2 t3 b2 b3 value → t3 ≡ mark_at closing mark.Semicolon ∷ new →
-    found ≡ variable_named ds l.bytes.now → Notes b1 (when (is_none found) l.place 6) b2 → sort ≡ option_map (λ (v : Variable). v.sort) found → index ≡ (or_first found).index →
-    Notes b3 (assigns_breaches becomes sort value.sort) b4 → statement_in statement ≡ language.Assign index (exp_of value.exp) → ReadsForm ds old new b1 b4 statement
-assignment_read ds l becomes closing old t1 t2 t3 new b1 b2 b3 b4 found index sort value statement is1 named is2 r is3 found_is note1 sort_is index_is note2 made =
+    found ≡ variable_named ds l.bytes.now → Notes b1 (when (is_none found) l.place 6) b2 → sort ≡ option_map (λ (v : Variable). v.sort) found
+    → index ≡ (or_first found).index →
+    Notes b3 (assigns_breaches becomes sort value.sort) b4 → statement_in statement ≡ language.Assign index (exp_of value.exp)
+    → ReadsForm ds old new b1 b4 statement
+assignment_read ds l becomes closing old t1 t2 t3 new b1 b2 b3 b4 found index sort value statement is1 named is2 r is3 found_is note1 sort_is index_is
+    note2 made =
     let name = l.bytes.now in
     let e = r.tree in
     record {
@@ -118,11 +123,13 @@ assignment_read ds l becomes closing old t1 t2 t3 new b1 b2 b3 b4 found index so
           (sort_named ds name) (expression_sort ds e))
           (note1 ∙ ap (λ (o : Option Variable). lesser_of b1 (least (when (is_none o) l.place 6))) found_is)
           (notes_more b2 b3 b4 (expression_breaches ds e) (assigns_breaches becomes (sort_named ds name) (expression_sort ds e)) r.typed_as.noted
-          (note2 ∙ ap₂ (λ (s t : Option Sort). lesser_of b3 (least (assigns_breaches becomes s t))) (sort_is ∙ ap (option_map (λ (v : Variable). v.sort)) found_is) r.typed_as.sort_is));
+          (note2 ∙ ap₂ (λ (s t : Option Sort). lesser_of b3 (least (assigns_breaches becomes s t)))
+          (sort_is ∙ ap (option_map (λ (v : Variable). v.sort)) found_is) r.typed_as.sort_is));
     }
 
 -- a `while`
-pub while_read : (ds : List Declared) (l : Lexeme) (old t1 t2 new : List Token) (b1 b2 b3 b4 : Option Breach) (test : Typed) (body : List Statement) (statement : Statement) →
+pub while_read : (ds : List Declared) (l : Lexeme) (old t1 t2 new : List Token) (b1 b2 b3 b4 : Option Breach) (test : Typed) (body : List Statement)
+    (statement : Statement) →
     old ≡ token_seen l ∷ t1 → l.kind ≡ kind.Word word.While →
     Reads any_level ds t1 t2 b1 b2 test → Notes b2 (test_breaches l.place test.sort) b3 →
     ReadsBlock ds t2 new b3 b4 body → statement_in statement ≡ language.While (exp_of test.exp) (block_in body) → ReadsForm ds old new b1 b4 statement
@@ -143,7 +150,8 @@ while_read ds l old t1 t2 new b1 b2 b3 b4 test body statement is begun r note h 
     }
 
 -- an `if`
-pub if_read : (ds : List Declared) (l : Lexeme) (otherwise : ℕ) (old t1 t2 t3 t4 new : List Token) (b1 b2 b3 b4 b5 : Option Breach) (test : Typed) (body other : List Statement) (statement : Statement) →
+pub if_read : (ds : List Declared) (l : Lexeme) (otherwise : ℕ) (old t1 t2 t3 t4 new : List Token) (b1 b2 b3 b4 b5 : Option Breach) (test : Typed)
+    (body other : List Statement) (statement : Statement) →
     old ≡ token_seen l ∷ t1 → l.kind ≡ kind.Word word.If →
     Reads any_level ds t1 t2 b1 b2 test → Notes b2 (test_breaches l.place test.sort) b3 →
     ReadsBlock ds t2 t3 b3 b4 body → t3 ≡ word_at otherwise word.Else ∷ t4 → ReadsBlock ds t4 new b4 b5 other →
@@ -160,7 +168,8 @@ if_read ds l otherwise old t1 t2 t3 t4 new b1 b2 b3 b4 b5 test body other statem
           is ∙ ap₂ (λ (t : Token) (ts : List Token). t ∷ ts) (token_by_kind l (kind.Word word.If) begun)
           (r.tokens_are
           ∙ ap (λ (ts : List Token). expression_tokens e ++ ts)
-          (h.tokens_are ∙ ap (λ (ts : List Token). block_tokens b ++ ts) (is_else ∙ ap (λ (ts : List Token). word_at otherwise word.Else ∷ ts) k.tokens_are) ∙ sym (append_assoc (block_tokens b) second new))
+          (h.tokens_are ∙ ap (λ (ts : List Token). block_tokens b ++ ts)
+          (is_else ∙ ap (λ (ts : List Token). word_at otherwise word.Else ∷ ts) k.tokens_are) ∙ sym (append_assoc (block_tokens b) second new))
           ∙ sym (append_assoc (expression_tokens e) (block_tokens b ++ second) new));
       means = made ∙ ap₂ (λ (x : Exp) (s : Stmt). language.If x s (block_in other)) r.typed_as.exp_is h.means
           ∙ ap (language.If (expression_exp ds e) (block_stmt ds b)) k.means;
@@ -173,14 +182,16 @@ if_read ds l otherwise old t1 t2 t3 t4 new b1 b2 b3 b4 b5 test body other statem
     }
 
 -- a block
-pub block_read : (ds : List Declared) (place closing : ℕ) (old t1 t2 new : List Token) (b1 b2 : Option Breach) (body : List Statement) → old ≡ mark_at place mark.OpenBlock ∷ t1 →
+pub block_read : (ds : List Declared) (place closing : ℕ) (old t1 t2 new : List Token) (b1 b2 : Option Breach) (body : List Statement)
+    → old ≡ mark_at place mark.OpenBlock ∷ t1 →
     ReadsForms ds t1 t2 b1 b2 body → t2 ≡ mark_at closing mark.CloseBlock ∷ new → ReadsBlock ds old new b1 b2 body
 block_read ds place closing old t1 t2 new b1 b2 body is h is_closed = record {
   tree = block place h.tree closing;
   bound = h.bound;
   tokens_are =
       is ∙ ap (λ (ts : List Token). mark_at place mark.OpenBlock ∷ ts)
-      (h.tokens_are ∙ ap (λ (ts : List Token). forms_tokens h.tree ++ ts) is_closed ∙ sym (append_assoc (forms_tokens h.tree) (mark_at closing mark.CloseBlock ∷ []) new));
+      (h.tokens_are ∙ ap (λ (ts : List Token). forms_tokens h.tree ++ ts) is_closed
+      ∙ sym (append_assoc (forms_tokens h.tree) (mark_at closing mark.CloseBlock ∷ []) new));
   means = h.means;
   noted = h.noted;
 }
@@ -192,10 +203,12 @@ some_tokens (assign place name becomes e closing) = omega arith
 some_tokens (loop place e b) = omega arith
 some_tokens (branch place e b otherwise c) = omega arith
 
-pub form_shrinks : {ds : List Declared} {old new : List Token} {best next : Option Breach} {statement : Statement} → ReadsForm ds old new best next statement → length new < length old
+pub form_shrinks : {ds : List Declared} {old new : List Token} {best next : Option Breach} {statement : Statement}
+    → ReadsForm ds old new best next statement → length new < length old
 form_shrinks {new = new} h = let some = some_tokens h.tree in omega (arith, some, ap length h.tokens_are, length-append (form_tokens h.tree) new)
 
-pub block_shrinks : {ds : List Declared} {old new : List Token} {best next : Option Breach} {body : List Statement} → ReadsBlock ds old new best next body → length new ≤ length old
+pub block_shrinks : {ds : List Declared} {old new : List Token} {best next : Option Breach} {body : List Statement}
+    → ReadsBlock ds old new best next body → length new ≤ length old
 block_shrinks {old = old} {new = new} h = shrinks old (block_tokens h.tree) new h.tokens_are
 
 -- ---- statements in turn
@@ -207,11 +220,14 @@ forms_of (f ∷ fs) = form f (forms_of fs)
 
 forms_push : (fs : List Form) (f : Form) → forms_tokens (forms_of (fs ++ f ∷ [])) ≡ forms_tokens (forms_of fs) ++ form_tokens f
 forms_push [] f = append-nil (form_tokens f)
-forms_push (g ∷ fs) f = ap (λ (ts : List Token). form_tokens g ++ ts) (forms_push fs f) ∙ sym (append_assoc (form_tokens g) (forms_tokens (forms_of fs)) (form_tokens f))
+forms_push (g ∷ fs) f =
+    ap (λ (ts : List Token). form_tokens g ++ ts) (forms_push fs f) ∙ sym (append_assoc (form_tokens g) (forms_tokens (forms_of fs)) (form_tokens f))
 
-breaches_push : (ds : List Declared) (fs : List Form) (f : Form) → forms_breaches ds (forms_of (fs ++ f ∷ [])) ≡ forms_breaches ds (forms_of fs) ++ form_breaches ds f
+breaches_push : (ds : List Declared) (fs : List Form) (f : Form) → forms_breaches ds (forms_of (fs ++ f ∷ [])) ≡ forms_breaches ds (forms_of fs)
+    ++ form_breaches ds f
 breaches_push ds [] f = append-nil (form_breaches ds f)
-breaches_push ds (g ∷ fs) f = ap (λ (bs : List Breach). form_breaches ds g ++ bs) (breaches_push ds fs f) ∙ sym (append_assoc (form_breaches ds g) (forms_breaches ds (forms_of fs)) (form_breaches ds f))
+breaches_push ds (g ∷ fs) f = ap (λ (bs : List Breach). form_breaches ds g ++ bs) (breaches_push ds fs f)
+    ∙ sym (append_assoc (form_breaches ds g) (forms_breaches ds (forms_of fs)) (form_breaches ds f))
 
 binds_push : (fs : List Form) (f : Form) → forms_bind (forms_of fs) ≡ true → form_binds f ≡ true → forms_bind (forms_of (fs ++ f ∷ [])) ≡ true
 binds_push [] f h k = both (form_binds f) true k refl
@@ -219,7 +235,8 @@ binds_push (g ∷ fs) f h k =
     let l = and_parts (form_binds g) (forms_bind (forms_of fs)) h in
     both (form_binds g) (forms_bind (forms_of (fs ++ f ∷ []))) l.0 (binds_push fs f l.1 k)
 
-means_push : (ds : List Declared) (fs : List Form) (f : Form) (ss : List Statement) (s : Statement) → block_in ss ≡ forms_stmt ds (forms_of fs) → length ss ≡ length fs → statement_in s ≡ form_stmt ds f →
+means_push : (ds : List Declared) (fs : List Form) (f : Form) (ss : List Statement) (s : Statement) → block_in ss ≡ forms_stmt ds (forms_of fs)
+    → length ss ≡ length fs → statement_in s ≡ form_stmt ds f →
     block_in (ss ++ s ∷ []) ≡ forms_stmt ds (forms_of (fs ++ f ∷ []))
 means_push ds [] f [] s e n is = ap (λ (x : Stmt). Then x Nothing) is
 means_push ds [] f (t ∷ ss) s e n is = absurd (omega (arith, n))
@@ -238,19 +255,22 @@ pub record SoFar (ds : List Declared) (old new : List Token) (best next : Option
   pub means : block_in body ≡ forms_stmt ds (forms_of trees)
   pub noted : Notes best (forms_breaches ds (forms_of trees)) next
 
-pub so_far_shrinks : {ds : List Declared} {old new : List Token} {best next : Option Breach} {body : List Statement} → SoFar ds old new best next body → length new ≤ length old
+pub so_far_shrinks : {ds : List Declared} {old new : List Token} {best next : Option Breach} {body : List Statement} → SoFar ds old new best next body
+    → length new ≤ length old
 so_far_shrinks {old = old} {new = new} h = shrinks old (forms_tokens (forms_of h.trees)) new h.tokens_are
 
 pub none_yet : (ds : List Declared) (old : List Token) (best : Option Breach) (body : List Statement) → body ≡ [] → SoFar ds old old best best body
 none_yet ds old best body e = record { trees = []; bound = refl; tokens_are = refl; count = ap length e; means = ap block_in e; noted = notes_none best }
 
-pub one_more : (ds : List Declared) (old mid new : List Token) (b1 b2 b3 : Option Breach) (body more : List Statement) (s : Statement) → SoFar ds old mid b1 b2 body → ReadsForm ds mid new b2 b3 s →
+pub one_more : (ds : List Declared) (old mid new : List Token) (b1 b2 b3 : Option Breach) (body more : List Statement) (s : Statement)
+    → SoFar ds old mid b1 b2 body → ReadsForm ds mid new b2 b3 s →
     more ≡ body ++ s ∷ [] → SoFar ds old new b1 b3 more
 one_more ds old mid new b1 b2 b3 body more s h k pushed = record {
   trees = h.trees ++ k.tree ∷ [];
   bound = binds_push h.trees k.tree h.bound k.bound;
   tokens_are =
-      h.tokens_are ∙ ap (λ (ts : List Token). forms_tokens (forms_of h.trees) ++ ts) k.tokens_are ∙ sym (append_assoc (forms_tokens (forms_of h.trees)) (form_tokens k.tree) new)
+      h.tokens_are ∙ ap (λ (ts : List Token). forms_tokens (forms_of h.trees) ++ ts) k.tokens_are
+      ∙ sym (append_assoc (forms_tokens (forms_of h.trees)) (form_tokens k.tree) new)
       ∙ ap (λ (ts : List Token). ts ++ new) (sym (forms_push h.trees k.tree));
   count = omega (arith, ap length pushed, h.count, length-append body (s ∷ []), length-append h.trees (k.tree ∷ []));
   means = ap block_in pushed ∙ means_push ds h.trees k.tree body s h.means h.count k.means;
@@ -273,20 +293,25 @@ all_read ds old new best next body h ends = record {
 -- ---- declarations
 
 -- a declaration has three tokens
-pub decl_shrinks : {before after : List Declared} {old new : List Token} {best next : Option Breach} → ReadsDecl before after old new best next → length old ≡ 3 + length new
+pub decl_shrinks : {before after : List Declared} {old new : List Token} {best next : Option Breach} → ReadsDecl before after old new best next
+    → length old ≡ 3 + length new
 decl_shrinks h = omega (arith, ap length h.tokens_are)
 
 decls_push : (ds : List Decl) (d : Decl) → decls_tokens (ds ++ d ∷ []) ≡ decls_tokens ds ++ decl_tokens d
 decls_push [] d = refl
 decls_push (e ∷ ds) d = ap (λ (ts : List Token). decl_tokens e ++ ts) (decls_push ds d)
 
-decls_breaches-push : (earlier : List Declared) (ds : List Decl) (d : Decl) → decls_breaches earlier (ds ++ d ∷ []) ≡ decls_breaches earlier ds ++ decl_breaches (earlier ++ map declared_by ds) d
+decls_breaches-push : (earlier : List Declared) (ds : List Decl) (d : Decl) → decls_breaches earlier (ds ++ d ∷ []) ≡ decls_breaches earlier ds
+    ++ decl_breaches (earlier ++ map declared_by ds) d
 decls_breaches-push earlier [] d =
     append-nil (decl_breaches earlier d) ∙ ap (λ (e : List Declared). decl_breaches e d) (sym (append-nil earlier))
 decls_breaches-push earlier (e ∷ ds) d =
     ap (λ (bs : List Breach). decl_breaches earlier e ++ bs)
-    (decls_breaches-push (earlier ++ declared_by e ∷ []) ds d ∙ ap (λ (x : List Declared). decls_breaches (earlier ++ declared_by e ∷ []) ds ++ decl_breaches x d) (append_assoc earlier (declared_by e ∷ []) (map declared_by ds)))
-    ∙ sym (append_assoc (decl_breaches earlier e) (decls_breaches (earlier ++ declared_by e ∷ []) ds) (decl_breaches (earlier ++ declared_by e ∷ map declared_by ds) d))
+    (decls_breaches-push (earlier ++ declared_by e ∷ []) ds d ∙ ap
+    (λ (x : List Declared). decls_breaches (earlier ++ declared_by e ∷ []) ds ++ decl_breaches x d)
+    (append_assoc earlier (declared_by e ∷ []) (map declared_by ds)))
+    ∙ sym (append_assoc (decl_breaches earlier e) (decls_breaches (earlier ++ declared_by e ∷ []) ds)
+    (decl_breaches (earlier ++ declared_by e ∷ map declared_by ds) d))
 
 -- the declarations so far
 pub record DeclaredSoFar (ds : List Declared) (old new : List Token) (best next : Option Breach) : Type 0 where
@@ -298,7 +323,8 @@ pub record DeclaredSoFar (ds : List Declared) (old new : List Token) (best next 
 pub none_declared : (ds : List Declared) (old : List Token) (best : Option Breach) → ds ≡ [] → DeclaredSoFar ds old old best best
 none_declared ds old best e = record { trees = []; tokens_are = refl; declared = e; noted = notes_none best }
 
-pub one_declared : (before after : List Declared) (old mid new : List Token) (b1 b2 b3 : Option Breach) → DeclaredSoFar before old mid b1 b2 → ReadsDecl before after mid new b2 b3 → DeclaredSoFar after old new b1 b3
+pub one_declared : (before after : List Declared) (old mid new : List Token) (b1 b2 b3 : Option Breach) → DeclaredSoFar before old mid b1 b2
+    → ReadsDecl before after mid new b2 b3 → DeclaredSoFar after old new b1 b3
 one_declared before after old mid new b1 b2 b3 h k = record {
   trees = h.trees ++ k.tree ∷ [];
   tokens_are =

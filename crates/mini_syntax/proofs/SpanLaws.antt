@@ -1,5 +1,6 @@
 -- What a text's length and its tokens say of its program.
-use Rattle.std.proofs.Common.{◌≡◌, ℕ, suc, ◌+◌, ◌^◌, ◌≤◌, max, List, [], ◌∷◌, ◌++◌, map, length, find, true, false, cond, Option, Some, None, is_none, bytes_eq, refl, sym, ap, ap₂, ◌∙◌, arith}
+use Rattle.std.proofs.Common.{◌≡◌, ℕ, suc, ◌+◌, ◌^◌, ◌≤◌, max, List, [], ◌∷◌, ◌++◌, map, length, find, true, false, cond, Option, Some, None, is_none, bytes_eq}
+use Rattle.std.proofs.Common.{refl, sym, ap, ap₂, ◌∙◌, arith}
 use Rattle.std.specs.Prelude.{◌&&◌, ◌==◌, nat_le}
 use Rattle.std.specs.Prelude as std
 use Rattle.std.specs.Char.{is_ascii_alphabetic, is_ascii_digit, is_ascii_lowercase, is_ascii_uppercase}
@@ -11,7 +12,8 @@ use Rattle.stack_text.specs.Breaches.{when}
 use Rattle.stack_text.specs.Names.{begins_with_letter}
 use Rattle.stack_text.proofs.SharedLaws.{rule_fails}
 use Rattle.stack_text.proofs.NumberedNameLaws.{letter_passes}
-use Rattle.mini_syntax.specs.Breaches.{breaches, body_of, decls_breaches, declared_by, declared_of, variable_named, sort_named, infix_breaches, prefix_breaches, assigns_breaches, test_breaches}
+use Rattle.mini_syntax.specs.Breaches.{breaches, body_of, decls_breaches, declared_by, declared_of, variable_named, sort_named, infix_breaches, prefix_breaches}
+use Rattle.mini_syntax.specs.Breaches.{assigns_breaches, test_breaches}
 use Rattle.mini_syntax.specs.Breaches.{expression_breaches, expression_sort, expression_exp}
 use Rattle.mini_syntax.specs.Breaches.{form_breaches, block_breaches, forms_breaches, form_stmt, block_stmt, forms_stmt}
 use Rattle.mini_syntax.specs.Internal.Declaring.{are_proper, is_proper}
@@ -37,7 +39,8 @@ use Rattle.mini_syntax.specs.Internal.Limits.{FormsAreSmall, forms_blocks}
 use Rattle.mini_syntax.specs.Names.{is_variable_name, is_word_byte, spelling, word_named, words}
 use Rattle.mini_syntax.specs.Precedence.{infix_token}
 use Rattle.mini_syntax.specs.Spelled.{bytes_of_all, declared_bytes, exp_bytes, program_bytes, stmt_bytes, token_bytes}
-use Rattle.mini_syntax.specs.Tokens.{Token, number_at, word_at, mark_at, Mode, after_fresh, begins, fresh, is_blank, is_pair, mark_of, mark_token, named_kind, next, longest_run, token_of, tokens, tokens_in, word_token}
+use Rattle.mini_syntax.specs.Tokens.{Token, number_at, word_at, mark_at, Mode, after_fresh, begins, fresh, is_blank, is_pair, mark_of, mark_token, named_kind}
+use Rattle.mini_syntax.specs.Tokens.{next, longest_run, token_of, tokens, tokens_in, word_token}
 use Rattle.mini_syntax.specs.Tokens as mode
 use Rattle.mini_syntax.proofs.EmptyLaws.{two, three}
 use Rattle.mini_syntax.proofs.LawfulLaws.{name_there, rules_make_lawful}
@@ -80,10 +83,13 @@ word_bytes at bytes = pick (nat_le (length bytes) 60) (word_named bytes) refl
     pick false o e = omega arith
 
 pub no_pair : (byte : ℕ) → is_pair (mark_of byte []) ≡ false
-no_pair byte = pick (byte == 59) (byte == 58) (byte == 60) (byte == 61) (byte == 43) (byte == 45) (byte == 42) (byte == 40) (byte == 41) (byte == 123) (byte == 125)
+no_pair byte = pick (byte == 59) (byte == 58) (byte == 60) (byte == 61) (byte == 43) (byte == 45) (byte == 42) (byte == 40) (byte == 41) (byte == 123)
+    (byte == 125)
   where
-    pick : (a b c d e f g h i j k : std.Bool) → is_pair (cond a (Some mark.Semicolon) (cond b None (cond c None (cond d (Some mark.Equals) (cond e (Some mark.Plus) (cond f (Some mark.Minus)
-        (cond g (Some mark.Times) (cond h (Some mark.Open) (cond i (Some mark.Close) (cond j (Some mark.OpenBlock) (cond k (Some mark.CloseBlock) None))))))))))) ≡ false
+    pick : (a b c d e f g h i j k : std.Bool) → is_pair
+        (cond a (Some mark.Semicolon) (cond b None (cond c None (cond d (Some mark.Equals) (cond e (Some mark.Plus) (cond f (Some mark.Minus)
+        (cond g (Some mark.Times) (cond h (Some mark.Open)
+        (cond i (Some mark.Close) (cond j (Some mark.OpenBlock) (cond k (Some mark.CloseBlock) None))))))))))) ≡ false
     pick true b c d e f g h i j k = refl
     pick false true c d e f g h i j k = refl
     pick false false true d e f g h i j k = refl
@@ -105,21 +111,25 @@ pair_more byte (b ∷ rest) e = omega arith
 record Enough (at : ℕ) (rest : List ℕ) : Type 0 where
   enough : (m : Mode) → bytes_of_all (tokens m at rest) + covered m rest ≤ length rest
 
-fresh_fits : (at byte : ℕ) (rest : List ℕ) → Enough (at + 1) rest → bytes_of_all (fresh at byte rest ++ tokens (after_fresh byte rest) (at + 1) rest) ≤ suc (length rest)
+fresh_fits : (at byte : ℕ) (rest : List ℕ) → Enough (at + 1) rest → bytes_of_all (fresh at byte rest ++ tokens (after_fresh byte rest) (at + 1) rest)
+    ≤ suc (length rest)
 fresh_fits at byte rest later = pick (is_blank byte) (is_ascii_alphabetic byte) (is_ascii_digit byte) (mark_of byte rest) (pair_more byte rest)
   where
     by_mark : (m : Mark) → (is_pair (Some m) ≡ true → 1 ≤ covered mode.in_pair rest) →
         bytes_of_all (mark_at at m ∷ tokens (cond (is_pair (Some m)) mode.in_pair mode.between) (at + 1) rest) ≤ suc (length rest)
     by_mark m more = by_pair (is_pair (Some m)) more
       where
-        by_pair : (c : std.Bool) → (c ≡ true → 1 ≤ covered mode.in_pair rest) → cond c 2 1 + bytes_of_all (tokens (cond c mode.in_pair mode.between) (at + 1) rest) ≤ suc (length rest)
+        by_pair : (c : std.Bool) → (c ≡ true → 1 ≤ covered mode.in_pair rest) → cond c 2 1
+            + bytes_of_all (tokens (cond c mode.in_pair mode.between) (at + 1) rest) ≤ suc (length rest)
         by_pair true more = let e = later.enough mode.in_pair in let one = more refl in omega (arith, e, one)
         by_pair false more = let e = later.enough mode.between in omega (arith, e)
 
     pick : (blank letter digit : std.Bool) (mk : Option Mark) → (is_pair mk ≡ true → 1 ≤ covered mode.in_pair rest) →
-        bytes_of_all (cond blank [] (cond letter (word_token at (longest_run is_word_byte (byte ∷ rest)) ∷ []) (cond digit (number_at at (longest_run is_ascii_digit (byte ∷ rest)) ∷ []) (mark_token at mk ∷ []))) ++
+        bytes_of_all (cond blank [] (cond letter (word_token at (longest_run is_word_byte (byte ∷ rest)) ∷ [])
+        (cond digit (number_at at (longest_run is_ascii_digit (byte ∷ rest)) ∷ []) (mark_token at mk ∷ []))) ++
         tokens (cond letter mode.in_word (cond digit mode.in_number (cond (is_pair mk) mode.in_pair mode.between))) (at + 1) rest) ≤ suc (length rest)
-    pick true letter digit mk more = let e = later.enough (cond letter mode.in_word (cond digit mode.in_number (cond (is_pair mk) mode.in_pair mode.between))) in omega (arith, e)
+    pick true letter digit mk more =
+        let e = later.enough (cond letter mode.in_word (cond digit mode.in_number (cond (is_pair mk) mode.in_pair mode.between))) in omega (arith, e)
     pick false true digit mk more =
         let e = later.enough mode.in_word in
         omega (arith, e, word_bytes at (longest_run is_word_byte (byte ∷ rest)), run_more is_word_byte byte rest)
@@ -142,12 +152,14 @@ all_fit (b ∷ text) at = record { enough = some (all_fit text (at + 1)) }
     some later mode.between = let e = fresh_fits at b text later in omega (arith, e)
     some later mode.in_word = pick (is_word_byte b)
       where
-        pick : (c : std.Bool) → bytes_of_all (cond c [] (fresh at b text) ++ tokens (cond c mode.in_word (after_fresh b text)) (at + 1) text) + length (cond c (b ∷ longest_run is_word_byte text) []) ≤ suc (length text)
+        pick : (c : std.Bool) → bytes_of_all (cond c [] (fresh at b text) ++ tokens (cond c mode.in_word (after_fresh b text)) (at + 1) text)
+            + length (cond c (b ∷ longest_run is_word_byte text) []) ≤ suc (length text)
         pick true = let e = later.enough mode.in_word in omega (arith, e)
         pick false = let e = fresh_fits at b text later in omega (arith, e)
     some later mode.in_number = pick (is_ascii_digit b)
       where
-        pick : (c : std.Bool) → bytes_of_all (cond c [] (fresh at b text) ++ tokens (cond c mode.in_number (after_fresh b text)) (at + 1) text) + length (cond c (b ∷ longest_run is_ascii_digit text) []) ≤ suc (length text)
+        pick : (c : std.Bool) → bytes_of_all (cond c [] (fresh at b text) ++ tokens (cond c mode.in_number (after_fresh b text)) (at + 1) text)
+            + length (cond c (b ∷ longest_run is_ascii_digit text) []) ≤ suc (length text)
         pick true = let e = later.enough mode.in_number in omega (arith, e)
         pick false = let e = fresh_fits at b text later in omega (arith, e)
     some later mode.in_pair = let e = later.enough mode.between in omega (arith, e)
@@ -197,12 +209,14 @@ run_all : (text : List ℕ) → list_all is_word_byte (longest_run is_word_byte 
 run_all [] = refl
 run_all (b ∷ text) = pick (is_word_byte b) refl (run_all text)
   where
-    pick : (c : std.Bool) → is_word_byte b ≡ c → list_all is_word_byte (longest_run is_word_byte text) ≡ true → list_all is_word_byte (cond c (b ∷ longest_run is_word_byte text) []) ≡ true
+    pick : (c : std.Bool) → is_word_byte b ≡ c → list_all is_word_byte (longest_run is_word_byte text) ≡ true
+        → list_all is_word_byte (cond c (b ∷ longest_run is_word_byte text) []) ≡ true
     pick true e all = ap₂ (λ (x y : std.Bool). x && y) e all
     pick false e all = refl
 
 word_good : (at byte : ℕ) (rest : List ℕ) → is_ascii_alphabetic byte ≡ true → is_proper (word_token at (longest_run is_word_byte (byte ∷ rest))) ≡ true
-word_good at byte rest letter = pick (nat_le (length (longest_run is_word_byte (byte ∷ rest))) 60) refl (word_named (longest_run is_word_byte (byte ∷ rest))) refl
+word_good at byte rest letter =
+    pick (nat_le (length (longest_run is_word_byte (byte ∷ rest))) 60) refl (word_named (longest_run is_word_byte (byte ∷ rest))) refl
   where
     first : is_word_byte byte ≡ true
     first = letter_passes (is_ascii_digit byte) (is_ascii_uppercase byte) (is_ascii_lowercase byte) (byte == 95) letter
@@ -210,7 +224,8 @@ word_good at byte rest letter = pick (nat_le (length (longest_run is_word_byte (
     begun : begins_with_letter (longest_run is_word_byte (byte ∷ rest)) ≡ true
     begun = ap (λ (c : std.Bool). begins_with_letter (cond c (byte ∷ longest_run is_word_byte rest) [])) first ∙ letter
 
-    pick : (c : std.Bool) → nat_le (length (longest_run is_word_byte (byte ∷ rest))) 60 ≡ c → (o : Option Word) → word_named (longest_run is_word_byte (byte ∷ rest)) ≡ o →
+    pick : (c : std.Bool) → nat_le (length (longest_run is_word_byte (byte ∷ rest))) 60 ≡ c → (o : Option Word)
+        → word_named (longest_run is_word_byte (byte ∷ rest)) ≡ o →
         is_proper (token_of (cond c (named_kind o) kind.Wrong) at (longest_run is_word_byte (byte ∷ rest))) ≡ true
     pick true e None f = rw (begun, run_all (byte ∷ rest), e, f) refl
     pick true e (Some w) f = refl
@@ -227,7 +242,8 @@ fresh_good : (at byte : ℕ) (rest : List ℕ) (more : List Token) → are_prope
 fresh_good at byte rest more good = pick (is_blank byte) (is_ascii_alphabetic byte) refl (is_ascii_digit byte)
   where
     pick : (blank letter : std.Bool) → is_ascii_alphabetic byte ≡ letter → (digit : std.Bool) →
-        are_proper (cond blank [] (cond letter (word_token at (longest_run is_word_byte (byte ∷ rest)) ∷ []) (cond digit (number_at at (longest_run is_ascii_digit (byte ∷ rest)) ∷ []) (mark_token at (mark_of byte rest) ∷ []))) ++ more) ≡ true
+        are_proper (cond blank [] (cond letter (word_token at (longest_run is_word_byte (byte ∷ rest)) ∷ [])
+        (cond digit (number_at at (longest_run is_ascii_digit (byte ∷ rest)) ∷ []) (mark_token at (mark_of byte rest) ∷ []))) ++ more) ≡ true
     pick true letter e digit = good
     pick false true e digit = one_good (word_token at (longest_run is_word_byte (byte ∷ rest))) more (word_good at byte rest e) good
     pick false false e true = good
@@ -239,12 +255,14 @@ all_good [] m at = refl
 all_good (b ∷ text) mode.between at = fresh_good at b text (tokens (after_fresh b text) (at + 1) text) (all_good text (after_fresh b text) (at + 1))
 all_good (b ∷ text) mode.in_word at = pick (is_word_byte b) (λ m. all_good text m (at + 1))
   where
-    pick : (c : std.Bool) → ((m : Mode) → are_proper (tokens m (at + 1) text) ≡ true) → are_proper (cond c [] (fresh at b text) ++ tokens (cond c mode.in_word (after_fresh b text)) (at + 1) text) ≡ true
+    pick : (c : std.Bool) → ((m : Mode) → are_proper (tokens m (at + 1) text) ≡ true)
+        → are_proper (cond c [] (fresh at b text) ++ tokens (cond c mode.in_word (after_fresh b text)) (at + 1) text) ≡ true
     pick true later = later mode.in_word
     pick false later = fresh_good at b text (tokens (after_fresh b text) (at + 1) text) (later (after_fresh b text))
 all_good (b ∷ text) mode.in_number at = pick (is_ascii_digit b) (λ m. all_good text m (at + 1))
   where
-    pick : (c : std.Bool) → ((m : Mode) → are_proper (tokens m (at + 1) text) ≡ true) → are_proper (cond c [] (fresh at b text) ++ tokens (cond c mode.in_number (after_fresh b text)) (at + 1) text) ≡ true
+    pick : (c : std.Bool) → ((m : Mode) → are_proper (tokens m (at + 1) text) ≡ true)
+        → are_proper (cond c [] (fresh at b text) ++ tokens (cond c mode.in_number (after_fresh b text)) (at + 1) text) ≡ true
     pick true later = later mode.in_number
     pick false later = fresh_good at b text (tokens (after_fresh b text) (at + 1) text) (later (after_fresh b text))
 all_good (b ∷ text) mode.in_pair at = all_good text mode.between (at + 1)
@@ -273,7 +291,8 @@ record Spans (ds : List Declared) (e : Exp) (ts : List Token) : Type 0 where
   size : size_of e ≤ bytes_of_all ts
 
 -- an operator between
-spans_infix : (ds : List Declared) (op : Infix) (a b : Exp) (us vs : List Token) (t : Token) → 1 ≤ token_bytes t → Spans ds a us → Spans ds b vs → Spans ds (language.Between op a b) (us ++ t ∷ vs)
+spans_infix : (ds : List Declared) (op : Infix) (a b : Exp) (us vs : List Token) (t : Token) → 1 ≤ token_bytes t → Spans ds a us → Spans ds b vs
+    → Spans ds (language.Between op a b) (us ++ t ∷ vs)
 spans_infix ds op a b us vs t one l r =
     let all = bytes_middle us vs t in
     record { bytes = omega (arith, l.bytes, r.bytes, all, one); size = omega (arith, l.size, r.size, all, one) }
@@ -363,7 +382,8 @@ decls_cover [] = omega arith
 decls_cover (d ∷ ds) = by_sort d.sort (decls_cover ds)
   where
     by_sort : (s : Sort) → declared_bytes (map declared_by ds) ≤ bytes_of_all (decls_tokens ds) →
-        length d.name + 4 + declared_bytes (map declared_by ds) ≤ token_bytes (word_at d.start (word.Sort s)) + (max 1 (length d.name) + (1 + bytes_of_all (decls_tokens ds)))
+        length d.name + 4 + declared_bytes (map declared_by ds) ≤ token_bytes (word_at d.start (word.Sort s))
+        + (max 1 (length d.name) + (1 + bytes_of_all (decls_tokens ds)))
     by_sort Int rest = omega (arith, rest)
     by_sort Bool rest = omega (arith, rest)
 
@@ -372,7 +392,8 @@ pub record IsShort (text : List ℕ) (p : InfixProgram) : Type 0 where
   pub lawful : IsLawful (declared_of p) (body_of p)
   pub short : program_bytes (declared_of p) (body_of p) ≤ length text
 
-pub text_is_lawful : (text : List ℕ) (p : InfixProgram) → IsProgram text p → length text ≤ 2 ^ 20 → FormsAreSmall p.forms → forms_blocks p.forms ≤ 40 → breaches p ≡ [] → IsShort text p
+pub text_is_lawful : (text : List ℕ) (p : InfixProgram) → IsProgram text p → length text ≤ 2 ^ 20 → FormsAreSmall p.forms → forms_blocks p.forms ≤ 40
+    → breaches p ≡ [] → IsShort text p
 text_is_lawful text p is few small blocks clean =
     let k = two (decls_breaches [] p.decls) (forms_breaches (declared_of p) p.forms) clean in
     let fit = tokens_fit text in
@@ -381,6 +402,7 @@ text_is_lawful text p is few small blocks clean =
     let body = forms_cover (declared_of p) p.forms k.1 in
     let decls = decls_cover p.decls in
     record {
-      lawful = rules_make_lawful p record { names = names_are_names text p is; expressions = small; blocks = blocks } clean (omega (arith, body.count, both, same, fit, few));
+      lawful = rules_make_lawful p record { names = names_are_names text p is; expressions = small; blocks = blocks } clean
+          (omega (arith, body.count, both, same, fit, few));
       short = omega (arith, body.bytes, decls, both, same, fit);
     }

@@ -64,21 +64,26 @@ after_kind front to l k {old} {new} a is e goes = record {
 }
 
 -- the mark that is wanted is the next token
-pub mark_is : (m : Mark) {more : List Expected} {old new : List Token} (l : Lexeme) → Awaits (wants.Mark m ∷ more) old → old ≡ token_seen l ∷ new → old ≡ mark_at l.place m ∷ new
+pub mark_is : (m : Mark) {more : List Expected} {old new : List Token} (l : Lexeme) → Awaits (wants.Mark m ∷ more) old → old ≡ token_seen l ∷ new
+    → old ≡ mark_at l.place m ∷ new
 mark_is m {more} {old} {new} l a is =
     let k : l.kind ≡ kind.Mark m = sym (kind_seen l) ∙ ap kind_of (next_is_mark m (more ++ a.rest) (token_seen l) old new is a.completes) in
     is ∙ ap (λ (t : Token). t ∷ new) (token_by_kind l (kind.Mark m) k)
 
 -- after a mark
-pub mark_passed : (m : Mark) (place : ℕ) (more : List Expected) {old new : List Token} → Awaits (wants.Mark m ∷ more) old → old ≡ mark_at place m ∷ new → Awaits more new
+pub mark_passed : (m : Mark) (place : ℕ) (more : List Expected) {old new : List Token} → Awaits (wants.Mark m ∷ more) old → old ≡ mark_at place m ∷ new
+    → Awaits more new
 mark_passed m place more {old} {new} a is = record { rest = a.rest; completes = after_mark m place (more ++ a.rest) old new is a.completes }
 
 -- after an expression, a statement, a block and statements
-pub expression_passed : (more : List Expected) {ds : List Declared} {old new : List Token} {best next : Option Breach} {typed : Typed} → Awaits (expression more) old →
+pub expression_passed : (more : List Expected) {ds : List Declared} {old new : List Token} {best next : Option Breach} {typed : Typed}
+    → Awaits (expression more) old →
     Reads any_level ds old new best next typed → Awaits more new
-expression_passed more {ds} {old} {new} {best} {next} {typed} a r = record { rest = a.rest; completes = after_expression ds old new best next typed (more ++ a.rest) r a.completes }
+expression_passed more {ds} {old} {new} {best} {next} {typed} a r =
+    record { rest = a.rest; completes = after_expression ds old new best next typed (more ++ a.rest) r a.completes }
 
-pub form_passed : {ds : List Declared} {old new : List Token} {best next : Option Breach} {statement : Statement} → Awaits (wants.MoreStatements ∷ []) old → ReadsForm ds old new best next statement →
+pub form_passed : {ds : List Declared} {old new : List Token} {best next : Option Breach} {statement : Statement}
+    → Awaits (wants.MoreStatements ∷ []) old → ReadsForm ds old new best next statement →
     Awaits (wants.MoreStatements ∷ []) new
 form_passed {old = old} {new = new} a r = record {
   rest = a.rest;
@@ -86,7 +91,8 @@ form_passed {old = old} {new = new} a r = record {
       (form_leads r.tree a.rest r.bound) a.completes;
 }
 
-pub block_passed : (more : List Expected) {ds : List Declared} {old new : List Token} {best next : Option Breach} {body : List Statement} → Awaits (a_block more) old → ReadsBlock ds old new best next body →
+pub block_passed : (more : List Expected) {ds : List Declared} {old new : List Token} {best next : Option Breach} {body : List Statement}
+    → Awaits (a_block more) old → ReadsBlock ds old new best next body →
     Awaits more new
 block_passed more {old = old} {new = new} a r = record {
   rest = a.rest;
@@ -94,7 +100,8 @@ block_passed more {old = old} {new = new} a r = record {
       (more ++ a.rest) r.bound) a.completes;
 }
 
-pub forms_passed : (more : List Expected) {ds : List Declared} {old new : List Token} {best next : Option Breach} {body : List Statement} → Awaits (wants.MoreStatements ∷ more) old →
+pub forms_passed : (more : List Expected) {ds : List Declared} {old new : List Token} {best next : Option Breach} {body : List Statement}
+    → Awaits (wants.MoreStatements ∷ more) old →
     ReadsForms ds old new best next body → Awaits more new
 forms_passed more {old = old} {new = new} a r = record {
   rest = a.rest;
@@ -102,7 +109,8 @@ forms_passed more {old = old} {new = new} a r = record {
 }
 
 -- `else`
-pub else_is : {more : List Expected} {old new : List Token} (l : Lexeme) → Awaits (wants.Else ∷ more) old → old ≡ token_seen l ∷ new → old ≡ word_at (place_of (token_seen l)) word.Else ∷ new
+pub else_is : {more : List Expected} {old new : List Token} (l : Lexeme) → Awaits (wants.Else ∷ more) old → old ≡ token_seen l ∷ new
+    → old ≡ word_at (place_of (token_seen l)) word.Else ∷ new
 else_is {more} {old} {new} l a is = is ∙ ap (λ (t : Token). t ∷ new) (next_is_else (more ++ a.rest) (token_seen l) old new is a.completes)
 
 pub else_passed : (more : List Expected) {old new : List Token} (l : Lexeme) → Awaits (wants.Else ∷ more) old → old ≡ token_seen l ∷ new → Awaits more new
@@ -113,14 +121,16 @@ else_passed more {old} {new} l a is =
 
 -- ---- factors
 
-pub operand_is : {more : List Expected} {old new : List Token} (l : Lexeme) → Awaits (wants.Operand ∷ more) old → old ≡ token_seen l ∷ new → None ≡ factor_kind l.kind → ⊥
+pub operand_is : {more : List Expected} {old new : List Token} (l : Lexeme) → Awaits (wants.Operand ∷ more) old → old ≡ token_seen l ∷ new
+    → None ≡ factor_kind l.kind → ⊥
 operand_is {more} {old} {new} l a is none = next_is_operand (more ++ a.rest) (token_seen l) old new is a.completes (none ∙ ap factor_kind (sym (kind_seen l)))
 
 prefix_is : (op : Prefix) (l : Lexeme) → l.kind ≡ prefix_kind op → token_seen l ≡ prefix_token l.place op
 prefix_is Not l e = token_by_kind l (kind.Word word.Not) e
 prefix_is Minus l e = token_by_kind l (kind.Mark mark.Minus) e
 
-pub prefix_read : {ds : List Declared} {old mid new : List Token} {b1 b2 b3 : Option Breach} {operand typed : Typed} (op : Prefix) (l : Lexeme) → old ≡ token_seen l ∷ mid → l.kind ≡ prefix_kind op →
+pub prefix_read : {ds : List Declared} {old mid new : List Token} {b1 b2 b3 : Option Breach} {operand typed : Typed} (op : Prefix) (l : Lexeme)
+    → old ≡ token_seen l ∷ mid → l.kind ≡ prefix_kind op →
     Reads 0 ds mid new b1 b2 operand → IsPrefix l.place op operand b2 b3 typed → Reads 0 ds old new b1 b3 typed
 prefix_read {ds} {old} {mid} {new} {b1} {b2} {b3} {operand} {typed} op l is e r made = record {
   tree = unary l.place op r.tree;
@@ -131,7 +141,8 @@ prefix_read {ds} {old} {mid} {new} {b1} {b2} {b3} {operand} {typed} op l is e r 
   ends = r.ends;
 }
 
-pub group_read : {ds : List Declared} {old t1 t2 new : List Token} {best next : Option Breach} {typed : Typed} (l : Lexeme) (closing : ℕ) → old ≡ token_seen l ∷ t1 → l.kind ≡ kind.Mark mark.Open →
+pub group_read : {ds : List Declared} {old t1 t2 new : List Token} {best next : Option Breach} {typed : Typed} (l : Lexeme) (closing : ℕ)
+    → old ≡ token_seen l ∷ t1 → l.kind ≡ kind.Mark mark.Open →
     Reads any_level ds t1 t2 best next typed → t2 ≡ mark_at closing mark.Close ∷ new → Reads 0 ds old new best next typed
 group_read {new = new} l closing is e r closes = record {
   tree = group l.place r.tree closing;
@@ -155,15 +166,18 @@ proper_rest (t ∷ ts) us vs e is =
     proper_rest ts (ts ++ vs) vs (and_parts (is_proper t) (are_proper (ts ++ vs)) all).1 refl
 
 -- a name is one
-pub proper_name : {new : List Token} (l : Lexeme) (old : List Token) → are_proper old ≡ true → old ≡ token_seen l ∷ new → l.kind ≡ kind.Name → is_variable_name l.bytes.now ≡ true
+pub proper_name : {new : List Token} (l : Lexeme) (old : List Token) → are_proper old ≡ true → old ≡ token_seen l ∷ new → l.kind ≡ kind.Name
+    → is_variable_name l.bytes.now ≡ true
 proper_name {new} l old e is k =
-    let all : are_proper (name_at l.place l.bytes.now ∷ new) ≡ true = ap are_proper (sym (is ∙ ap (λ (t : Token). t ∷ new) (token_by_kind l kind.Name k))) ∙ e in
+    let all : are_proper (name_at l.place l.bytes.now ∷ new) ≡ true =
+    ap are_proper (sym (is ∙ ap (λ (t : Token). t ∷ new) (token_by_kind l kind.Name k))) ∙ e in
     (and_parts (is_variable_name l.bytes.now) (are_proper new) all).0
 
 pub name_is : {more : List Expected} {old new : List Token} (l : Lexeme) → Awaits (wants.Name ∷ more) old → old ≡ token_seen l ∷ new → l.kind ≡ kind.Name
 name_is {more} {old} {new} l a is = sym (kind_seen l) ∙ next_is_name (more ++ a.rest) (token_seen l) old new is a.completes
 
-pub decl_tokens_read : {old t1 t2 new : List Token} (l name : Lexeme) (sort : Sort) (closing : ℕ) → old ≡ token_seen l ∷ t1 → l.kind ≡ kind.Word (word.Sort sort) →
+pub decl_tokens_read : {old t1 t2 new : List Token} (l name : Lexeme) (sort : Sort) (closing : ℕ) → old ≡ token_seen l ∷ t1
+    → l.kind ≡ kind.Word (word.Sort sort) →
     t1 ≡ token_seen name ∷ t2 → name.kind ≡ kind.Name → t2 ≡ mark_at closing mark.Semicolon ∷ new →
     old ≡ decl_tokens record { start = l.place; sort = sort; place = name.place; name = name.bytes.now; closing = closing } ++ new
 decl_tokens_read l name sort closing is1 k1 is2 k2 is3 =
@@ -171,13 +185,17 @@ decl_tokens_read l name sort closing is1 k1 is2 k2 is3 =
     (is2 ∙ ap₂ (λ (t : Token) (ts : List Token). t ∷ ts) (token_by_kind name kind.Name k2) is3)
 
 -- what a declaration breaks
-pub decl_noted : (ds : List Declared) (d : Decl) (b1 b2 b3 : Option Breach) → Notes b1 (when (is_some (variable_named ds d.name)) d.place 5) b2 → Notes b2 (when (length ds == 100) d.place 9) b3 →
+pub decl_noted : (ds : List Declared) (d : Decl) (b1 b2 b3 : Option Breach) → Notes b1 (when (is_some (variable_named ds d.name)) d.place 5) b2
+    → Notes b2 (when (length ds == 100) d.place 9) b3 →
     Notes b1 (decl_breaches ds d) b3
-decl_noted ds d b1 b2 b3 first second = notes_more b1 b2 b3 (when (is_some (variable_named ds d.name)) d.place 5) (when (length ds == 100) d.place 9) first second
+decl_noted ds d b1 b2 b3 first second =
+    notes_more b1 b2 b3 (when (is_some (variable_named ds d.name)) d.place 5) (when (length ds == 100) d.place 9) first second
 
-pub decl_passed : {before after : List Declared} {old new : List Token} {best next : Option Breach} → Awaits (wants.MoreDeclarations ∷ []) old → ReadsDecl before after old new best next →
+pub decl_passed : {before after : List Declared} {old new : List Token} {best next : Option Breach} → Awaits (wants.MoreDeclarations ∷ []) old
+    → ReadsDecl before after old new best next →
     Awaits (wants.MoreDeclarations ∷ []) new
-decl_passed {old = old} {new = new} a r = record { rest = a.rest; completes = moved old (decl_tokens r.tree) new r.tokens_are (decl_leads r.tree a.rest) a.completes }
+decl_passed {old = old} {new = new} a r =
+    record { rest = a.rest; completes = moved old (decl_tokens r.tree) new r.tokens_are (decl_leads r.tree a.rest) a.completes }
 
 -- ---- programs
 
@@ -186,9 +204,11 @@ pub program_completes : (ts : List Token) (p : InfixProgram) → ts ≡ program_
 program_completes ts p e = record { last = end_of p.forms; taken_is = ap (taken (Some at_start)) e ∙ program_taken p; over = over_end p.forms }
 
 -- after the declarations, statements are awaited, and after them nothing
-pub decls_passed : {ds : List Declared} {old new : List Token} {best next : Option Breach} → Completes at_start old → ReadsDecls ds old new best next → Completes (wants.MoreStatements ∷ []) new
+pub decls_passed : {ds : List Declared} {old new : List Token} {best next : Option Breach} → Completes at_start old → ReadsDecls ds old new best next
+    → Completes (wants.MoreStatements ∷ []) new
 decls_passed {old = old} {new = new} c r =
     r.ends (wants.MoreStatements ∷ []) (moved old (decls_tokens r.trees) new r.tokens_are (decls_lead r.trees (wants.MoreStatements ∷ [])) c)
 
-pub all_passed : {ds : List Declared} {old new : List Token} {best next : Option Breach} {body : List Statement} → Completes (wants.MoreStatements ∷ []) old → ReadsForms ds old new best next body → Completes [] new
+pub all_passed : {ds : List Declared} {old new : List Token} {best next : Option Breach} {body : List Statement}
+    → Completes (wants.MoreStatements ∷ []) old → ReadsForms ds old new best next body → Completes [] new
 all_passed {old = old} {new = new} c r = r.ends [] (moved old (forms_tokens r.tree) new r.tokens_are (forms_leads r.tree [] r.bound) c)

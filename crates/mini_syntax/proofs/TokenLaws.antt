@@ -135,7 +135,8 @@ none_free before = record { free = nothing }
     nothing [] t post rule e b = cc
     nothing (v ∷ pre) t post rule e b = cc
 
-one_more : (before : List Token) (u : Token) (us : List Token) → ((rule : ℕ) → BreaksAt before u rule → ⊥) → FreeAfter (before ++ u ∷ []) us → FreeAfter before (u ∷ us)
+one_more : (before : List Token) (u : Token) (us : List Token) → ((rule : ℕ) → BreaksAt before u rule → ⊥) → FreeAfter (before ++ u ∷ []) us
+    → FreeAfter before (u ∷ us)
 one_more before u us none f = record { free = by_front }
   where
     by_front : (pre : List Token) (t : Token) (post : List Token) (rule : ℕ) → u ∷ us ≡ pre ++ t ∷ post → BreaksAt (before ++ pre) t rule → ⊥
@@ -166,7 +167,8 @@ pub walk : (before rest : List Token) (st : List Expected) → taken (Some at_st
 walk before [] st is = ends_so st (ap (taken (Some at_start)) (append-nil before) ∙ is) (none_free before)
 walk before (u ∷ us) st is = pick (judge before u st is) (λ new e. walk (before ++ u ∷ []) us new e)
   where
-    pick : Judged before u → ((new : List Expected) → taken (Some at_start) (before ++ u ∷ []) ≡ Some new → Walked (before ++ u ∷ []) us) → Walked before (u ∷ us)
+    pick : Judged before u → ((new : List Expected) → taken (Some at_start) (before ++ u ∷ []) ≡ Some new → Walked (before ++ u ∷ []) us)
+        → Walked before (u ∷ us)
     pick (breaks rule b least) later =
         stops [] u us rule refl (none_free before) (subst (λ (ts : List Token). BreaksAt ts u rule) (sym (append-nil before)) b)
         (λ other c. least other (subst (λ (ts : List Token). BreaksAt ts u other) (append-nil before) c))

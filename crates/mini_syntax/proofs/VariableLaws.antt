@@ -25,11 +25,15 @@ word_bytes (b ∷ bytes) e =
 
 no_truth : (bytes : List ℕ) → is_none (word_named bytes) ≡ true → is_truth_word bytes ≡ false
 no_truth bytes e =
-    pick (bytes_eq bytes (codes "int")) (bytes_eq bytes (codes "bool")) (bytes_eq bytes (codes "while")) (bytes_eq bytes (codes "if")) (bytes_eq bytes (codes "else"))
-    (bytes_eq bytes (codes "or")) (bytes_eq bytes (codes "and")) (bytes_eq bytes (codes "not")) (bytes_eq bytes (codes "true")) (bytes_eq bytes (codes "false")) e
+    pick (bytes_eq bytes (codes "int")) (bytes_eq bytes (codes "bool")) (bytes_eq bytes (codes "while")) (bytes_eq bytes (codes "if"))
+    (bytes_eq bytes (codes "else"))
+    (bytes_eq bytes (codes "or")) (bytes_eq bytes (codes "and")) (bytes_eq bytes (codes "not")) (bytes_eq bytes (codes "true"))
+    (bytes_eq bytes (codes "false")) e
   where
-    pick : (a b c d e f g h i j : std.Bool) → is_none (cond a (Some (word.Sort Int)) (cond b (Some (word.Sort Bool)) (cond c (Some word.While) (cond d (Some word.If) (cond e (Some word.Else)
-        (cond f (Some word.Or) (cond g (Some word.And) (cond h (Some word.Not) (cond i (Some (word.Truth true)) (cond j (Some (word.Truth false)) None)))))))))) ≡ true → (i || j) ≡ false
+    pick : (a b c d e f g h i j : std.Bool) → is_none
+        (cond a (Some (word.Sort Int)) (cond b (Some (word.Sort Bool)) (cond c (Some word.While) (cond d (Some word.If) (cond e (Some word.Else)
+        (cond f (Some word.Or) (cond g (Some word.And)
+        (cond h (Some word.Not) (cond i (Some (word.Truth true)) (cond j (Some (word.Truth false)) None)))))))))) ≡ true → (i || j) ≡ false
     pick a b c d e f g h false false k = refl
     pick true b c d e f g h i j k = cc
     pick false true c d e f g h i j k = cc

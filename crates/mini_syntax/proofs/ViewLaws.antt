@@ -1,7 +1,8 @@
 -- What clauses see of statements with blocks.
 use Rattle.std.proofs.Common.{◌≡◌, refl, ap, ap₂, ◌∙◌}
 use Rattle.mini_syntax.specs.declared.program.Exp.{Exp}
-use Rattle.mini_syntax.specs.declared.program.Statement.{Row_of-Statement, end_of-Statement, more_of-Statement, items-the_row-Statement, items_hidden-the_row-Statement-0}
+use Rattle.mini_syntax.specs.declared.program.Statement.{Row_of-Statement, end_of-Statement, more_of-Statement, items-the_row-Statement}
+use Rattle.mini_syntax.specs.declared.program.Statement.{items_hidden-the_row-Statement-0}
 use Rattle.mini_syntax.specs.declared.program.Statement.TheBlock.{hidden-the_row-Statement-0}
 use Rattle.mini_syntax.specs.declared.program.Statement.TheVariants.{While as MadeWhile, If as MadeIf}
 use Rattle.mini_syntax.specs.Language.{Then, While, If}
@@ -14,7 +15,8 @@ row_listed n (more_of-Statement s rest) = ap (Then (statement_in s)) (row_listed
 pub statement_in-while : (test : Exp) (body : _) → statement_in (MadeWhile test body) ≡ While (exp_of test) (block_in body.items)
 statement_in-while test body = ap (While (exp_of test)) (row_listed _ (hidden-the_row-Statement-0 body) ∙ ap block_in (items_hidden-the_row-Statement-0 body))
 
-pub statement_in-if : (test : Exp) (then otherwise : _) → statement_in (MadeIf test then otherwise) ≡ If (exp_of test) (block_in then.items) (block_in otherwise.items)
+pub statement_in-if : (test : Exp) (then otherwise : _) → statement_in (MadeIf test then otherwise)
+    ≡ If (exp_of test) (block_in then.items) (block_in otherwise.items)
 statement_in-if test then otherwise =
     ap₂ (If (exp_of test)) (row_listed _ (hidden-the_row-Statement-0 then) ∙ ap block_in (items_hidden-the_row-Statement-0 then))
     (row_listed _ (hidden-the_row-Statement-0 otherwise) ∙ ap block_in (items_hidden-the_row-Statement-0 otherwise))

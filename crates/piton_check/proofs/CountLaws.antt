@@ -18,7 +18,8 @@ use Rattle.piton_syntax.specs.Systems.{InstrOf, ProgramOf, AreaOf, SystemOf}
 use Rattle.piton_check.specs.declared.resolved.ResolvedArg.{ResolvedArg}
 use Rattle.piton_check.specs.declared.resolved.ResolvedArg.TheVariants as arg
 use Rattle.piton_check.specs.Instruction as seen
-use Rattle.piton_check.specs.Instruction.{Instruction, instruction_of, instruction_view, program_view, system_view, with_word, with_number, with_local, with_place, with_area, with_program, with_test, place_of}
+use Rattle.piton_check.specs.Instruction.{Instruction, instruction_of, instruction_view, program_view, system_view, with_word, with_number, with_local}
+use Rattle.piton_check.specs.Instruction.{with_place, with_area, with_program, with_test, place_of}
 use Rattle.piton_check.specs.Meaning.{name_kind}
 use Rattle.piton_check.specs.Resolved.{resolved, resolved_word, resolved_area, resolved_argument, resolved_instruction, resolved_program}
 use Rattle.piton_check.specs.Sound.{target_count, program_targets, all_targets, all_words}
@@ -43,11 +44,13 @@ length_under tree (x ∷ xs) = let one = node_positive (tree x) in let others = 
 
 -- ---- targets of one instruction
 
-word_targets : (make : Word → Instruction) → ((x : Word) → target_count (make x) ≡ 0) → (args : List ResolvedArg) → target_count (with_word make args) ≤ length args
+word_targets : (make : Word → Instruction) → ((x : Word) → target_count (make x) ≡ 0) → (args : List ResolvedArg)
+    → target_count (with_word make args) ≤ length args
 word_targets make plain (arg.Word w ∷ []) = omega (arith, plain w)
 word_targets make plain args = omega arith
 
-number_targets : (make : ℕ → Instruction) → ((x : ℕ) → target_count (make x) ≡ 0) → (args : List ResolvedArg) → target_count (with_number make args) ≤ length args
+number_targets : (make : ℕ → Instruction) → ((x : ℕ) → target_count (make x) ≡ 0) → (args : List ResolvedArg)
+    → target_count (with_number make args) ≤ length args
 number_targets make plain (arg.Number x ∷ []) = omega (arith, plain x)
 number_targets make plain args = omega arith
 
@@ -63,7 +66,8 @@ area_targets : (make : ℕ → Instruction) → ((x : ℕ) → target_count (mak
 area_targets make plain (arg.Area x ∷ []) = omega (arith, plain x)
 area_targets make plain args = omega arith
 
-program_targets_of : (make : ℕ → Instruction) → ((x : ℕ) → target_count (make x) ≡ 0) → (args : List ResolvedArg) → target_count (with_program make args) ≤ length args
+program_targets_of : (make : ℕ → Instruction) → ((x : ℕ) → target_count (make x) ≡ 0) → (args : List ResolvedArg)
+    → target_count (with_program make args) ≤ length args
 program_targets_of make plain (arg.Program x ∷ []) = omega (arith, plain x)
 program_targets_of make plain args = omega arith
 
@@ -99,7 +103,8 @@ labelled_under : (l : Option Named) (t : Node) (n : ℕ) → n ≤ node_count t 
 labelled_under None t n h = h
 labelled_under (Some name) t n h = omega (arith, h)
 
-instruction_under : (s : SystemOf) (p : ProgramOf) (i : InstrOf) → target_count (instruction_view (resolved_instruction s p i)) ≤ node_count (instruction_tree i)
+instruction_under : (s : SystemOf) (p : ProgramOf) (i : InstrOf) → target_count (instruction_view (resolved_instruction s p i))
+    ≤ node_count (instruction_tree i)
 instruction_under s p i =
     let targets = targets_under i.op (map (resolved_argument s p (name_kind (op_arguments i.op))) i.args) in
     let args = length_under argument_tree i.args in
@@ -109,7 +114,8 @@ instruction_under s p i =
 program_under : (s : SystemOf) (p : ProgramOf) → program_targets (program_view (resolved_program s p)) ≤ node_count (program_tree p)
 program_under s p =
     let seen_as : program_targets (program_view (resolved_program s p)) ≡ sum_by (λ i. target_count (instruction_view (resolved_instruction s p i))) p.instrs =
-    sum_map target_count instruction_view (map (resolved_instruction s p) p.instrs) ∙ sum_map (λ i. target_count (instruction_view i)) (resolved_instruction s p) p.instrs in
+    sum_map target_count instruction_view (map (resolved_instruction s p) p.instrs)
+    ∙ sum_map (λ i. target_count (instruction_view i)) (resolved_instruction s p) p.instrs in
     let under = sum_under (λ i. target_count (instruction_view (resolved_instruction s p i))) instruction_tree (instruction_under s p) p.instrs in
     omega (arith, seen_as, under)
 
@@ -120,7 +126,8 @@ pub few_parts : (s : SystemOf) → node_count (tree_of s) ≤ 2 ^ 31 → all_wor
 few_parts s few =
     let words_as : all_words (system_view (resolved s)) ≡ sum_by (λ a. length (resolved_area s a)) s.areas = sum_map length (resolved_area s) s.areas in
     let targets_as : all_targets (system_view (resolved s)) ≡ sum_by (λ p. program_targets (program_view (resolved_program s p))) s.programs =
-    sum_map program_targets program_view (map (resolved_program s) s.programs) ∙ sum_map (λ p. program_targets (program_view p)) (resolved_program s) s.programs in
+    sum_map program_targets program_view (map (resolved_program s) s.programs) ∙ sum_map (λ p. program_targets (program_view p)) (resolved_program s)
+    s.programs in
     let words = sum_under (λ a. length (resolved_area s a)) area_tree (area_under s) s.areas in
     let targets = sum_under (λ p. program_targets (program_view (resolved_program s p))) program_tree (program_under s) s.programs in
     omega (arith, few, words_as, targets_as, words, targets)

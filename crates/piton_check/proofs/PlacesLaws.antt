@@ -1,5 +1,6 @@
 -- Places change nothing.
-use Rattle.std.proofs.Common.{◌≡◌, ℕ, ◌+◌, ◌-◌, max, List, [], ◌∷◌, ◌++◌, map, length, get_or, Bool, true, false, not, cond, nat_lt, Option, Some, None, option_map, refl, sym, ap, ap₂, ◌∙◌, subst}
+use Rattle.std.proofs.Common.{◌≡◌, ℕ, ◌+◌, ◌-◌, max, List, [], ◌∷◌, ◌++◌, map, length, get_or, Bool, true, false, not, cond, nat_lt, Option, Some, None}
+use Rattle.std.proofs.Common.{option_map, refl, sym, ap, ap₂, ◌∙◌, subst}
 use Rattle.std.specs.Prelude.{is_some, slice_get, unwrap_or}
 use Rattle.std.specs.Option.{is_none}
 use Rattle.std.specs.List.{flat_map, position_or_len}
@@ -18,14 +19,18 @@ use Rattle.piton_syntax.specs.declared.word_text.WordItem.{WordItem}
 use Rattle.piton_syntax.specs.declared.word_text.WordItem.TheVariants as item
 use Rattle.piton_syntax.specs.declared.word_text.WordText.{WordText}
 use Rattle.piton_syntax.specs.Operations.{op_arguments}
-use Rattle.piton_syntax.specs.Systems.{InstrOf, ProgramOf, AreaOf, SystemOf, unplaced_item, unplaced_word, unplaced_argument, unplaced_instruction, unplaced_temporary, unplaced_program, unplaced_area, without_places}
+use Rattle.piton_syntax.specs.Systems.{InstrOf, ProgramOf, AreaOf, SystemOf, unplaced_item, unplaced_word, unplaced_argument, unplaced_instruction}
+use Rattle.piton_syntax.specs.Systems.{unplaced_temporary, unplaced_program, unplaced_area, without_places}
 use Rattle.stack_text.specs.Grammar.Printed.{unplaced_name}
 use Rattle.piton_check.specs.declared.resolved.ResolvedArg.TheVariants as arg
-use Rattle.piton_check.specs.Declarations.{Declaration, area_name, program_name, formal_name, temporary_name, label_name, area_names, program_names, local_names, label_names, is_named, first_of, repeat_of, repeats}
+use Rattle.piton_check.specs.Declarations.{Declaration, area_name, program_name, formal_name, temporary_name, label_name, area_names, program_names}
+use Rattle.piton_check.specs.Declarations.{local_names, label_names, is_named, first_of, repeat_of, repeats}
 use Rattle.piton_check.specs.Meaning.{position_in, area_lengths, program_lengths, word_of, name_kind, name_of}
 use Rattle.piton_check.specs.Places.{BreakAlike, PlacesChangeNothing}
-use Rattle.piton_check.specs.Resolved.{resolved_word, resolved_temporary, resolved_area, resolved_argument, resolved_instruction, resolved_program, resolved_number, resolved}
-use Rattle.piton_check.specs.Violations.{word_breaches, temporary_breaches, area_breaches, name_rule, argument_breaches, instruction_breaches, end_breaches, program_breaches, main_of, main_breaches, is_within, first_frame, size_breaches, violations}
+use Rattle.piton_check.specs.Resolved.{resolved_word, resolved_temporary, resolved_area, resolved_argument, resolved_instruction, resolved_program}
+use Rattle.piton_check.specs.Resolved.{resolved_number, resolved}
+use Rattle.piton_check.specs.Violations.{word_breaches, temporary_breaches, area_breaches, name_rule, argument_breaches, instruction_breaches, end_breaches}
+use Rattle.piton_check.specs.Violations.{program_breaches, main_of, main_breaches, is_within, first_frame, size_breaches, violations}
 
 -- 1. Declarations.
 
@@ -55,7 +60,8 @@ all_bare u f h (x ∷ xs) = ap₂ (λ (d : Declaration) (ds : List Declaration).
 
 locals_bare : (p : ProgramOf) → local_names (unplaced_program p) ≡ map bare (local_names p)
 locals_bare p =
-    ap₂ (λ (ds es : List Declaration). ds ++ es) (all_bare unplaced_name formal_name (λ n. refl) p.formals) (all_bare unplaced_temporary temporary_name (λ t. refl) p.temporaries)
+    ap₂ (λ (ds es : List Declaration). ds ++ es) (all_bare unplaced_name formal_name (λ n. refl) p.formals)
+    (all_bare unplaced_temporary temporary_name (λ t. refl) p.temporaries)
     ∙ sym (map-append bare (map formal_name p.formals) (map temporary_name p.temporaries))
 
 labels_bare : (p : ProgramOf) → label_names (unplaced_program p) ≡ map bare (label_names p)
@@ -79,7 +85,8 @@ alike_when false false place other rule e = refl
 alike_when true false place other rule e = cc
 alike_when false true place other rule e = cc
 
-alike_all : {X Y : Type 0} (u : X → Y) (f : Y → List Breach) (g : X → List Breach) → ((x : X) → BreakAlike (f (u x)) (g x)) → (xs : List X) → BreakAlike (flat_map f (map u xs)) (flat_map g xs)
+alike_all : {X Y : Type 0} (u : X → Y) (f : Y → List Breach) (g : X → List Breach) → ((x : X) → BreakAlike (f (u x)) (g x)) → (xs : List X)
+    → BreakAlike (flat_map f (map u xs)) (flat_map g xs)
 alike_all u f g h [] = refl
 alike_all u f g h (x ∷ xs) = joined (f (u x)) (g x) (flat_map f (map u xs)) (flat_map g xs) (h x) (alike_all u f g h xs)
 
@@ -90,9 +97,11 @@ repeat_alike rule earlier (Some n) = alike_when _ _ _ _ rule (ap is_some (first_
 repeats_alike : (rule : ℕ) (earlier ds : List Declaration) → BreakAlike (repeats rule (map bare earlier) (map bare ds)) (repeats rule earlier ds)
 repeats_alike rule earlier [] = refl
 repeats_alike rule earlier (d ∷ ds) =
-    joined (repeat_of rule (map bare earlier) (bare d)) (repeat_of rule earlier d) (repeats rule (map bare earlier ++ bare d ∷ []) (map bare ds)) (repeats rule (earlier ++ d ∷ []) ds)
+    joined (repeat_of rule (map bare earlier) (bare d)) (repeat_of rule earlier d) (repeats rule (map bare earlier ++ bare d ∷ []) (map bare ds))
+    (repeats rule (earlier ++ d ∷ []) ds)
     (repeat_alike rule earlier d)
-    (subst (λ (es : List Declaration). BreakAlike (repeats rule es (map bare ds)) (repeats rule (earlier ++ d ∷ []) ds)) (map-append bare earlier (d ∷ [])) (repeats_alike rule (earlier ++ d ∷ []) ds))
+    (subst (λ (es : List Declaration). BreakAlike (repeats rule es (map bare ds)) (repeats rule (earlier ++ d ∷ []) ds))
+    (map-append bare earlier (d ∷ [])) (repeats_alike rule (earlier ++ d ∷ []) ds))
 
 -- names that are declared, and stripped of their places
 repeats_in : (rule : ℕ) (ds es : List Declaration) → ds ≡ map bare es → BreakAlike (repeats rule [] ds) (repeats rule [] es)
@@ -120,7 +129,8 @@ module _ (s : SystemOf) where
   areas_long = all_same unplaced_area (λ (a : AreaOf). length a.words) (λ (a : AreaOf). length a.words) (λ a. length-map a.words unplaced_word) s.areas
 
   programs_long : program_lengths u ≡ program_lengths s
-  programs_long = all_same unplaced_program (λ (p : ProgramOf). length p.instrs) (λ (p : ProgramOf). length p.instrs) (λ p. length-map p.instrs unplaced_instruction) s.programs
+  programs_long = all_same unplaced_program (λ (p : ProgramOf). length p.instrs) (λ (p : ProgramOf). length p.instrs)
+      (λ p. length-map p.instrs unplaced_instruction) s.programs
 
   word_same : (i : WordItem) → word_of u (unplaced_item i) ≡ word_of s i
   word_same (item.Int n) = refl
@@ -143,7 +153,8 @@ module _ (s : SystemOf) where
   resolved_word_same : (w : WordText) → resolved_word u (unplaced_word w) ≡ resolved_word s w
   resolved_word_same w = ap (λ o. unwrap_or o (word.Bool false)) (word_same w.item)
 
-  resolved_argument_same : (p : ProgramOf) (k : ArgKind) (a : ArgText) → resolved_argument u (unplaced_program p) k (unplaced_argument a) ≡ resolved_argument s p k a
+  resolved_argument_same : (p : ProgramOf) (k : ArgKind) (a : ArgText) → resolved_argument u (unplaced_program p) k (unplaced_argument a)
+      ≡ resolved_argument s p k a
   resolved_argument_same p k (text.Name n) = ap (λ o. unwrap_or o (arg.Number 0)) (name_same p k n.name)
   resolved_argument_same p k (text.Number n) = refl
   resolved_argument_same p k (text.Word w) = ap arg.Word (resolved_word_same w)
@@ -159,12 +170,14 @@ module _ (s : SystemOf) where
   resolved_program_same p =
       let formals = length-map p.formals unplaced_name in
       let temporaries = all_same unplaced_temporary (resolved_temporary u) (resolved_temporary s) (λ t. resolved_word_same t.1) p.temporaries in
-      let instrs = all_same unplaced_instruction (resolved_instruction u (unplaced_program p)) (resolved_instruction s p) (resolved_instruction_same p) p.instrs in
+      let instrs =
+      all_same unplaced_instruction (resolved_instruction u (unplaced_program p)) (resolved_instruction s p) (resolved_instruction_same p) p.instrs in
       λ j. record { formals = formals j; temporaries = temporaries j; instrs = instrs j }
 
   resolved_same : resolved u ≡ resolved s
   resolved_same =
-      let areas = all_same unplaced_area (resolved_area u) (resolved_area s) (λ a. all_same unplaced_word (resolved_word u) (resolved_word s) resolved_word_same a.words) s.areas in
+      let areas = all_same unplaced_area (resolved_area u) (resolved_area s)
+      (λ a. all_same unplaced_word (resolved_word u) (resolved_word s) resolved_word_same a.words) s.areas in
       let stack = all_same unplaced_word (resolved_word u) (resolved_word s) resolved_word_same s.stack in
       let programs = all_same unplaced_program (resolved_program u) (resolved_program s) resolved_program_same s.programs in
       λ j. record {
@@ -182,13 +195,15 @@ module _ (s : SystemOf) where
   word_alike : (w : WordText) → BreakAlike (word_breaches u (unplaced_word w)) (word_breaches s w)
   word_alike w = alike_when _ _ _ _ 11 (ap is_none (word_same w.item))
 
-  argument_alike : (p : ProgramOf) (k : ArgKind) (a : ArgText) → BreakAlike (argument_breaches u (unplaced_program p) k (unplaced_argument a)) (argument_breaches s p k a)
+  argument_alike : (p : ProgramOf) (k : ArgKind) (a : ArgText) → BreakAlike (argument_breaches u (unplaced_program p) k (unplaced_argument a))
+      (argument_breaches s p k a)
   argument_alike p k (text.Name n) = alike_when _ _ _ _ (name_rule k) (ap is_none (name_same p k n.name))
   argument_alike p k (text.Number n) = alike_when _ _ _ _ 13 refl
   argument_alike p k (text.Word w) = word_alike w
   argument_alike p k (text.Test t) = refl
 
-  instruction_alike : (p : ProgramOf) (i : InstrOf) → BreakAlike (instruction_breaches u (unplaced_program p) (unplaced_instruction i)) (instruction_breaches s p i)
+  instruction_alike : (p : ProgramOf) (i : InstrOf) → BreakAlike (instruction_breaches u (unplaced_program p) (unplaced_instruction i))
+      (instruction_breaches s p i)
   instruction_alike p i =
       let k = name_kind (op_arguments i.op) in
       alike_all unplaced_argument (argument_breaches u (unplaced_program p) k) (argument_breaches s p k) (argument_alike p k) i.args
@@ -197,7 +212,8 @@ module _ (s : SystemOf) where
   end_alike None = refl
   end_alike (Some i) = alike_when _ _ _ _ 12 refl
 
-  last_same : (p : ProgramOf) → slice_get (map unplaced_instruction p.instrs) (length (map unplaced_instruction p.instrs) - 1) ≡ option_map unplaced_instruction (slice_get p.instrs (length p.instrs - 1))
+  last_same : (p : ProgramOf) → slice_get (map unplaced_instruction p.instrs) (length (map unplaced_instruction p.instrs) - 1)
+      ≡ option_map unplaced_instruction (slice_get p.instrs (length p.instrs - 1))
   last_same p =
       ap (λ (n : ℕ). slice_get (map unplaced_instruction p.instrs) (n - 1)) (length-map p.instrs unplaced_instruction)
       ∙ slice_get-map unplaced_instruction p.instrs (length p.instrs - 1)
@@ -207,15 +223,18 @@ module _ (s : SystemOf) where
       joined _ _ _ _
       (joined _ _ _ _
       (joined _ _ _ _
-      (joined _ _ _ _ (repeats_in 5 (local_names (unplaced_program p)) (local_names p) (locals_bare p)) (repeats_in 6 (label_names (unplaced_program p)) (label_names p) (labels_bare p)))
+      (joined _ _ _ _ (repeats_in 5 (local_names (unplaced_program p)) (local_names p) (locals_bare p))
+      (repeats_in 6 (label_names (unplaced_program p)) (label_names p) (labels_bare p)))
       (alike_all unplaced_temporary (temporary_breaches u) (temporary_breaches s) (λ t. word_alike t.1) p.temporaries))
       (alike_all unplaced_instruction (instruction_breaches u (unplaced_program p)) (instruction_breaches s p) (instruction_alike p) p.instrs))
-      (subst (λ o. BreakAlike (end_breaches o) (end_breaches (slice_get p.instrs (length p.instrs - 1)))) (sym (last_same p)) (end_alike (slice_get p.instrs (length p.instrs - 1))))
+      (subst (λ o. BreakAlike (end_breaches o) (end_breaches (slice_get p.instrs (length p.instrs - 1)))) (sym (last_same p))
+      (end_alike (slice_get p.instrs (length p.instrs - 1))))
 
   main_same : main_of u ≡ option_map unplaced_program (main_of s)
   main_same = ap (λ o. o >>= λ main. slice_get u.programs main) (first_program s.main.name) ∙ by_first (first_of (program_names s) s.main.name)
     where
-      by_first : (o : Option ℕ) → (o >>= λ main. slice_get (map unplaced_program s.programs) main) ≡ option_map unplaced_program (o >>= λ main. slice_get s.programs main)
+      by_first : (o : Option ℕ) → (o >>= λ main. slice_get (map unplaced_program s.programs) main)
+          ≡ option_map unplaced_program (o >>= λ main. slice_get s.programs main)
       by_first None = refl
       by_first (Some k) = slice_get-map unplaced_program s.programs k
 
@@ -243,7 +262,8 @@ module _ (s : SystemOf) where
       (joined _ _ _ _
       (joined _ _ _ _
       (joined _ _ _ _ (subst (λ o. BreakAlike (main_breaches u o) (main_breaches s (main_of s))) (sym main_same) (main_alike (main_of s))) sizes_alike)
-      (alike_all unplaced_area (area_breaches u) (area_breaches s) (λ a. alike_all unplaced_word (word_breaches u) (word_breaches s) word_alike a.words) s.areas))
+      (alike_all unplaced_area (area_breaches u) (area_breaches s) (λ a. alike_all unplaced_word (word_breaches u) (word_breaches s) word_alike a.words)
+      s.areas))
       (alike_all unplaced_word (word_breaches u) (word_breaches s) word_alike s.stack))
       (alike_all unplaced_program (program_breaches u) (program_breaches s) program_alike s.programs))
 

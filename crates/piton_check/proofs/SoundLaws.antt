@@ -1,5 +1,6 @@
 -- A system that fits the form and breaks no rule is sound: all that its resolved form names exists.
-use Rattle.std.proofs.Common.{◌≡◌, ℕ, zero, suc, ◌+◌, ◌-◌, ◌<◌, ◌≤◌, ◌^◌, max, Bool, true, false, not, cond, ltb, leb, List, [], ◌∷◌, ◌++◌, map, length, get_or, slice_get, Option, Some, None, All, unwrap_or, true≢false, refl, sym, ap, subst, ◌∙◌, arith}
+use Rattle.std.proofs.Common.{◌≡◌, ℕ, zero, suc, ◌+◌, ◌-◌, ◌<◌, ◌≤◌, ◌^◌, max, Bool, true, false, not, cond, ltb, leb, List, [], ◌∷◌, ◌++◌, map, length, get_or}
+use Rattle.std.proofs.Common.{slice_get, Option, Some, None, All, unwrap_or, true≢false, refl, sym, ap, subst, ◌∙◌, arith}
 use Rattle.std.specs.Prelude.{ℤ, pos, negsuc, IsTrue}
 use Rattle.std.specs.List.{flat_map}
 use Rattle.std.specs.Option.{is_none, option_map}
@@ -36,15 +37,20 @@ use Rattle.stack_text.specs.declared.breach.Breach.{Breach}
 use Rattle.piton_check.specs.declared.resolved.ResolvedArg.{ResolvedArg}
 use Rattle.piton_check.specs.declared.resolved.ResolvedArg.TheVariants as arg
 use Rattle.stack_text.specs.Breaches.{when}
-use Rattle.piton_check.specs.Declarations.{Declaration, area_name, program_name, formal_name, temporary_name, label_name, is_named, area_names, program_names, local_names, label_names, first_of, repeats}
+use Rattle.piton_check.specs.Declarations.{Declaration, area_name, program_name, formal_name, temporary_name, label_name, is_named, area_names, program_names}
+use Rattle.piton_check.specs.Declarations.{local_names, label_names, first_of, repeats}
 use Rattle.piton_check.specs.Instruction as seen
-use Rattle.piton_check.specs.Instruction.{Instruction, instruction_of, instruction_view, program_view, system_view, with_word, with_number, with_local, with_place, with_area, with_program, with_test, place_of}
+use Rattle.piton_check.specs.Instruction.{Instruction, instruction_of, instruction_view, program_view, system_view, with_word, with_number, with_local}
+use Rattle.piton_check.specs.Instruction.{with_place, with_area, with_program, with_test, place_of}
 use Rattle.stack_text.specs.Options.{◌>>=◌}
 use Rattle.stack_text.proofs.SharedLaws.{rule_fails, some_of, some_is, append_none, get_map}
 use Rattle.piton_check.specs.Meaning.{natural, integer, position_in, area_lengths, program_lengths, word_of, name_kind, count_of}
-use Rattle.piton_check.specs.Resolved.{resolved, resolved_word, resolved_temporary, resolved_area, resolved_argument, resolved_instruction, resolved_program, resolved_number}
+use Rattle.piton_check.specs.Resolved.{resolved, resolved_word, resolved_temporary, resolved_area, resolved_argument, resolved_instruction, resolved_program}
+use Rattle.piton_check.specs.Resolved.{resolved_number}
 use Rattle.piton_check.specs.Sound.{Exists, IsPlace, IsLocal, IsArea, IsProgram, IsCount, IsPlaced, IsEnd, IsSoundProgram, IsMain, IsSound, local_count}
-use Rattle.piton_check.specs.Violations.{word_breaches, temporary_breaches, area_breaches, argument_breaches, instruction_breaches, is_end, end_breaches, program_breaches, main_of, main_breaches, is_within, first_frame, size_breaches, name_breaches, part_breaches, violations}
+use Rattle.piton_check.specs.Violations.{word_breaches, temporary_breaches, area_breaches, argument_breaches, instruction_breaches, is_end, end_breaches}
+use Rattle.piton_check.specs.Violations.{program_breaches, main_of, main_breaches, is_within, first_frame, size_breaches, name_breaches, part_breaches}
+use Rattle.piton_check.specs.Violations.{violations}
 
 -- the views of a system and of a program of it
 abbrev view_of : SystemOf → seen.SystemView
@@ -110,7 +116,8 @@ area_length_is s (x ∷ xs) (suc i) = area_length_is s xs i
 instructions_length : (s : SystemOf) (p : ProgramOf) → length (view_in s p).instructions ≡ length p.instrs
 instructions_length s p = length-map (map (resolved_instruction s p) p.instrs) instruction_view ∙ length-map p.instrs (resolved_instruction s p)
 
-program_length_is : (s : SystemOf) (xs : List ProgramOf) (i : ℕ) → get_or (map (λ p. length p.instrs) xs) i 0 ≡ length (get_or (map (λ p. p.instructions) (map program_view (map (resolved_program s) xs))) i [])
+program_length_is : (s : SystemOf) (xs : List ProgramOf) (i : ℕ) → get_or (map (λ p. length p.instrs) xs) i 0
+    ≡ length (get_or (map (λ p. p.instructions) (map program_view (map (resolved_program s) xs))) i [])
 program_length_is s [] i = refl
 program_length_is s (x ∷ xs) zero = sym (instructions_length s x)
 program_length_is s (x ∷ xs) (suc i) = program_length_is s xs i
@@ -120,7 +127,13 @@ area_within s name i h = omega (arith, first_within (area_names s) name i h, len
 
 program_within : (s : SystemOf) (name : List ℕ) (i : ℕ) → first_of (program_names s) name ≡ Some i → IsProgram (view_of s) i
 program_within s name i h =
-    omega (arith, first_within (program_names s) name i h, length-map s.programs program_name, length-map s.programs (resolved_program s), length-map (map (resolved_program s) s.programs) program_view)
+    omega (
+      arith,
+      first_within (program_names s) name i h,
+      length-map s.programs program_name,
+      length-map s.programs (resolved_program s),
+      length-map (map (resolved_program s) s.programs) program_view,
+    )
 
 word_exists : (s : SystemOf) (i : WordItem) (w : Word) → word_of s i ≡ Some w → Exists (view_of s) w
 word_exists s (item.Int n) w h =
@@ -152,9 +165,11 @@ word_sound s w h =
     subst (λ (o : Option Word). Exists (view_of s) (unwrap_or o (word.Bool false))) (sym m.1) (word_exists s w.item m.0 m.1)
 
 words_sound : (s : SystemOf) (ws : List WordText) → flat_map (word_breaches s) ws ≡ [] → All (Exists (view_of s)) (map (resolved_word s) ws)
-words_sound s ws h = let each = none_each (word_breaches s) ws h in All-map (Exists (view_of s)) (resolved_word s) ws (λ k d lt. word_sound s (get_or ws k d) (each k d lt))
+words_sound s ws h = let each = none_each (word_breaches s) ws h in All-map (Exists (view_of s)) (resolved_word s) ws
+    (λ k d lt. word_sound s (get_or ws k d) (each k d lt))
 
-temporaries_sound : (s : SystemOf) (ts : List (Named × WordText)) → flat_map (temporary_breaches s) ts ≡ [] → All (Exists (view_of s)) (map (resolved_temporary s) ts)
+temporaries_sound : (s : SystemOf) (ts : List (Named × WordText)) → flat_map (temporary_breaches s) ts ≡ []
+    → All (Exists (view_of s)) (map (resolved_temporary s) ts)
 temporaries_sound s ts h =
     let each = none_each (temporary_breaches s) ts h in
     All-map (Exists (view_of s)) (resolved_temporary s) ts (λ k d lt. word_sound s (get_or ts k d).1 (each k d lt))
@@ -162,7 +177,8 @@ temporaries_sound s ts h =
 -- ---- arguments
 
 -- a name that means something
-name_meant : (ds : List Declaration) (make : ℕ → ResolvedArg) (name : List ℕ) (place rule : ℕ) → when (is_none (option_map make (first_of ds name))) place rule ≡ [] →
+name_meant : (ds : List Declaration) (make : ℕ → ResolvedArg) (name : List ℕ) (place rule : ℕ)
+    → when (is_none (option_map make (first_of ds name))) place rule ≡ [] →
     (i : ℕ) × (unwrap_or (option_map make (first_of ds name)) (arg.Number 0) ≡ make i) × (i < length ds)
 name_meant ds make name place rule h =
     let m = some_of (option_map make (first_of ds name)) (rule_fails (is_none (option_map make (first_of ds name))) place rule h) in
@@ -171,7 +187,13 @@ name_meant ds make name place rule h =
 
 locals_length : (s : SystemOf) (p : ProgramOf) → length (local_names p) ≡ local_count (view_in s p)
 locals_length s p =
-    omega (arith, length-append (map formal_name p.formals) (map temporary_name p.temporaries), length-map p.formals formal_name, length-map p.temporaries temporary_name, length-map p.temporaries (resolved_temporary s))
+    omega (
+      arith,
+      length-append (map formal_name p.formals) (map temporary_name p.temporaries),
+      length-map p.formals formal_name,
+      length-map p.temporaries temporary_name,
+      length-map p.temporaries (resolved_temporary s),
+    )
 
 labels_length : (s : SystemOf) (p : ProgramOf) → length (label_names p) ≡ length (view_in s p).instructions
 labels_length s p = length-map p.instrs label_name ∙ sym (instructions_length s p)
@@ -180,7 +202,8 @@ areas_length : (s : SystemOf) → length (area_names s) ≡ length (view_of s).a
 areas_length s = length-map s.areas area_name ∙ sym (length-map s.areas (resolved_area s))
 
 programs_length : (s : SystemOf) → length (program_names s) ≡ length (view_of s).programs
-programs_length s = length-map s.programs program_name ∙ sym (length-map (map (resolved_program s) s.programs) program_view ∙ length-map s.programs (resolved_program s))
+programs_length s = length-map s.programs program_name ∙ sym
+    (length-map (map (resolved_program s) s.programs) program_view ∙ length-map s.programs (resolved_program s))
 
 module _ (s : SystemOf) (p : ProgramOf) where
   none_one : (k : ArgKind) (a : ArgText) → flat_map (argument_breaches s p k) (a ∷ []) ≡ [] → argument_breaches s p k a ≡ []
@@ -204,7 +227,8 @@ module _ (s : SystemOf) (p : ProgramOf) where
   one_area make [] fits h = absurd fits
   one_area make (a ∷ b ∷ args) fits h = absurd fits
 
-  one_program : (make : ℕ → Instruction) (args : List ArgText) → FitsArguments (One kind.Program) args → flat_map (argument_breaches s p kind.Program) args ≡ [] →
+  one_program : (make : ℕ → Instruction) (args : List ArgText) → FitsArguments (One kind.Program) args
+      → flat_map (argument_breaches s p kind.Program) args ≡ [] →
       (i : ℕ) × (with_program make (map (resolved_argument s p kind.Program) args) ≡ make i) × IsProgram (view_of s) i
   one_program make (text.Name n ∷ []) fits h =
       let m = name_meant (program_names s) arg.Program n.name n.place 8 (none_one kind.Program (text.Name n) h) in
@@ -242,10 +266,12 @@ module _ (s : SystemOf) (p : ProgramOf) where
       IsPlaced (view_of s) (view_in s p) (with_test f (map (resolved_argument s p kind.Label) args))
   test_label f (text.Test t ∷ text.Name n ∷ []) fits h =
       let m = name_meant (label_names p) arg.Place n.name n.place 7 (none_one kind.Label (text.Name n) h) in
-      subst (λ (a : ResolvedArg). IsPlaced (view_of s) (view_in s p) (with_test f (arg.Test t ∷ a ∷ []))) (sym m.1) (fits.0, omega (arith, m.2, labels_length s p))
+      subst (λ (a : ResolvedArg). IsPlaced (view_of s) (view_in s p) (with_test f (arg.Test t ∷ a ∷ []))) (sym m.1)
+      (fits.0, omega (arith, m.2, labels_length s p))
   test_label f args fits h = absurd fits
 
-  a_label : (a : ArgText) → FitsArgument kind.Label a → argument_breaches s p kind.Label a ≡ [] → IsPlace (view_in s p) (place_of (resolved_argument s p kind.Label a))
+  a_label : (a : ArgText) → FitsArgument kind.Label a → argument_breaches s p kind.Label a ≡ []
+      → IsPlace (view_in s p) (place_of (resolved_argument s p kind.Label a))
   a_label (text.Name n) fits h =
       let m = name_meant (label_names p) arg.Place n.name n.place 7 h in
       subst (λ (a : ResolvedArg). IsPlace (view_in s p) (place_of a)) (sym m.1) (omega (arith, m.2, labels_length s p))
@@ -260,30 +286,58 @@ module _ (s : SystemOf) (p : ProgramOf) where
       let each = none_each (argument_breaches s p kind.Label) (a ∷ args) h in (
         omega arith,
         All-map (IsPlace (view_in s p)) place_of (map (resolved_argument s p kind.Label) (a ∷ args))
-            (All-map (λ r. IsPlace (view_in s p) (place_of r)) (resolved_argument s p kind.Label) (a ∷ args) (λ k d lt. a_label (get_or (a ∷ args) k d) (fits k d lt) (each k d lt))),
+            (All-map (λ r. IsPlace (view_in s p) (place_of r)) (resolved_argument s p kind.Label) (a ∷ args)
+            (λ k d lt. a_label (get_or (a ∷ args) k d) (fits k d lt) (each k d lt))),
       )
 
   -- an instruction that is made of what it names
-  placed : {X : Type 0} (P : X → Type 0) (make : X → Instruction) (i : Instruction) → ((x : X) → P x → IsPlaced (view_of s) (view_in s p) (make x)) → (x : X) × (i ≡ make x) × P x → IsPlaced (view_of s) (view_in s p) i
+  placed : {X : Type 0} (P : X → Type 0) (make : X → Instruction) (i : Instruction) → ((x : X) → P x → IsPlaced (view_of s) (view_in s p) (make x))
+      → (x : X) × (i ≡ make x) × P x → IsPlaced (view_of s) (view_in s p) i
   placed P make i good m = subst (IsPlaced (view_of s) (view_in s p)) (sym m.1) (good m.0 m.2)
 
-  instruction_sound : (o : PitonOp) (args : List ArgText) → FitsArguments (op_arguments o) args → flat_map (argument_breaches s p (name_kind (op_arguments o))) args ≡ [] →
+  instruction_sound : (o : PitonOp) (args : List ArgText) → FitsArguments (op_arguments o) args
+      → flat_map (argument_breaches s p (name_kind (op_arguments o))) args ≡ [] →
       IsPlaced (view_of s) (view_in s p) (instruction_of o (map (resolved_argument s p (name_kind (op_arguments o))) args))
   unfolding row_of
-  instruction_sound op.PushConstant args fits h = placed (Exists (view_of s)) seen.PushConstant (instruction_of op.PushConstant (map (resolved_argument s p (name_kind (op_arguments op.PushConstant))) args)) (λ x k. k) (one_word seen.PushConstant args fits h)
-  instruction_sound op.PushLocal args fits h = placed (IsLocal (view_in s p)) seen.PushLocal (instruction_of op.PushLocal (map (resolved_argument s p (name_kind (op_arguments op.PushLocal))) args)) (λ x k. k) (one_local seen.PushLocal args fits h)
-  instruction_sound op.PopLocal args fits h = placed (IsLocal (view_in s p)) seen.PopLocal (instruction_of op.PopLocal (map (resolved_argument s p (name_kind (op_arguments op.PopLocal))) args)) (λ x k. k) (one_local seen.PopLocal args fits h)
-  instruction_sound op.SetLocal args fits h = placed (IsLocal (view_in s p)) seen.SetLocal (instruction_of op.SetLocal (map (resolved_argument s p (name_kind (op_arguments op.SetLocal))) args)) (λ x k. k) (one_local seen.SetLocal args fits h)
-  instruction_sound op.PushGlobal args fits h = placed (IsArea (view_of s)) seen.PushGlobal (instruction_of op.PushGlobal (map (resolved_argument s p (name_kind (op_arguments op.PushGlobal))) args)) (λ x k. k) (one_area seen.PushGlobal args fits h)
-  instruction_sound op.PopGlobal args fits h = placed (IsArea (view_of s)) seen.PopGlobal (instruction_of op.PopGlobal (map (resolved_argument s p (name_kind (op_arguments op.PopGlobal))) args)) (λ x k. k) (one_area seen.PopGlobal args fits h)
-  instruction_sound op.SetGlobal args fits h = placed (IsArea (view_of s)) seen.SetGlobal (instruction_of op.SetGlobal (map (resolved_argument s p (name_kind (op_arguments op.SetGlobal))) args)) (λ x k. k) (one_area seen.SetGlobal args fits h)
-  instruction_sound op.PushTempStkIndex args fits h = placed IsCount seen.PushTempStkIndex (instruction_of op.PushTempStkIndex (map (resolved_argument s p (name_kind (op_arguments op.PushTempStkIndex))) args)) (λ x k. k) (one_count seen.PushTempStkIndex args fits h)
-  instruction_sound op.PopStar args fits h = placed IsCount seen.PopStar (instruction_of op.PopStar (map (resolved_argument s p (name_kind (op_arguments op.PopStar))) args)) (λ x k. k) (one_count seen.PopStar args fits h)
-  instruction_sound op.Jump args fits h = placed (IsPlace (view_in s p)) seen.Jump (instruction_of op.Jump (map (resolved_argument s p (name_kind (op_arguments op.Jump))) args)) (λ x k. k) (one_label seen.Jump args fits h)
-  instruction_sound op.JumpIfTempStkFull args fits h = placed (IsPlace (view_in s p)) seen.JumpIfTempStkFull (instruction_of op.JumpIfTempStkFull (map (resolved_argument s p (name_kind (op_arguments op.JumpIfTempStkFull))) args)) (λ x k. k) (one_label seen.JumpIfTempStkFull args fits h)
-  instruction_sound op.JumpIfTempStkEmpty args fits h = placed (IsPlace (view_in s p)) seen.JumpIfTempStkEmpty (instruction_of op.JumpIfTempStkEmpty (map (resolved_argument s p (name_kind (op_arguments op.JumpIfTempStkEmpty))) args)) (λ x k. k) (one_label seen.JumpIfTempStkEmpty args fits h)
-  instruction_sound op.Pushj args fits h = placed (IsPlace (view_in s p)) seen.Pushj (instruction_of op.Pushj (map (resolved_argument s p (name_kind (op_arguments op.Pushj))) args)) (λ x k. k) (one_label seen.Pushj args fits h)
-  instruction_sound op.Call args fits h = placed (IsProgram (view_of s)) seen.Call (instruction_of op.Call (map (resolved_argument s p (name_kind (op_arguments op.Call))) args)) (λ x k. k) (one_program seen.Call args fits h)
+  instruction_sound op.PushConstant args fits h = placed (Exists (view_of s)) seen.PushConstant
+      (instruction_of op.PushConstant (map (resolved_argument s p (name_kind (op_arguments op.PushConstant))) args)) (λ x k. k)
+      (one_word seen.PushConstant args fits h)
+  instruction_sound op.PushLocal args fits h = placed (IsLocal (view_in s p)) seen.PushLocal
+      (instruction_of op.PushLocal (map (resolved_argument s p (name_kind (op_arguments op.PushLocal))) args)) (λ x k. k)
+      (one_local seen.PushLocal args fits h)
+  instruction_sound op.PopLocal args fits h = placed (IsLocal (view_in s p)) seen.PopLocal
+      (instruction_of op.PopLocal (map (resolved_argument s p (name_kind (op_arguments op.PopLocal))) args)) (λ x k. k)
+      (one_local seen.PopLocal args fits h)
+  instruction_sound op.SetLocal args fits h = placed (IsLocal (view_in s p)) seen.SetLocal
+      (instruction_of op.SetLocal (map (resolved_argument s p (name_kind (op_arguments op.SetLocal))) args)) (λ x k. k)
+      (one_local seen.SetLocal args fits h)
+  instruction_sound op.PushGlobal args fits h = placed (IsArea (view_of s)) seen.PushGlobal
+      (instruction_of op.PushGlobal (map (resolved_argument s p (name_kind (op_arguments op.PushGlobal))) args)) (λ x k. k)
+      (one_area seen.PushGlobal args fits h)
+  instruction_sound op.PopGlobal args fits h = placed (IsArea (view_of s)) seen.PopGlobal
+      (instruction_of op.PopGlobal (map (resolved_argument s p (name_kind (op_arguments op.PopGlobal))) args)) (λ x k. k)
+      (one_area seen.PopGlobal args fits h)
+  instruction_sound op.SetGlobal args fits h = placed (IsArea (view_of s)) seen.SetGlobal
+      (instruction_of op.SetGlobal (map (resolved_argument s p (name_kind (op_arguments op.SetGlobal))) args)) (λ x k. k)
+      (one_area seen.SetGlobal args fits h)
+  instruction_sound op.PushTempStkIndex args fits h = placed IsCount seen.PushTempStkIndex
+      (instruction_of op.PushTempStkIndex (map (resolved_argument s p (name_kind (op_arguments op.PushTempStkIndex))) args)) (λ x k. k)
+      (one_count seen.PushTempStkIndex args fits h)
+  instruction_sound op.PopStar args fits h = placed IsCount seen.PopStar
+      (instruction_of op.PopStar (map (resolved_argument s p (name_kind (op_arguments op.PopStar))) args)) (λ x k. k)
+      (one_count seen.PopStar args fits h)
+  instruction_sound op.Jump args fits h = placed (IsPlace (view_in s p)) seen.Jump
+      (instruction_of op.Jump (map (resolved_argument s p (name_kind (op_arguments op.Jump))) args)) (λ x k. k) (one_label seen.Jump args fits h)
+  instruction_sound op.JumpIfTempStkFull args fits h = placed (IsPlace (view_in s p)) seen.JumpIfTempStkFull
+      (instruction_of op.JumpIfTempStkFull (map (resolved_argument s p (name_kind (op_arguments op.JumpIfTempStkFull))) args)) (λ x k. k)
+      (one_label seen.JumpIfTempStkFull args fits h)
+  instruction_sound op.JumpIfTempStkEmpty args fits h = placed (IsPlace (view_in s p)) seen.JumpIfTempStkEmpty
+      (instruction_of op.JumpIfTempStkEmpty (map (resolved_argument s p (name_kind (op_arguments op.JumpIfTempStkEmpty))) args)) (λ x k. k)
+      (one_label seen.JumpIfTempStkEmpty args fits h)
+  instruction_sound op.Pushj args fits h = placed (IsPlace (view_in s p)) seen.Pushj
+      (instruction_of op.Pushj (map (resolved_argument s p (name_kind (op_arguments op.Pushj))) args)) (λ x k. k) (one_label seen.Pushj args fits h)
+  instruction_sound op.Call args fits h = placed (IsProgram (view_of s)) seen.Call
+      (instruction_of op.Call (map (resolved_argument s p (name_kind (op_arguments op.Call))) args)) (λ x k. k) (one_program seen.Call args fits h)
   instruction_sound op.JumpCase args fits h = some_labels args fits h
   instruction_sound op.TestNatAndJump args fits h = test_label family.Nat args fits h
   instruction_sound op.TestIntAndJump args fits h = test_label family.Int args fits h
@@ -292,7 +346,8 @@ module _ (s : SystemOf) (p : ProgramOf) where
   instruction_sound o args fits h = tt
 
   -- the last instruction
-  end_sound : (o : PitonOp) (args : List ArgText) → is_end o ≡ true → FitsArguments (op_arguments o) args → flat_map (argument_breaches s p (name_kind (op_arguments o))) args ≡ [] →
+  end_sound : (o : PitonOp) (args : List ArgText) → is_end o ≡ true → FitsArguments (op_arguments o) args
+      → flat_map (argument_breaches s p (name_kind (op_arguments o))) args ≡ [] →
       IsEnd (instruction_of o (map (resolved_argument s p (name_kind (op_arguments o))) args))
   unfolding row_of
   end_sound op.Ret args is fits h = tt
@@ -310,8 +365,10 @@ module _ (s : SystemOf) (p : ProgramOf) where
 
   program_sound : FitsProgram p → program_breaches s p ≡ [] → IsSoundProgram (view_of s) (view_in s p)
   program_sound fits none =
-      let a = append_none (repeats 5 [] (local_names p) ++ repeats 6 [] (label_names p) ++ flat_map (temporary_breaches s) p.temporaries ++ flat_map (instruction_breaches s p) p.instrs) (end_breaches (slice_get p.instrs (length p.instrs - 1))) none in
-      let b = append_none (repeats 5 [] (local_names p) ++ repeats 6 [] (label_names p) ++ flat_map (temporary_breaches s) p.temporaries) (flat_map (instruction_breaches s p) p.instrs) a.0 in
+      let a = append_none (repeats 5 [] (local_names p) ++ repeats 6 [] (label_names p) ++ flat_map (temporary_breaches s) p.temporaries
+      ++ flat_map (instruction_breaches s p) p.instrs) (end_breaches (slice_get p.instrs (length p.instrs - 1))) none in
+      let b = append_none (repeats 5 [] (local_names p) ++ repeats 6 [] (label_names p) ++ flat_map (temporary_breaches s) p.temporaries)
+      (flat_map (instruction_breaches s p) p.instrs) a.0 in
       let c = append_none (repeats 5 [] (local_names p) ++ repeats 6 [] (label_names p)) (flat_map (temporary_breaches s) p.temporaries) b.0 in
       let each = none_each (instruction_breaches s p) p.instrs b.1 in
       record {
@@ -325,20 +382,26 @@ module _ (s : SystemOf) (p : ProgramOf) where
         few_locals = omega (arith, fits.few_locals, length-map p.temporaries (resolved_temporary s));
       }
     where
-      last_sound : (is : List InstrOf) → 0 < length is → end_breaches (slice_get is (length is - 1)) ≡ [] → All FitsInstruction is → All (λ i. instruction_breaches s p i ≡ []) is →
-          IsEnd (get_or (map instruction_view (map (resolved_instruction s p) is)) (length (map instruction_view (map (resolved_instruction s p) is)) - 1) seen.NoOp)
+      last_sound : (is : List InstrOf) → 0 < length is → end_breaches (slice_get is (length is - 1)) ≡ [] → All FitsInstruction is
+          → All (λ i. instruction_breaches s p i ≡ []) is →
+          IsEnd (get_or (map instruction_view (map (resolved_instruction s p) is))
+          (length (map instruction_view (map (resolved_instruction s p) is)) - 1) seen.NoOp)
       last_sound [] some_ ends fit none = absurd (omega (arith, some_))
       last_sound (j ∷ js) some_ ends fit none =
           let k : ℕ = length (j ∷ js) - 1 in
           let lt : k < length (j ∷ js) = omega arith in
           let i = get_or (j ∷ js) k j in
           let ends_at : end_breaches (Some i) ≡ [] = subst (λ (o : Option InstrOf). end_breaches o ≡ []) (get-or (j ∷ js) k j lt) ends in
-          let good : IsEnd (instruction_view (resolved_instruction s p i)) = end_sound i.op i.args (last_end i.op i.place ends_at) (fit k j lt).args (none k j lt) in
-          let long : length (map instruction_view (map (resolved_instruction s p) (j ∷ js))) ≡ length (j ∷ js) = length-map (map (resolved_instruction s p) (j ∷ js)) instruction_view ∙ length-map (j ∷ js) (resolved_instruction s p) in
+          let good : IsEnd (instruction_view (resolved_instruction s p i)) =
+          end_sound i.op i.args (last_end i.op i.place ends_at) (fit k j lt).args (none k j lt) in
+          let long : length (map instruction_view (map (resolved_instruction s p) (j ∷ js))) ≡ length (j ∷ js) =
+          length-map (map (resolved_instruction s p) (j ∷ js)) instruction_view ∙ length-map (j ∷ js) (resolved_instruction s p) in
           let under : k < length (map (resolved_instruction s p) (j ∷ js)) = omega (arith, lt, length-map (j ∷ js) (resolved_instruction s p)) in
           let at_k : get_or (map instruction_view (map (resolved_instruction s p) (j ∷ js))) k seen.NoOp ≡ instruction_view (resolved_instruction s p i) =
-          or-map instruction_view (map (resolved_instruction s p) (j ∷ js)) k (resolved_instruction s p j) seen.NoOp under ∙ ap instruction_view (or-map (resolved_instruction s p) (j ∷ js) k j (resolved_instruction s p j) lt) in
-          subst (λ (n : ℕ). IsEnd (get_or (map instruction_view (map (resolved_instruction s p) (j ∷ js))) (n - 1) seen.NoOp)) (sym long) (subst IsEnd (sym at_k) good)
+          or-map instruction_view (map (resolved_instruction s p) (j ∷ js)) k (resolved_instruction s p j) seen.NoOp under
+          ∙ ap instruction_view (or-map (resolved_instruction s p) (j ∷ js) k j (resolved_instruction s p j) lt) in
+          subst (λ (n : ℕ). IsEnd (get_or (map instruction_view (map (resolved_instruction s p) (j ∷ js))) (n - 1) seen.NoOp)) (sym long)
+          (subst IsEnd (sym at_k) good)
 
 -- ---- the system
 
@@ -352,8 +415,10 @@ within_number low high (pos n) small h =
     let value : resolved_number (pos n) ≡ n = ap (λ (b : Bool). unwrap_or (cond b (Some n) None) 0) (lt-ltb n (2 ^ 32) lt) in
     (omega (arith, value, above), omega (arith, value, below))
 
-size_sound : (low high : ℕ) (n : Number) → high ≤ 2 ^ 31 → when (not (is_within low high n.number)) n.place 14 ≡ [] → (low ≤ resolved_number n.number) × (resolved_number n.number ≤ high)
-size_sound low high n small h = within_number low high n.number small (by_test (is_within low high n.number) (rule_fails (not (is_within low high n.number)) n.place 14 h))
+size_sound : (low high : ℕ) (n : Number) → high ≤ 2 ^ 31 → when (not (is_within low high n.number)) n.place 14 ≡ [] → (low ≤ resolved_number n.number)
+    × (resolved_number n.number ≤ high)
+size_sound low high n small h =
+    within_number low high n.number small (by_test (is_within low high n.number) (rule_fails (not (is_within low high n.number)) n.place 14 h))
   where
     by_test : (b : Bool) → not b ≡ false → b ≡ true
     by_test true e = refl
@@ -365,12 +430,14 @@ no_formals xs place h = let le : length xs ≤ 0 = ltb-false 0 (length xs) (rule
 main_sound : (s : SystemOf) → main_breaches s (main_of s) ≡ [] → first_frame (main_of s) ≤ (view_of s).ctrl → (p : seen.ProgramView) × IsMain (view_of s) p
 main_sound s none room = by_main (main_of s) refl none room
   where
-    by_main : (found : Option ProgramOf) → main_of s ≡ found → main_breaches s found ≡ [] → first_frame found ≤ (view_of s).ctrl → (p : seen.ProgramView) × IsMain (view_of s) p
+    by_main : (found : Option ProgramOf) → main_of s ≡ found → main_breaches s found ≡ [] → first_frame found ≤ (view_of s).ctrl
+        → (p : seen.ProgramView) × IsMain (view_of s) p
     by_main None e h r = absurd cc
     by_main (Some p) e h r =
         let b = bind_some (first_of (program_names s) s.main.name) (slice_get s.programs) p e in
         let main_is : (view_of s).main ≡ b.0 = ap (λ (o : Option ℕ). unwrap_or o 0) b.1 in
-        let there : slice_get (view_of s).programs b.0 ≡ Some (view_in s p) = get_map program_view (map (resolved_program s) s.programs) b.0 (resolved_program s p) (get_map (resolved_program s) s.programs b.0 p b.2) in
+        let there : slice_get (view_of s).programs b.0 ≡ Some (view_in s p) =
+        get_map program_view (map (resolved_program s) s.programs) b.0 (resolved_program s p) (get_map (resolved_program s) s.programs b.0 p b.2) in
         let frame : 2 + length p.temporaries ≤ (view_of s).ctrl = r in (
           view_in s p,
           record {
@@ -384,7 +451,8 @@ main_sound s none room = by_main (main_of s) refl none room
 pub is_sound : (s : SystemOf) → FitsForm s → node_count (tree_of s) ≤ 2 ^ 31 → violations s ≡ [] → IsSound (view_of s)
 is_sound s fits few none =
     let parts : part_breaches s ≡ [] = (append_none (name_breaches s) (part_breaches s) none).1 in
-    let a = append_none (main_breaches s (main_of s) ++ size_breaches s ++ flat_map (area_breaches s) s.areas ++ flat_map (word_breaches s) s.stack) (flat_map (program_breaches s) s.programs) parts in
+    let a = append_none (main_breaches s (main_of s) ++ size_breaches s ++ flat_map (area_breaches s) s.areas ++ flat_map (word_breaches s) s.stack)
+    (flat_map (program_breaches s) s.programs) parts in
     let b = append_none (main_breaches s (main_of s) ++ size_breaches s ++ flat_map (area_breaches s) s.areas) (flat_map (word_breaches s) s.stack) a.0 in
     let c = append_none (main_breaches s (main_of s) ++ size_breaches s) (flat_map (area_breaches s) s.areas) b.0 in
     let d = append_none (main_breaches s (main_of s)) (size_breaches s) c.0 in
@@ -406,11 +474,14 @@ is_sound s fits few none =
       stack_fits = omega (arith, temp.0, length-map s.stack (resolved_word s));
       low_base = base.1;
       areas = All-map (All (Exists (view_of s))) (resolved_area s) s.areas (λ k z lt. words_sound s (get_or s.areas k z).words (areas k z lt));
-      some_words = All-map (λ words. 0 < length words) (resolved_area s) s.areas (λ k z lt. omega (arith, (fits.areas k z lt).some_words, length-map (get_or s.areas k z).words (resolved_word s)));
+      some_words = All-map (λ words. 0 < length words) (resolved_area s) s.areas
+          (λ k z lt. omega (arith, (fits.areas k z lt).some_words, length-map (get_or s.areas k z).words (resolved_word s)));
       stack = words_sound s s.stack b.1;
       programs = All-map (IsSoundProgram (view_of s)) program_view (map (resolved_program s) s.programs)
-          (All-map (λ p. IsSoundProgram (view_of s) (program_view p)) (resolved_program s) s.programs (λ k z lt. program_sound s (get_or s.programs k z) (fits.programs k z lt) (programs k z lt)));
+          (All-map (λ p. IsSoundProgram (view_of s) (program_view p)) (resolved_program s) s.programs
+          (λ k z lt. program_sound s (get_or s.programs k z) (fits.programs k z lt) (programs k z lt)));
       few_areas = omega (arith, fits.few_areas, length-map s.areas (resolved_area s));
-      few_programs = omega (arith, fits.few_programs, length-map s.programs (resolved_program s), length-map (map (resolved_program s) s.programs) program_view);
+      few_programs =
+          omega (arith, fits.few_programs, length-map s.programs (resolved_program s), length-map (map (resolved_program s) s.programs) program_view);
       few_words = few_parts s few;
     }

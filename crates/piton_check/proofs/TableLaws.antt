@@ -1,5 +1,6 @@
 -- Tables of names, one name after the other.
-use Rattle.std.proofs.Common.{◌≡◌, Bor, ℕ, suc, ◌+◌, ◌<◌, List, [], ◌∷◌, ◌++◌, map, length, get_or, take, Option, Some, None, Bool, true, false, cond, is_some, position, refl, sym, ap, ◌∙◌, append_assoc, arith}
+use Rattle.std.proofs.Common.{◌≡◌, Bor, ℕ, suc, ◌+◌, ◌<◌, List, [], ◌∷◌, ◌++◌, map, length, get_or, take, Option, Some, None, Bool, true, false, cond, is_some}
+use Rattle.std.proofs.Common.{position, refl, sym, ap, ◌∙◌, append_assoc, arith}
 use Rattle.std.specs.List.{position_from}
 use Rattle.std.specs.Str.{bytes_eq}
 use Rattle.std.proofs.lemmas.Iterator.Adapters.{position_from-zero}
@@ -13,7 +14,8 @@ use Rattle.stack_text.proofs.BreachLaws.{notes_more}
 
 -- ---- the position of one more
 
-position_from-push : {X : Type 0} (test : X → Bool) (n : ℕ) (xs : List X) (x : X) → position_from test n (xs ++ x ∷ []) ≡ first_or (position_from test n xs) (test x) (n + length xs)
+position_from-push : {X : Type 0} (test : X → Bool) (n : ℕ) (xs : List X) (x : X)
+    → position_from test n (xs ++ x ∷ []) ≡ first_or (position_from test n xs) (test x) (n + length xs)
 position_from-push test n [] x = by_test (test x)
   where
     by_test : (b : Bool) → cond b (Some n) None ≡ first_or None b (n + 0)
@@ -21,7 +23,9 @@ position_from-push test n [] x = by_test (test x)
     by_test false = refl
 position_from-push {X} test n (y ∷ xs) x = by_test (test y) (position_from-push test (n + 1) xs x)
   where
-    by_test : (b : Bool) → position_from test (n + 1) (xs ++ x ∷ []) ≡ first_or (position_from test (n + 1) xs) (test x) (n + 1 + length xs) → cond b (Some n) (position_from test (n + 1) (xs ++ x ∷ [])) ≡ first_or (cond b (Some n) (position_from test (n + 1) xs)) (test x) (n + suc (length xs))
+    by_test : (b : Bool) → position_from test (n + 1) (xs ++ x ∷ []) ≡ first_or (position_from test (n + 1) xs) (test x) (n + 1 + length xs)
+        → cond b (Some n) (position_from test (n + 1) (xs ++ x ∷ [])) ≡ first_or (cond b (Some n) (position_from test (n + 1) xs)) (test x)
+        (n + suc (length xs))
     by_test true h = refl
     by_test false h =
         let counted : n + 1 + length xs ≡ n + suc (length xs) = omega arith in
@@ -35,14 +39,16 @@ position-push test xs x =
 
 -- ---- repeated names
 
-repeats-push : (rule : ℕ) (earlier ds : List Declaration) (d : Declaration) → repeats rule earlier (ds ++ d ∷ []) ≡ repeats rule earlier ds ++ repeat_of rule (earlier ++ ds) d
+repeats-push : (rule : ℕ) (earlier ds : List Declaration) (d : Declaration) → repeats rule earlier (ds ++ d ∷ []) ≡ repeats rule earlier ds
+    ++ repeat_of rule (earlier ++ ds) d
 repeats-push rule earlier [] d = append-nil _ ∙ ap (λ (e : List Declaration). repeat_of rule e d) (sym (append-nil earlier))
 repeats-push rule earlier (c ∷ ds) d =
     ap (λ (bs : List Breach). repeat_of rule earlier c ++ bs) (repeats-push rule (earlier ++ c ∷ []) ds d)
     ∙ sym (append_assoc (repeat_of rule earlier c) (repeats rule (earlier ++ c ∷ []) ds) (repeat_of rule ((earlier ++ c ∷ []) ++ ds) d))
     ∙ ap (λ (e : List Declaration). (repeat_of rule earlier c ++ repeats rule (earlier ++ c ∷ []) ds) ++ repeat_of rule e d) (append_assoc earlier (c ∷ []) ds)
 
-known_repeat : (known : List ℕ → Option ℕ) (rule : ℕ) (ds : List Declaration) (d : Declaration) → ((name : List ℕ) → known name ≡ first_of ds name) → repeated known rule d ≡ repeat_of rule ds d
+known_repeat : (known : List ℕ → Option ℕ) (rule : ℕ) (ds : List Declaration) (d : Declaration) → ((name : List ℕ) → known name ≡ first_of ds name)
+    → repeated known rule d ≡ repeat_of rule ds d
 known_repeat known rule ds None so_far = refl
 known_repeat known rule ds (Some n) so_far = ap (λ (found : Option ℕ). when (is_some found) n.place rule) (so_far n.name)
 
@@ -54,12 +60,14 @@ front_more {X} f front xs i x lt is =
     let more = ap (map f) (take_more xs i x lt ∙ ap (λ (y : X). take i xs ++ y ∷ []) (sym is)) ∙ map_push f (take i xs) x in
     ap (λ (ds : List Declaration). front ++ ds) more ∙ sym (append_assoc front (map f (take i xs)) (f x ∷ []))
 
-front_length : {X : Type 0} (f : X → Declaration) (front : List Declaration) (xs : List X) (i : ℕ) → i < length xs → length (front ++ map f (take i xs)) ≡ length front + i
+front_length : {X : Type 0} (f : X → Declaration) (front : List Declaration) (xs : List X) (i : ℕ) → i < length xs
+    → length (front ++ map f (take i xs)) ≡ length front + i
 front_length f front xs i lt =
     omega (arith, length-append front (map f (take i xs)), length-map (take i xs) f, length-take-le i xs)
 
 -- the table knows those so far, and one more
-pub known_next : {X : Type 0} (f : X → Declaration) (front : List Declaration) (xs : List X) (i : ℕ) (x : X) (d : Declaration) (p : ℕ) (old new : List ℕ → Option ℕ) → i < length xs → x ≡ get_or xs i x → d ≡ f x → p ≡ length front + i →
+pub known_next : {X : Type 0} (f : X → Declaration) (front : List Declaration) (xs : List X) (i : ℕ) (x : X) (d : Declaration) (p : ℕ)
+    (old new : List ℕ → Option ℕ) → i < length xs → x ≡ get_or xs i x → d ≡ f x → p ≡ length front + i →
     ((name : List ℕ) → old name ≡ first_of (front ++ map f (take i xs)) name) → ((name : List ℕ) → new name ≡ first_or (old name) (is_named name d) p) →
     (name : List ℕ) → new name ≡ first_of (front ++ map f (take (i + 1) xs)) name
 known_next f front xs i x d p old new lt is d_is at_end so_far entered name =
@@ -70,8 +78,10 @@ known_next f front xs i x d p old new lt is d_is at_end so_far entered name =
     ∙ sym (position-push (is_named name) ds (f x)) ∙ ap (λ (es : List Declaration). first_of es name) (sym (front_more f front xs i x lt is))
 
 -- the repetitions so far, and one more
-pub noted_next : {X : Type 0} (f : X → Declaration) (front : List Declaration) (rule : ℕ) (xs : List X) (i : ℕ) (x : X) (d : Declaration) (a b c : Option Breach) (old : List ℕ → Option ℕ) → i < length xs → x ≡ get_or xs i x → d ≡ f x →
-    ((name : List ℕ) → old name ≡ first_of (front ++ map f (take i xs)) name) → Notes a (repeats rule [] (front ++ map f (take i xs))) b → Notes b (repeated old rule d) c →
+pub noted_next : {X : Type 0} (f : X → Declaration) (front : List Declaration) (rule : ℕ) (xs : List X) (i : ℕ) (x : X) (d : Declaration)
+    (a b c : Option Breach) (old : List ℕ → Option ℕ) → i < length xs → x ≡ get_or xs i x → d ≡ f x →
+    ((name : List ℕ) → old name ≡ first_of (front ++ map f (take i xs)) name) → Notes a (repeats rule [] (front ++ map f (take i xs))) b
+    → Notes b (repeated old rule d) c →
     Notes a (repeats rule [] (front ++ map f (take (i + 1) xs))) c
 noted_next f front rule xs i x d a b c old lt is d_is so_far h k =
     let ds = front ++ map f (take i xs) in

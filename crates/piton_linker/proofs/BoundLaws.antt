@@ -47,7 +47,8 @@ areas_seen {Z = Z} areas =
     let size : Vec Word Z → ℕ = λ a. length a.items in
     sym (is_sum_by (λ (xs : List (Vec Word Z)). areas_size (map words_in xs)) size refl (λ x xs. refl) areas)
 
-pub areas_sizes : {Z : Type 0} (areas : List (Vec Word Z)) → map (λ (a : Vec Word Z). length a.items) areas ≡ map (λ (ws : List Word). length ws) (map words_in areas)
+pub areas_sizes : {Z : Type 0} (areas : List (Vec Word Z)) → map (λ (a : Vec Word Z). length a.items) areas
+    ≡ map (λ (ws : List Word). length ws) (map words_in areas)
 areas_sizes areas = sym (map-map (λ (ws : List Word). length ws) words_in areas)
 
 -- ---- few enough
@@ -130,7 +131,12 @@ programs_few s (p ∷ ps) h = omega (arith, program_few s p h.0, programs_few s 
 
 pub code_few : (s : SystemView) → IsSound s → programs_size s.programs < 2 ^ 40
 code_few s sound =
-    omega (arith, programs_few s s.programs (all_each (IsSoundProgram s) (IsSoundProgram s) (λ p h. h) s.programs sound.programs), sound.few_programs, sound.few_words)
+    omega (
+      arith,
+      programs_few s s.programs (all_each (IsSoundProgram s) (IsSoundProgram s) (λ p h. h) s.programs sound.programs),
+      sound.few_programs,
+      sound.few_words,
+    )
 
 pub data_few : (s : SystemView) → IsSound s → areas_size s.areas < 2 ^ 40
 data_few s sound = omega (arith, areas_sum s.areas, sound.few_words)
@@ -153,7 +159,8 @@ programs_within ps k = omega (arith, programs_sum (take k ps), programs_sum ps, 
 pub areas_within : (xss : List (List Word)) (k : ℕ) → areas_size (take k xss) ≤ areas_size xss
 areas_within xss k = omega (arith, areas_sum (take k xss), areas_sum xss, sum_by-take-le (λ (ws : List Word). length ws) xss k)
 
-pub programs_next : (ps : List ProgramView) (k : ℕ) (p : ProgramView) → slice_get ps k ≡ Some p → programs_size (take (k + 1) ps) ≡ programs_size (take k ps) + program_size p
+pub programs_next : (ps : List ProgramView) (k : ℕ) (p : ProgramView) → slice_get ps k ≡ Some p
+    → programs_size (take (k + 1) ps) ≡ programs_size (take k ps) + program_size p
 programs_next [] k p h = cc
 programs_next (q ∷ ps) zero p h = let same : q ≡ p = cc in omega (arith, ap program_size same)
 programs_next (q ∷ ps) (suc k) p h =

@@ -6,7 +6,8 @@ use Rattle.piton_words.specs.declared.word.Word.{Word}
 use Rattle.piton_check.specs.Instruction.{Instruction, ProgramView, SystemView}
 use Rattle.piton_semantics.specs.State.{no_program, program_of}
 use Rattle.piton_semantics.specs.Fits.{IsPlace}
-use Rattle.piton_semantics.specs.Placed.{instruction_size, instructions_size, prelude_size, program_size, programs_size, entry_of, address_of_place, address_of_area, areas_start, end_of}
+use Rattle.piton_semantics.specs.Placed.{instruction_size, instructions_size, prelude_size, program_size, programs_size, entry_of, address_of_place}
+use Rattle.piton_semantics.specs.Placed.{address_of_area, areas_start, end_of}
 use Rattle.piton_semantics.proofs.AddressLaws.{program_there}
 use Rattle.piton_linker.specs.Tables.{TableOf, starts, row_at, place_rows, table_of, place_by, place_in}
 use Rattle.piton_semantics.proofs.ReadyLaws.{area_end}
@@ -33,7 +34,8 @@ pub instructions_more : (a k : ℕ) (is : List Instruction) → k < length is
 instructions_more a k is lt =
     starts_more instruction_size a k is lt ∙ ap (λ n. take k (starts a (map instruction_size is)) ++ (a + n) ∷ []) (sym (instructions_sum (take k is)))
 
-pub rows_more : (a k : ℕ) (ps : List ProgramView) (p : ProgramView) → slice_get ps k ≡ Some p → take (k + 1) (place_rows a ps) ≡ take k (place_rows a ps) ++ row_at (a + programs_size (take k ps)) p ∷ []
+pub rows_more : (a k : ℕ) (ps : List ProgramView) (p : ProgramView) → slice_get ps k ≡ Some p
+    → take (k + 1) (place_rows a ps) ≡ take k (place_rows a ps) ++ row_at (a + programs_size (take k ps)) p ∷ []
 rows_more a k [] p h = cc
 rows_more a zero (q ∷ ps) p h =
     let same : q ≡ p = cc in
@@ -57,7 +59,8 @@ area_below area offset [] h = absurd (omega arith)
 area_below zero offset (xs ∷ xss) h = omega arith
 area_below (suc area) offset (xs ∷ xss) h = omega (arith, area_below area offset xss h)
 
-row_there : (a k : ℕ) (ps : List ProgramView) → k < length ps → slice_get (place_rows a ps) k ≡ Some (row_at (a + programs_size (take k ps)) (slice_index_or ps k no_program))
+row_there : (a k : ℕ) (ps : List ProgramView) → k < length ps → slice_get (place_rows a ps) k
+    ≡ Some (row_at (a + programs_size (take k ps)) (slice_index_or ps k no_program))
 row_there a k [] h = absurd (omega arith)
 row_there a zero (p ∷ ps) h = ap (λ n. Some (row_at n p)) (omega arith)
 row_there a (suc k) (p ∷ ps) h = row_there (a + program_size p) k ps (omega arith) ∙ ap (λ n. Some (row_at n (slice_index_or ps k no_program))) (omega arith)
@@ -66,7 +69,8 @@ pub entry_at : (s : SystemView) (program : ℕ) → program < length s.programs 
 entry_at s program h =
     start_there program_size s.base program s.programs h ∙ ap (λ n. Some (s.base + n)) (sym (programs_sum (take program s.programs)))
 
-pub area_at : (s : SystemView) (area offset : ℕ) → offset < get_or (map length s.areas) area 0 → slice_get (table_of s).areas area ≡ Some (address_of_area s area)
+pub area_at : (s : SystemView) (area offset : ℕ) → offset < get_or (map length s.areas) area 0
+    → slice_get (table_of s).areas area ≡ Some (address_of_area s area)
 area_at s area offset h =
     start_there (λ (ws : List Word). length ws) (areas_start s) area s.areas (area_below area offset s.areas h)
     ∙ ap (λ n. Some (areas_start s + n)) (sym (areas_sum (take area s.areas)))
@@ -101,18 +105,23 @@ whole_rows a (suc k) [] h = refl
 whole_rows a zero (p ∷ ps) h = absurd (omega arith)
 whole_rows a (suc k) (p ∷ ps) h = ap (λ ms. row_at a p ∷ ms) (whole_rows (a + program_size p) k ps (omega arith))
 
-pub entry_word : (s : SystemView) (t : TableOf) (program : ℕ) → t ≡ table_of s → program < length s.programs → unwrap_or (slice_get t.entries program) 0 ≡ entry_of s program
+pub entry_word : (s : SystemView) (t : TableOf) (program : ℕ) → t ≡ table_of s → program < length s.programs
+    → unwrap_or (slice_get t.entries program) 0 ≡ entry_of s program
 entry_word s t program same h = ap (λ (u : TableOf). unwrap_or (slice_get u.entries program) 0) same ∙ ap (λ o. unwrap_or o 0) (entry_at s program h)
 
-pub place_word : (s : SystemView) (t : TableOf) (program place : ℕ) → t ≡ table_of s → IsPlace s program place → unwrap_or (place_in t.places program place) 0 ≡ address_of_place s program place
+pub place_word : (s : SystemView) (t : TableOf) (program place : ℕ) → t ≡ table_of s → IsPlace s program place
+    → unwrap_or (place_in t.places program place) 0 ≡ address_of_place s program place
 place_word s t program place same h =
     let there = place_at s program place h in
-    ap (λ (u : TableOf). unwrap_or (place_in u.places program place) 0) same ∙ ap (λ o. unwrap_or (place_by o place) 0) there.here ∙ ap (λ o. unwrap_or o 0) there.place_at
+    ap (λ (u : TableOf). unwrap_or (place_in u.places program place) 0) same ∙ ap (λ o. unwrap_or (place_by o place) 0) there.here
+    ∙ ap (λ o. unwrap_or o 0) there.place_at
 
-pub area_word : (s : SystemView) (t : TableOf) (area offset : ℕ) → t ≡ table_of s → offset < get_or (map length s.areas) area 0 → unwrap_or (slice_get t.areas area) 0 ≡ address_of_area s area
+pub area_word : (s : SystemView) (t : TableOf) (area offset : ℕ) → t ≡ table_of s → offset < get_or (map length s.areas) area 0
+    → unwrap_or (slice_get t.areas area) 0 ≡ address_of_area s area
 area_word s t area offset same h = ap (λ (u : TableOf). unwrap_or (slice_get u.areas area) 0) same ∙ ap (λ o. unwrap_or o 0) (area_at s area offset h)
 
-pub area_fits : (s : SystemView) (t : TableOf) (area offset : ℕ) → t ≡ table_of s → end_of s < 2 ^ 32 → offset < get_or (map length s.areas) area 0 → unwrap_or (slice_get t.areas area) 0 + offset < 2 ^ 32
+pub area_fits : (s : SystemView) (t : TableOf) (area offset : ℕ) → t ≡ table_of s → end_of s < 2 ^ 32 → offset < get_or (map length s.areas) area 0
+    → unwrap_or (slice_get t.areas area) 0 + offset < 2 ^ 32
 area_fits s t area offset same fits h =
     let at = area_word s t area offset same h in
     omega (arith, at, area_end s.areas area)

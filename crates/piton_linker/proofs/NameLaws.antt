@@ -34,7 +34,8 @@ places_named : (s : SystemView) (program : ℕ) (places : List ℕ) → Each (Is
 places_named s program [] h = tt
 places_named s program (to ∷ places) h = (h.0, places_named s program places h.1)
 
-pub pieces_named : (s : SystemView) (program place locals : ℕ) (instruction : Instruction) → IsInstructionOf s program place instruction → Each (PieceExists s) (pieces_of program place locals instruction)
+pub pieces_named : (s : SystemView) (program place locals : ℕ) (instruction : Instruction) → IsInstructionOf s program place instruction
+    → Each (PieceExists s) (pieces_of program place locals instruction)
 pieces_named s program place locals (i.PushConstant w) h = (tt, (word_named s w h.0, tt))
 pieces_named s program place locals (i.PushLocal k) h = (tt, (tt, (tt, (tt, tt))))
 pieces_named s program place locals (i.PopLocal k) h = (tt, (tt, (tt, (tt, tt))))
@@ -68,7 +69,8 @@ pieces_named s program place locals (i.Apply o) h = codes_named s (operation_cod
 temporaries_named : (s : SystemView) (ws : List Word) → Each (IsWordOf s) ws → Each (PieceExists s) (temporary_pieces ws)
 temporaries_named s [] h = tt
 temporaries_named s (w ∷ ws) h =
-    each_append (PieceExists s) (temporary_pieces ws) (literal_pieces (mov (push 1) literal) (word_piece w)) (temporaries_named s ws h.1) (tt, (word_named s w h.0, tt))
+    each_append (PieceExists s) (temporary_pieces ws) (literal_pieces (mov (push 1) literal) (word_piece w)) (temporaries_named s ws h.1)
+    (tt, (word_named s w h.0, tt))
 
 formals_named : (s : SystemView) (n word : ℕ) → Each (PieceExists s) (replicate n (Code word))
 formals_named s zero word = tt
@@ -76,11 +78,15 @@ formals_named s (suc n) word = (tt, formals_named s n word)
 
 pub prelude_named : (s : SystemView) (p : ProgramView) → Each (IsWordOf s) p.temporaries → Each (PieceExists s) (prelude_pieces p)
 prelude_named s p h =
-    let formals = replicate p.formals (Code (mov (push 1) (pop 2))) in
-    (tt, each_append (PieceExists s) (temporary_pieces p.temporaries) _ (temporaries_named s p.temporaries h) (each_append (PieceExists s) formals _ (formals_named s p.formals _) (tt, tt)))
+    let formals = replicate p.formals (Code (mov (push 1) (pop 2))) in (
+      tt,
+      each_append (PieceExists s) (temporary_pieces p.temporaries) _ (temporaries_named s p.temporaries h)
+          (each_append (PieceExists s) formals _ (formals_named s p.formals _) (tt, tt)),
+    )
 
 -- one piece more
-pub words_more : (s : SystemView) (a k : ℕ) (ps : List Piece) (p : Piece) → slice_get ps k ≡ Some p → words_of (addresses_of s) a (take (k + 1) ps) ≡ words_of (addresses_of s) a (take k ps) ++ word_of (addresses_of s) (a + k) p ∷ []
+pub words_more : (s : SystemView) (a k : ℕ) (ps : List Piece) (p : Piece) → slice_get ps k ≡ Some p
+    → words_of (addresses_of s) a (take (k + 1) ps) ≡ words_of (addresses_of s) a (take k ps) ++ word_of (addresses_of s) (a + k) p ∷ []
 words_more s a k [] p h = cc
 words_more s a zero (q ∷ ps) p h =
     let same : q ≡ p = cc in
@@ -90,11 +96,15 @@ words_more s a (suc k) (q ∷ ps) p h =
     let count : suc k + 1 ≡ suc (k + 1) = omega arith in
     let at : a + 1 + k ≡ a + suc k = omega arith in
     ap (λ n. words_of (addresses_of s) a (take n (q ∷ ps))) count
-    ∙ ap (λ ws. word_of (addresses_of s) a q ∷ ws) (words_more s (a + 1) k ps p h ∙ ap (λ b. words_of (addresses_of s) (a + 1) (take k ps) ++ word_of (addresses_of s) b p ∷ []) at)
+    ∙ ap (λ ws. word_of (addresses_of s) a q ∷ ws)
+    (words_more s (a + 1) k ps p h ∙ ap (λ b. words_of (addresses_of s) (a + 1) (take k ps) ++ word_of (addresses_of s) b p ∷ []) at)
 
-pub words_more_at : (s : SystemView) (a k : ℕ) (ps : List Piece) (d : Piece) → k < length ps → words_of (addresses_of s) a (take (k + 1) ps) ≡ words_of (addresses_of s) a (take k ps) ++ word_of (addresses_of s) (a + k) (get_or ps k d) ∷ []
+pub words_more_at : (s : SystemView) (a k : ℕ) (ps : List Piece) (d : Piece) → k < length ps
+    → words_of (addresses_of s) a (take (k + 1) ps) ≡ words_of (addresses_of s) a (take k ps) ++ word_of (addresses_of s) (a + k) (get_or ps k d) ∷ []
 words_more_at s a k ps d lt = words_more s a k ps (get_or ps k d) (slice_get-get_or ps k d lt)
 
-pub words_more_by : (s : SystemView) (a k at w : ℕ) (ps : List Piece) (d : Piece) → w ≡ word_of (addresses_of s) at (get_or ps k d) → at ≡ a + k → k < length ps → words_of (addresses_of s) a (take k ps) ++ w ∷ [] ≡ words_of (addresses_of s) a (take (k + 1) ps)
+pub words_more_by : (s : SystemView) (a k at w : ℕ) (ps : List Piece) (d : Piece) → w ≡ word_of (addresses_of s) at (get_or ps k d) → at ≡ a + k
+    → k < length ps → words_of (addresses_of s) a (take k ps) ++ w ∷ [] ≡ words_of (addresses_of s) a (take (k + 1) ps)
 words_more_by s a k at w ps d e here lt =
-    ap (λ v. words_of (addresses_of s) a (take k ps) ++ v ∷ []) (e ∙ ap (λ b. word_of (addresses_of s) b (get_or ps k d)) here) ∙ sym (words_more_at s a k ps d lt)
+    ap (λ v. words_of (addresses_of s) a (take k ps) ++ v ∷ []) (e ∙ ap (λ b. word_of (addresses_of s) b (get_or ps k d)) here)
+    ∙ sym (words_more_at s a k ps d lt)

@@ -37,7 +37,9 @@ module _ (s : SystemView) (sound : IsSound s) (fits_in : end_of s < 2 ^ 32) wher
   whole_run (suc k) m p q is h e =
       by_step (piton_step s p) refl e (λ u p1 is1 h1 e1. whole_run k u p1 q is1 h1 e1)
     where
-      by_step : (r : Row) → piton_step s p ≡ r → then_on r (piton_run s k) ≡ Ok q → ((u : Fm) (p1 : PitonState) → IsState s p1 → Stands s u p1 → piton_run s k p1 ≡ Ok q → Simulates s (run_cost s k p1) u q) → Simulates s (step_cost s p + cost_after s (run_cost s k) r) m q
+      by_step : (r : Row) → piton_step s p ≡ r → then_on r (piton_run s k) ≡ Ok q
+          → ((u : Fm) (p1 : PitonState) → IsState s p1 → Stands s u p1 → piton_run s k p1 ≡ Ok q → Simulates s (run_cost s k p1) u q)
+          → Simulates s (step_cost s p + cost_after s (run_cost s k) r) m q
       by_step (Err x) step g later = refused x q g
       by_step (Ok p1) step g later =
           let a = step_simulated s sound fits_in m p p1 is h step in

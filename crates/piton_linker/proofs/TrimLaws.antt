@@ -35,7 +35,8 @@ pub word_next : (ws : List ℕ) (k d : ℕ) → get_or ws k d ≢ 0 → k < leng
 word_next ws k d h lt =
     take-next ws k d lt ∙ sym (trimmed-word (take k ws) (get_or ws k d) h) ∙ ap trimmed (sym (take-next ws k d lt))
 
-rest_by : (w : ℕ) (rest vs : List ℕ) → rest ≡ vs ++ replicate (length rest - length vs) 0 → w ∷ rest ≡ before_zeros w vs ++ replicate (length (w ∷ rest) - length (before_zeros w vs)) 0
+rest_by : (w : ℕ) (rest vs : List ℕ) → rest ≡ vs ++ replicate (length rest - length vs) 0
+    → w ∷ rest ≡ before_zeros w vs ++ replicate (length (w ∷ rest) - length (before_zeros w vs)) 0
 rest_by zero rest [] e =
     let count : suc (length rest) - 0 ≡ suc (length rest - 0) = omega arith in
     ap (λ ws. 0 ∷ ws) e ∙ ap (λ n. replicate n 0) (sym count)

@@ -15,7 +15,8 @@ use Rattle.piton_semantics.specs.State.{program_of}
 use Rattle.piton_semantics.specs.Step.{operation_cost}
 use Rattle.piton_semantics.specs.Fits.{IsPlace, IsWordOf}
 use Rattle.piton_semantics.specs.Addresses.{word_number}
-use Rattle.piton_semantics.specs.Placed.{instruction_size, instructions_size, prelude_size, program_size, programs_size, areas_size, entry_of, address_of_place, areas_start, addresses_of}
+use Rattle.piton_semantics.specs.Placed.{instruction_size, instructions_size, prelude_size, program_size, programs_size, areas_size, entry_of, address_of_place}
+use Rattle.piton_semantics.specs.Placed.{areas_start, addresses_of}
 
 pub word_of_int-injective : (x y : ℤ) → is_int x ≡ true → is_int y ≡ true → word_of_int x ≡ word_of_int y → x ≡ y
 word_of_int-injective (pos m) (pos n) a b e = ap pos e
@@ -126,7 +127,8 @@ length_at [] a d h = absurd (omega arith)
 length_at (p ∷ ps) zero d h = refl
 length_at (p ∷ ps) (suc a) d h = length_at ps a d (omega arith)
 
-pub program_there : (ps : List ProgramView) (a l : ℕ) → l < length (get_or ps a record { formals = 0; temporaries = []; instructions = [] }).instructions → a < length ps
+pub program_there : (ps : List ProgramView) (a l : ℕ) → l < length
+    (get_or ps a record { formals = 0; temporaries = []; instructions = [] }).instructions → a < length ps
 program_there [] a l h = absurd (omega arith)
 program_there (p ∷ ps) zero l h = omega arith
 program_there (p ∷ ps) (suc a) l h = omega (arith, program_there ps a l h)
@@ -139,7 +141,8 @@ same_places s a b l m p q e =
     let below_b = sum_below second.instructions m q in
     let size_a = length_at s.programs a record { formals = 0; temporaries = []; instructions = [] } (program_there s.programs a l p) in
     let size_b = length_at s.programs b record { formals = 0; temporaries = []; instructions = [] } (program_there s.programs b m q) in
-    let parts = same_part (map program_size s.programs) a b (prelude_size first + instructions_size (take l first.instructions)) (prelude_size second + instructions_size (take m second.instructions))
+    let parts = same_part (map program_size s.programs) a b (prelude_size first + instructions_size (take l first.instructions))
+    (prelude_size second + instructions_size (take m second.instructions))
     (omega (arith, size_a, below_a)) (omega (arith, size_b, below_b)) (omega (arith, programs_offset s.programs a, programs_offset s.programs b)) in
     let same : second ≡ first = ap (program_of s) (sym parts.0) in
     let m_there : m < length first.instructions = subst (λ (p : ProgramView). m < length p.instructions) same q in
@@ -151,10 +154,12 @@ pub same_entries : (s : SystemView) (a b : ℕ) → a < length s.programs → b 
 same_entries s a b p q e =
     let size_a = length_at s.programs a record { formals = 0; temporaries = []; instructions = [] } p in
     let size_b = length_at s.programs b record { formals = 0; temporaries = []; instructions = [] } q in
-    (same_part (map program_size s.programs) a b 0 0 (omega (arith, size_a)) (omega (arith, size_b)) (omega (arith, programs_offset s.programs a, programs_offset s.programs b))).0
+    (same_part (map program_size s.programs) a b 0 0 (omega (arith, size_a)) (omega (arith, size_b))
+    (omega (arith, programs_offset s.programs a, programs_offset s.programs b))).0
 
 -- Words of one tag with one number are the same.
-pub same_words : (s : SystemView) (v w : Word) (b : Bool) → IsWordOf s v → IsWordOf s w → are_same v w ≡ Ok b → word_number (addresses_of s) v ≡ word_number (addresses_of s) w → v ≡ w
+pub same_words : (s : SystemView) (v w : Word) (b : Bool) → IsWordOf s v → IsWordOf s w → are_same v w ≡ Ok b
+    → word_number (addresses_of s) v ≡ word_number (addresses_of s) w → v ≡ w
 same_words s (Int x) (Int y) b p q h e = ap Int (word_of_int-injective x y p q e)
 same_words s (Nat x) (Nat y) b p q h e = ap Nat e
 same_words s (Bitv x) (Bitv y) b p q h e = ap Bitv e

@@ -35,11 +35,13 @@ program_there [] program place = refl
 program_there (p ∷ ps) zero place = get_view p.instrs place
 program_there (p ∷ ps) (suc program) place = program_there ps program place
 
-pub instruction_resolved : (r : ResolvedOf) (program place : ℕ) → instruction_at (system_view r) program place ≡ option_map instruction_view (resolved_at r program place)
+pub instruction_resolved : (r : ResolvedOf) (program place : ℕ) → instruction_at (system_view r) program place
+    ≡ option_map instruction_view (resolved_at r program place)
 instruction_resolved r program place = program_there r.programs program place
 
 -- what holds of an instruction at each argument, and where the argument is missing
-word_either : (P : Instruction → Type 0) (make : PitonWord → Instruction) (args : List ResolvedArg) → ((word : PitonWord) → P (make word)) → P i.NoOp → P (with_word make args)
+word_either : (P : Instruction → Type 0) (make : PitonWord → Instruction) (args : List ResolvedArg) → ((word : PitonWord) → P (make word)) → P i.NoOp
+    → P (with_word make args)
 word_either P make (arg.Word word ∷ []) made missing = made word
 word_either P make args made missing = missing
 
@@ -47,11 +49,13 @@ number_either : (P : Instruction → Type 0) (make : ℕ → Instruction) (args 
 number_either P make (arg.Number n ∷ []) made missing = made n
 number_either P make args made missing = missing
 
-local_either : (P : Instruction → Type 0) (make : ℕ → Instruction) (args : List ResolvedArg) → ((offset : ℕ) → P (make offset)) → P i.NoOp → P (with_local make args)
+local_either : (P : Instruction → Type 0) (make : ℕ → Instruction) (args : List ResolvedArg) → ((offset : ℕ) → P (make offset)) → P i.NoOp
+    → P (with_local make args)
 local_either P make (arg.Local offset ∷ []) made missing = made offset
 local_either P make args made missing = missing
 
-place_either : (P : Instruction → Type 0) (make : ℕ → Instruction) (args : List ResolvedArg) → ((place : ℕ) → P (make place)) → P i.NoOp → P (with_place make args)
+place_either : (P : Instruction → Type 0) (make : ℕ → Instruction) (args : List ResolvedArg) → ((place : ℕ) → P (make place)) → P i.NoOp
+    → P (with_place make args)
 place_either P make (arg.Place place ∷ []) made missing = made place
 place_either P make args made missing = missing
 
@@ -59,11 +63,13 @@ area_either : (P : Instruction → Type 0) (make : ℕ → Instruction) (args : 
 area_either P make (arg.Area area ∷ []) made missing = made area
 area_either P make args made missing = missing
 
-program_either : (P : Instruction → Type 0) (make : ℕ → Instruction) (args : List ResolvedArg) → ((program : ℕ) → P (make program)) → P i.NoOp → P (with_program make args)
+program_either : (P : Instruction → Type 0) (make : ℕ → Instruction) (args : List ResolvedArg) → ((program : ℕ) → P (make program)) → P i.NoOp
+    → P (with_program make args)
 program_either P make (arg.Program program ∷ []) made missing = made program
 program_either P make args made missing = missing
 
-test_either : (P : Instruction → Type 0) (f : TestFamily) (args : List ResolvedArg) → ((kind : TestKind) (place : ℕ) → P (i.TestAndJump f kind place)) → P i.NoOp → P (with_test f args)
+test_either : (P : Instruction → Type 0) (f : TestFamily) (args : List ResolvedArg) → ((kind : TestKind) (place : ℕ) → P (i.TestAndJump f kind place))
+    → P i.NoOp → P (with_test f args)
 test_either P f (arg.Test kind ∷ arg.Place place ∷ []) made missing = made kind place
 test_either P f args made missing = missing
 
@@ -89,7 +95,8 @@ own_pieces op.TestBoolAndJump args pieces = test_either (λ x. only_of Jump x pi
 own_pieces op.TestBitvAndJump args pieces = test_either (λ x. only_of Jump x pieces ≡ pieces) family.Bitv args (λ kind place. refl) refl
 own_pieces o args pieces = refl
 
-module _ (c : CheckedOf) (r : ResolvedOf) (program place : ℕ) (instr : ResolvedInstrOf) (same : r ≡ c.resolved) (there : resolved_at r program place ≡ Some instr) where
+module _ (c : CheckedOf) (r : ResolvedOf) (program place : ℕ) (instr : ResolvedInstrOf) (same : r ≡ c.resolved)
+    (there : resolved_at r program place ≡ Some instr) where
   here : resolved_at c.resolved program place ≡ Some instr
   here = subst (λ (u : ResolvedOf). resolved_at u program place ≡ Some instr) same there
 

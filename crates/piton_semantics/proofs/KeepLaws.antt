@@ -1,5 +1,6 @@
 -- Each step of a sound system leads from a state to a state.
-use Rattle.std.proofs.Common.{◌≡◌, ℕ, zero, suc, ◌+◌, ◌-◌, ◌≤◌, ◌<◌, Ok, Some, None, Bool, true, false, List, [], ◌∷◌, length, map, reverse, take, drop, refl, ap, sym, ◌∙◌, subst, arith, length-append, length-drop}
+use Rattle.std.proofs.Common.{◌≡◌, ℕ, zero, suc, ◌+◌, ◌-◌, ◌≤◌, ◌<◌, Ok, Some, None, Bool, true, false, List, [], ◌∷◌, length, map, reverse, take, drop, refl}
+use Rattle.std.proofs.Common.{ap, sym, ◌∙◌, subst, arith, length-append, length-drop}
 use Rattle.std.specs.Prelude.{◌==◌, nat_lt, get_or, slice_get, slice_set, if◌then◌else◌}
 use Rattle.std.proofs.lemmas.Bool.{ltb-true, leb-true, eqb-true}
 use Rattle.std.proofs.lemmas.List.{length-set, length-reverse, length-take-le}
@@ -69,7 +70,8 @@ operands_there s (suc (suc (suc zero))) [] o all h = cc
 operands_there s (suc (suc (suc zero))) (t ∷ []) o all h = cc
 operands_there s (suc (suc (suc zero))) (t ∷ v ∷ []) o all h = cc
 operands_there s (suc (suc (suc zero))) (t ∷ v ∷ u ∷ below) o all h =
-    subst (OperandsThere s 3 (t ∷ v ∷ u ∷ below)) (same_Ok h) (record { third = all.1.1.0; second = all.1.0; top = all.0; below = all.1.1.1; size = omega arith })
+    subst (OperandsThere s 3 (t ∷ v ∷ u ∷ below)) (same_Ok h)
+    (record { third = all.1.1.0; second = all.1.0; top = all.0; below = all.1.1.1; size = omega arith })
 operands_there s (suc (suc (suc (suc n)))) stack o all h = cc
 
 -- The newest frame's locals.
@@ -183,12 +185,18 @@ call_kept s p q program stack sound is next all fits h =
     let temporaries : Each (IsWordOf s) callee.temporaries = subst (λ (c : ProgramView). Each (IsWordOf s) c.temporaries) named (sound.temporaries program) in
     let frame = frame_of p callee stack in
     let size : length frame.locals ≡ callee.formals + length callee.temporaries =
-    omega (arith, length-append (reverse (take callee.formals stack)) callee.temporaries, length-reverse (take callee.formals stack), length-take-le callee.formals stack enough) in
+    omega (
+      arith,
+      length-append (reverse (take callee.formals stack)) callee.temporaries,
+      length-reverse (take callee.formals stack),
+      length-take-le callee.formals stack enough,
+    ) in
     subst (IsState s) (same_Ok k.goes) (record {
       place = sound.begins program (slice_get_within s.programs program callee there);
       frames = (
         size ∙ ap (λ (c : ProgramView). c.formals + length c.temporaries) (sym named),
-        each_append (IsWordOf s) (reverse (take callee.formals stack)) callee.temporaries (each_reverse (IsWordOf s) (take callee.formals stack) (each_take (IsWordOf s) callee.formals stack all)) temporaries,
+        each_append (IsWordOf s) (reverse (take callee.formals stack)) callee.temporaries
+            (each_reverse (IsWordOf s) (take callee.formals stack) (each_take (IsWordOf s) callee.formals stack all)) temporaries,
         next,
         is.frames,
       );
@@ -257,22 +265,26 @@ row_kept s p q (i.PushLocal offset) sound is fit h =
 row_kept s p q (i.PopLocal offset) sound is fit h =
     let f = went_on h in
     let one = one_there s p.stack f.value is.stack f.is in
-    place_kept s (record p { frames = with_local p.frames offset f.value.top }) (with_local_kept s p offset f.value.top is one.top) q (p.place + 1) f.value.below fit.1 one.below (omega (arith, one.size, is.stack_fits)) f.goes
+    place_kept s (record p { frames = with_local p.frames offset f.value.top }) (with_local_kept s p offset f.value.top is one.top) q (p.place + 1)
+    f.value.below fit.1 one.below (omega (arith, one.size, is.stack_fits)) f.goes
 row_kept s p q (i.SetLocal offset) sound is fit h =
     let f = went_on h in
     let one = one_there s p.stack f.value is.stack f.is in
-    place_kept s (record p { frames = with_local p.frames offset f.value.top }) (with_local_kept s p offset f.value.top is one.top) q (p.place + 1) p.stack fit.1 is.stack is.stack_fits f.goes
+    place_kept s (record p { frames = with_local p.frames offset f.value.top }) (with_local_kept s p offset f.value.top is one.top) q (p.place + 1)
+    p.stack fit.1 is.stack is.stack_fits f.goes
 row_kept s p q (i.PushGlobal area) sound is fit h =
     let f = went_on h in
     pushed_kept s p is q f.value fit.1 (area_word s p.areas area 0 f.value is.areas (found_is _ Range f.value f.is)) f.goes
 row_kept s p q (i.PopGlobal area) sound is fit h =
     let f = went_on h in
     let one = one_there s p.stack f.value is.stack f.is in
-    place_kept s (record p { areas = with_word p.areas area 0 f.value.top }) (with_word_kept s p area 0 f.value.top is one.top) q (p.place + 1) f.value.below fit.1 one.below (omega (arith, one.size, is.stack_fits)) f.goes
+    place_kept s (record p { areas = with_word p.areas area 0 f.value.top }) (with_word_kept s p area 0 f.value.top is one.top) q (p.place + 1)
+    f.value.below fit.1 one.below (omega (arith, one.size, is.stack_fits)) f.goes
 row_kept s p q (i.SetGlobal area) sound is fit h =
     let f = went_on h in
     let one = one_there s p.stack f.value is.stack f.is in
-    place_kept s (record p { areas = with_word p.areas area 0 f.value.top }) (with_word_kept s p area 0 f.value.top is one.top) q (p.place + 1) p.stack fit.1 is.stack is.stack_fits f.goes
+    place_kept s (record p { areas = with_word p.areas area 0 f.value.top }) (with_word_kept s p area 0 f.value.top is one.top) q (p.place + 1) p.stack
+    fit.1 is.stack is.stack_fits f.goes
 row_kept s p q (i.PushTempStkIndex n) sound is fit h =
     let f = held Range h in
     pushed_kept s p is q (Nat (length p.stack - 1 - n)) fit (omega (arith, is.stack_fits, sound.temp)) f.goes
@@ -306,14 +318,17 @@ row_kept s p q i.Deposit sound is fit h =
     let f = went_on h in
     let two = two_there s p.stack f.value is.stack f.is in
     let g = went_on f.goes in
-    place_kept s (record p { areas = with_word p.areas g.value.0 g.value.1 f.value.second }) (with_word_kept s p g.value.0 g.value.1 f.value.second is two.second) q (p.place + 1) f.value.below fit two.below (omega (arith, two.size, is.stack_fits)) g.goes
+    place_kept s (record p { areas = with_word p.areas g.value.0 g.value.1 f.value.second })
+    (with_word_kept s p g.value.0 g.value.1 f.value.second is two.second) q (p.place + 1) f.value.below fit two.below
+    (omega (arith, two.size, is.stack_fits)) g.goes
 row_kept s p q i.Pop sound is fit h =
     let f = went_on h in
     let one = one_there s p.stack f.value is.stack f.is in
     place_kept s p is q (p.place + 1) f.value.below fit one.below (omega (arith, one.size, is.stack_fits)) f.goes
 row_kept s p q (i.PopStar n) sound is fit h =
     let f = held TempEmpty h in
-    place_kept s p is q (p.place + 1) (drop n p.stack) fit (each_drop (IsWordOf s) n p.stack is.stack) (omega (arith, is.stack_fits, length-drop n p.stack)) f.goes
+    place_kept s p is q (p.place + 1) (drop n p.stack) fit (each_drop (IsWordOf s) n p.stack is.stack)
+    (omega (arith, is.stack_fits, length-drop n p.stack)) f.goes
 row_kept s p q i.Popn sound is fit h =
     let f = went_on h in
     let one = one_there s p.stack f.value is.stack f.is in

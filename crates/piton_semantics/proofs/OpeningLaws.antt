@@ -13,7 +13,8 @@ use Rattle.piton_semantics.specs.State.{program_of}
 use Rattle.piton_semantics.specs.Fits.{IsWellFormed}
 use Rattle.piton_semantics.specs.StateView.{started}
 use Rattle.piton_semantics.specs.Addresses.{numbers}
-use Rattle.piton_semantics.specs.Placed.{final_pc_of, areas_start, ctrl_start, temp_start, addresses_of, code_of, first_frame, first_frame_at, first_top, words_with, loaded}
+use Rattle.piton_semantics.specs.Placed.{final_pc_of, areas_start, ctrl_start, temp_start, addresses_of, code_of, first_frame, first_frame_at, first_top}
+use Rattle.piton_semantics.specs.Placed.{words_with, loaded}
 use Rattle.piton_semantics.specs.Stands.{Stands}
 use Rattle.piton_semantics.proofs.SizeLaws.{length-numbers, length-programs_words, length-areas}
 
@@ -56,7 +57,8 @@ opening_stands s stack sound same =
     let front4 = front3 ++ frame in
     let front5 = front4 ++ gap' in
     let whole = words_with s stack in
-    let is1 : front1 ++ (areas ++ (gap ++ (frame ++ (gap' ++ top)))) ≡ whole = append_assoc code (halt_word ∷ []) (areas ++ (gap ++ (frame ++ (gap' ++ top)))) in
+    let is1 : front1 ++ (areas ++ (gap ++ (frame ++ (gap' ++ top)))) ≡ whole =
+    append_assoc code (halt_word ∷ []) (areas ++ (gap ++ (frame ++ (gap' ++ top)))) in
     let is2 : front2 ++ (gap ++ (frame ++ (gap' ++ top))) ≡ whole = append_assoc front1 areas (gap ++ (frame ++ (gap' ++ top))) ∙ is1 in
     let is3 : front3 ++ (frame ++ (gap' ++ top)) ≡ whole = append_assoc front2 gap (frame ++ (gap' ++ top)) ∙ is2 in
     let is4 : front4 ++ (gap' ++ top) ≡ whole = append_assoc front3 frame (gap' ++ top) ∙ is3 in

@@ -12,23 +12,28 @@ use Rattle.piton_words.specs.Views.{int_of, nat_of, bitv_of, bool_of, addr_of, w
 pub refused : {A : Type 0} (e : WordError) (out : Outcome) → (let r : Result Outcome WordError = Err e in r) ≡ Ok out → A
 refused e out h = absurd cc
 
-pub by_int : (w : Word) (go : ℤ → Result Outcome WordError) (out : Outcome) (Q : Word → Type 0) → (int_of w >>= go) ≡ Ok out → ((z : ℤ) → go z ≡ Ok out → Q (Int z)) → Q w
+pub by_int : (w : Word) (go : ℤ → Result Outcome WordError) (out : Outcome) (Q : Word → Type 0) → (int_of w >>= go) ≡ Ok out
+    → ((z : ℤ) → go z ≡ Ok out → Q (Int z)) → Q w
 by_int (Int z) go out Q h k = k z h
 by_int w go out Q h k = refused Tag out h
 
-pub by_nat : (w : Word) (go : ℕ → Result Outcome WordError) (out : Outcome) (Q : Word → Type 0) → (nat_of w >>= go) ≡ Ok out → ((z : ℕ) → go z ≡ Ok out → Q (Nat z)) → Q w
+pub by_nat : (w : Word) (go : ℕ → Result Outcome WordError) (out : Outcome) (Q : Word → Type 0) → (nat_of w >>= go) ≡ Ok out
+    → ((z : ℕ) → go z ≡ Ok out → Q (Nat z)) → Q w
 by_nat (Nat z) go out Q h k = k z h
 by_nat w go out Q h k = refused Tag out h
 
-pub by_bitv : (w : Word) (go : ℕ → Result Outcome WordError) (out : Outcome) (Q : Word → Type 0) → (bitv_of w >>= go) ≡ Ok out → ((z : ℕ) → go z ≡ Ok out → Q (Bitv z)) → Q w
+pub by_bitv : (w : Word) (go : ℕ → Result Outcome WordError) (out : Outcome) (Q : Word → Type 0) → (bitv_of w >>= go) ≡ Ok out
+    → ((z : ℕ) → go z ≡ Ok out → Q (Bitv z)) → Q w
 by_bitv (Bitv z) go out Q h k = k z h
 by_bitv w go out Q h k = refused Tag out h
 
-pub by_bool : (w : Word) (go : Bool → Result Outcome WordError) (out : Outcome) (Q : Word → Type 0) → (bool_of w >>= go) ≡ Ok out → ((z : Bool) → go z ≡ Ok out → Q (Truth z)) → Q w
+pub by_bool : (w : Word) (go : Bool → Result Outcome WordError) (out : Outcome) (Q : Word → Type 0) → (bool_of w >>= go) ≡ Ok out
+    → ((z : Bool) → go z ≡ Ok out → Q (Truth z)) → Q w
 by_bool (Truth z) go out Q h k = k z h
 by_bool w go out Q h k = refused Tag out h
 
-pub by_addr : (w : Word) (go : ℕ × ℕ → Result Outcome WordError) (out : Outcome) (Q : Word → Type 0) → (addr_of w >>= go) ≡ Ok out → ((a o : ℕ) → go (a, o) ≡ Ok out → Q (Addr a o)) → Q w
+pub by_addr : (w : Word) (go : ℕ × ℕ → Result Outcome WordError) (out : Outcome) (Q : Word → Type 0) → (addr_of w >>= go) ≡ Ok out
+    → ((a o : ℕ) → go (a, o) ≡ Ok out → Q (Addr a o)) → Q w
 by_addr (Addr a o) go out Q h k = k a o h
 by_addr w go out Q h k = refused Tag out h
 

@@ -47,7 +47,8 @@ formals_are A a zero word = refl
 formals_are A a (suc n) word = ap (λ ws. word ∷ ws) (formals_are A (a + 1) n word)
 
 -- the words of a jump by cases
-pub jump_case_is : (A : Addresses) (a program : ℕ) (places : List ℕ) → words_of A a (jump_case_pieces ++ map (λ to. Place program to) places) ≡ jump_case_code a (map (A.place_at program) places)
+pub jump_case_is : (A : Addresses) (a program : ℕ) (places : List ℕ) → words_of A a (jump_case_pieces ++ map (λ to. Place program to) places)
+    ≡ jump_case_code a (map (A.place_at program) places)
 jump_case_is A a program places =
     let e : a + 1 + 1 + 2 ≡ a + 4 = omega arith in
     let targets = places_are A (a + 1 + 1 + 1 + 1) program places in

@@ -12,7 +12,8 @@ use Rattle.piton_check.specs.Sound.{IsProgram}
 use Rattle.piton_semantics.specs.State.{program_of}
 use Rattle.piton_semantics.specs.Fits.{Each, IsPlace, IsWordOf}
 use Rattle.piton_semantics.specs.Addresses.{Addresses, word_number, numbers}
-use Rattle.piton_semantics.specs.Placed.{program_size, programs_size, areas_size, entry_of, address_of_place, final_pc_of, areas_start, address_of_area, end_of, addresses_of, code_of, parts_of, placed}
+use Rattle.piton_semantics.specs.Placed.{program_size, programs_size, areas_size, entry_of, address_of_place, final_pc_of, areas_start, address_of_area, end_of}
+use Rattle.piton_semantics.specs.Placed.{addresses_of, code_of, parts_of, placed}
 use Rattle.piton_semantics.proofs.EachLaws.{each_get}
 use Rattle.piton_semantics.proofs.SizeLaws.{code_ends}
 use Rattle.piton_semantics.proofs.AddressLaws.{same_addresses, same_places, same_entries, sum_below, program_there}
@@ -33,7 +34,8 @@ end_fits s low small = omega arith
 
 -- ---- areas
 
-before_is : (A : Addresses) (xss yss : List (List Word)) (a : ℕ) → map length xss ≡ map length yss → words_before (map (numbers A) xss) a ≡ areas_size (take a yss)
+before_is : (A : Addresses) (xss yss : List (List Word)) (a : ℕ) → map length xss ≡ map length yss
+    → words_before (map (numbers A) xss) a ≡ areas_size (take a yss)
 before_is A xss yss zero e = refl
 before_is A [] [] (suc a) e = refl
 before_is A [] (ys ∷ yss) (suc a) e = cc
@@ -51,7 +53,8 @@ area_end (xs ∷ xss) (suc a) = omega (arith, area_end xss a)
 
 -- ---- programs and areas stand where the addresses say
 
-pub ready : (s : SystemView) (areas : List (List Word)) → end_of s < 2 ^ 32 → map length areas ≡ map length s.areas → IsReady (addresses_of s) (code_of s) s areas
+pub ready : (s : SystemView) (areas : List (List Word)) → end_of s < 2 ^ 32 → map length areas ≡ map length s.areas
+    → IsReady (addresses_of s) (code_of s) s areas
 ready s areas h same =
     record {
       is = parts_are s h;
@@ -84,7 +87,8 @@ one x y a b f g = by_test (x == y) (a == b) refl refl
     by_test true false d e = absurd (eqb-false a b e (f (eqb-true x y d)))
     by_test false true d e = absurd (eqb-false x y d (g (eqb-true a b e)))
 
-pub tell_apart : (s : SystemView) (areas : List (List Word)) → end_of s < 2 ^ 32 → map length areas ≡ map length s.areas → TellApart (addresses_of s) (map (λ xs. length xs) areas) (IsPlace s) (IsProgram s)
+pub tell_apart : (s : SystemView) (areas : List (List Word)) → end_of s < 2 ^ 32 → map length areas ≡ map length s.areas
+    → TellApart (addresses_of s) (map (λ xs. length xs) areas) (IsPlace s) (IsProgram s)
 tell_apart s areas h same =
     record {
       below = λ a o lt. fits a o (in_system a o lt);
@@ -104,7 +108,8 @@ tell_apart s areas h same =
     fits a o lt = omega (arith, area_end s.areas a)
 
 -- a word of the system is in its range, and what it names exists
-pub word_in : (s : SystemView) (areas : List (List Word)) → map length areas ≡ map length s.areas → (w : Word) → IsWordOf s w → IsWordBy (map (λ xs. length xs) areas) (IsPlace s) (IsProgram s) w
+pub word_in : (s : SystemView) (areas : List (List Word)) → map length areas ≡ map length s.areas → (w : Word) → IsWordOf s w
+    → IsWordBy (map (λ xs. length xs) areas) (IsPlace s) (IsProgram s) w
 word_in s areas same (Int z) h = h
 word_in s areas same (Nat n) h = h
 word_in s areas same (Bitv n) h = h
@@ -113,12 +118,14 @@ word_in s areas same (Addr area offset) h = subst (λ ns. offset < get_or ns are
 word_in s areas same (Pc program place) h = h
 word_in s areas same (Subr program) h = h
 
-pub words_in : (s : SystemView) (areas : List (List Word)) → map length areas ≡ map length s.areas → (ws : List Word) → Each (IsWordOf s) ws → (k : ℕ) (w : Word) → slice_get ws k ≡ Some w → IsWordBy (map (λ xs. length xs) areas) (IsPlace s) (IsProgram s) w
+pub words_in : (s : SystemView) (areas : List (List Word)) → map length areas ≡ map length s.areas → (ws : List Word) → Each (IsWordOf s) ws
+    → (k : ℕ) (w : Word) → slice_get ws k ≡ Some w → IsWordBy (map (λ xs. length xs) areas) (IsPlace s) (IsProgram s) w
 words_in s areas same ws all k w h = word_in s areas same w (each_get (IsWordOf s) ws k w all h)
 
 -- ---- the final pc is behind every place
 
-pub programs_end : (ps : List ProgramView) (a : ℕ) (d : ProgramView) → a < length ps → programs_size (take a ps) + program_size (slice_index_or ps a d) ≤ programs_size ps
+pub programs_end : (ps : List ProgramView) (a : ℕ) (d : ProgramView) → a < length ps
+    → programs_size (take a ps) + program_size (slice_index_or ps a d) ≤ programs_size ps
 programs_end [] a d h = absurd (omega arith)
 programs_end (p ∷ ps) zero d h = omega arith
 programs_end (p ∷ ps) (suc a) d h = omega (arith, programs_end ps a d (omega arith))

@@ -1,6 +1,7 @@
 -- What a word operation gives: how many words, and that they name what exists where its operands do.
 use Rattle.std.proofs.Common.{◌≡◌, ℕ, ◌+◌, ◌≤◌, ℤ, pos, negsuc, Result, Ok, Bool, true, false, List, length, map, refl, subst, arith}
-use Rattle.std.specs.Prelude.{◌^◌, ◌<◌, ◌-◌, ◌*◌, ◌/◌, ◌%◌, ◌+ℤ◌, ◌-ℤ◌, ◌*ℤ◌, ◌==◌, not, ◌&&◌, ◌||◌, nat_lt, int_lt, get_or, unsigned_abs, bit_and, bit_or, bit_xor}
+use Rattle.std.specs.Prelude.{◌^◌, ◌<◌, ◌-◌, ◌*◌, ◌/◌, ◌%◌, ◌+ℤ◌, ◌-ℤ◌, ◌*ℤ◌, ◌==◌, not, ◌&&◌, ◌||◌, nat_lt, int_lt, get_or, unsigned_abs, bit_and, bit_or}
+use Rattle.std.specs.Prelude.{bit_xor}
 use Rattle.std.specs.Int.{w32, cast_signed}
 use Rattle.std.proofs.lemmas.Bool.{ltb-true, lt-ltb}
 use Rattle.std.proofs.lemmas.Int.{ints}

@@ -14,7 +14,9 @@ use Rattle.piton_semantics.specs.declared.error_kind.ErrorKind.TheVariants.{Temp
 use Rattle.piton_check.specs.Instruction.{Instruction, ProgramView, SystemView}
 use Rattle.piton_semantics.specs.State.{Frame, PitonState, instruction_at, ctrl_used, locals_of, with_local, word_at, with_word, element, with_element}
 use Rattle.piton_semantics.specs.Views.{◌>>=◌, then_on, where_true, found, one_of, Operands, words_taken, operands_of, test_of, lifted}
-use Rattle.piton_semantics.specs.InstructionRows.{Row, to_place, to_next, with_room, pushed, push_local, pop_local, set_local_row, set_local, push_global, pop_global, set_word, push_temp_stk_index, fetch_temp_stk, deposit_temp_stk, pop_star, jump_where, jump_case, test_and_jump, entered, call, does_grow, results_on, apply, row_of}
+use Rattle.piton_semantics.specs.InstructionRows.{Row, to_place, to_next, with_room, pushed, push_local, pop_local, set_local_row, set_local, push_global}
+use Rattle.piton_semantics.specs.InstructionRows.{pop_global, set_word, push_temp_stk_index, fetch_temp_stk, deposit_temp_stk, pop_star, jump_where, jump_case}
+use Rattle.piton_semantics.specs.InstructionRows.{test_and_jump, entered, call, does_grow, results_on, apply, row_of}
 use Rattle.piton_semantics.specs.Step.{step_from, piton_step}
 
 -- The step of a state with a frame is the row of the instruction at its place, forward and back.
@@ -47,7 +49,8 @@ does_push temp p word h = room_there temp p (to_next p (word ∷ p.stack)) h
 pub does_push_local : (temp : ℕ) (p : PitonState) (offset : ℕ) (word : Word) → slice_get (locals_of p.frames) offset ≡ Some word →
     length p.stack < temp → push_local temp p offset ≡ to_next p (word ∷ p.stack)
 does_push_local temp p offset word h room =
-    goes_on (found (slice_get (locals_of p.frames) offset) Range) word (pushed temp p) (found_some (slice_get (locals_of p.frames) offset) Range word h) ∙ does_push temp p word room
+    goes_on (found (slice_get (locals_of p.frames) offset) Range) word (pushed temp p) (found_some (slice_get (locals_of p.frames) offset) Range word h)
+    ∙ does_push temp p word room
 
 pub does_pop_local : (p : PitonState) (offset : ℕ) (t : Word) (below : List Word) → p.stack ≡ t ∷ below →
     pop_local p offset ≡ to_next (record p { frames = with_local p.frames offset t }) below
@@ -108,9 +111,12 @@ pub does_call : (s : SystemView) (p : PitonState) (program : ℕ) (callee : Prog
     call s p program stack ≡ entered p program callee stack
 unfolding then_on
 does_call s p program callee stack h enough room =
-    ap (λ o. found o Range >>= λ callee. where_true (nat_le callee.formals (length stack)) TempEmpty (where_true (nat_le (ctrl_used p.frames + (2 + (callee.formals + length callee.temporaries))) s.ctrl) CtrlFull (entered p program callee stack))) h
+    ap (λ o. found o Range >>= λ callee. where_true (nat_le callee.formals (length stack)) TempEmpty
+    (where_true (nat_le (ctrl_used p.frames + (2 + (callee.formals + length callee.temporaries))) s.ctrl) CtrlFull
+    (entered p program callee stack))) h
     ∙ where_holds (nat_le callee.formals (length stack)) TempEmpty _ (le-leb callee.formals (length stack) enough)
-    ∙ where_holds (nat_le (ctrl_used p.frames + (2 + (callee.formals + length callee.temporaries))) s.ctrl) CtrlFull (entered p program callee stack) (le-leb _ _ room)
+    ∙ where_holds (nat_le (ctrl_used p.frames + (2 + (callee.formals + length callee.temporaries))) s.ctrl) CtrlFull (entered p program callee stack)
+    (le-leb _ _ room)
 
 -- The words: the operands are there, and the operation's row gives an outcome.
 pub does_apply : (temp : ℕ) (p : PitonState) (o : WordOp) (operands : Operands) (out : Outcome) → operands_of (words_taken o) p.stack ≡ Ok operands →
@@ -118,6 +124,7 @@ pub does_apply : (temp : ℕ) (p : PitonState) (o : WordOp) (operands : Operands
     apply temp p o ≡ to_next p (results_on out operands.below)
 unfolding then_on
 does_apply temp p o operands out e h small =
-    ap (λ r. r >>= λ operands. lifted (words.row_of o operands.third operands.second operands.top (map length p.areas)) >>= λ outcome. let next = to_next p (results_on outcome operands.below) in if does_grow o then with_room temp p next else next) e
+    ap (λ r. r >>= λ operands. lifted (words.row_of o operands.third operands.second operands.top (map length p.areas))
+    >>= λ outcome. let next = to_next p (results_on outcome operands.below) in if does_grow o then with_room temp p next else next) e
     ∙ ap (λ r. lifted r >>= λ outcome. let next = to_next p (results_on outcome operands.below) in if does_grow o then with_room temp p next else next) h
     ∙ ap (λ b. let next = to_next p (results_on out operands.below) in if b then with_room temp p next else next) small

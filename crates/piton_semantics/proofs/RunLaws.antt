@@ -92,7 +92,8 @@ steps_run s i n x y (more {j = j} {n = m} {p = p} {q = p'} {r = q} f fs here ste
 
 pub steps_cost : (s : SystemView) (j n : ℕ) (p q : PitonState) → Steps s j n p q → run_cost s j p ≡ n
 steps_cost s i n x y (none {p = p}) = cost_none s p
-steps_cost s i n x y (more {j = j} {n = m} {p = p} {q = p'} {r = q} f fs here step rest) = cost_first s j p p' step ∙ ap (λ i. step_cost s p + i) (steps_cost s j m p' q rest)
+steps_cost s i n x y (more {j = j} {n = m} {p = p} {q = p'} {r = q} f fs here step rest) =
+    cost_first s j p p' step ∙ ap (λ i. step_cost s p + i) (steps_cost s j m p' q rest)
 
 -- how a limited run ends behind steps: it has halted, it is spent, or the next step is refused
 pub halts : (s : SystemView) (j n k : ℕ) (v : Seen) (q : PitonState) → Steps s j n v.state q → v.steps < 2 ^ 64 → v.counted < 2 ^ 64 →

@@ -17,8 +17,10 @@ use Rattle.piton_semantics.specs.State.{program_of}
 use Rattle.piton_semantics.specs.Step.{operation_cost}
 use Rattle.piton_semantics.specs.Fits.{IsWellFormed}
 use Rattle.piton_semantics.specs.Addresses.{Addresses, word_number, numbers}
-use Rattle.piton_semantics.specs.Templates.{operation_code, word_piece, literal_pieces, code_pieces, temporary_pieces, prelude_pieces, words_of, template, prelude_words, instructions_words, program_words, programs_words}
-use Rattle.piton_semantics.specs.Placed.{instruction_size, instructions_size, prelude_size, program_size, programs_size, areas_size, final_pc_of, ctrl_start, temp_start, addresses_of, code_of, parts_of, first_frame, first_frame_at, first_top, placed}
+use Rattle.piton_semantics.specs.Templates.{operation_code, word_piece, literal_pieces, code_pieces, temporary_pieces, prelude_pieces, words_of, template}
+use Rattle.piton_semantics.specs.Templates.{prelude_words, instructions_words, program_words, programs_words}
+use Rattle.piton_semantics.specs.Placed.{instruction_size, instructions_size, prelude_size, program_size, programs_size, areas_size, final_pc_of, ctrl_start}
+use Rattle.piton_semantics.specs.Placed.{temp_start, addresses_of, code_of, parts_of, first_frame, first_frame_at, first_top, placed}
 
 pub length-operation_code : (o : WordOp) → length (operation_code o) ≡ operation_cost o
 length-operation_code word_op.Eq = refl
@@ -113,7 +115,13 @@ pub length-prelude_pieces : (p : ProgramView) → length (prelude_pieces p) ≡ 
 length-prelude_pieces p =
     let formals = replicate p.formals (Code (mov (push 1) (pop 2))) in
     let last = Code (mov (reg 0) (reg 1)) ∷ [] in
-    omega (arith, length-append (temporary_pieces p.temporaries) (formals ++ last), length-temporary_pieces p.temporaries, length-append formals last, length-replicate p.formals (Code (mov (push 1) (pop 2))))
+    omega (
+      arith,
+      length-append (temporary_pieces p.temporaries) (formals ++ last),
+      length-temporary_pieces p.temporaries,
+      length-append formals last,
+      length-replicate p.formals (Code (mov (push 1) (pop 2))),
+    )
 
 pub length-prelude_words : (A : Addresses) (program : ℕ) (p : ProgramView) → length (prelude_words A program p) ≡ prelude_size p
 length-prelude_words A program p = length-words_of A (A.entry_at program) (prelude_pieces p) ∙ length-prelude_pieces p

@@ -34,7 +34,8 @@ instructions_of (p ∷ ps) zero = refl
 instructions_of (p ∷ ps) (suc k) = instructions_of ps k
 
 -- a program that there is, or none
-by_program : (ps : List ProgramView) (k : ℕ) (Q : ProgramView → Type 0) → (k < length ps → Q (slice_index_or ps k no_program)) → Q no_program → Q (slice_index_or ps k no_program)
+by_program : (ps : List ProgramView) (k : ℕ) (Q : ProgramView → Type 0) → (k < length ps → Q (slice_index_or ps k no_program)) → Q no_program
+    → Q (slice_index_or ps k no_program)
 by_program [] k Q f g = g
 by_program (p ∷ ps) zero Q f g = f (omega arith)
 by_program (p ∷ ps) (suc k) Q f g = by_program ps k Q (λ lt. f (omega arith)) g
@@ -72,12 +73,14 @@ next_place p place instruction last there go_on = by_order (nat_lt (place + 1) (
     at_end : place + 1 ≡ length p.instructions → ⊥
     at_end e =
         let k : length p.instructions - 1 ≡ place = omega arith in
-        let same : get_or p.instructions (length p.instructions - 1) i.NoOp ≡ instruction = ap (λ k. get_or p.instructions k i.NoOp) k ∙ get_or_from_slice_get p.instructions place instruction i.NoOp there in
+        let same : get_or p.instructions (length p.instructions - 1) i.NoOp ≡ instruction =
+        ap (λ k. get_or p.instructions k i.NoOp) k ∙ get_or_from_slice_get p.instructions place instruction i.NoOp there in
         go_on (subst IsEnd same last)
 
     by_order : (b : Bool) → nat_lt (place + 1) (length p.instructions) ≡ b → place + 1 < length p.instructions
     by_order true e = ltb-true (place + 1) (length p.instructions) e
-    by_order false e = let past : length p.instructions ≤ place + 1 = ltb-false (place + 1) (length p.instructions) e in absurd (at_end (omega (arith, past, below)))
+    by_order false e =
+        let past : length p.instructions ≤ place + 1 = ltb-false (place + 1) (length p.instructions) e in absurd (at_end (omega (arith, past, below)))
 
 module _ (s : SystemView) (sound : IsSound s) (program place : ℕ) where
   area_some : (area : ℕ) → area < length s.areas → 0 < get_or (map length s.areas) area 0
@@ -118,11 +121,14 @@ module _ (s : SystemView) (sound : IsSound s) (program place : ℕ) where
 -- what is placed in a program of the system
 pub placed_at : (s : SystemView) → IsSound s → (program place : ℕ) (instruction : Instruction) → instruction_at s program place ≡ Some instruction →
     IsSoundProgram s (program_of s program) × IsPlaced s (program_of s program) instruction
-placed_at s sound program place instruction = by_program s.programs program (λ (p : ProgramView). slice_get p.instructions place ≡ Some instruction → IsSoundProgram s p × IsPlaced s p instruction)
-    (λ lt e. (let known = sound.programs program no_program lt in (known, all_at (IsPlaced s (program_of s program)) (program_of s program).instructions place instruction known.instructions e)))
+placed_at s sound program place instruction = by_program s.programs program
+    (λ (p : ProgramView). slice_get p.instructions place ≡ Some instruction → IsSoundProgram s p × IsPlaced s p instruction)
+    (λ lt e. (let known = sound.programs program no_program lt in
+    (known, all_at (IsPlaced s (program_of s program)) (program_of s program).instructions place instruction known.instructions e)))
     (λ e. cc)
 
-instruction_known : (s : SystemView) → IsSound s → (program place : ℕ) (instruction : Instruction) → instruction_at s program place ≡ Some instruction → IsInstructionOf s program place instruction
+instruction_known : (s : SystemView) → IsSound s → (program place : ℕ) (instruction : Instruction) → instruction_at s program place ≡ Some instruction
+    → IsInstructionOf s program place instruction
 instruction_known s sound program place instruction e =
     let h = placed_at s sound program place instruction e in
     known_at s sound program place instruction h.1 (next_place (program_of s program) place instruction h.0.last e)
@@ -141,9 +147,12 @@ known s sound =
       stack_fits = sound.stack_fits;
       stack = words_known s s.stack sound.stack;
       areas = all_each (All (Exists s)) (Each (IsWordOf s)) (words_known s) s.areas sound.areas;
-      temporaries = λ k. by_program s.programs k (λ (p : ProgramView). Each (IsWordOf s) p.temporaries) (λ lt. words_known s (program_of s k).temporaries (sound.programs k no_program lt).temporaries) tt;
-      variables = λ k. by_program s.programs k (λ (p : ProgramView). p.formals + length p.temporaries ≤ 400) (λ lt. (sound.programs k no_program lt).few_locals) (omega arith);
-      lengths = λ k. by_program s.programs k (λ (p : ProgramView). length p.instructions ≤ 2 ^ 20) (λ lt. (sound.programs k no_program lt).few_instructions) (omega arith);
+      temporaries = λ k. by_program s.programs k (λ (p : ProgramView). Each (IsWordOf s) p.temporaries)
+          (λ lt. words_known s (program_of s k).temporaries (sound.programs k no_program lt).temporaries) tt;
+      variables = λ k. by_program s.programs k (λ (p : ProgramView). p.formals + length p.temporaries ≤ 400)
+          (λ lt. (sound.programs k no_program lt).few_locals) (omega arith);
+      lengths = λ k. by_program s.programs k (λ (p : ProgramView). length p.instructions ≤ 2 ^ 20)
+          (λ lt. (sound.programs k no_program lt).few_instructions) (omega arith);
       sizes = λ area. size_below area;
       begins = λ k lt. (sound.programs k no_program lt).some_instructions;
       instructions = instruction_known s sound;
@@ -157,10 +166,12 @@ pub checked_known : (c : CheckedOf) (r : ResolvedOf) → r ≡ c.resolved → Is
 checked_known c r same h = subst (λ (u : ResolvedOf). IsWellFormed (system_view u)) (sym same) (known (system_in c) h.sound)
 
 -- an initial stack fits, and its words are words of the system
-pub initial_room : (c : CheckedOf) (r : ResolvedOf) (stack : List Word) → r ≡ c.resolved → IsChecked c → IsInitialStack (system_in c) stack → length stack ≤ r.temp
+pub initial_room : (c : CheckedOf) (r : ResolvedOf) (stack : List Word) → r ≡ c.resolved → IsChecked c → IsInitialStack (system_in c) stack
+    → length stack ≤ r.temp
 initial_room c r stack same h initial =
     subst (λ (u : ResolvedOf). length stack ≤ u.temp) (sym same) (subst (λ n. n ≤ (system_in c).temp) (sym initial.as_long) h.sound.stack_fits)
 
-pub initial_words : (c : CheckedOf) (r : ResolvedOf) (stack : List Word) → r ≡ c.resolved → IsChecked c → IsInitialStack (system_in c) stack → Each (IsWordOf (system_view r)) stack
+pub initial_words : (c : CheckedOf) (r : ResolvedOf) (stack : List Word) → r ≡ c.resolved → IsChecked c → IsInitialStack (system_in c) stack
+    → Each (IsWordOf (system_view r)) stack
 initial_words c r stack same h initial =
     subst (λ (u : ResolvedOf). Each (IsWordOf (system_view u)) stack) (sym same) (words_known (system_in c) stack initial.words)

@@ -28,7 +28,8 @@ use Rattle.piton_semantics.proofs.SimulationLaws.{each_row, state_with}
 
 -- What a step needs of a placed program and of a state, at an instruction i: the state's words are in range, and the
 -- code of i and of the next place stands where the names say.
-pub record IsSet (A : Addresses) (code : List ℕ) (S : SystemView) (I : ℕ → ℕ → Type 0) (J : ℕ → Type 0) (pr pl : ℕ) (f : Frame) (ws : List Word) (areas : List (List Word)) (i : Instruction) : Type 0 where
+pub record IsSet (A : Addresses) (code : List ℕ) (S : SystemView) (I : ℕ → ℕ → Type 0) (J : ℕ → Type 0) (pr pl : ℕ) (f : Frame) (ws : List Word)
+    (areas : List (List Word)) (i : Instruction) : Type 0 where
   pub ready : IsReady A code S areas
   pub names : TellApart A (map (λ xs. length xs) areas) I J
   pub asks : Asks f areas i
@@ -43,7 +44,9 @@ IsAllSet A code S I J p (f ∷ fs) =
     (i : Instruction) → instruction_at S p.program p.place ≡ Some i → IsSet A code S I J p.program p.place f p.stack p.areas i
 
 module _ (A : Addresses) (code : List ℕ) (S : SystemView) (I : ℕ → ℕ → Type 0) (J : ℕ → Type 0) where
-  one_from : (pr pl : ℕ) (frames : List Frame) (ws : List Word) (areas : List (List Word)) (s : Fm) (q : PitonState) → (let p : PitonState = record { program = pr; place = pl; frames = frames; stack = ws; areas = areas } in IsAllSet A code S I J p frames → StandsAt A code s p → piton_step S p ≡ Ok q → SimulatesAt A code (step_cost S p) s q)
+  one_from : (pr pl : ℕ) (frames : List Frame) (ws : List Word) (areas : List (List Word)) (s : Fm) (q : PitonState)
+      → (let p : PitonState = record { program = pr; place = pl; frames = frames; stack = ws; areas = areas } in IsAllSet A code S I J p frames
+      → StandsAt A code s p → piton_step S p ≡ Ok q → SimulatesAt A code (step_cost S p) s q)
   one_from pr pl [] ws areas s q set h e =
       by_ok _ q (SimulatesAt A code 0 s) e record { comes = arrives_at_once h.is }
   one_from pr pl (f ∷ fs) ws areas s q set h e =
@@ -52,22 +55,27 @@ module _ (A : Addresses) (code : List ℕ) (S : SystemView) (I : ℕ → ℕ →
       let d = each_row A code S pr pl f fs areas here.ready s I J here.names i ws q here.asks here.fits h here.stands here.after g in
       subst (λ n. SimulatesAt A code n s q) (sym (ap (cost_at S (state_with pr pl f fs areas ws)) there)) d)
 
-  pub one : (s : Fm) (p q : PitonState) → IsAllSet A code S I J p p.frames → StandsAt A code s p → piton_step S p ≡ Ok q → SimulatesAt A code (step_cost S p) s q
+  pub one : (s : Fm) (p q : PitonState) → IsAllSet A code S I J p p.frames → StandsAt A code s p → piton_step S p ≡ Ok q
+      → SimulatesAt A code (step_cost S p) s q
   one s p q set h e = one_from p.program p.place p.frames p.stack p.areas s q set h e
 
 -- the program of an instruction
-some_program : (ps : List ProgramView) (k place : ℕ) (instruction : Instruction) → slice_get (slice_index_or ps k no_program).instructions place ≡ Some instruction → slice_get ps k ≡ Some (slice_index_or ps k no_program)
+some_program : (ps : List ProgramView) (k place : ℕ) (instruction : Instruction)
+    → slice_get (slice_index_or ps k no_program).instructions place ≡ Some instruction → slice_get ps k ≡ Some (slice_index_or ps k no_program)
 some_program [] k place instruction h = cc
 some_program (p ∷ ps) zero place instruction h = refl
 some_program (p ∷ ps) (suc k) place instruction h = some_program ps k place instruction h
 
 -- what a checked instruction asks of a state
-asked : (s : SystemView) → IsSound s → (p : PitonState) (f : Frame) (fs : List Frame) → length f.locals ≡ variables_of s p.program → map length p.areas ≡ map length s.areas → (instruction : Instruction) → instruction_at s p.program p.place ≡ Some instruction → IsInstructionOf s p.program p.place instruction → Asks f p.areas instruction
+asked : (s : SystemView) → IsSound s → (p : PitonState) (f : Frame) (fs : List Frame) → length f.locals ≡ variables_of s p.program
+    → map length p.areas ≡ map length s.areas → (instruction : Instruction) → instruction_at s p.program p.place ≡ Some instruction
+    → IsInstructionOf s p.program p.place instruction → Asks f p.areas instruction
 asked s sound p f fs same areas (i.PopLocal k) there h = subst (λ n. k < n) (sym same) h.0
 asked s sound p f fs same areas (i.SetLocal k) there h = subst (λ n. k < n) (sym same) h.0
 asked s sound p f fs same areas (i.PopGlobal a) there h = subst (λ n. 0 < n) (ap (λ ns. get_or ns a 0) (sym areas) ∙ area_length p.areas a) h.0
 asked s sound p f fs same areas (i.SetGlobal a) there h = subst (λ n. 0 < n) (ap (λ ns. get_or ns a 0) (sym areas) ∙ area_length p.areas a) h.0
-asked s sound p f fs same areas (i.TestAndJump family kind to) there h = is_tested family kind (placed_at s sound p.program p.place (i.TestAndJump family kind to) there).1.0
+asked s sound p f fs same areas (i.TestAndJump family kind to) there h =
+    is_tested family kind (placed_at s sound p.program p.place (i.TestAndJump family kind to) there).1.0
 asked s sound p f fs same areas (i.PushConstant w) there h = tt
 asked s sound p f fs same areas (i.PushLocal k) there h = tt
 asked s sound p f fs same areas (i.PushGlobal a) there h = tt
@@ -95,7 +103,9 @@ asked s sound p f fs same areas (i.Apply o) there h = tt
 
 -- what a step needs, from what each state keeps
 module _ (s : SystemView) (sound : IsSound s) (fits_in : end_of s < 2 ^ 32) where
-  set_at : (p : PitonState) → IsState s p → (f : Frame) (fs : List Frame) → length f.locals ≡ variables_of s p.program → (instruction : Instruction) → instruction_at s p.program p.place ≡ Some instruction → IsSet (addresses_of s) (code_of s) s (IsPlace s) (IsProgram s) p.program p.place f p.stack p.areas instruction
+  set_at : (p : PitonState) → IsState s p → (f : Frame) (fs : List Frame) → length f.locals ≡ variables_of s p.program → (instruction : Instruction)
+      → instruction_at s p.program p.place ≡ Some instruction → IsSet (addresses_of s) (code_of s) s (IsPlace s) (IsProgram s) p.program p.place f
+      p.stack p.areas instruction
   set_at p is f fs same instruction there =
       let A = addresses_of s in
       let some = some_program s.programs p.program p.place instruction there in
@@ -104,11 +114,13 @@ module _ (s : SystemView) (sound : IsSound s) (fits_in : end_of s < 2 ^ 32) wher
         names = tell_apart s p.areas fits_in is.lengths;
         asks = asked s sound p f fs same is.lengths instruction there ((known s sound).instructions p.program p.place instruction there);
         fits = words_in s p.areas is.lengths p.stack is.stack;
-        stands = subst (λ n. CodeAt (parts_with A (code_of s)) (A.place_at p.program p.place) (template A p.program p.place n instruction)) (sym same) (placing.instruction_at s p.program (program_of s p.program) some p.place instruction there);
+        stands = subst (λ n. CodeAt (parts_with A (code_of s)) (A.place_at p.program p.place) (template A p.program p.place n instruction)) (sym same)
+            (placing.instruction_at s p.program (program_of s p.program) some p.place instruction there);
         after = placing.next_at s p.program p.place (length f.locals) instruction there;
       }
 
-  all_set : (p : PitonState) → IsState s p → (fs : List Frame) → AreFrames s p.program fs → IsAllSet (addresses_of s) (code_of s) s (IsPlace s) (IsProgram s) p fs
+  all_set : (p : PitonState) → IsState s p → (fs : List Frame) → AreFrames s p.program fs
+      → IsAllSet (addresses_of s) (code_of s) s (IsPlace s) (IsProgram s) p fs
   all_set p is [] are = tt
   all_set p is (f ∷ fs) are = λ instruction there. set_at p is f fs are.0 instruction there
 
@@ -116,5 +128,6 @@ module _ (s : SystemView) (sound : IsSound s) (fits_in : end_of s < 2 ^ 32) wher
   step_simulated m p q is h e = one (addresses_of s) (code_of s) s (IsPlace s) (IsProgram s) m p q (all_set p is p.frames is.frames) h e
 
 -- each step of a sound system that is small enough
-pub each_step_simulated : (s : SystemView) → IsSound s → (placed s).size ≤ 2 ^ 20 → (m : Fm) (p q : PitonState) → IsState s p → Stands s m p → piton_step s p ≡ Ok q → Simulates s (step_cost s p) m q
+pub each_step_simulated : (s : SystemView) → IsSound s → (placed s).size ≤ 2 ^ 20 → (m : Fm) (p q : PitonState) → IsState s p → Stands s m p
+    → piton_step s p ≡ Ok q → Simulates s (step_cost s p) m q
 each_step_simulated s sound small = step_simulated s sound (end_fits s sound.low_base small)

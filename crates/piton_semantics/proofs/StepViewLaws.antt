@@ -1,5 +1,6 @@
 -- What follows where a step has an answer.
-use Rattle.std.proofs.Common.{◌≡◌, ℕ, zero, suc, ◌<◌, Bool, true, false, Option, Some, None, Result, Ok, Err, List, [], ◌∷◌, length, refl, ap, ◌∙◌, subst, arith}
+use Rattle.std.proofs.Common.{◌≡◌, ℕ, zero, suc, ◌<◌, Bool, true, false, Option, Some, None, Result, Ok, Err, List, [], ◌∷◌, length, refl, ap, ◌∙◌, subst}
+use Rattle.std.proofs.Common.{arith}
 use Rattle.std.specs.Prelude.{ℤ, pos, negsuc, not, int_lt, map, get_or, slice_get, slice_index_or}
 use Rattle.std.proofs.lemmas.Bool.Decides.{nat_tests}
 use Rattle.fm_words.specs.Alu.{does_hold}
@@ -16,7 +17,8 @@ use Rattle.piton_syntax.specs.declared.test_kind.TestFamily.{TestFamily}
 use Rattle.piton_syntax.specs.declared.test_kind.TestKind.TheVariants as test
 use Rattle.piton_syntax.specs.declared.test_kind.TestKind.{TestKind}
 use Rattle.piton_semantics.specs.State.{PitonState}
-use Rattle.piton_semantics.specs.Views.{◌>>=◌, then_on, where_true, found, One, Two, one_of, two_of, nat_of, addr_of, pc_of, subr_of, lifted, error_of, test_of, does_nat_hold, does_int_hold, does_bool_hold, does_bitv_hold, is_zero, is_negative, is_positive}
+use Rattle.piton_semantics.specs.Views.{◌>>=◌, then_on, where_true, found, One, Two, one_of, two_of, nat_of, addr_of, pc_of, subr_of, lifted, error_of, test_of}
+use Rattle.piton_semantics.specs.Views.{does_nat_hold, does_int_hold, does_bool_hold, does_bitv_hold, is_zero, is_negative, is_positive}
 use Rattle.piton_semantics.specs.InstructionRows.{Row}
 use Rattle.piton_semantics.specs.Addresses.{Addresses, word_number}
 use Rattle.piton_semantics.specs.Templates.{condition_of}
@@ -26,12 +28,14 @@ use Rattle.piton_semantics.proofs.ReadyForms.{is_test}
 pub refused : {A : Type 0} (e : ErrorKind) (p : PitonState) → (let r : Row = Err e in r) ≡ Ok p → A
 refused e p h = absurd cc
 
-pub by_one : (ws : List Word) (go : One → Row) (p : PitonState) (Q : List Word → Type 0) → (one_of ws >>= go) ≡ Ok p → ((t : Word) (rest : List Word) → go record { top = t; below = rest } ≡ Ok p → Q (t ∷ rest)) → Q ws
+pub by_one : (ws : List Word) (go : One → Row) (p : PitonState) (Q : List Word → Type 0) → (one_of ws >>= go) ≡ Ok p
+    → ((t : Word) (rest : List Word) → go record { top = t; below = rest } ≡ Ok p → Q (t ∷ rest)) → Q ws
 unfolding then_on
 by_one (t ∷ rest) go p Q h k = k t rest h
 by_one [] go p Q h k = refused TempEmpty p h
 
-pub by_two : (ws : List Word) (go : Two → Row) (p : PitonState) (Q : List Word → Type 0) → (two_of ws >>= go) ≡ Ok p → ((t v : Word) (rest : List Word) → go record { top = t; second = v; below = rest } ≡ Ok p → Q (t ∷ v ∷ rest)) → Q ws
+pub by_two : (ws : List Word) (go : Two → Row) (p : PitonState) (Q : List Word → Type 0) → (two_of ws >>= go) ≡ Ok p
+    → ((t v : Word) (rest : List Word) → go record { top = t; second = v; below = rest } ≡ Ok p → Q (t ∷ v ∷ rest)) → Q ws
 unfolding then_on
 by_two (t ∷ v ∷ rest) go p Q h k = k t v rest h
 by_two (t ∷ []) go p Q h k = refused TempEmpty p h
@@ -42,7 +46,8 @@ unfolding then_on
 by_nat (Nat n) go p Q h k = k n h
 by_nat w go p Q h k = refused Tag p h
 
-pub by_addr : (w : Word) (go : ℕ × ℕ → Row) (p : PitonState) (Q : Word → Type 0) → (addr_of w >>= go) ≡ Ok p → (((a o : ℕ) → go (a, o) ≡ Ok p → Q (Addr a o))) → Q w
+pub by_addr : (w : Word) (go : ℕ × ℕ → Row) (p : PitonState) (Q : Word → Type 0) → (addr_of w >>= go) ≡ Ok p
+    → (((a o : ℕ) → go (a, o) ≡ Ok p → Q (Addr a o))) → Q w
 unfolding then_on
 by_addr (Addr a o) go p Q h k = k a o h
 by_addr w go p Q h k = refused Tag p h
@@ -57,7 +62,8 @@ unfolding then_on
 by_subr (Subr a) go p Q h k = k a h
 by_subr w go p Q h k = refused Tag p h
 
-pub by_found : {A : Type 0} (o : Option A) (e : ErrorKind) (go : A → Row) (p : PitonState) (Q : Type 0) → (found o e >>= go) ≡ Ok p → ((x : A) → o ≡ Some x → go x ≡ Ok p → Q) → Q
+pub by_found : {A : Type 0} (o : Option A) (e : ErrorKind) (go : A → Row) (p : PitonState) (Q : Type 0) → (found o e >>= go) ≡ Ok p
+    → ((x : A) → o ≡ Some x → go x ≡ Ok p → Q) → Q
 unfolding then_on
 by_found (Some x) e go p Q h k = k x refl h
 by_found None e go p Q h k = refused e p h
@@ -67,7 +73,8 @@ unfolding where_true
 by_true true e r p Q h k = k refl h
 by_true false e r p Q h k = refused e p h
 
-pub by_lifted : {A : Type 0} (r : Result A WordError) (go : A → Row) (p : PitonState) (Q : Type 0) → (lifted r >>= go) ≡ Ok p → ((x : A) → r ≡ Ok x → go x ≡ Ok p → Q) → Q
+pub by_lifted : {A : Type 0} (r : Result A WordError) (go : A → Row) (p : PitonState) (Q : Type 0) → (lifted r >>= go) ≡ Ok p
+    → ((x : A) → r ≡ Ok x → go x ≡ Ok p → Q) → Q
 unfolding then_on
 by_lifted (Ok x) go p Q h k = k x refl h
 by_lifted (Err e) go p Q h k = refused (error_of e) p h
@@ -98,7 +105,8 @@ positive_is : (z : ℤ) → int_lt (pos 0) z ≡ is_positive z
 positive_is (pos n) = grind (arith, nat_tests)
 positive_is (negsuc n) = refl
 
-pub by_test : (A : Addresses) (lens : List ℕ) (I : ℕ → ℕ → Type 0) (J : ℕ → Type 0) (f : TestFamily) (kind : TestKind) (w : Word) (go : Bool → Row) (p : PitonState) → is_test f kind ≡ true → (test_of f kind w >>= go) ≡ Ok p → IsWordBy lens I J w → Tested A kind w go p
+pub by_test : (A : Addresses) (lens : List ℕ) (I : ℕ → ℕ → Type 0) (J : ℕ → Type 0) (f : TestFamily) (kind : TestKind) (w : Word) (go : Bool → Row)
+    (p : PitonState) → is_test f kind ≡ true → (test_of f kind w >>= go) ≡ Ok p → IsWordBy lens I J w → Tested A kind w go p
 unfolding then_on
 by_test A l I J family.Nat test.Zero (Nat n) go p t h q = record { b = does_nat_hold test.Zero n; holds = refl; goes = h }
 by_test A l I J family.Nat test.Zero w go p t h q = refused Tag p h
@@ -110,15 +118,18 @@ by_test A l I J family.Bitv test.NotAllZero (Bitv n) go p t h q = record { b = d
 by_test A l I J family.Bitv test.NotAllZero w go p t h q = refused Tag p h
 by_test A l I J family.Int test.Zero (Int n) go p t h q = record { b = does_int_hold test.Zero n; holds = test_rows.is_zero_int n q ∙ zero_is n; goes = h }
 by_test A l I J family.Int test.Zero w go p t h q = refused Tag p h
-by_test A l I J family.Int test.NotZero (Int n) go p t h q = record { b = does_int_hold test.NotZero n; holds = test_rows.not_zero_int n q ∙ ap not (zero_is n); goes = h }
+by_test A l I J family.Int test.NotZero (Int n) go p t h q =
+    record { b = does_int_hold test.NotZero n; holds = test_rows.not_zero_int n q ∙ ap not (zero_is n); goes = h }
 by_test A l I J family.Int test.NotZero w go p t h q = refused Tag p h
 by_test A l I J family.Int test.Neg (Int n) go p t h q = record { b = does_int_hold test.Neg n; holds = test_rows.is_neg n q ∙ negative_is n; goes = h }
 by_test A l I J family.Int test.Neg w go p t h q = refused Tag p h
-by_test A l I J family.Int test.NotNeg (Int n) go p t h q = record { b = does_int_hold test.NotNeg n; holds = test_rows.not_neg n q ∙ ap not (negative_is n); goes = h }
+by_test A l I J family.Int test.NotNeg (Int n) go p t h q =
+    record { b = does_int_hold test.NotNeg n; holds = test_rows.not_neg n q ∙ ap not (negative_is n); goes = h }
 by_test A l I J family.Int test.NotNeg w go p t h q = refused Tag p h
 by_test A l I J family.Int test.Pos (Int n) go p t h q = record { b = does_int_hold test.Pos n; holds = test_rows.is_pos n q ∙ positive_is n; goes = h }
 by_test A l I J family.Int test.Pos w go p t h q = refused Tag p h
-by_test A l I J family.Int test.NotPos (Int n) go p t h q = record { b = does_int_hold test.NotPos n; holds = test_rows.not_pos n q ∙ ap not (positive_is n); goes = h }
+by_test A l I J family.Int test.NotPos (Int n) go p t h q =
+    record { b = does_int_hold test.NotPos n; holds = test_rows.not_pos n q ∙ ap not (positive_is n); goes = h }
 by_test A l I J family.Int test.NotPos w go p t h q = refused Tag p h
 by_test A l I J family.Bool test.T (Truth n) go p t h q = record { b = does_bool_hold test.T n; holds = test_rows.is_true n; goes = h }
 by_test A l I J family.Bool test.T w go p t h q = refused Tag p h

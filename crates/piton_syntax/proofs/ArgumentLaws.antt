@@ -27,22 +27,26 @@ first_true false true h = h
 first_true false false h = h
 
 -- the first of the trees that are of the kind is of the kind
-pub kind_here : (k : ArgKind) (trees : List TextTree) (i : ℕ) (t : TextTree) → i < length trees → t ≡ get_or trees i t → IsTrue (are_of_kind k (nodes_of (drop i trees))) → IsTrue (is_of_kind k (node_of t))
+pub kind_here : (k : ArgKind) (trees : List TextTree) (i : ℕ) (t : TextTree) → i < length trees → t ≡ get_or trees i t
+    → IsTrue (are_of_kind k (nodes_of (drop i trees))) → IsTrue (is_of_kind k (node_of t))
 kind_here k trees i t lt is h =
     first_true (is_of_kind k (node_of t)) (are_of_kind k (nodes_of (drop (i + 1) trees)))
     (subst (λ ts. IsTrue (are_of_kind k (nodes_of ts))) (drop-item trees i t lt is) h)
 
 -- the trees after one of their kind are of the kind
-pub kinds_left : (k : ArgKind) (trees : List TextTree) (i : ℕ) (t : TextTree) → i < length trees → t ≡ get_or trees i t → IsTrue (are_of_kind k (nodes_of (drop i trees)))
+pub kinds_left : (k : ArgKind) (trees : List TextTree) (i : ℕ) (t : TextTree) → i < length trees → t ≡ get_or trees i t
+    → IsTrue (are_of_kind k (nodes_of (drop i trees)))
     → IsTrue (are_of_kind k (nodes_of (drop (i + 1) trees)))
 kinds_left k trees i t lt is h =
     second_true (is_of_kind k (node_of t)) (are_of_kind k (nodes_of (drop (i + 1) trees)))
     (subst (λ ts. IsTrue (are_of_kind k (nodes_of ts))) (drop-item trees i t lt is) h)
 
-pub some_kinds : (k : ArgKind) (p : ℕ) (ts : List TextTree) → length ts ≢ 0 → are_of_kind k (nodes_of ts) ≡ true → arguments_of (row.OneOrMore k) p (nodes_of ts) ≡ each_of (argument_of k) (nodes_of ts)
+pub some_kinds : (k : ArgKind) (p : ℕ) (ts : List TextTree) → length ts ≢ 0 → are_of_kind k (nodes_of ts) ≡ true
+    → arguments_of (row.OneOrMore k) p (nodes_of ts) ≡ each_of (argument_of k) (nodes_of ts)
 some_kinds k p [] ne e = absurd (ne refl)
 some_kinds k p (t ∷ ts) ne e = rw e refl
 
-pub other_kinds : (k : ArgKind) (p : ℕ) (ts : List TextTree) → length ts ≢ 0 → are_of_kind k (nodes_of ts) ≡ false → arguments_of (row.OneOrMore k) p (nodes_of ts) ≡ fault p 7
+pub other_kinds : (k : ArgKind) (p : ℕ) (ts : List TextTree) → length ts ≢ 0 → are_of_kind k (nodes_of ts) ≡ false
+    → arguments_of (row.OneOrMore k) p (nodes_of ts) ≡ fault p 7
 other_kinds k p [] ne e = absurd (ne refl)
 other_kinds k p (t ∷ ts) ne e = rw e refl

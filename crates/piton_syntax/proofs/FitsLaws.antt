@@ -32,10 +32,15 @@ use Rattle.stack_text.specs.Grammar.Parts.{IsNamed, count_of, list_length}
 use Rattle.piton_syntax.specs.Limits.{is_small_program, is_small_system}
 use Rattle.piton_syntax.specs.Operations.{op_arguments, operation_named, tag_named, tests_of, test_name}
 use Rattle.stack_text.specs.Grammar.Parts.{bytes_of, is_atom_of}
-use Rattle.piton_syntax.specs.Grammar.{named_of, number_of, is_true_word, is_false_word, address, program_place, item_of, word_of, is_of_kind, are_of_kind, argument_of, test_at, one, test_and_label, tested_of, pair, arguments_of, called_of, labelled_of, instruction_of, list_of, temporary_of, program_of, area_of, system_of}
-use Rattle.piton_syntax.specs.Systems.{InstrOf, ProgramOf, AreaOf, SystemOf, new_word, new_instruction, new_program, new_area, new_system, unplaced_item, unplaced_word, unplaced_argument, unplaced_instruction, unplaced_temporary, unplaced_program, unplaced_area, without_places}
+use Rattle.piton_syntax.specs.Grammar.{named_of, number_of, is_true_word, is_false_word, address, program_place, item_of, word_of, is_of_kind, are_of_kind}
+use Rattle.piton_syntax.specs.Grammar.{argument_of, test_at, one, test_and_label, tested_of, pair, arguments_of, called_of, labelled_of, instruction_of}
+use Rattle.piton_syntax.specs.Grammar.{list_of, temporary_of, program_of, area_of, system_of}
+use Rattle.piton_syntax.specs.Systems.{InstrOf, ProgramOf, AreaOf, SystemOf, new_word, new_instruction, new_program, new_area, new_system, unplaced_item}
+use Rattle.piton_syntax.specs.Systems.{unplaced_word, unplaced_argument, unplaced_instruction, unplaced_temporary, unplaced_program, unplaced_area}
+use Rattle.piton_syntax.specs.Systems.{without_places}
 use Rattle.piton_syntax.specs.Printed.{tree_of}
-use Rattle.piton_syntax.specs.Fits.{IsSigned, IsUnsigned, FitsItem, FitsWord, FitsArgument, FitsArguments, FitsLabel, FitsInstruction, FitsTemporary, FitsProgram, FitsArea, FitsForm}
+use Rattle.piton_syntax.specs.Fits.{IsSigned, IsUnsigned, FitsItem, FitsWord, FitsArgument, FitsArguments, FitsLabel, FitsInstruction, FitsTemporary}
+use Rattle.piton_syntax.specs.Fits.{FitsProgram, FitsArea, FitsForm}
 use Rattle.stack_text.proofs.NumeralTextLaws.{natural_digits}
 use Rattle.stack_text.proofs.FitsLaws.{Fitting, FittingList, all_under, fits_each, fits_front, fits_list, fits_name, placed_names}
 use Rattle.stack_text.proofs.KeepsLaws.{Holds, holds_judged, holds_one, holds_two, holds_four, holds_seven, holds_at, holds_if, holds_more}
@@ -52,17 +57,24 @@ fits_unsigned (list p ts) digits = absurd cc
 -- ---- words
 
 fits_item : (k : Option Tag) (p : ℕ) (ts : Nodes) → Holds FitsItem (item_of k p ts)
-fits_item (Some tag.Int) p (more n none) = holds_judged FitsItem p 5 (is_atom_of is_numeral n) _ (λ pass. holds_one IsSigned FitsItem item.Int (number_of n) (λ m h. h) (fits_signed n))
-fits_item (Some tag.Nat) p (more n none) = holds_judged FitsItem p 5 (is_atom_of is_digits n) _ (λ pass. holds_one IsUnsigned FitsItem item.Nat (number_of n) (λ m h. h) (fits_unsigned n pass))
-fits_item (Some tag.Bitv) p (more n none) = holds_judged FitsItem p 5 (is_atom_of is_digits n) _ (λ pass. holds_one IsUnsigned FitsItem item.Bitv (number_of n) (λ m h. h) (fits_unsigned n pass))
-fits_item (Some tag.Bool) p (more b none) = holds_judged FitsItem p 5 (is_atom_of is_true_word b || is_atom_of is_false_word b) _ (λ pass. record { of_value = tt })
+fits_item (Some tag.Int) p (more n none) =
+    holds_judged FitsItem p 5 (is_atom_of is_numeral n) _ (λ pass. holds_one IsSigned FitsItem item.Int (number_of n) (λ m h. h) (fits_signed n))
+fits_item (Some tag.Nat) p (more n none) = holds_judged FitsItem p 5 (is_atom_of is_digits n)
+    _ (λ pass. holds_one IsUnsigned FitsItem item.Nat (number_of n) (λ m h. h) (fits_unsigned n pass))
+fits_item (Some tag.Bitv) p (more n none) = holds_judged FitsItem p 5 (is_atom_of is_digits n)
+    _ (λ pass. holds_one IsUnsigned FitsItem item.Bitv (number_of n) (λ m h. h) (fits_unsigned n pass))
+fits_item (Some tag.Bool) p (more b none) =
+    holds_judged FitsItem p 5 (is_atom_of is_true_word b || is_atom_of is_false_word b) _ (λ pass. record { of_value = tt })
 fits_item (Some tag.Addr) p (more area (more n none)) =
     holds_judged FitsItem p 5 (is_atom_of is_name area && is_atom_of is_digits n) _
-    (λ pass. holds_two IsNamed IsUnsigned FitsItem address (named_of area) (number_of n) (λ a g m h. (g, h)) (fits_name 4 area) (fits_unsigned n (and_parts (is_atom_of is_name area) (is_atom_of is_digits n) pass).1))
+    (λ pass. holds_two IsNamed IsUnsigned FitsItem address (named_of area) (number_of n) (λ a g m h. (g, h)) (fits_name 4 area)
+    (fits_unsigned n (and_parts (is_atom_of is_name area) (is_atom_of is_digits n) pass).1))
 fits_item (Some tag.Pc) p (more program (more n none)) =
     holds_judged FitsItem p 5 (is_atom_of is_name program && is_atom_of is_digits n) _
-    (λ pass. holds_two IsNamed IsUnsigned FitsItem program_place (named_of program) (number_of n) (λ a g m h. (g, h)) (fits_name 4 program) (fits_unsigned n (and_parts (is_atom_of is_name program) (is_atom_of is_digits n) pass).1))
-fits_item (Some tag.Subr) p (more program none) = holds_judged FitsItem p 5 (is_atom_of is_name program) _ (λ pass. holds_one IsNamed FitsItem item.Subr (named_of program) (λ a h. h) (fits_name 4 program))
+    (λ pass. holds_two IsNamed IsUnsigned FitsItem program_place (named_of program) (number_of n) (λ a g m h. (g, h)) (fits_name 4 program)
+    (fits_unsigned n (and_parts (is_atom_of is_name program) (is_atom_of is_digits n) pass).1))
+fits_item (Some tag.Subr) p (more program none) = holds_judged FitsItem p 5 (is_atom_of is_name program)
+    _ (λ pass. holds_one IsNamed FitsItem item.Subr (named_of program) (λ a h. h) (fits_name 4 program))
 fits_item k p ts = record { of_value = tt }
 
 fits_word : (t : Node) → Holds FitsWord (word_of t)
@@ -79,7 +91,8 @@ found_among test k (l ∷ ks) h = by_test (test l) h (found_among test k ks)
     by_test true e later = (0, omega arith, cc)
     by_test false e later = let found = later e in (suc found.0, omega (arith, found.1), found.2)
 
-fits_tested : (f : TestFamily) (t label : Node) (p : ℕ) (found : Option TestKind) → test_at f t ≡ found → Holds (FitsArguments (TestAndLabel f)) (tested_of p found label)
+fits_tested : (f : TestFamily) (t label : Node) (p : ℕ) (found : Option TestKind) → test_at f t ≡ found
+    → Holds (FitsArguments (TestAndLabel f)) (tested_of p found label)
 fits_tested f t label p None e = record { of_value = tt }
 fits_tested f (list q ts) label p (Some k) e = absurd cc
 fits_tested f (atom q w) label p (Some k) e =
@@ -109,16 +122,19 @@ one_or_more k t ts (x ∷ xs) h = h.all
 fits_arguments : (a : Arguments) (p : ℕ) (ts : Nodes) → Holds (FitsArguments a) (arguments_of a p ts)
 fits_arguments Zero p none = record { of_value = tt }
 fits_arguments (One k) p (more t none) =
-    holds_judged (FitsArguments (One k)) p 7 (is_of_kind k t) _ (λ pass. holds_one (FitsArgument k) (FitsArguments (One k)) one (argument_of k t) (λ x h. h) (fits_argument k t pass))
+    holds_judged (FitsArguments (One k)) p 7 (is_of_kind k t) _
+    (λ pass. holds_one (FitsArgument k) (FitsArguments (One k)) one (argument_of k t) (λ x h. h) (fits_argument k t pass))
 fits_arguments (TestAndLabel f) p (more t (more label none)) = fits_tested f t label p (test_at f t) refl
 fits_arguments (OneOrMore k) p (more t ts) =
     holds_judged (FitsArguments (OneOrMore k)) p 7 (are_of_kind k (more t ts)) _
-    (λ pass. holds_more (Fitting (FitsArgument k) (more t ts)) (FitsArguments (OneOrMore k)) (each_of (argument_of k) (more t ts)) (one_or_more k t ts) (fits_some k (more t ts) pass))
+    (λ pass. holds_more (Fitting (FitsArgument k) (more t ts)) (FitsArguments (OneOrMore k)) (each_of (argument_of k) (more t ts)) (one_or_more k t ts)
+    (fits_some k (more t ts) pass))
 fits_arguments a p ts = record { of_value = tt }
 
 -- ---- instructions, programs, areas
 
-fits_called : (p : ℕ) (l : Judged (Option Named)) → Holds FitsLabel l → (found : Option PitonOp) (q : ℕ) (ts : Nodes) → Holds FitsInstruction (called_of p l found q ts)
+fits_called : (p : ℕ) (l : Judged (Option Named)) → Holds FitsLabel l → (found : Option PitonOp) (q : ℕ) (ts : Nodes)
+    → Holds FitsInstruction (called_of p l found q ts)
 fits_called p l hl None q ts = record { of_value = tt }
 fits_called p l hl (Some o) q ts =
     holds_two FitsLabel (FitsArguments (op_arguments o)) FitsInstruction (new_instruction p o) l (arguments_of (op_arguments o) q ts)
@@ -151,7 +167,8 @@ fits_program (list p (more name (more formals (more temporaries (more i is))))) 
     (λ small. holds_four IsNamed (FittingList IsNamed formals) (FittingList FitsTemporary temporaries) (Fitting FitsInstruction (more i is)) FitsProgram
     (new_program p (place_of formals)) (named_of name) (list_of named_of formals) (list_of temporary_of temporaries) (each_of instruction_of (more i is))
     (λ n hn fs hf ts ht js hj.
-    let counts = small_locals (list_length formals + list_length temporaries) (count_of (more i is)) (length fs + length ts) (length js) small (omega (arith, hf.count, ht.count)) hj.count in
+    let counts = small_locals (list_length formals + list_length temporaries) (count_of (more i is)) (length fs + length ts) (length js) small
+    (omega (arith, hf.count, ht.count)) hj.count in
     record {
       name = hn;
       formals = hf.all;
@@ -161,7 +178,8 @@ fits_program (list p (more name (more formals (more temporaries (more i is))))) 
       some_instrs = let many : length js ≡ 1 + count_of is = hj.count in omega (arith, many);
       few_instrs = counts.1;
     })
-    (fits_name 4 name) (fits_list 3 IsNamed named_of (fits_name 4) formals) (fits_list 3 FitsTemporary temporary_of fits_temporary temporaries) (fits_each FitsInstruction instruction_of fits_instruction (more i is)))
+    (fits_name 4 name) (fits_list 3 IsNamed named_of (fits_name 4) formals) (fits_list 3 FitsTemporary temporary_of fits_temporary temporaries)
+    (fits_each FitsInstruction instruction_of fits_instruction (more i is)))
 fits_program t = record { of_value = tt }
 
 fits_area : (t : Node) → Holds FitsArea (area_of t)
@@ -184,7 +202,8 @@ fits_system (list p (more (atom q w) (more main (more ctrl (more temp (more base
     let first_ = and_parts (bytes_eq w (codes "piton")) (is_atom_of is_digits ctrl) middle.0 in
     holds_judged FitsForm p 9 (is_small_system areas (more i is)) _
     (λ small. holds_seven IsNamed IsUnsigned IsUnsigned IsUnsigned (Fitting FitsArea areas) (Fitting FitsWord stack) (Fitting FitsProgram (more i is)) FitsForm
-    (new_system p) (named_of main) (number_of ctrl) (number_of temp) (number_of base) (each_of area_of areas) (each_of word_of stack) (each_of program_of (more i is))
+    (new_system p) (named_of main) (number_of ctrl) (number_of temp) (number_of base) (each_of area_of areas) (each_of word_of stack)
+    (each_of program_of (more i is))
     (λ m hm c hc t ht b hb xs hx ws hw ps hp.
     let counts = small_counts (count_of areas) (count_of (more i is)) (length xs) (length ps) small hx.count hp.count in
     record {

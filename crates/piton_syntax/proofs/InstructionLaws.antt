@@ -35,23 +35,27 @@ not_three_behind p (t ∷ u ∷ v ∷ []) ne = absurd (ne refl)
 not_three_behind p (t ∷ u ∷ v ∷ w ∷ ts) ne = four_behind p (node_of t) (node_of u) (node_of v) (node_of w) (nodes_of ts)
 
 -- the middle tree is no empty list
-pub no_gap : (p : ℕ) (t : Node) (q : ℕ) (items : List TextTree) (us : Nodes) → length items ≢ 0 → labelled_of p (more t (more (list q (nodes_of items)) us)) ≡ fault p 6
+pub no_gap : (p : ℕ) (t : Node) (q : ℕ) (items : List TextTree) (us : Nodes) → length items ≢ 0
+    → labelled_of p (more t (more (list q (nodes_of items)) us)) ≡ fault p 6
 no_gap p t q [] us ne = absurd (ne refl)
 no_gap p t q (u ∷ items) us ne = refl
 
-pub behind_atom : (p : ℕ) (ts : List TextTree) (gap : TextTree) → length ts ≡ 3 → gap ≡ get_or ts 1 gap → (q : ℕ) (text : Bor (List ℕ)) → gap ≡ Atom q text → labelled_of p (nodes_of ts) ≡ fault p 6
+pub behind_atom : (p : ℕ) (ts : List TextTree) (gap : TextTree) → length ts ≡ 3 → gap ≡ get_or ts 1 gap → (q : ℕ) (text : Bor (List ℕ))
+    → gap ≡ Atom q text → labelled_of p (nodes_of ts) ≡ fault p 6
 behind_atom p [] gap e is q text gap_is = absurd (omega (arith, e))
 behind_atom p (t ∷ []) gap e is q text gap_is = absurd (omega (arith, e))
 behind_atom p (t ∷ u ∷ ts) gap e is q text gap_is = rw (sym is ∙ gap_is, node_of-atom q text) refl
 
-pub behind_items : (p : ℕ) (ts : List TextTree) (gap : TextTree) → length ts ≡ 3 → gap ≡ get_or ts 1 gap → (q : ℕ) (items : Vec TextTree Global) → gap ≡ ListOf q items → length items.items ≢ 0
+pub behind_items : (p : ℕ) (ts : List TextTree) (gap : TextTree) → length ts ≡ 3 → gap ≡ get_or ts 1 gap → (q : ℕ) (items : Vec TextTree Global)
+    → gap ≡ ListOf q items → length items.items ≢ 0
     → labelled_of p (nodes_of ts) ≡ fault p 6
 behind_items p [] gap e is q items gap_is ne = absurd (omega (arith, e))
 behind_items p (t ∷ []) gap e is q items gap_is ne = absurd (omega (arith, e))
 behind_items p (t ∷ u ∷ ts) gap e is q items gap_is ne = rw (sym is ∙ gap_is, node_of-list q items) (no_gap p (node_of t) q items.items (nodes_of ts) ne)
 
 -- the first fault of a labelled instruction whose operation is known
-pub fault_in_label : (R : Type 0) (e : FormFault) (p q : ℕ) (label : Node) (name : List ℕ) (o : PitonOp) (ts : Nodes) → operation_named name ≡ Some o → IsFirstFault R e (named_of label)
+pub fault_in_label : (R : Type 0) (e : FormFault) (p q : ℕ) (label : Node) (name : List ℕ) (o : PitonOp) (ts : Nodes) → operation_named name ≡ Some o
+    → IsFirstFault R e (named_of label)
     → IsFirstFault R e (called_of p (Ok Some ⊛ named_of label) (operation_named name) q ts)
 fault_in_label R e p q label name o ts found h =
     rw found

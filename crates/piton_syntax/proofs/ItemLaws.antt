@@ -14,7 +14,8 @@ use Rattle.stack_text.proofs.PrintLaws.{apart_by}
 use Rattle.stack_text.specs.declared.tree.TextTree.{TextTree}
 use Rattle.stack_text.proofs.TreeListLaws.{rest, rest_is_drop}
 
-pub first_and_rest : (ts : List TextTree) (first : TextTree) → length ts ≢ 0 → first ≡ get_or ts 0 first → nodes_of ts ≡ more (node_of first) (nodes_of (rest 1 ts))
+pub first_and_rest : (ts : List TextTree) (first : TextTree) → length ts ≢ 0 → first ≡ get_or ts 0 first
+    → nodes_of ts ≡ more (node_of first) (nodes_of (rest 1 ts))
 first_and_rest [] first ne is = absurd (ne refl)
 first_and_rest (t ∷ ts) first ne is = rw (is, rest_is_drop 1 (t ∷ ts)) refl
 
@@ -23,7 +24,8 @@ pub items_next : {X : Type 0} (tree : X → Node) (xs : List X) (n : ℕ) (x : X
     → apart ≡ out ++ (if n == 0 then [] else 32 ∷ []) → text ≡ apart ++ tree_text (tree x)
     → out ++ items_after n (nodes (map tree (drop n xs))) ≡ all → text ++ items_after (n + 1) (nodes (map tree (drop (n + 1) xs))) ≡ all
 items_next {X} tree xs n x out apart text all lt is apart_is text_is so_far =
-    rw (text_is, apart_is, ne_eqb (n + 1) 0 (λ k. omega (arith, k))) (apart_by (n == 0) out (tree_text (tree x)) (spaced_text (nodes (map tree (drop (n + 1) xs)))))
+    rw (text_is, apart_is, ne_eqb (n + 1) 0 (λ k. omega (arith, k)))
+    (apart_by (n == 0) out (tree_text (tree x)) (spaced_text (nodes (map tree (drop (n + 1) xs)))))
     ∙ ap (λ (ys : List X). out ++ items_after n (nodes (map tree ys))) (sym (drop-item xs n x lt is))
     ∙ so_far
 

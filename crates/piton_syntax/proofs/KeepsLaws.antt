@@ -35,11 +35,19 @@ use Rattle.stack_text.specs.Grammar.Judged.{Judged, judged, ◌⊛◌, front, ea
 use Rattle.piton_syntax.specs.Limits.{is_small_program, is_small_system}
 use Rattle.piton_syntax.specs.Operations.{row_of, op_name, op_arguments, operations, operation_named, tag_named, test_name, tests_of, test_named}
 use Rattle.stack_text.specs.Grammar.Parts.{is_atom_of}
-use Rattle.piton_syntax.specs.Grammar.{named_of, number_of, is_true_word, is_false_word, address, program_place, item_of, word_of, is_of_kind, are_of_kind, argument_of, test_at, one, test_and_label, tested_of, pair, arguments_of, called_of, labelled_of, instruction_of, list_of, temporary_of, program_of, area_of, system_of}
-use Rattle.piton_syntax.specs.Systems.{InstrOf, ProgramOf, AreaOf, SystemOf, new_word, new_instruction, new_program, new_area, new_system, unplaced_number, unplaced_item, unplaced_word, unplaced_argument, unplaced_instruction, unplaced_temporary, unplaced_program, unplaced_area, without_places}
-use Rattle.piton_syntax.specs.Printed.{number_tree, truth_tree, item_tree, word_tree, argument_tree, instruction_tree, temporary_tree, program_tree, area_tree, tree_of}
+use Rattle.piton_syntax.specs.Grammar.{named_of, number_of, is_true_word, is_false_word, address, program_place, item_of, word_of, is_of_kind, are_of_kind}
+use Rattle.piton_syntax.specs.Grammar.{argument_of, test_at, one, test_and_label, tested_of, pair, arguments_of, called_of, labelled_of, instruction_of}
+use Rattle.piton_syntax.specs.Grammar.{list_of, temporary_of, program_of, area_of, system_of}
+use Rattle.piton_syntax.specs.Systems.{InstrOf, ProgramOf, AreaOf, SystemOf, new_word, new_instruction, new_program, new_area, new_system, unplaced_number}
+use Rattle.piton_syntax.specs.Systems.{unplaced_item, unplaced_word, unplaced_argument, unplaced_instruction, unplaced_temporary, unplaced_program}
+use Rattle.piton_syntax.specs.Systems.{unplaced_area, without_places}
+use Rattle.piton_syntax.specs.Printed.{number_tree, truth_tree, item_tree, word_tree, argument_tree, instruction_tree, temporary_tree, program_tree, area_tree}
+use Rattle.piton_syntax.specs.Printed.{tree_of}
 use Rattle.stack_text.proofs.NumeralTextLaws.{value-signed_decimal, numeral-signed_decimal, digits-signed_decimal}
-use Rattle.stack_text.proofs.KeepsLaws.{named_again as name_again, keeps_name as keeps_name_or, keeps_named as keeps_named_or, keeps_list as keeps_list_or, KeepsName, Alike, AllAlike, Holds, IsRun, Keeps, KeepsEach, alike_list_length, alike_items, and_true, found_passes, found_tests, holds_at, holds_four, holds_if, holds_judged, holds_more, holds_one, holds_seven, holds_two, keeps_each, ok_four, ok_one, ok_seven, ok_two, passes, well_formed}
+use Rattle.stack_text.proofs.KeepsLaws.{named_again as name_again, keeps_name as keeps_name_or, keeps_named as keeps_named_or, keeps_list as keeps_list_or}
+use Rattle.stack_text.proofs.KeepsLaws.{KeepsName, Alike, AllAlike, Holds, IsRun, Keeps, KeepsEach, alike_list_length, alike_items, and_true, found_passes}
+use Rattle.stack_text.proofs.KeepsLaws.{found_tests, holds_at, holds_four, holds_if, holds_judged, holds_more, holds_one, holds_seven, holds_two, keeps_each}
+use Rattle.stack_text.proofs.KeepsLaws.{ok_four, ok_one, ok_seven, ok_two, passes, well_formed}
 use Rattle.piton_syntax.proofs.WordLaws.{operation_named-name}
 
 -- ---- names and numbers
@@ -55,18 +63,27 @@ record KeepsNumber (test : List ℕ → Bool) (t : Node) (n : Number) : Type 0 w
   is_written : test (signed_decimal n.number) ≡ true
   fits : fits_128_bits n.number ≡ true
 
-number_judged : (v z : ℤ) → v ≡ z → fits_128_bits z ≡ true → judged 0 8 (fits_128_bits v) (Ok (record { place = 0; number = v })) ≡ Ok (unplaced_number (record { place = 0; number = z }))
+number_judged : (v z : ℤ) → v ≡ z → fits_128_bits z ≡ true → judged 0 8 (fits_128_bits v) (Ok (record { place = 0; number = v }))
+    ≡ Ok (unplaced_number (record { place = 0; number = z }))
 number_judged v z e h =
-    subst (λ (u : ℤ). judged 0 8 (fits_128_bits u) (Ok (record { place = 0; number = u })) ≡ Ok (unplaced_number (record { place = 0; number = z }))) (sym e) (passes 0 8 (fits_128_bits z) _ _ h refl)
+    subst (λ (u : ℤ). judged 0 8 (fits_128_bits u) (Ok (record { place = 0; number = u })) ≡ Ok (unplaced_number (record { place = 0; number = z })))
+    (sym e) (passes 0 8 (fits_128_bits z) _ _ h refl)
 
 pub number_again : (n : Number) → fits_128_bits n.number ≡ true → number_of (number_tree n) ≡ Ok (unplaced_number n)
 number_again n h = number_judged (numeral_value (signed_decimal n.number)) n.number (value-signed_decimal n.number h) h
 
-keeps_number_by : (test : List ℕ → Bool) → ((w : List ℕ) → test w ≡ true → fits_128_bits (numeral_value w) ≡ true → test (signed_decimal (numeral_value w)) ≡ true) →
+keeps_number_by : (test : List ℕ → Bool)
+    → ((w : List ℕ) → test w ≡ true → fits_128_bits (numeral_value w) ≡ true → test (signed_decimal (numeral_value w)) ≡ true) →
     (t : Node) → is_atom_of test t ≡ true → Holds (KeepsNumber test t) (number_of t)
 keeps_number_by test again (atom p w) h =
     holds_judged (KeepsNumber test (atom p w)) p 8 (fits_128_bits (numeral_value w)) _
-    (λ k. record { of_value = record { alike = numeral_is_run (signed_decimal (numeral_value w)) (numeral-signed_decimal (numeral_value w) k); is_written = again w h k; fits = k } })
+    (λ k. record {
+      of_value = record {
+        alike = numeral_is_run (signed_decimal (numeral_value w)) (numeral-signed_decimal (numeral_value w) k);
+        is_written = again w h k;
+        fits = k;
+      };
+    })
 keeps_number_by test again (list p ts) h = absurd cc
 
 keeps_number : (t : Node) → is_atom_of is_numeral t ≡ true → Holds (KeepsNumber is_numeral t) (number_of t)
@@ -94,10 +111,13 @@ truth_again false = refl
 pub word_again : (i : WordItem) (r : Judged WordItem) → r ≡ Ok i → (Ok (new_word 0) ⊛ r) ≡ Ok (new_word 0 i)
 word_again i r h = ok_one (new_word 0) r i h
 
-pub named_and_numbered : (f : Named → Number → WordItem) (area : Named) (n : Number) → is_name area.name ≡ true → is_digits (signed_decimal n.number) ≡ true → fits_128_bits n.number ≡ true →
-    judged 0 5 (is_atom_of is_name (name_tree area) && is_atom_of is_digits (number_tree n)) (Ok f ⊛ named_of (name_tree area) ⊛ number_of (number_tree n)) ≡ Ok (f (unplaced_name area) (unplaced_number n))
+pub named_and_numbered : (f : Named → Number → WordItem) (area : Named) (n : Number) → is_name area.name ≡ true
+    → is_digits (signed_decimal n.number) ≡ true → fits_128_bits n.number ≡ true →
+    judged 0 5 (is_atom_of is_name (name_tree area) && is_atom_of is_digits (number_tree n))
+    (Ok f ⊛ named_of (name_tree area) ⊛ number_of (number_tree n)) ≡ Ok (f (unplaced_name area) (unplaced_number n))
 named_and_numbered f area n named digits fits =
-    passes 0 5 (is_atom_of is_name (name_tree area) && is_atom_of is_digits (number_tree n)) _ _ (ap (λ (b : Bool). b && is_digits (signed_decimal n.number)) named ∙ digits)
+    passes 0 5 (is_atom_of is_name (name_tree area) && is_atom_of is_digits (number_tree n))
+    _ _ (ap (λ (b : Bool). b && is_digits (signed_decimal n.number)) named ∙ digits)
     (ok_two f _ _ (unplaced_name area) (unplaced_number n) (named_again area named) (number_again n fits))
 
 keeps_item : (k : Option Tag) (p : ℕ) (ts : Nodes) → Holds (KeepsItem ts) (item_of k p ts)
@@ -107,7 +127,8 @@ keeps_item (Some tag.Int) p (more n none) =
     holds_judged (KeepsItem (more n none)) p 5 (is_atom_of is_numeral n) _
     (λ pass. holds_one (KeepsNumber is_numeral n) (KeepsItem (more n none)) item.Int (number_of n) (λ m h. record {
       alike = λ p q w. ((omega arith, refl), (h.alike, tt));
-      reads = word_again (item.Int (unplaced_number m)) _ (passes 0 5 (is_numeral (signed_decimal m.number)) _ _ h.is_written (ok_one item.Int _ (unplaced_number m) (number_again m h.fits)));
+      reads = word_again (item.Int (unplaced_number m)) _
+          (passes 0 5 (is_numeral (signed_decimal m.number)) _ _ h.is_written (ok_one item.Int _ (unplaced_number m) (number_again m h.fits)));
     }) (keeps_number n pass))
 keeps_item (Some tag.Int) p (more n (more t ts)) = record { of_value = tt }
 keeps_item (Some tag.Nat) p none = record { of_value = tt }
@@ -115,7 +136,8 @@ keeps_item (Some tag.Nat) p (more n none) =
     holds_judged (KeepsItem (more n none)) p 5 (is_atom_of is_digits n) _
     (λ pass. holds_one (KeepsNumber is_digits n) (KeepsItem (more n none)) item.Nat (number_of n) (λ m h. record {
       alike = λ p q w. ((omega arith, refl), (h.alike, tt));
-      reads = word_again (item.Nat (unplaced_number m)) _ (passes 0 5 (is_digits (signed_decimal m.number)) _ _ h.is_written (ok_one item.Nat _ (unplaced_number m) (number_again m h.fits)));
+      reads = word_again (item.Nat (unplaced_number m)) _
+          (passes 0 5 (is_digits (signed_decimal m.number)) _ _ h.is_written (ok_one item.Nat _ (unplaced_number m) (number_again m h.fits)));
     }) (keeps_digits n pass))
 keeps_item (Some tag.Nat) p (more n (more t ts)) = record { of_value = tt }
 keeps_item (Some tag.Bitv) p none = record { of_value = tt }
@@ -123,7 +145,8 @@ keeps_item (Some tag.Bitv) p (more n none) =
     holds_judged (KeepsItem (more n none)) p 5 (is_atom_of is_digits n) _
     (λ pass. holds_one (KeepsNumber is_digits n) (KeepsItem (more n none)) item.Bitv (number_of n) (λ m h. record {
       alike = λ p q w. ((omega arith, refl), (h.alike, tt));
-      reads = word_again (item.Bitv (unplaced_number m)) _ (passes 0 5 (is_digits (signed_decimal m.number)) _ _ h.is_written (ok_one item.Bitv _ (unplaced_number m) (number_again m h.fits)));
+      reads = word_again (item.Bitv (unplaced_number m)) _
+          (passes 0 5 (is_digits (signed_decimal m.number)) _ _ h.is_written (ok_one item.Bitv _ (unplaced_number m) (number_again m h.fits)));
     }) (keeps_digits n pass))
 keeps_item (Some tag.Bitv) p (more n (more t ts)) = record { of_value = tt }
 keeps_item (Some tag.Bool) p none = record { of_value = tt }
@@ -140,7 +163,8 @@ keeps_item (Some tag.Addr) p none = record { of_value = tt }
 keeps_item (Some tag.Addr) p (more area none) = record { of_value = tt }
 keeps_item (Some tag.Addr) p (more area (more n none)) =
     holds_judged (KeepsItem (more area (more n none))) p 5 (is_atom_of is_name area && is_atom_of is_digits n) _
-    (λ pass. holds_two (KeepsName area) (KeepsNumber is_digits n) (KeepsItem (more area (more n none))) address (named_of area) (number_of n) (λ a g m h. record {
+    (λ pass. holds_two (KeepsName area) (KeepsNumber is_digits n) (KeepsItem (more area (more n none))) address (named_of area) (number_of n)
+    (λ a g m h. record {
       alike = λ p q w. ((omega arith, refl), (g.alike, (h.alike, tt)));
       reads = word_again (address (unplaced_name a) (unplaced_number m)) _ (named_and_numbered address a m g.is_named h.is_written h.fits);
     }) (keeps_name area) (keeps_digits n (and_parts (is_atom_of is_name area) (is_atom_of is_digits n) pass).1))
@@ -149,7 +173,8 @@ keeps_item (Some tag.Pc) p none = record { of_value = tt }
 keeps_item (Some tag.Pc) p (more program none) = record { of_value = tt }
 keeps_item (Some tag.Pc) p (more program (more n none)) =
     holds_judged (KeepsItem (more program (more n none))) p 5 (is_atom_of is_name program && is_atom_of is_digits n) _
-    (λ pass. holds_two (KeepsName program) (KeepsNumber is_digits n) (KeepsItem (more program (more n none))) program_place (named_of program) (number_of n) (λ a g m h. record {
+    (λ pass. holds_two (KeepsName program) (KeepsNumber is_digits n) (KeepsItem (more program (more n none))) program_place (named_of program)
+    (number_of n) (λ a g m h. record {
       alike = λ p q w. ((omega arith, refl), (g.alike, (h.alike, tt)));
       reads = word_again (program_place (unplaced_name a) (unplaced_number m)) _ (named_and_numbered program_place a m g.is_named h.is_written h.fits);
     }) (keeps_name program) (keeps_digits n (and_parts (is_atom_of is_name program) (is_atom_of is_digits n) pass).1))
@@ -159,7 +184,8 @@ keeps_item (Some tag.Subr) p (more program none) =
     holds_judged (KeepsItem (more program none)) p 5 (is_atom_of is_name program) _
     (λ pass. holds_one (KeepsName program) (KeepsItem (more program none)) item.Subr (named_of program) (λ a h. record {
       alike = λ p q w. ((omega arith, refl), (h.alike, tt));
-      reads = word_again (item.Subr (unplaced_name a)) _ (passes 0 5 (is_name a.name) _ _ h.is_named (ok_one item.Subr _ (unplaced_name a) (named_again a h.is_named)));
+      reads = word_again (item.Subr (unplaced_name a)) _
+          (passes 0 5 (is_name a.name) _ _ h.is_named (ok_one item.Subr _ (unplaced_name a) (named_again a h.is_named)));
     }) (keeps_name program))
 keeps_item (Some tag.Subr) p (more program (more t ts)) = record { of_value = tt }
 
@@ -220,7 +246,8 @@ record KeepsArgument (k : ArgKind) (t : Node) (a : ArgText) : Type 0 where
   is_kind : is_of_kind k (argument_tree a) ≡ true
   reads : argument_of k (argument_tree a) ≡ Ok (unplaced_argument a)
 
-keeps_name_argument : (k : ArgKind) → ((n : Named) → is_name n.name ≡ true → is_of_kind k (name_tree n) ≡ true) → ((n : Named) → named_of (name_tree n) ≡ Ok (unplaced_name n) → argument_of k (name_tree n) ≡ Ok (arg.Name (unplaced_name n))) →
+keeps_name_argument : (k : ArgKind) → ((n : Named) → is_name n.name ≡ true → is_of_kind k (name_tree n) ≡ true)
+    → ((n : Named) → named_of (name_tree n) ≡ Ok (unplaced_name n) → argument_of k (name_tree n) ≡ Ok (arg.Name (unplaced_name n))) →
     (t : Node) → Holds (KeepsArgument k t) (Ok arg.Name ⊛ named_of t)
 keeps_name_argument k is_kind again t =
     holds_one (KeepsName t) (KeepsArgument k t) arg.Name (named_of t)
@@ -264,7 +291,8 @@ keeps_one_or_more : (k : ArgKind) (t : Node) (ts : Nodes) (xs : List ArgText) �
 keeps_one_or_more k t ts [] h = absurd h.alike
 keeps_one_or_more k t ts (x ∷ xs) h = record { alike = h.alike; reads = passes 0 7 (are_of_kind k (nodes (map argument_tree (x ∷ xs)))) _ _ h.are_kind h.reads }
 
-keeps_tested : (f : TestFamily) (t label : Node) (p : ℕ) (found : Option TestKind) → test_at f t ≡ found → Holds (KeepsArguments (TestAndLabel f) (more t (more label none))) (tested_of p found label)
+keeps_tested : (f : TestFamily) (t label : Node) (p : ℕ) (found : Option TestKind) → test_at f t ≡ found
+    → Holds (KeepsArguments (TestAndLabel f) (more t (more label none))) (tested_of p found label)
 keeps_tested f t label p None e = record { of_value = tt }
 keeps_tested f (list q ts) label p (Some k) e = absurd cc
 keeps_tested f (atom q w) label p (Some k) e =
@@ -295,25 +323,30 @@ keeps_arguments (TestAndLabel f) p (more t (more u (more v ts))) = record { of_v
 keeps_arguments (OneOrMore k) p none = record { of_value = tt }
 keeps_arguments (OneOrMore k) p (more t ts) =
     holds_judged (KeepsArguments (OneOrMore k) (more t ts)) p 7 (are_of_kind k (more t ts)) _
-    (λ pass. holds_more (KeepsSome k (more t ts)) (KeepsArguments (OneOrMore k) (more t ts)) (each_of (argument_of k) (more t ts)) (keeps_one_or_more k t ts) (keeps_some k (more t ts) pass))
+    (λ pass. holds_more (KeepsSome k (more t ts)) (KeepsArguments (OneOrMore k) (more t ts)) (each_of (argument_of k) (more t ts))
+    (keeps_one_or_more k t ts) (keeps_some k (more t ts) pass))
 
 -- ---- instructions
 
 abbrev KeepsInstruction : Node → InstrOf → Type 0
 KeepsInstruction = Keeps instruction_of instruction_tree unplaced_instruction
 
-pub called_again : (l : Judged (Option Named)) (o : PitonOp) (n : Option Named) (ts : Nodes) (xs : List ArgText) → l ≡ Ok n → arguments_of (op_arguments o) 0 ts ≡ Ok xs → called_of 0 l (operation_named (op_name o)) 0 ts ≡ Ok (new_instruction 0 o n xs)
+pub called_again : (l : Judged (Option Named)) (o : PitonOp) (n : Option Named) (ts : Nodes) (xs : List ArgText) → l ≡ Ok n
+    → arguments_of (op_arguments o) 0 ts ≡ Ok xs → called_of 0 l (operation_named (op_name o)) 0 ts ≡ Ok (new_instruction 0 o n xs)
 called_again l o n ts xs h k =
     ap (λ (found : Option PitonOp). called_of 0 l found 0 ts) (operation_named-name o) ∙ ok_two (new_instruction 0 o) l _ n xs h k
 
-pub unlabelled_again : (o : PitonOp) (ts : Nodes) (i : InstrOf) → called_of 0 (Ok None) (operation_named (op_name o)) 0 ts ≡ Ok i → instruction_of (list 0 (more (atom 0 (op_name o)) ts)) ≡ Ok i
+pub unlabelled_again : (o : PitonOp) (ts : Nodes) (i : InstrOf) → called_of 0 (Ok None) (operation_named (op_name o)) 0 ts ≡ Ok i
+    → instruction_of (list 0 (more (atom 0 (op_name o)) ts)) ≡ Ok i
 unlabelled_again o ts i h =
     ap (λ (b : Bool). cond b (labelled_of 0 ts) (called_of 0 (Ok None) (operation_named (op_name o)) 0 ts)) (no_label_word o) ∙ h
 
-keeps_call : (p q r : ℕ) (w : List ℕ) (found : Option PitonOp) (ts : Nodes) → Holds (KeepsInstruction (list p (more (atom q w) ts))) (called_of p (Ok None) found r ts)
+keeps_call : (p q r : ℕ) (w : List ℕ) (found : Option PitonOp) (ts : Nodes) → Holds (KeepsInstruction (list p (more (atom q w) ts)))
+    (called_of p (Ok None) found r ts)
 keeps_call p q r w None ts = record { of_value = tt }
 keeps_call p q r w (Some o) ts =
-    holds_one (KeepsArguments (op_arguments o) ts) (KeepsInstruction (list p (more (atom q w) ts))) (new_instruction p o None) (arguments_of (op_arguments o) r ts)
+    holds_one (KeepsArguments (op_arguments o) ts) (KeepsInstruction (list p (more (atom q w) ts))) (new_instruction p o None)
+    (arguments_of (op_arguments o) r ts)
     (λ xs h. record {
       alike = (op_run o, h.alike);
       reads = unlabelled_again o (nodes (map argument_tree xs)) _ (called_again (Ok None) o None _ (map unplaced_argument xs) refl h.reads);
@@ -328,18 +361,22 @@ KeepsLabel l (Some n) = KeepsName l n
 abbrev labelled_node : (p q r s t : ℕ) → List ℕ → Node → List ℕ → Nodes → Node
 labelled_node p q r s t v l w ts = list p (more (atom q v) (more l (more (list r none) (more (list s (more (atom t w) ts)) none))))
 
-labelled_keeps : (p q r s t : ℕ) (v w : List ℕ) (l : Node) (ts : Nodes) (o : PitonOp) (n : Option Named) → KeepsLabel l n → (xs : List ArgText) → KeepsArguments (op_arguments o) ts xs →
+labelled_keeps : (p q r s t : ℕ) (v w : List ℕ) (l : Node) (ts : Nodes) (o : PitonOp) (n : Option Named) → KeepsLabel l n → (xs : List ArgText)
+    → KeepsArguments (op_arguments o) ts xs →
     KeepsInstruction (labelled_node p q r s t v l w ts) (new_instruction p o n xs)
 labelled_keeps p q r s t v w l ts o None g xs h = absurd g
 labelled_keeps p q r s t v w l ts o (Some n) g xs h = record {
   alike = ((omega arith, refl), (g.alike, (tt, ((op_run o, h.alike), tt))));
-  reads = called_again (Ok Some ⊛ named_of (name_tree n)) o (Some (unplaced_name n)) (nodes (map argument_tree xs)) (map unplaced_argument xs) (ok_one Some _ (unplaced_name n) (named_again n g.is_named)) h.reads;
+  reads = called_again (Ok Some ⊛ named_of (name_tree n)) o (Some (unplaced_name n)) (nodes (map argument_tree xs)) (map unplaced_argument xs)
+      (ok_one Some _ (unplaced_name n) (named_again n g.is_named)) h.reads;
 }
 
-keeps_labelled_call : (p q r s t : ℕ) (v w : List ℕ) (l : Node) (found : Option PitonOp) (ts : Nodes) → Holds (KeepsInstruction (labelled_node p q r s t v l w ts)) (called_of p (Ok Some ⊛ named_of l) found s ts)
+keeps_labelled_call : (p q r s t : ℕ) (v w : List ℕ) (l : Node) (found : Option PitonOp) (ts : Nodes)
+    → Holds (KeepsInstruction (labelled_node p q r s t v l w ts)) (called_of p (Ok Some ⊛ named_of l) found s ts)
 keeps_labelled_call p q r s t v w l None ts = record { of_value = tt }
 keeps_labelled_call p q r s t v w l (Some o) ts =
-    holds_two (KeepsLabel l) (KeepsArguments (op_arguments o) ts) (KeepsInstruction (labelled_node p q r s t v l w ts)) (new_instruction p o) (Ok Some ⊛ named_of l) (arguments_of (op_arguments o) s ts)
+    holds_two (KeepsLabel l) (KeepsArguments (op_arguments o) ts) (KeepsInstruction (labelled_node p q r s t v l w ts)) (new_instruction p o)
+    (Ok Some ⊛ named_of l) (arguments_of (op_arguments o) s ts)
     (labelled_keeps p q r s t v w l ts o)
     (holds_one (KeepsName l) (KeepsLabel l) Some (named_of l) (λ n h. h) (keeps_name l))
     (keeps_arguments (op_arguments o) s ts)
@@ -361,7 +398,8 @@ keeps_instruction (atom p w) = record { of_value = tt }
 keeps_instruction (list p none) = record { of_value = tt }
 keeps_instruction (list p (more (list q us) ts)) = record { of_value = tt }
 keeps_instruction (list p (more (atom q w) ts)) =
-    holds_if (KeepsInstruction (list p (more (atom q w) ts))) (bytes_eq w (codes "dl")) (labelled_of p ts) (called_of p (Ok None) (operation_named w) p ts) (keeps_labelled p q w ts) (keeps_call p q p w (operation_named w) ts)
+    holds_if (KeepsInstruction (list p (more (atom q w) ts))) (bytes_eq w (codes "dl")) (labelled_of p ts)
+    (called_of p (Ok None) (operation_named w) p ts) (keeps_labelled p q w ts) (keeps_call p q p w (operation_named w) ts)
 
 -- ---- programs and areas
 
@@ -394,7 +432,8 @@ KeepsTemporaries = Keeps (list_of temporary_of) (list_tree temporary_tree) (map 
 abbrev KeepsProgram : Node → ProgramOf → Type 0
 KeepsProgram = Keeps program_of program_tree unplaced_program
 
-program_keeps : (p q : ℕ) (name formals temporaries i : Node) (is : Nodes) → is_small_program formals temporaries (more i is) ≡ true → (n : Named) → KeepsName name n → (fs : List Named) → KeepsFormals formals fs →
+program_keeps : (p q : ℕ) (name formals temporaries i : Node) (is : Nodes) → is_small_program formals temporaries (more i is) ≡ true → (n : Named)
+    → KeepsName name n → (fs : List Named) → KeepsFormals formals fs →
     (ts : List (Named × WordText)) → KeepsTemporaries temporaries ts → (js : List InstrOf) → KeepsInstructions (more i is) js →
     KeepsProgram (list p (more name (more formals (more temporaries (more i is))))) (new_program p q n fs ts js)
 program_keeps p q name formals temporaries i is small n hn fs hf ts ht [] hj = absurd hj.alike
@@ -402,11 +441,13 @@ program_keeps p q name formals temporaries i is small n hn fs hf ts ht (j ∷ js
     let formals_as = alike_list_length formals (list_tree name_tree fs) hf.alike in
     let temporaries_as = alike_list_length temporaries (list_tree temporary_tree ts) ht.alike in
     let instructions_as = alike_items (more i is) (nodes (map instruction_tree (j ∷ js))) hj.alike in
-    let still_small : is_small_program (list_tree name_tree fs) (list_tree temporary_tree ts) (nodes (map instruction_tree (j ∷ js))) ≡ true = rw (formals_as, temporaries_as, instructions_as) small in
+    let still_small : is_small_program (list_tree name_tree fs) (list_tree temporary_tree ts) (nodes (map instruction_tree (j ∷ js))) ≡ true =
+    rw (formals_as, temporaries_as, instructions_as) small in
     record {
       alike = (hn.alike, (hf.alike, (ht.alike, hj.alike)));
       reads = passes 0 9 (is_small_program (list_tree name_tree fs) (list_tree temporary_tree ts) (nodes (map instruction_tree (j ∷ js)))) _ _ still_small
-          (ok_four (new_program 0 0) _ _ _ _ (unplaced_name n) (map unplaced_name fs) (map unplaced_temporary ts) (map unplaced_instruction (j ∷ js)) (named_again n hn.is_named) hf.reads ht.reads hj.reads);
+          (ok_four (new_program 0 0) _ _ _ _ (unplaced_name n) (map unplaced_name fs) (map unplaced_temporary ts) (map unplaced_instruction (j ∷ js))
+          (named_again n hn.is_named) hf.reads ht.reads hj.reads);
     }
 
 keeps_program : (t : Node) → Holds (KeepsProgram t) (program_of t)
@@ -417,7 +458,8 @@ keeps_program (list p (more name (more formals none))) = record { of_value = tt 
 keeps_program (list p (more name (more formals (more temporaries none)))) = record { of_value = tt }
 keeps_program (list p (more name (more formals (more temporaries (more i is))))) =
     holds_judged (KeepsProgram (list p (more name (more formals (more temporaries (more i is)))))) p 9 (is_small_program formals temporaries (more i is)) _
-    (λ small. holds_four (KeepsName name) (KeepsFormals formals) (KeepsTemporaries temporaries) (KeepsInstructions (more i is)) (KeepsProgram (list p (more name (more formals (more temporaries (more i is))))))
+    (λ small. holds_four (KeepsName name) (KeepsFormals formals) (KeepsTemporaries temporaries) (KeepsInstructions (more i is))
+    (KeepsProgram (list p (more name (more formals (more temporaries (more i is))))))
     (new_program p (place_of formals)) (named_of name) (list_of named_of formals) (list_of temporary_of temporaries) (each_of instruction_of (more i is))
     (program_keeps p (place_of formals) name formals temporaries i is small)
     (keeps_name name)
@@ -431,7 +473,8 @@ KeepsWords = KeepsEach word_of word_tree unplaced_word
 abbrev KeepsArea : Node → AreaOf → Type 0
 KeepsArea = Keeps area_of area_tree unplaced_area
 
-area_keeps : (p : ℕ) (name w : Node) (ws : Nodes) (n : Named) → KeepsName name n → (xs : List WordText) → KeepsWords (more w ws) xs → KeepsArea (list p (more name (more w ws))) (new_area p n xs)
+area_keeps : (p : ℕ) (name w : Node) (ws : Nodes) (n : Named) → KeepsName name n → (xs : List WordText) → KeepsWords (more w ws) xs
+    → KeepsArea (list p (more name (more w ws))) (new_area p n xs)
 area_keeps p name w ws n g [] h = absurd h.alike
 area_keeps p name w ws n g (x ∷ xs) h = record {
   alike = (g.alike, h.alike);
@@ -461,8 +504,10 @@ abbrev system_node : (p q r s : ℕ) → List ℕ → (main ctrl temp base : Nod
 system_node p q r s w main ctrl temp base areas stack programs =
     list p (more (atom q w) (more main (more ctrl (more temp (more base (more (list r areas) (more (list s stack) programs)))))))
 
-system_keeps : (p q r s : ℕ) (w : List ℕ) (main ctrl temp base : Node) (areas stack : Nodes) (i : Node) (is : Nodes) → is_small_system areas (more i is) ≡ true →
-    (m : Named) → KeepsName main m → (c : Number) → KeepsNumber is_digits ctrl c → (t : Number) → KeepsNumber is_digits temp t → (b : Number) → KeepsNumber is_digits base b →
+system_keeps : (p q r s : ℕ) (w : List ℕ) (main ctrl temp base : Node) (areas stack : Nodes) (i : Node) (is : Nodes)
+    → is_small_system areas (more i is) ≡ true →
+    (m : Named) → KeepsName main m → (c : Number) → KeepsNumber is_digits ctrl c → (t : Number) → KeepsNumber is_digits temp t → (b : Number)
+    → KeepsNumber is_digits base b →
     (xs : List AreaOf) → KeepsAreas areas xs → (ws : List WordText) → KeepsWords stack ws → (ps : List ProgramOf) → KeepsPrograms (more i is) ps →
     KeepsSystem (system_node p q r s w main ctrl temp base areas stack (more i is)) (new_system p m c t b xs ws ps)
 system_keeps p q r s w main ctrl temp base areas stack i is small m hm c hc t ht b hb xs hx ws hw [] hp = absurd hp.alike
@@ -470,12 +515,14 @@ system_keeps p q r s w main ctrl temp base areas stack i is small m hm c hc t ht
     let areas_as = alike_items areas (nodes (map area_tree xs)) hx.alike in
     let programs_as = alike_items (more i is) (nodes (map program_tree (x ∷ ps))) hp.alike in
     let still_small : is_small_system (nodes (map area_tree xs)) (nodes (map program_tree (x ∷ ps))) ≡ true = rw (areas_as, programs_as) small in
-    let numbers : (is_digits (signed_decimal c.number) && is_digits (signed_decimal t.number) && is_digits (signed_decimal b.number)) ≡ true = rw (hc.is_written, ht.is_written, hb.is_written) refl in
+    let numbers : (is_digits (signed_decimal c.number) && is_digits (signed_decimal t.number) && is_digits (signed_decimal b.number)) ≡ true =
+    rw (hc.is_written, ht.is_written, hb.is_written) refl in
     record {
       alike = ((omega arith, refl), (hm.alike, (hc.alike, (ht.alike, (hb.alike, (hx.alike, (hw.alike, hp.alike)))))));
       reads = passes 0 1 (is_digits (signed_decimal c.number) && is_digits (signed_decimal t.number) && is_digits (signed_decimal b.number)) _ _ numbers
           (passes 0 9 (is_small_system (nodes (map area_tree xs)) (nodes (map program_tree (x ∷ ps)))) _ _ still_small
-          (ok_seven (new_system 0) _ _ _ _ _ _ _ (unplaced_name m) (unplaced_number c) (unplaced_number t) (unplaced_number b) (map unplaced_area xs) (map unplaced_word ws) (map unplaced_program (x ∷ ps))
+          (ok_seven (new_system 0) _ _ _ _ _ _ _ (unplaced_name m) (unplaced_number c) (unplaced_number t) (unplaced_number b) (map unplaced_area xs)
+          (map unplaced_word ws) (map unplaced_program (x ∷ ps))
           (named_again m hm.is_named) (number_again c hc.fits) (number_again t ht.fits) (number_again b hb.fits) hx.reads hw.reads hp.reads));
     }
 
@@ -491,7 +538,8 @@ keeps_system (list p (more (atom q w) (more main (more ctrl (more temp (more bas
 keeps_system (list p (more (atom q w) (more main (more ctrl (more temp (more base (more (atom r v) ts))))))) = record { of_value = tt }
 keeps_system (list p (more (atom q w) (more main (more ctrl (more temp (more base (more (list r areas) none))))))) = record { of_value = tt }
 keeps_system (list p (more (atom q w) (more main (more ctrl (more temp (more base (more (list r areas) (more (atom s v) ts)))))))) = record { of_value = tt }
-keeps_system (list p (more (atom q w) (more main (more ctrl (more temp (more base (more (list r areas) (more (list s stack) none)))))))) = record { of_value = tt }
+keeps_system (list p (more (atom q w) (more main (more ctrl (more temp (more base (more (list r areas) (more (list s stack) none)))))))) =
+    record { of_value = tt }
 keeps_system (list p (more (atom q w) (more main (more ctrl (more temp (more base (more (list r areas) (more (list s stack) (more i is))))))))) =
     let Whole = KeepsSystem (system_node p q r s w main ctrl temp base areas stack (more i is)) in
     holds_judged Whole p 1 (bytes_eq w (codes "piton") && is_atom_of is_digits ctrl && is_atom_of is_digits temp && is_atom_of is_digits base) _
@@ -499,8 +547,10 @@ keeps_system (list p (more (atom q w) (more main (more ctrl (more temp (more bas
     let middle = and_parts (bytes_eq w (codes "piton") && is_atom_of is_digits ctrl) (is_atom_of is_digits temp) last.0 in
     let first_ = and_parts (bytes_eq w (codes "piton")) (is_atom_of is_digits ctrl) middle.0 in
     holds_judged Whole p 9 (is_small_system areas (more i is)) _
-    (λ small. holds_seven (KeepsName main) (KeepsNumber is_digits ctrl) (KeepsNumber is_digits temp) (KeepsNumber is_digits base) (KeepsAreas areas) (KeepsWords stack) (KeepsPrograms (more i is)) Whole
-    (new_system p) (named_of main) (number_of ctrl) (number_of temp) (number_of base) (each_of area_of areas) (each_of word_of stack) (each_of program_of (more i is))
+    (λ small. holds_seven (KeepsName main) (KeepsNumber is_digits ctrl) (KeepsNumber is_digits temp) (KeepsNumber is_digits base) (KeepsAreas areas)
+    (KeepsWords stack) (KeepsPrograms (more i is)) Whole
+    (new_system p) (named_of main) (number_of ctrl) (number_of temp) (number_of base) (each_of area_of areas) (each_of word_of stack)
+    (each_of program_of (more i is))
     (system_keeps p q r s w main ctrl temp base areas stack i is small)
     (keeps_name main)
     (keeps_digits ctrl first_.1)

@@ -1,6 +1,7 @@
 -- What fits the form keeps it, where its tree is not too large: the tree of each part is judged to be that part but for
 -- places, its atoms are runs, and it is shallow.
-use Rattle.std.proofs.Common.{◌∙◌, ◌≡◌, ℕ, zero, suc, ◌+◌, ◌<◌, ◌≤◌, ◌^◌, Bool, true, false, leb, List, [], ◌∷◌, length, map, get_or, Option, Some, None, Ok, All, Contains, refl, sym, ap, subst, arith}
+use Rattle.std.proofs.Common.{◌∙◌, ◌≡◌, ℕ, zero, suc, ◌+◌, ◌<◌, ◌≤◌, ◌^◌, Bool, true, false, leb, List, [], ◌∷◌, length, map, get_or, Option, Some, None, Ok}
+use Rattle.std.proofs.Common.{All, Contains, refl, sym, ap, subst, arith}
 use Rattle.std.specs.Prelude.{◌&&◌}
 use Rattle.std.specs.Fmt.{signed_decimal}
 use Rattle.std.proofs.lemmas.Bool.{le-leb}
@@ -31,10 +32,15 @@ use Rattle.stack_text.specs.Grammar.Judged.{◌⊛◌}
 use Rattle.stack_text.specs.Grammar.Parts.{count_of}
 use Rattle.piton_syntax.specs.Limits.{is_small_program, is_small_system}
 use Rattle.piton_syntax.specs.Operations.{op_arguments, tests_of, test_name, test_named}
-use Rattle.piton_syntax.specs.Grammar.{named_of, number_of, address, program_place, word_of, is_of_kind, are_of_kind, argument_of, one, test_and_label, tested_of, pair, arguments_of, instruction_of, temporary_of, program_of, area_of, system_of}
-use Rattle.piton_syntax.specs.Printed.{number_tree, truth_tree, item_tree, word_tree, argument_tree, instruction_tree, temporary_tree, program_tree, area_tree, tree_of}
-use Rattle.piton_syntax.specs.Systems.{InstrOf, ProgramOf, AreaOf, SystemOf, new_word, new_program, new_area, new_system, unplaced_number, unplaced_item, unplaced_word, unplaced_argument, unplaced_instruction, unplaced_temporary, unplaced_program, unplaced_area, without_places}
-use Rattle.piton_syntax.specs.Fits.{IsSigned, IsUnsigned, FitsItem, FitsWord, FitsArgument, FitsArguments, FitsLabel, FitsInstruction, FitsTemporary, FitsProgram, FitsArea, FitsForm}
+use Rattle.piton_syntax.specs.Grammar.{named_of, number_of, address, program_place, word_of, is_of_kind, are_of_kind, argument_of, one, test_and_label}
+use Rattle.piton_syntax.specs.Grammar.{tested_of, pair, arguments_of, instruction_of, temporary_of, program_of, area_of, system_of}
+use Rattle.piton_syntax.specs.Printed.{number_tree, truth_tree, item_tree, word_tree, argument_tree, instruction_tree, temporary_tree, program_tree, area_tree}
+use Rattle.piton_syntax.specs.Printed.{tree_of}
+use Rattle.piton_syntax.specs.Systems.{InstrOf, ProgramOf, AreaOf, SystemOf, new_word, new_program, new_area, new_system, unplaced_number, unplaced_item}
+use Rattle.piton_syntax.specs.Systems.{unplaced_word, unplaced_argument, unplaced_instruction, unplaced_temporary, unplaced_program, unplaced_area}
+use Rattle.piton_syntax.specs.Systems.{without_places}
+use Rattle.piton_syntax.specs.Fits.{IsSigned, IsUnsigned, FitsItem, FitsWord, FitsArgument, FitsArguments, FitsLabel, FitsInstruction, FitsTemporary}
+use Rattle.piton_syntax.specs.Fits.{FitsProgram, FitsArea, FitsForm}
 use Rattle.stack_text.proofs.NumeralTextLaws.{natural_written, numeral-signed_decimal}
 use Rattle.stack_text.proofs.MadeLaws.{Made, made_each, made_names}
 use Rattle.stack_text.proofs.KeepsLaws.{passes, ok_one, ok_two, ok_four, ok_seven, and_true}
@@ -49,7 +55,8 @@ record MadeNumber (test : List ℕ → Bool) (n : Number) : Type 0 where
   fits : fits_128_bits n.number ≡ true
 
 made_signed : (n : Number) → IsSigned n → MadeNumber is_numeral n
-made_signed n h = let numeral = numeral-signed_decimal n.number h in record { reads = number_again n h; runs = numeral_is_run (signed_decimal n.number) numeral; is_written = numeral; fits = h }
+made_signed n h = let numeral = numeral-signed_decimal n.number h in
+    record { reads = number_again n h; runs = numeral_is_run (signed_decimal n.number) numeral; is_written = numeral; fits = h }
 
 made_unsigned : (n : Number) → IsUnsigned n → MadeNumber is_digits n
 made_unsigned n h =
@@ -72,13 +79,31 @@ record MadeItem (i : WordItem) : Type 0 where
 made_item : (i : WordItem) → FitsItem i → MadeItem i
 made_item (item.Int n) h =
     let m = made_signed n h in
-    record { reads = word_again (item.Int (unplaced_number n)) _ (passes 0 5 (is_numeral (signed_decimal n.number)) _ _ m.is_written (ok_one item.Int _ (unplaced_number n) m.reads)); runs = ((omega arith, refl), (m.runs, tt)); low = omega arith }
+    record {
+      reads = word_again (item.Int (unplaced_number n)) _
+          (passes 0 5 (is_numeral (signed_decimal n.number)) _ _ m.is_written (ok_one item.Int _ (unplaced_number n) m.reads));
+      runs =
+          ((omega arith, refl), (m.runs, tt));
+      low = omega arith;
+    }
 made_item (item.Nat n) h =
     let m = made_unsigned n h in
-    record { reads = word_again (item.Nat (unplaced_number n)) _ (passes 0 5 (is_digits (signed_decimal n.number)) _ _ m.is_written (ok_one item.Nat _ (unplaced_number n) m.reads)); runs = ((omega arith, refl), (m.runs, tt)); low = omega arith }
+    record {
+      reads = word_again (item.Nat (unplaced_number n)) _
+          (passes 0 5 (is_digits (signed_decimal n.number)) _ _ m.is_written (ok_one item.Nat _ (unplaced_number n) m.reads));
+      runs =
+          ((omega arith, refl), (m.runs, tt));
+      low = omega arith;
+    }
 made_item (item.Bitv n) h =
     let m = made_unsigned n h in
-    record { reads = word_again (item.Bitv (unplaced_number n)) _ (passes 0 5 (is_digits (signed_decimal n.number)) _ _ m.is_written (ok_one item.Bitv _ (unplaced_number n) m.reads)); runs = ((omega arith, refl), (m.runs, tt)); low = omega arith }
+    record {
+      reads = word_again (item.Bitv (unplaced_number n)) _
+          (passes 0 5 (is_digits (signed_decimal n.number)) _ _ m.is_written (ok_one item.Bitv _ (unplaced_number n) m.reads));
+      runs =
+          ((omega arith, refl), (m.runs, tt));
+      low = omega arith;
+    }
 made_item (item.Bool b) h = record { reads = truth_again b; runs = ((omega arith, refl), (truth_runs b, tt)); low = omega (arith, truth_low b) }
 made_item (item.Addr area n) h =
     let m = made_unsigned n h.1 in
@@ -95,7 +120,8 @@ made_item (item.Pc program n) h =
       low = omega arith;
     }
 made_item (item.Subr program) h = record {
-  reads = word_again (item.Subr (unplaced_name program)) _ (passes 0 5 (is_name program.name) _ _ h (ok_one item.Subr _ (unplaced_name program) (named_again program h)));
+  reads = word_again (item.Subr (unplaced_name program)) _
+      (passes 0 5 (is_name program.name) _ _ h (ok_one item.Subr _ (unplaced_name program) (named_again program h)));
   runs = ((omega arith, refl), (name_is_run program.name h, tt));
   low = omega arith;
 }
@@ -147,17 +173,24 @@ record MadeArgument (k : ArgKind) (a : ArgText) : Type 0 where
   low : depth (argument_tree a) ≤ 1
 
 made_argument : (k : ArgKind) (a : ArgText) → FitsArgument k a → MadeArgument k a
-made_argument kind.Word (arg.Word w) h = let m = made_word w h in record { reads = ok_one arg.Word _ (unplaced_word w) m.reads; is_kind = refl; runs = m.runs; low = m.low }
-made_argument kind.Count (arg.Number n) h = let m = made_unsigned n h in record { reads = ok_one arg.Number _ (unplaced_number n) m.reads; is_kind = m.is_written; runs = m.runs; low = omega arith }
-made_argument kind.Local (arg.Name n) h = record { reads = ok_one arg.Name _ (unplaced_name n) (named_again n h); is_kind = h; runs = name_is_run n.name h; low = omega arith }
-made_argument kind.Area (arg.Name n) h = record { reads = ok_one arg.Name _ (unplaced_name n) (named_again n h); is_kind = h; runs = name_is_run n.name h; low = omega arith }
-made_argument kind.Label (arg.Name n) h = record { reads = ok_one arg.Name _ (unplaced_name n) (named_again n h); is_kind = h; runs = name_is_run n.name h; low = omega arith }
-made_argument kind.Program (arg.Name n) h = record { reads = ok_one arg.Name _ (unplaced_name n) (named_again n h); is_kind = h; runs = name_is_run n.name h; low = omega arith }
+made_argument kind.Word (arg.Word w) h =
+    let m = made_word w h in record { reads = ok_one arg.Word _ (unplaced_word w) m.reads; is_kind = refl; runs = m.runs; low = m.low }
+made_argument kind.Count (arg.Number n) h = let m = made_unsigned n h in
+    record { reads = ok_one arg.Number _ (unplaced_number n) m.reads; is_kind = m.is_written; runs = m.runs; low = omega arith }
+made_argument kind.Local (arg.Name n) h =
+    record { reads = ok_one arg.Name _ (unplaced_name n) (named_again n h); is_kind = h; runs = name_is_run n.name h; low = omega arith }
+made_argument kind.Area (arg.Name n) h =
+    record { reads = ok_one arg.Name _ (unplaced_name n) (named_again n h); is_kind = h; runs = name_is_run n.name h; low = omega arith }
+made_argument kind.Label (arg.Name n) h =
+    record { reads = ok_one arg.Name _ (unplaced_name n) (named_again n h); is_kind = h; runs = name_is_run n.name h; low = omega arith }
+made_argument kind.Program (arg.Name n) h =
+    record { reads = ok_one arg.Name _ (unplaced_name n) (named_again n h); is_kind = h; runs = name_is_run n.name h; low = omega arith }
 made_argument k a h = absurd h
 
 are_kind : (k : ArgKind) (xs : List ArgText) → All (FitsArgument k) xs → are_of_kind k (nodes (map argument_tree xs)) ≡ true
 are_kind k [] h = refl
-are_kind k (x ∷ xs) h = and_true (is_of_kind k (argument_tree x)) _ (made_argument k x (All-head (FitsArgument k) x xs h)).is_kind (are_kind k xs (All-tail (FitsArgument k) x xs h))
+are_kind k (x ∷ xs) h = and_true (is_of_kind k (argument_tree x)) _ (made_argument k x (All-head (FitsArgument k) x xs h)).is_kind
+    (are_kind k xs (All-tail (FitsArgument k) x xs h))
 
 record MadeArguments (row : Arguments) (xs : List ArgText) : Type 0 where
   reads : arguments_of row 0 (nodes (map argument_tree xs)) ≡ Ok (map unplaced_argument xs)
@@ -170,7 +203,11 @@ made_arguments Zero (x ∷ xs) h = absurd h
 made_arguments (One k) [] h = absurd h
 made_arguments (One k) (x ∷ []) h =
     let m = made_argument k x h in
-    record { reads = passes 0 7 (is_of_kind k (argument_tree x)) _ _ m.is_kind (ok_one one _ (unplaced_argument x) m.reads); runs = (m.runs, tt); low = omega (arith, m.low) }
+    record {
+      reads = passes 0 7 (is_of_kind k (argument_tree x)) _ _ m.is_kind (ok_one one _ (unplaced_argument x) m.reads);
+      runs = (m.runs, tt);
+      low = omega (arith, m.low);
+    }
 made_arguments (One k) (x ∷ y ∷ xs) h = absurd h
 made_arguments (TestAndLabel f) (arg.Test k ∷ arg.Name n ∷ []) h =
     let again : test_named f (test_name k) ≡ Some k = test_of_family f k h.0 in
@@ -183,7 +220,8 @@ made_arguments (TestAndLabel f) (arg.Test k ∷ arg.Name n ∷ []) h =
 made_arguments (TestAndLabel f) xs h = absurd h
 made_arguments (OneOrMore k) [] h = absurd h
 made_arguments (OneOrMore k) (x ∷ xs) h =
-    let each = made_each (FitsArgument k) (argument_of k) argument_tree unplaced_argument 1 (λ y f. let m = made_argument k y f in record { reads = m.reads; runs = m.runs; low = m.low }) (x ∷ xs) h in
+    let each = made_each (FitsArgument k) (argument_of k) argument_tree unplaced_argument 1
+    (λ y f. let m = made_argument k y f in record { reads = m.reads; runs = m.runs; low = m.low }) (x ∷ xs) h in
     record { reads = passes 0 7 (are_of_kind k (nodes (map argument_tree (x ∷ xs)))) _ _ (are_kind k (x ∷ xs) h) each.reads; runs = each.runs; low = each.low }
 
 -- ---- instructions, programs, areas
@@ -201,7 +239,8 @@ made_instruction i h = by_label i.label h.label
       low = omega (arith, args.low);
     }
     by_label (Some n) fits = record {
-      reads = called_again (Ok Some ⊛ named_of (name_tree n)) i.op (Some (unplaced_name n)) (nodes (map argument_tree i.args)) (map unplaced_argument i.args) (ok_one Some _ (unplaced_name n) (named_again n fits)) args.reads;
+      reads = called_again (Ok Some ⊛ named_of (name_tree n)) i.op (Some (unplaced_name n)) (nodes (map argument_tree i.args))
+          (map unplaced_argument i.args) (ok_one Some _ (unplaced_name n) (named_again n fits)) args.reads;
       runs = ((omega arith, refl), (name_is_run n.name fits, (tt, ((op_run i.op, args.runs), tt))));
       low = omega (arith, args.low);
     }
@@ -209,12 +248,17 @@ made_instruction i h = by_label i.label h.label
 made_temporary : (t : Named × WordText) → FitsTemporary t → Made temporary_of temporary_tree unplaced_temporary 2 t
 made_temporary t h =
     let w = made_word t.1 h.1 in
-    record { reads = ok_two pair _ _ (unplaced_name t.0) (unplaced_word t.1) (named_again t.0 h.0) w.reads; runs = (name_is_run t.0.name h.0, (w.runs, tt)); low = omega (arith, w.low) }
+    record {
+      reads = ok_two pair _ _ (unplaced_name t.0) (unplaced_word t.1) (named_again t.0 h.0) w.reads;
+      runs = (name_is_run t.0.name h.0, (w.runs, tt));
+      low = omega (arith, w.low);
+    }
 
 made_program : (p : ProgramOf) → FitsProgram p → Made program_of program_tree unplaced_program 4 p
 made_program p h = by_instrs p.instrs h.instrs h.some_instrs h.few_instrs
   where
-    by_instrs : (is : List InstrOf) → All FitsInstruction is → 0 < length is → length is ≤ 1048576 → Made program_of program_tree unplaced_program 4 (record p { instrs = is })
+    by_instrs : (is : List InstrOf) → All FitsInstruction is → 0 < length is → length is ≤ 1048576
+        → Made program_of program_tree unplaced_program 4 (record p { instrs = is })
     by_instrs [] fits some_ few = absurd (omega (arith, some_))
     by_instrs (i ∷ is) fits some_ few =
         let formals = made_names 4 p.formals h.formals in
@@ -222,13 +266,16 @@ made_program p h = by_instrs p.instrs h.instrs h.some_instrs h.few_instrs
         let instrs = made_each FitsInstruction instruction_of instruction_tree unplaced_instruction 3 made_instruction (i ∷ is) fits in
         let formals_tree = tree_of_all (map name_tree p.formals) in
         let temporaries_tree = tree_of_all (map temporary_tree p.temporaries) in
-        let locals : count_of (nodes (map name_tree p.formals)) + count_of (nodes (map temporary_tree p.temporaries)) ≤ 400 = omega (arith, h.few_locals, formals.count, temporaries.count) in
+        let locals : count_of (nodes (map name_tree p.formals)) + count_of (nodes (map temporary_tree p.temporaries)) ≤ 400 =
+        omega (arith, h.few_locals, formals.count, temporaries.count) in
         let count : count_of (nodes (map instruction_tree (i ∷ is))) ≤ 1048576 = subst (λ (n : ℕ). n ≤ 1048576) (sym instrs.count) few in
         let small : is_small_program formals_tree temporaries_tree (nodes (map instruction_tree (i ∷ is))) ≡ true =
-        and_true (leb (count_of (nodes (map name_tree p.formals)) + count_of (nodes (map temporary_tree p.temporaries))) 400) _ (le-leb _ 400 locals) (le-leb _ 1048576 count) in
+        and_true (leb (count_of (nodes (map name_tree p.formals)) + count_of (nodes (map temporary_tree p.temporaries))) 400) _ (le-leb _ 400 locals)
+        (le-leb _ 1048576 count) in
         record {
           reads = passes 0 9 (is_small_program formals_tree temporaries_tree (nodes (map instruction_tree (i ∷ is)))) _ _ small
-              (ok_four (new_program 0 0) _ _ _ _ (unplaced_name p.name) (map unplaced_name p.formals) (map unplaced_temporary p.temporaries) (map unplaced_instruction (i ∷ is)) (named_again p.name h.name) formals.reads temporaries.reads instrs.reads);
+              (ok_four (new_program 0 0) _ _ _ _ (unplaced_name p.name) (map unplaced_name p.formals) (map unplaced_temporary p.temporaries)
+              (map unplaced_instruction (i ∷ is)) (named_again p.name h.name) formals.reads temporaries.reads instrs.reads);
           runs = (name_is_run p.name.name h.name, (formals.runs, (temporaries.runs, instrs.runs)));
           low = omega (arith, formals.low, temporaries.low, instrs.low);
         }
@@ -249,7 +296,8 @@ made_area a h = by_words a.words h.words h.some_words
 made_system : (s : SystemOf) → FitsForm s → Made system_of tree_of without_places 6 s
 made_system s h = by_programs s.programs h.programs h.some_programs h.few_programs
   where
-    by_programs : (ps : List ProgramOf) → All FitsProgram ps → 0 < length ps → length ps ≤ 1100 → Made system_of tree_of without_places 6 (record s { programs = ps })
+    by_programs : (ps : List ProgramOf) → All FitsProgram ps → 0 < length ps → length ps ≤ 1100
+        → Made system_of tree_of without_places 6 (record s { programs = ps })
     by_programs [] fits some_ few = absurd (omega (arith, some_))
     by_programs (p ∷ ps) fits some_ few =
         let ctrl = made_unsigned s.ctrl h.ctrl in
@@ -262,12 +310,15 @@ made_system s h = by_programs s.programs h.programs h.some_programs h.few_progra
         let program_count : count_of (nodes (map program_tree (p ∷ ps))) ≤ 1100 = subst (λ (n : ℕ). n ≤ 1100) (sym programs.count) few in
         let small : is_small_system (nodes (map area_tree s.areas)) (nodes (map program_tree (p ∷ ps))) ≡ true =
         and_true (leb (count_of (nodes (map area_tree s.areas))) 1000) _ (le-leb _ 1000 area_count) (le-leb _ 1100 program_count) in
-        let numbers : (is_digits (signed_decimal s.ctrl.number) && is_digits (signed_decimal s.temp.number) && is_digits (signed_decimal s.base.number)) ≡ true =
+        let numbers : (is_digits (signed_decimal s.ctrl.number) && is_digits (signed_decimal s.temp.number) && is_digits (signed_decimal s.base.number))
+        ≡ true =
         rw (ctrl.is_written, temp.is_written, base.is_written) refl in
         record {
-          reads = passes 0 1 (is_digits (signed_decimal s.ctrl.number) && is_digits (signed_decimal s.temp.number) && is_digits (signed_decimal s.base.number)) _ _ numbers
+          reads = passes 0 1 (is_digits (signed_decimal s.ctrl.number) && is_digits (signed_decimal s.temp.number)
+              && is_digits (signed_decimal s.base.number)) _ _ numbers
               (passes 0 9 (is_small_system (nodes (map area_tree s.areas)) (nodes (map program_tree (p ∷ ps)))) _ _ small
-              (ok_seven (new_system 0) _ _ _ _ _ _ _ (unplaced_name s.main) (unplaced_number s.ctrl) (unplaced_number s.temp) (unplaced_number s.base) (map unplaced_area s.areas) (map unplaced_word s.stack) (map unplaced_program (p ∷ ps))
+              (ok_seven (new_system 0) _ _ _ _ _ _ _ (unplaced_name s.main) (unplaced_number s.ctrl) (unplaced_number s.temp) (unplaced_number s.base)
+              (map unplaced_area s.areas) (map unplaced_word s.stack) (map unplaced_program (p ∷ ps))
               (named_again s.main h.main) ctrl.reads temp.reads base.reads areas.reads stack.reads programs.reads));
           runs = ((omega arith, refl), (name_is_run s.main.name h.main, (ctrl.runs, (temp.runs, (base.runs, (areas.runs, (stack.runs, programs.runs)))))));
           low = omega (arith, areas.low, stack.low, programs.low);

@@ -22,9 +22,13 @@ use Rattle.stack_text.specs.Grammar.Judged.{Judged}
 use Rattle.piton_syntax.specs.Limits.{is_small_program, is_small_system}
 use Rattle.piton_syntax.specs.Operations.{op_arguments, operation_named, tag_named, test_named}
 use Rattle.stack_text.specs.Grammar.Parts.{is_atom_of}
-use Rattle.piton_syntax.specs.Grammar.{named_of, number_of, is_true_word, is_false_word, address, program_place, one_number, named_number, item_of, word_of, is_of_kind, are_of_kind, argument_of, one, test_and_label, tested_of, pair, arguments_of, called_of, labelled_of, instruction_of, list_of, temporary_of, program_of, area_of, system_of}
-use Rattle.piton_syntax.specs.Systems.{new_word, new_instruction, new_program, new_area, new_system, unplaced_number, unplaced_item, unplaced_word, unplaced_argument, unplaced_instruction, unplaced_temporary, unplaced_program, unplaced_area}
-use Rattle.stack_text.proofs.PlacesLaws.{same_name as same_name_or, same_list as same_list_or, IsSame, agree_if, agree_judged, same_atom, same_count, same_each, same_four, same_list_length, same_one, same_seven, same_two, unplaced_place}
+use Rattle.piton_syntax.specs.Grammar.{named_of, number_of, is_true_word, is_false_word, address, program_place, one_number, named_number, item_of, word_of}
+use Rattle.piton_syntax.specs.Grammar.{is_of_kind, are_of_kind, argument_of, one, test_and_label, tested_of, pair, arguments_of, called_of, labelled_of}
+use Rattle.piton_syntax.specs.Grammar.{instruction_of, list_of, temporary_of, program_of, area_of, system_of}
+use Rattle.piton_syntax.specs.Systems.{new_word, new_instruction, new_program, new_area, new_system, unplaced_number, unplaced_item, unplaced_word}
+use Rattle.piton_syntax.specs.Systems.{unplaced_argument, unplaced_instruction, unplaced_temporary, unplaced_program, unplaced_area}
+use Rattle.stack_text.proofs.PlacesLaws.{same_name as same_name_or, same_list as same_list_or, IsSame, agree_if, agree_judged, same_atom, same_count, same_each}
+use Rattle.stack_text.proofs.PlacesLaws.{same_four, same_list_length, same_one, same_seven, same_two, unplaced_place}
 use Rattle.piton_syntax.specs.Systems.{without_places as unplaced_system}
 
 -- ---- tests
@@ -75,7 +79,8 @@ same_item (Some tag.Nat) p ts = same_one_number is_digits item.Nat p ts (λ m. r
 same_item (Some tag.Bitv) p ts = same_one_number is_digits item.Bitv p ts (λ m. refl)
 same_item (Some tag.Bool) p none = record { both = tt }
 same_item (Some tag.Bool) p (more b none) =
-    agree_judged (λ x y. y ≡ unplaced_item x) p 0 5 (is_atom_of is_true_word b || is_atom_of is_false_word b) (is_atom_of is_true_word (without_places b) || is_atom_of is_false_word (without_places b)) _ _
+    agree_judged (λ x y. y ≡ unplaced_item x) p 0 5 (is_atom_of is_true_word b || is_atom_of is_false_word b)
+    (is_atom_of is_true_word (without_places b) || is_atom_of is_false_word (without_places b)) _ _
     (rw (same_atom is_true_word b, same_atom is_false_word b) refl)
     (record { both = ap item.Bool (same_atom is_true_word b) })
 same_item (Some tag.Bool) p (more b (more t ts)) = record { both = tt }
@@ -103,10 +108,12 @@ same_argument kind.Label t = same_one unplaced_name unplaced_argument arg.Name a
 same_argument kind.Program t = same_one unplaced_name unplaced_argument arg.Name arg.Name _ _ (λ n. refl) (same_name t)
 same_argument kind.Count t = same_one unplaced_number unplaced_argument arg.Number arg.Number _ _ (λ n. refl) (same_number t)
 
-same_tested : (found : Option TestKind) (p : ℕ) (label : Node) → IsSame (map unplaced_argument) (tested_of p found label) (tested_of 0 found (without_places label))
+same_tested : (found : Option TestKind) (p : ℕ) (label : Node) → IsSame (map unplaced_argument) (tested_of p found label)
+    (tested_of 0 found (without_places label))
 same_tested None p label = record { both = tt }
 same_tested (Some test) p label =
-    agree_judged _ p 0 7 _ _ _ _ (same_atom is_name label) (same_one unplaced_name (map unplaced_argument) (test_and_label test) (test_and_label test) _ _ (λ n. refl) (same_name label))
+    agree_judged _ p 0 7 _ _ _ _ (same_atom is_name label)
+    (same_one unplaced_name (map unplaced_argument) (test_and_label test) (test_and_label test) _ _ (λ n. refl) (same_name label))
 
 same_arguments : (a : Arguments) (p : ℕ) (ts : Nodes) → IsSame (map unplaced_argument) (arguments_of a p ts) (arguments_of a 0 (all_without_places ts))
 same_arguments Zero p none = record { both = refl }
@@ -124,10 +131,12 @@ same_arguments (OneOrMore k) p none = record { both = tt }
 same_arguments (OneOrMore k) p (more t ts) =
     agree_judged _ p 0 7 _ _ _ _ (same_are_of_kind k (more t ts)) (same_each unplaced_argument (argument_of k) (same_argument k) (more t ts))
 
-same_called : (p q : ℕ) (l m : Judged (Option Named)) (o : Option PitonOp) (ts : Nodes) → IsSame (option_map unplaced_name) l m → IsSame unplaced_instruction (called_of p l o q ts) (called_of 0 m o 0 (all_without_places ts))
+same_called : (p q : ℕ) (l m : Judged (Option Named)) (o : Option PitonOp) (ts : Nodes) → IsSame (option_map unplaced_name) l m
+    → IsSame unplaced_instruction (called_of p l o q ts) (called_of 0 m o 0 (all_without_places ts))
 same_called p q l m None ts h = record { both = tt }
 same_called p q l m (Some o) ts h =
-    same_two (option_map unplaced_name) (map unplaced_argument) unplaced_instruction (new_instruction p o) (new_instruction 0 o) _ _ _ _ (λ n args. refl) h (same_arguments (op_arguments o) q ts)
+    same_two (option_map unplaced_name) (map unplaced_argument) unplaced_instruction (new_instruction p o) (new_instruction 0 o)
+    _ _ _ _ (λ n args. refl) h (same_arguments (op_arguments o) q ts)
 
 same_labelled : (p : ℕ) (ts : Nodes) → IsSame unplaced_instruction (labelled_of p ts) (labelled_of 0 (all_without_places ts))
 same_labelled p none = record { both = tt }
@@ -151,7 +160,8 @@ same_instruction (list p (more (atom q w) ts)) =
 
 -- ---- programs and areas
 
-same_list : {X : Type 0} (view : X → X) (judge : Node → Judged X) → ((t : Node) → IsSame view (judge t) (judge (without_places t))) → (t : Node) → IsSame (map view) (list_of judge t) (list_of judge (without_places t))
+same_list : {X : Type 0} (view : X → X) (judge : Node → Judged X) → ((t : Node) → IsSame view (judge t) (judge (without_places t))) → (t : Node)
+    → IsSame (map view) (list_of judge t) (list_of judge (without_places t))
 same_list = same_list_or 3
 
 same_temporary : (t : Node) → IsSame unplaced_temporary (temporary_of t) (temporary_of (without_places t))
@@ -162,7 +172,8 @@ same_temporary (list p (more name (more word none))) =
     same_two unplaced_name unplaced_word unplaced_temporary pair pair _ _ _ _ (λ n w. refl) (same_name name) (same_word word)
 same_temporary (list p (more name (more word (more t ts)))) = record { both = tt }
 
-same_small_program : (formals temporaries : Node) (is : Nodes) → is_small_program (without_places formals) (without_places temporaries) (all_without_places is) ≡ is_small_program formals temporaries is
+same_small_program : (formals temporaries : Node) (is : Nodes) → is_small_program (without_places formals) (without_places temporaries)
+    (all_without_places is) ≡ is_small_program formals temporaries is
 same_small_program formals temporaries is = rw (same_list_length formals, same_list_length temporaries, same_count is) refl
 
 same_program : (t : Node) → IsSame unplaced_program (program_of t) (program_of (without_places t))
@@ -173,7 +184,10 @@ same_program (list p (more name (more formals none))) = record { both = tt }
 same_program (list p (more name (more formals (more temporaries none)))) = record { both = tt }
 same_program (list p (more name (more formals (more temporaries (more i is))))) =
     agree_judged _ p 0 9 _ _ _ _ (same_small_program formals temporaries (more i is))
-    (same_four unplaced_name (map unplaced_name) (map unplaced_temporary) (map unplaced_instruction) unplaced_program (new_program p (place_of formals)) (new_program 0 (place_of (without_places formals))) _ _ _ _ _ _ _ _ (λ n fs ts js. unplaced_place formals (λ q. new_program 0 q (unplaced_name n) (map unplaced_name fs) (map unplaced_temporary ts) (map unplaced_instruction js)))
+    (same_four unplaced_name (map unplaced_name) (map unplaced_temporary) (map unplaced_instruction) unplaced_program (new_program p (place_of formals))
+    (new_program 0 (place_of (without_places formals))) _ _ _ _ _ _ _ _
+    (λ n fs ts js. unplaced_place formals (λ q. new_program 0 q (unplaced_name n) (map unplaced_name fs) (map unplaced_temporary ts)
+    (map unplaced_instruction js)))
     (same_name name)
     (same_list unplaced_name named_of same_name formals)
     (same_list unplaced_temporary temporary_of same_temporary temporaries)
@@ -184,7 +198,8 @@ same_area (atom p w) = record { both = tt }
 same_area (list p none) = record { both = tt }
 same_area (list p (more name none)) = record { both = tt }
 same_area (list p (more name (more w ws))) =
-    same_two unplaced_name (map unplaced_word) unplaced_area (new_area p) (new_area 0) _ _ _ _ (λ n ws. refl) (same_name name) (same_each unplaced_word word_of same_word (more w ws))
+    same_two unplaced_name (map unplaced_word) unplaced_area (new_area p) (new_area 0) _ _ _ _ (λ n ws. refl) (same_name name)
+    (same_each unplaced_word word_of same_word (more w ws))
 
 -- ---- systems
 
@@ -207,7 +222,8 @@ same_system (list p (more (atom q w) (more main (more ctrl (more temp (more base
 same_system (list p (more (atom q w) (more main (more ctrl (more temp (more base (more (list r areas) (more (list s stack) (more i is))))))))) =
     agree_judged _ p 0 1 _ _ _ _ (rw (same_atom is_digits ctrl, same_atom is_digits temp, same_atom is_digits base) refl)
     (agree_judged _ p 0 9 _ _ _ _ (same_small_system areas (more i is))
-    (same_seven unplaced_name unplaced_number unplaced_number unplaced_number (map unplaced_area) (map unplaced_word) (map unplaced_program) unplaced_system (new_system p) (new_system 0) _ _ _ _ _ _ _ _ _ _ _ _ _ _ (λ m c t b areas words programs. refl)
+    (same_seven unplaced_name unplaced_number unplaced_number unplaced_number (map unplaced_area) (map unplaced_word) (map unplaced_program)
+    unplaced_system (new_system p) (new_system 0) _ _ _ _ _ _ _ _ _ _ _ _ _ _ (λ m c t b areas words programs. refl)
     (same_name main)
     (same_number ctrl)
     (same_number temp)

@@ -15,7 +15,8 @@ use Rattle.piton_syntax.specs.declared.word_text.WordText.{WordText}
 use Rattle.stack_text.specs.declared.name.Named.{Named}
 use Rattle.piton_syntax.specs.PitonReading.{KeepsForm, ReadsAs, piton_reader}
 use Rattle.piton_syntax.specs.Systems.{InstrOf, ProgramOf, AreaOf, SystemOf}
-use Rattle.piton_syntax.specs.Printed.{item_tree, word_tree, argument_tree, labelled_tree, instruction_tree, temporary_tree, program_tree, area_tree, system_head, tree_of, program_text, piton_text}
+use Rattle.piton_syntax.specs.Printed.{item_tree, word_tree, argument_tree, labelled_tree, instruction_tree, temporary_tree, program_tree, area_tree}
+use Rattle.piton_syntax.specs.Printed.{system_head, tree_of, program_text, piton_text}
 use Rattle.stack_text.proofs.PartTextLaws.{spells_list, unplaced_all}
 use Rattle.stack_text.proofs.PrintLaws.{Spells-tree_text}
 use Rattle.stack_text.proofs.ReaderLaws.{read_back}
@@ -25,7 +26,8 @@ use Rattle.piton_syntax.proofs.PlacesLaws.{same_system}
 
 spells_program : (p : ProgramOf) → Spells (program_tree p) (program_text p)
 spells_program p =
-    spells_list instruction_tree (λ i. tree_text (instruction_tree i)) (λ i. Spells-tree_text (instruction_tree i)) (name_tree p.name) (tree_of_all (map name_tree p.formals) ∷ tree_of_all (map temporary_tree p.temporaries) ∷ []) p.instrs
+    spells_list instruction_tree (λ i. tree_text (instruction_tree i)) (λ i. Spells-tree_text (instruction_tree i)) (name_tree p.name)
+    (tree_of_all (map name_tree p.formals) ∷ tree_of_all (map temporary_tree p.temporaries) ∷ []) p.instrs
 
 spells_system : (s : SystemOf) → Spells (tree_of s) (lines_text program_text (system_head s) s.programs)
 spells_system s = spells_list program_tree program_text spells_program (atom 0 (codes "piton")) (drop 1 (system_head s)) s.programs
@@ -63,7 +65,11 @@ unplaced_temporary t = rw (unplaced_word t.1) refl
 
 unplaced_program : (p : ProgramOf) → unplaced_tree (program_tree p) ≡ program_tree p
 unplaced_program p =
-    rw (unplaced_all name_tree (λ n. refl) p.formals, unplaced_all temporary_tree unplaced_temporary p.temporaries, unplaced_all instruction_tree unplaced_instruction p.instrs) refl
+    rw (
+      unplaced_all name_tree (λ n. refl) p.formals,
+      unplaced_all temporary_tree unplaced_temporary p.temporaries,
+      unplaced_all instruction_tree unplaced_instruction p.instrs,
+    ) refl
 
 unplaced_area : (a : AreaOf) → unplaced_tree (area_tree a) ≡ area_tree a
 unplaced_area a = rw (unplaced_all word_tree unplaced_word a.words) refl

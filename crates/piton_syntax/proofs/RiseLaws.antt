@@ -18,12 +18,15 @@ use Rattle.piton_syntax.specs.declared.tag.Tag.{Tag}
 use Rattle.piton_syntax.specs.declared.tag.Tag.TheVariants as tag
 use Rattle.piton_syntax.specs.declared.word_text.WordItem.TheVariants as item
 use Rattle.stack_text.specs.Grammar.Parts.{bytes_of, is_atom_of}
-use Rattle.piton_syntax.specs.Grammar.{named_of, number_of, is_true_word, is_false_word, address, program_place, item_of, word_of, is_of_kind, are_of_kind, argument_of, test_at, one, test_and_label, tested_of, arguments_of, called_of, labelled_of, instruction_of, list_of, pair, temporary_of, program_of, area_of, system_of}
+use Rattle.piton_syntax.specs.Grammar.{named_of, number_of, is_true_word, is_false_word, address, program_place, item_of, word_of, is_of_kind, are_of_kind}
+use Rattle.piton_syntax.specs.Grammar.{argument_of, test_at, one, test_and_label, tested_of, arguments_of, called_of, labelled_of, instruction_of, list_of}
+use Rattle.piton_syntax.specs.Grammar.{pair, temporary_of, program_of, area_of, system_of}
 use Rattle.stack_text.specs.Grammar.Judged.{Judged, ◌⊛◌}
 use Rattle.piton_syntax.specs.Limits.{is_small_program, is_small_system}
 use Rattle.piton_syntax.specs.Operations.{op_arguments, operation_named, tag_named}
 use Rattle.piton_syntax.specs.Systems.{new_word, new_instruction, new_program, new_area, new_system}
-use Rattle.stack_text.proofs.RiseLaws.{named_up as name_up, list_up as list_or_up, Rising, Up, apply_up, apply_value, at_fault, both, each_up, goes_on, goes_on_with_each, higher, is_judged, lower, only, place_within, starts, up_le}
+use Rattle.stack_text.proofs.RiseLaws.{named_up as name_up, list_up as list_or_up, Rising, Up, apply_up, apply_value, at_fault, both, each_up, goes_on}
+use Rattle.stack_text.proofs.RiseLaws.{goes_on_with_each, higher, is_judged, lower, only, place_within, starts, up_le}
 
 pub named_up : Rising named_of
 named_up = name_up 4
@@ -38,14 +41,21 @@ number_up = record { up = up }
         (starts (record { place = place_of t; number = numeral_value (bytes_of t) }) low high (omega (arith, p.0, p.1)))
 
 item_up : (tag_ : Option Tag) (low p mid : ℕ) (ts : Nodes) (high : ℕ) → low ≤ p → p < mid → p < high → AllInOrder mid ts high → Up low (item_of tag_ p ts) high
-item_up (Some tag.Int) low p mid (more n none) high le lt under o = is_judged p 5 (is_atom_of is_numeral n) le under (only item.Int number_up low mid n high (omega arith) o)
-item_up (Some tag.Nat) low p mid (more n none) high le lt under o = is_judged p 5 (is_atom_of is_digits n) le under (only item.Nat number_up low mid n high (omega arith) o)
-item_up (Some tag.Bitv) low p mid (more n none) high le lt under o = is_judged p 5 (is_atom_of is_digits n) le under (only item.Bitv number_up low mid n high (omega arith) o)
+item_up (Some tag.Int) low p mid (more n none) high le lt under o =
+    is_judged p 5 (is_atom_of is_numeral n) le under (only item.Int number_up low mid n high (omega arith) o)
+item_up (Some tag.Nat) low p mid (more n none) high le lt under o =
+    is_judged p 5 (is_atom_of is_digits n) le under (only item.Nat number_up low mid n high (omega arith) o)
+item_up (Some tag.Bitv) low p mid (more n none) high le lt under o =
+    is_judged p 5 (is_atom_of is_digits n) le under (only item.Bitv number_up low mid n high (omega arith) o)
 item_up (Some tag.Bool) low p mid (more b none) high le lt under o =
     is_judged p 5 (is_atom_of is_true_word b || is_atom_of is_false_word b) le under (starts (item.Bool (is_atom_of is_true_word b)) low high (omega arith))
-item_up (Some tag.Addr) low p mid (more area (more n none)) high le lt under o = is_judged p 5 (is_atom_of is_name area && is_atom_of is_digits n) le under (both address named_up number_up low mid area n high (omega arith) o)
-item_up (Some tag.Pc) low p mid (more program (more n none)) high le lt under o = is_judged p 5 (is_atom_of is_name program && is_atom_of is_digits n) le under (both program_place named_up number_up low mid program n high (omega arith) o)
-item_up (Some tag.Subr) low p mid (more program none) high le lt under o = is_judged p 5 (is_atom_of is_name program) le under (only item.Subr named_up low mid program high (omega arith) o)
+item_up (Some tag.Addr) low p mid (more area (more n none)) high le lt under o =
+    is_judged p 5 (is_atom_of is_name area && is_atom_of is_digits n) le under (both address named_up number_up low mid area n high (omega arith) o)
+item_up (Some tag.Pc) low p mid (more program (more n none)) high le lt under o =
+    is_judged p 5 (is_atom_of is_name program && is_atom_of is_digits n) le under
+    (both program_place named_up number_up low mid program n high (omega arith) o)
+item_up (Some tag.Subr) low p mid (more program none) high le lt under o =
+    is_judged p 5 (is_atom_of is_name program) le under (only item.Subr named_up low mid program high (omega arith) o)
 item_up _ low p mid ts high le lt under o = at_fault low p 5 high le under
 
 pub word_up : Rising word_of
@@ -70,23 +80,27 @@ argument_up k = record { up = up k }
     up kind.Label low t high h = apply_value arg.Name (named_up.up low t high h)
     up kind.Program low t high h = apply_value arg.Name (named_up.up low t high h)
 
-tested_up : (found : Option TestKind) (low p mid : ℕ) (t label : Node) (high : ℕ) → low ≤ p → p < mid → p < high → AllInOrder mid (more t (more label none)) high → Up low (tested_of p found label) high
+tested_up : (found : Option TestKind) (low p mid : ℕ) (t label : Node) (high : ℕ) → low ≤ p → p < mid → p < high
+    → AllInOrder mid (more t (more label none)) high → Up low (tested_of p found label) high
 tested_up None low p mid t label high le lt under o = at_fault low p 7 high le under
 tested_up (Some test) low p mid t label high le lt under o =
     let within = place_within mid t o.0 o.1 in
     is_judged p 7 (is_atom_of is_name label) le under (only (test_and_label test) named_up low o.0 label high (omega (arith, within.0, within.1)) o.2)
 
 -- the places of the arguments are after that of the operation's list, at which P7 is
-arguments_up : (row : Arguments) (low p mid : ℕ) (ts : Nodes) (high : ℕ) → low ≤ p → p < mid → p < high → AllInOrder mid ts high → Up low (arguments_of row p ts) high
+arguments_up : (row : Arguments) (low p mid : ℕ) (ts : Nodes) (high : ℕ) → low ≤ p → p < mid → p < high → AllInOrder mid ts high
+    → Up low (arguments_of row p ts) high
 arguments_up Zero low p mid none high le lt under o = starts [] low high (omega arith)
-arguments_up (One k) low p mid (more t none) high le lt under o = is_judged p 7 (is_of_kind k t) le under (only one (argument_up k) low mid t high (omega arith) o)
+arguments_up (One k) low p mid (more t none) high le lt under o =
+    is_judged p 7 (is_of_kind k t) le under (only one (argument_up k) low mid t high (omega arith) o)
 arguments_up (TestAndLabel family) low p mid (more t (more label none)) high le lt under o = tested_up (test_at family t) low p mid t label high le lt under o
 arguments_up (OneOrMore k) low p mid (more t ts) high le lt under o =
     is_judged p 7 (are_of_kind k (more t ts)) le under (lower (each_up (argument_up k) mid (more t ts) high o) low (omega arith))
 arguments_up _ low p mid ts high le lt under o = at_fault low p 7 high le under
 
 -- the label is before the operation's list
-called_up : (low p between : ℕ) (label : Judged (Option Named)) (o : Option PitonOp) (q mid : ℕ) (ts : Nodes) (high : ℕ) → low ≤ p → p < high → Up low label between → between ≤ q → q < mid → q < high
+called_up : (low p between : ℕ) (label : Judged (Option Named)) (o : Option PitonOp) (q mid : ℕ) (ts : Nodes) (high : ℕ) → low ≤ p → p < high
+    → Up low label between → between ≤ q → q < mid → q < high
     → AllInOrder mid ts high → Up low (called_of p label o q ts) high
 called_up low p between label None q mid ts high le under up before lt under_too o = at_fault low p 6 high le under
 called_up low p between label (Some op) q mid ts high le under up before lt under_too o =
@@ -100,7 +114,8 @@ labelled_up low p mid (more label (more (list q none) (more (list r (more (atom 
     let label_end : o.0 ≤ r = omega (arith, gap.0, gap.1, call.0) in
     let inner : r < call.2.0 = omega (arith, call.2.1.0, call.2.1.1) in
     higher
-    (called_up low p o.0 (Ok Some ⊛ named_of label) (operation_named bytes) r call.2.0 ts o.2.2.0 le (omega (arith, up_le (named_up.up mid label o.0 o.1), label_end, call.1))
+    (called_up low p o.0 (Ok Some ⊛ named_of label) (operation_named bytes) r call.2.0 ts o.2.2.0 le
+    (omega (arith, up_le (named_up.up mid label o.0 o.1), label_end, call.1))
     (lower (apply_value Some (named_up.up mid label o.0 o.1)) low (omega arith)) label_end inner call.1 call.2.2)
     high end
 labelled_up low p mid ts high le lt under o = at_fault low p 6 high le under
@@ -143,7 +158,8 @@ program_up = record { up = up }
         let o = h.2 in
         is_judged p 9 (is_small_program formals temporaries (more i is)) h.0 h.1
         (goes_on_with_each
-        (goes_on (goes_on (goes_on (starts (new_program p (place_of formals)) low (p + 1) (omega (arith, h.0))) named_up name o.0 o.1) (list_up named_up) formals o.2.0 o.2.1) (list_up temporary_up) temporaries o.2.2.0 o.2.2.1)
+        (goes_on (goes_on (goes_on (starts (new_program p (place_of formals)) low (p + 1) (omega (arith, h.0))) named_up name o.0 o.1)
+        (list_up named_up) formals o.2.0 o.2.1) (list_up temporary_up) temporaries o.2.2.0 o.2.2.1)
         instruction_up (more i is) high o.2.2.2)
     up low (atom p bytes) high h = at_fault low p 3 high h.0 h.1
     up low (list p none) high h = at_fault low p 3 high h.0 h.1
@@ -177,7 +193,8 @@ system_up = record { up = up }
         (higher
         (goes_on_with_each
         (higher
-        (goes_on (goes_on (goes_on (goes_on (starts (new_system p) low h.2.0 first) named_up main o.0 o.1) number_up ctrl o.2.0 o.2.1) number_up temp o.2.2.0 o.2.2.1) number_up base o.2.2.2.0 o.2.2.2.1)
+        (goes_on (goes_on (goes_on (goes_on (starts (new_system p) low h.2.0 first) named_up main o.0 o.1) number_up ctrl o.2.0 o.2.1) number_up temp
+        o.2.2.0 o.2.2.1) number_up base o.2.2.2.0 o.2.2.2.1)
         (r + 1) (omega (arith, at_areas.1.0)))
         area_up areas at_areas.0 at_areas.1.2)
         (s + 1) (omega (arith, at_stack.1.0)))

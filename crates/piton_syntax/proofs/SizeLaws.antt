@@ -11,7 +11,8 @@ use Rattle.piton_syntax.specs.declared.word_text.WordItem.{WordItem}
 use Rattle.piton_syntax.specs.declared.word_text.WordItem.TheVariants as item
 use Rattle.piton_syntax.specs.Operations.{op_name}
 use Rattle.piton_syntax.specs.Systems.{InstrOf, ProgramOf, AreaOf, SystemOf}
-use Rattle.piton_syntax.specs.Printed.{truth_tree, item_tree, word_tree, argument_tree, labelled_tree, instruction_tree, temporary_tree, program_tree, area_tree, tree_of}
+use Rattle.piton_syntax.specs.Printed.{truth_tree, item_tree, word_tree, argument_tree, labelled_tree, instruction_tree, temporary_tree, program_tree}
+use Rattle.piton_syntax.specs.Printed.{area_tree, tree_of}
 use Rattle.piton_syntax.specs.Sizes.{instruction_size, program_size, area_size, text_size}
 
 -- ---- parts

@@ -16,7 +16,8 @@ item_text (item.Addr area n) = refl
 item_text (item.Pc program n) = refl
 item_text (item.Subr program) = refl
 
-pub printed_item : (out opened inner closed : List ℕ) (i : WordItem) (t : Tag) → t ≡ tag_of i → opened ≡ out ++ 40 ∷ tag_name t → inner ≡ opened ++ spaced_text (item_parts i) → closed ≡ inner ++ 41 ∷ []
+pub printed_item : (out opened inner closed : List ℕ) (i : WordItem) (t : Tag) → t ≡ tag_of i → opened ≡ out ++ 40 ∷ tag_name t
+    → inner ≡ opened ++ spaced_text (item_parts i) → closed ≡ inner ++ 41 ∷ []
     → closed ≡ out ++ tree_text (item_tree i)
 printed_item out opened inner closed i t tag_is opened_is inner_is closed_is =
     let text : List ℕ = spaced_text (item_parts i) in

@@ -35,22 +35,29 @@ use Rattle.program_images.specs.TextPrograms.{source_of_text, IsText, reading_of
 
 module _ (source : SourceOf) (sizes : StackSizes) (values finals : List ValueOf) (way : CurrentCondition) (n : ℕ) where
   -- a meaning that is done has a count
-  counted : (o : CountedOutcome) → counted_meaning (program_of source) sizes values n ≡ o → meaning (program_of source) sizes values n ≡ Done finals way → (count : ℕ) × Finishes source sizes values finals way count
+  counted : (o : CountedOutcome) → counted_meaning (program_of source) sizes values n ≡ o → meaning (program_of source) sizes values n ≡ Done finals way
+      → (count : ℕ) × Finishes source sizes values finals way count
   counted (CountedDone x c t) e done =
       (t.count, record { bound = n; done = done; counted = ap (λ (o : CountedOutcome). option_map (λ (t : Tally). t.count) (tally_of o)) e })
   counted CountedUnfinished e done =
       absurd (let same : Unfinished ≡ Done finals way = sym (ap uncounted e) ∙ meaning-uncounted (program_of source) sizes values n ∙ done in cc)
 
-pub means_shown : (image : ImageOf) (source : SourceOf) (sizes : StackSizes) (values finals : List ValueOf) (way : CurrentCondition) → Implements image source sizes → FitsFormals source values → Means (program_of source) sizes values (Is finals way) → Shows image values (meaning_shown source finals way)
+pub means_shown : (image : ImageOf) (source : SourceOf) (sizes : StackSizes) (values finals : List ValueOf) (way : CurrentCondition)
+    → Implements image source sizes → FitsFormals source values → Means (program_of source) sizes values (Is finals way)
+    → Shows image values (meaning_shown source finals way)
 means_shown image source sizes values finals way implements fits m =
-    let done : meaning (program_of source) sizes values m.bound ≡ Done finals way = m.done ∙ ap (λ (x : List ValueOf). Done x m.way) m.holds.0 ∙ ap (Done finals) m.holds.1 in
+    let done : meaning (program_of source) sizes values m.bound ≡ Done finals way =
+    m.done ∙ ap (λ (x : List ValueOf). Done x m.way) m.holds.0 ∙ ap (Done finals) m.holds.1 in
     let f = counted source sizes values finals way m.bound (counted_meaning (program_of source) sizes values m.bound) refl done in
     record { count = f.0; comes = implements values finals way f.0 fits f.1 }
 
-pub means_shown_after : (image : ImageOf) (source : SourceOf) (sizes : StackSizes) (values finals : List ValueOf) (way : CurrentCondition) (count : ℕ) → Implements image source sizes → FitsFormals source values → MeansAfter (program_of source) sizes values (IsAfter finals way count) → ComesTo image values count (meaning_shown source finals way)
+pub means_shown_after : (image : ImageOf) (source : SourceOf) (sizes : StackSizes) (values finals : List ValueOf) (way : CurrentCondition) (count : ℕ)
+    → Implements image source sizes → FitsFormals source values → MeansAfter (program_of source) sizes values (IsAfter finals way count)
+    → ComesTo image values count (meaning_shown source finals way)
 means_shown_after image source sizes values finals way count implements fits m =
     let done : meaning (program_of source) sizes values m.bound ≡ Done finals way =
-    sym (meaning-uncounted (program_of source) sizes values m.bound) ∙ ap uncounted m.done ∙ ap (λ (x : List ValueOf). Done x m.way) m.holds.0 ∙ ap (Done finals) m.holds.1 in
+    sym (meaning-uncounted (program_of source) sizes values m.bound) ∙ ap uncounted m.done ∙ ap (λ (x : List ValueOf). Done x m.way) m.holds.0
+    ∙ ap (Done finals) m.holds.1 in
     let counted = ap (λ (o : CountedOutcome). option_map (λ (t : Tally). t.count) (tally_of o)) m.done ∙ ap Some m.holds.2 in
     implements values finals way count fits record { bound = m.bound; done = done; counted = counted }
 
@@ -65,7 +72,8 @@ never_ends q sizes v endless j = pick (moment_from q sizes v j) refl
         let over = (agree q sizes v).ended j x c t (moment_over q sizes j (start q v) x c t e) in
         absurd (let f : Unfinished ≡ Done x c = sym (endless.unfinished (suc j)) ∙ sym (meaning-uncounted q sizes v (suc j)) ∙ ap uncounted over in cc)
 
-pub never_ends_unfinished : (image : ImageOf) (source : SourceOf) (sizes : StackSizes) (values : List ValueOf) → StaysUnfinished image source sizes → FitsFormals source values → IsEndless (program_of source) sizes values → RunsOn image values
+pub never_ends_unfinished : (image : ImageOf) (source : SourceOf) (sizes : StackSizes) (values : List ValueOf) → StaysUnfinished image source sizes
+    → FitsFormals source values → IsEndless (program_of source) sizes values → RunsOn image values
 never_ends_unfinished image source sizes values stays fits endless budget =
     stays values budget fits (never_ends (program_of source) sizes values endless)
 
@@ -89,7 +97,9 @@ record SourceOfText (q : Program) (names conditions : List (List ℕ)) (sizes : 
   unfinished : StaysUnfinished image source sizes
   fits : FitsFormals source values
 
-of_text : {text : List ℕ} {q : Program} {names conditions : List (List ℕ)} {ctrl temp : ℕ} {built : BuiltOf} {values : List ValueOf} → IsText text q names conditions → BuildsText text ctrl temp built → VarsFit (proc_at q q.main).formals values → SourceOfText q names conditions (stack_sizes ctrl temp) built.image values
+of_text : {text : List ℕ} {q : Program} {names conditions : List (List ℕ)} {ctrl temp : ℕ} {built : BuiltOf} {values : List ValueOf}
+    → IsText text q names conditions → BuildsText text ctrl temp built → VarsFit (proc_at q q.main).formals values
+    → SourceOfText q names conditions (stack_sizes ctrl temp) built.image values
 of_text {text = text} {q = q} {ctrl = ctrl} {temp = temp} {built = built} {values = values} is builds fits =
     let same = one_source text (source_of_text text) builds.source is.reads builds.read in
     record {
@@ -104,27 +114,37 @@ of_text {text = text} {q = q} {ctrl = ctrl} {temp = temp} {built = built} {value
 
 module _ {q : Program} {names conditions : List (List ℕ)} {sizes : StackSizes} {image : ImageOf} {values : List ValueOf} where
   -- what is read of memory, by these names and conditions
-  by_names : (o : SourceOfText q names conditions sizes image values) (finals : List ValueOf) (way : CurrentCondition) (P : ReadingOf → Type 0) → P (meaning_shown o.source finals way) → P (reading_of names conditions finals way)
+  by_names : (o : SourceOfText q names conditions sizes image values) (finals : List ValueOf) (way : CurrentCondition) (P : ReadingOf → Type 0)
+      → P (meaning_shown o.source finals way) → P (reading_of names conditions finals way)
   by_names o finals way P h =
       subst (λ (ns : List (List ℕ)). P (reading_of ns conditions finals way)) o.names_are
       (subst (λ (cs : List (List ℕ)). P (reading_of (shown_names o.source) cs finals way)) o.conditions_are h)
 
 -- What is built of a text whose program means this: its memory shows it, whatever the sizes and the window.
-pub shown_by : {text : List ℕ} {q : Program} {names conditions : List (List ℕ)} {ctrl temp : ℕ} {built : BuiltOf} {values finals : List ValueOf} {way : CurrentCondition} → IsText text q names conditions → BuildsText text ctrl temp built → VarsFit (proc_at q q.main).formals values → Means q (stack_sizes ctrl temp) values (Is finals way) → Shows built.image values (reading_of names conditions finals way)
+pub shown_by : {text : List ℕ} {q : Program} {names conditions : List (List ℕ)} {ctrl temp : ℕ} {built : BuiltOf} {values finals : List ValueOf}
+    {way : CurrentCondition} → IsText text q names conditions → BuildsText text ctrl temp built → VarsFit (proc_at q q.main).formals values
+    → Means q (stack_sizes ctrl temp) values (Is finals way) → Shows built.image values (reading_of names conditions finals way)
 shown_by {ctrl = ctrl} {temp = temp} {built = built} {values = values} {finals = finals} {way = way} is builds fits means =
     let o = of_text is builds fits in
     by_names o finals way (Shows built.image values)
-    (means_shown built.image o.source (stack_sizes ctrl temp) values finals way o.implements o.fits (subst (λ (p : Program). Means p (stack_sizes ctrl temp) values (Is finals way)) (sym o.resolves) means))
+    (means_shown built.image o.source (stack_sizes ctrl temp) values finals way o.implements o.fits
+    (subst (λ (p : Program). Means p (stack_sizes ctrl temp) values (Is finals way)) (sym o.resolves) means))
 
 -- the same with the number of instructions
-pub shown_after_by : {text : List ℕ} {q : Program} {names conditions : List (List ℕ)} {ctrl temp : ℕ} {built : BuiltOf} {values finals : List ValueOf} {way : CurrentCondition} {count : ℕ} → IsText text q names conditions → BuildsText text ctrl temp built → VarsFit (proc_at q q.main).formals values → MeansAfter q (stack_sizes ctrl temp) values (IsAfter finals way count) → ComesTo built.image values count (reading_of names conditions finals way)
+pub shown_after_by : {text : List ℕ} {q : Program} {names conditions : List (List ℕ)} {ctrl temp : ℕ} {built : BuiltOf} {values finals : List ValueOf}
+    {way : CurrentCondition} {count : ℕ} → IsText text q names conditions → BuildsText text ctrl temp built → VarsFit (proc_at q q.main).formals values
+    → MeansAfter q (stack_sizes ctrl temp) values (IsAfter finals way count) → ComesTo built.image values count (reading_of names conditions finals way)
 shown_after_by {ctrl = ctrl} {temp = temp} {built = built} {values = values} {finals = finals} {way = way} {count = count} is builds fits means =
     let o = of_text is builds fits in
     by_names o finals way (ComesTo built.image values count)
-    (means_shown_after built.image o.source (stack_sizes ctrl temp) values finals way count o.implements o.fits (subst (λ (p : Program). MeansAfter p (stack_sizes ctrl temp) values (IsAfter finals way count)) (sym o.resolves) means))
+    (means_shown_after built.image o.source (stack_sizes ctrl temp) values finals way count o.implements o.fits
+    (subst (λ (p : Program). MeansAfter p (stack_sizes ctrl temp) values (IsAfter finals way count)) (sym o.resolves) means))
 
 -- What is built of a text whose program never ends on the values: it is unfinished at every budget.
-pub runs_on_by : {text : List ℕ} {q : Program} {names conditions : List (List ℕ)} {ctrl temp : ℕ} {built : BuiltOf} {values : List ValueOf} → IsText text q names conditions → BuildsText text ctrl temp built → VarsFit (proc_at q q.main).formals values → IsEndless q (stack_sizes ctrl temp) values → RunsOn built.image values
+pub runs_on_by : {text : List ℕ} {q : Program} {names conditions : List (List ℕ)} {ctrl temp : ℕ} {built : BuiltOf} {values : List ValueOf}
+    → IsText text q names conditions → BuildsText text ctrl temp built → VarsFit (proc_at q q.main).formals values
+    → IsEndless q (stack_sizes ctrl temp) values → RunsOn built.image values
 runs_on_by {ctrl = ctrl} {temp = temp} {built = built} {values = values} is builds fits endless =
     let o = of_text is builds fits in
-    never_ends_unfinished built.image o.source (stack_sizes ctrl temp) values o.unfinished o.fits (subst (λ (p : Program). IsEndless p (stack_sizes ctrl temp) values) (sym o.resolves) endless)
+    never_ends_unfinished built.image o.source (stack_sizes ctrl temp) values o.unfinished o.fits
+    (subst (λ (p : Program). IsEndless p (stack_sizes ctrl temp) values) (sym o.resolves) endless)

@@ -1,8 +1,10 @@
 -- A program of the infix language with fewer than 40 tokens breaks no rule of tokens.
-use Rattle.std.proofs.Common.{◌≡◌, ℕ, ◌+◌, ◌<◌, ◌≤◌, List, [], ◌∷◌, ◌++◌, length, length-append, append_assoc, Bool, true, false, refl, sym, ap, ◌∙◌, subst, arith}
+use Rattle.std.proofs.Common.{◌≡◌, ℕ, ◌+◌, ◌<◌, ◌≤◌, List, [], ◌∷◌, ◌++◌, length, length-append, append_assoc, Bool, true, false, refl, sym, ap, ◌∙◌, subst}
+use Rattle.std.proofs.Common.{arith}
 use Rattle.std.specs.Prelude.{◌&&◌, if◌then◌else◌}
 use Rattle.mini_syntax.specs.declared.lexer.TokenKind.{TokenKind}
-use Rattle.mini_syntax.specs.Faults.{AreFree, BreaksAt, no_token, no_program, brackets, blocks, too_many, count_of, operators_from, begins_expression, is_operator, opens_bracket, opens_block}
+use Rattle.mini_syntax.specs.Faults.{AreFree, BreaksAt, no_token, no_program, brackets, blocks, too_many, count_of, operators_from, begins_expression}
+use Rattle.mini_syntax.specs.Faults.{is_operator, opens_bracket, opens_block}
 use Rattle.mini_syntax.specs.Grammar.{InfixProgram, GoesOn, program_tokens}
 use Rattle.mini_syntax.specs.Tokens.{Token, name_at, number_at, word_at, mark_at, wrong_at, kind_of}
 
@@ -59,7 +61,8 @@ short_is_free p few right before t after rule parts breaks = pick t rule parts b
     goes_on u e = (p, after, e ∙ sym (append_assoc before (u ∷ []) after))
 
     pick : (u : Token) (r : ℕ) → program_tokens p ≡ before ++ u ∷ after → BreaksAt before u r → ⊥
-    pick u r e (no_token place) = let h : false ≡ true = right_in before (wrong_at place) after (subst (λ (ts : List Token). all_right ts ≡ true) e right) in absurd cc
+    pick u r e (no_token place) =
+        let h : false ≡ true = right_in before (wrong_at place) after (subst (λ (ts : List Token). all_right ts ≡ true) e right) in absurd cc
     pick u r e (no_program v none) = none (goes_on u e)
     pick u r e (brackets v g o many) = let h = few_of opens_bracket before in absurd (omega (arith, h, many, shorter u e))
     pick u r e (blocks v g o many) = let h = few_of opens_block before in absurd (omega (arith, h, many, shorter u e))

@@ -1,5 +1,6 @@
 -- What the procedures of examples/games/piles.gypsy do, and its loops.
-use Rattle.std.proofs.Common.{◌≡◌, ◌≢◌, ℕ, zero, suc, ◌+◌, ◌/◌, ◌%◌, ◌^◌, ◌<◌, ◌≤◌, List, [], ◌∷◌, length, take, get_or, slice_set, Bool, true, false, Some, None, refl, sym, ap, ◌∙◌, subst, arith}
+use Rattle.std.proofs.Common.{◌≡◌, ◌≢◌, ℕ, zero, suc, ◌+◌, ◌/◌, ◌%◌, ◌^◌, ◌<◌, ◌≤◌, List, [], ◌∷◌, length, take, get_or, slice_set, Bool, true, false, Some}
+use Rattle.std.proofs.Common.{None, refl, sym, ap, ◌∙◌, subst, arith}
 use Rattle.std.specs.Prelude.{ℤ, pos, int_le, map, bit_xor}
 use Rattle.std.specs.Int.{bit_at}
 use Rattle.std.proofs.Math.ListN.{get_or-map}
@@ -15,9 +16,11 @@ use Rattle.gypsy_syntax.specs.Effects.{integer_value, truth_value, same_int, are
 use Rattle.gypsy_space.specs.Needs.{StackSizes, main_used, with_call, call_need, has_room}
 use Rattle.gypsy_semantics.specs.Calls.{CurrentCondition}
 use Rattle.gypsy_logic.specs.Ends.{Exit, Ends, Then, Round, Again, Stands, Outcome, Meets, Given, Gives, AnyRoom, MainEnds, Means, Is}
-use Rattle.gypsy_logic.proofs.Rules.{◌▸◌, skip_rule, no_op_rule, signal_rule, seq_rule, if_true, if_false, if_rule, loop_over, meets_rule, given_rule, main_rule, room_is}
+use Rattle.gypsy_logic.proofs.Rules.{◌▸◌, skip_rule, no_op_rule, signal_rule, seq_rule, if_true, if_false, if_rule, loop_over, meets_rule, given_rule}
+use Rattle.gypsy_logic.proofs.Rules.{main_rule, room_is}
 use Rattle.gypsy_logic.proofs.NumberFacts.{truth_is, same_true, same_false, natural_fits}
-use Rattle.gypsy_logic.proofs.PredefinedRules.{assign_rule, constant_rule, equal_rule, equal_constant_rule, at_most_rule, add_rule, subtract_rule, index_rule, store_rule}
+use Rattle.gypsy_logic.proofs.PredefinedRules.{assign_rule, constant_rule, equal_rule, equal_constant_rule, at_most_rule, add_rule, subtract_rule, index_rule}
+use Rattle.gypsy_logic.proofs.PredefinedRules.{store_rule}
 use Rattle.proved_programs.specs.NimGame.{NimMove, Loses, nim_sum}
 use Rattle.proved_programs.specs.Piles.{IsPosition, piles_value}
 use Rattle.proved_programs.specs.Texts.Piles.{piles_program, piles_main_body, piles_main_round_1, piles_main_round_2, piles_xor_round_1}

@@ -1,5 +1,6 @@
 -- What the code judges is whether the certificate covers the source.
-use Rattle.std.proofs.Common.{◌≡◌, ℕ, zero, suc, ◌+◌, ◌<◌, ◌≤◌, nat_le, cond, slice_get, List, [], ◌∷◌, ◌++◌, map, length, get_or, Bool, true, false, ◌&&◌, ◌==◌, Option, Some, None, inl, inr, refl, ap, sym, ◌∙◌, subst, arith, eq-eqb, leb-true}
+use Rattle.std.proofs.Common.{◌≡◌, ℕ, zero, suc, ◌+◌, ◌<◌, ◌≤◌, nat_le, cond, slice_get, List, [], ◌∷◌, ◌++◌, map, length, get_or, Bool, true, false, ◌&&◌}
+use Rattle.std.proofs.Common.{◌==◌, Option, Some, None, inl, inr, refl, ap, sym, ◌∙◌, subst, arith, eq-eqb, leb-true}
 use Rattle.std.proofs.lemmas.Bool.{and_parts, le-leb, eqb-true, cases_lt, false_from_ne_true}
 use Rattle.std.proofs.lemmas.List.{length-map, get_or_past}
 use Rattle.std.proofs.lemmas.List.Elements.{All-nil, All-cons, All-head, All-tail}
@@ -21,7 +22,8 @@ use Rattle.gypsy_space.proofs.SmallLaws.{words_of-append}
 use Rattle.space_cert.specs.Covers.{Bounds, as_words, bound_at, words_sum, callees, IsAtMost, own_need, call_bound, CoversCall, CoversRun, Covers}
 use Rattle.space_cert.specs.Reaches.{calls_of}
 use Rattle.space_cert.specs.Order.{call_bound_by}
-use Rattle.space_cert.specs.Accepting.{is_at_most, is_some_and, covers_call, covers_calls, covers_run, covers_from, covers_main, covers, source_callees, parts_callees, source_calls, needs_from, is_covered}
+use Rattle.space_cert.specs.Accepting.{is_at_most, is_some_and, covers_call, covers_calls, covers_run, covers_from, covers_main, covers, source_callees}
+use Rattle.space_cert.specs.Accepting.{parts_callees, source_calls, needs_from, is_covered}
 use Rattle.space_cert.proofs.CoversLaws.{main_within}
 use Rattle.space_cert.proofs.CertifyLaws.{body_calls, calls_below, calls_same}
 
@@ -33,11 +35,13 @@ at_most_true u v e =
 at_most_is : (u v : StackSizes) → IsAtMost u v → is_at_most u v ≡ true
 at_most_is u v h = and_true (nat_le u.temp v.temp) (nat_le u.ctrl v.ctrl) (le-leb u.temp v.temp h.temp) (le-leb u.ctrl v.ctrl h.ctrl)
 
-some_true : (o : Option StackSizes) (f : StackSizes → Bool) (P : StackSizes → Type 0) → ((w : StackSizes) → f w ≡ true → P w) → is_some_and o f ≡ true → IsSomeAnd o P
+some_true : (o : Option StackSizes) (f : StackSizes → Bool) (P : StackSizes → Type 0) → ((w : StackSizes) → f w ≡ true → P w) → is_some_and o f ≡ true
+    → IsSomeAnd o P
 some_true None f P h e = cc
 some_true (Some w) f P h e = h w e
 
-some_is_true : (o : Option StackSizes) (f : StackSizes → Bool) (P : StackSizes → Type 0) → ((w : StackSizes) → P w → f w ≡ true) → IsSomeAnd o P → is_some_and o f ≡ true
+some_is_true : (o : Option StackSizes) (f : StackSizes → Bool) (P : StackSizes → Type 0) → ((w : StackSizes) → P w → f w ≡ true) → IsSomeAnd o P
+    → is_some_and o f ≡ true
 some_is_true None f P h k = absurd k
 some_is_true (Some w) f P h k = h w k
 
@@ -66,12 +70,15 @@ module _ (q : Program) (ns : List Need) (needs : AreNeeds q ns) (fits : ProgramF
   calls_true b [] lt e = All-nil (CoversCall q bs b)
   calls_true b (r ∷ ps) lt e =
       let k = and_parts (covers_call ns bs b r) (covers_calls ns bs b ps) e in
-      All-cons (CoversCall q bs b) r ps (call_true b r (All-head (λ x. x < length q.procs) r ps lt) k.0) (calls_true b ps (All-tail (λ x. x < length q.procs) r ps lt) k.1)
+      All-cons (CoversCall q bs b) r ps (call_true b r (All-head (λ x. x < length q.procs) r ps lt) k.0)
+      (calls_true b ps (All-tail (λ x. x < length q.procs) r ps lt) k.1)
 
   calls_is : (b : StackSizes) (ps : List ℕ) → All (λ r. r < length q.procs) ps → All (CoversCall q bs b) ps → covers_calls ns bs b ps ≡ true
   calls_is b [] lt h = refl
   calls_is b (r ∷ ps) lt h =
-      and_true (covers_call ns bs b r) (covers_calls ns bs b ps) (call_is b r (All-head (λ x. x < length q.procs) r ps lt) (All-head (CoversCall q bs b) r ps h)) (calls_is b ps (All-tail (λ x. x < length q.procs) r ps lt) (All-tail (CoversCall q bs b) r ps h))
+      and_true (covers_call ns bs b r) (covers_calls ns bs b ps)
+      (call_is b r (All-head (λ x. x < length q.procs) r ps lt) (All-head (CoversCall q bs b) r ps h))
+      (calls_is b ps (All-tail (λ x. x < length q.procs) r ps lt) (All-tail (CoversCall q bs b) r ps h))
 
   run_true : (p : ℕ) (b : StackSizes) → p < length q.procs → covers_run ns bs (need_at ns p) (calls_of q p) (Some b) ≡ true → CoversRun q bs p b
   run_true p b lt e =
@@ -81,29 +88,37 @@ module _ (q : Program) (ns : List Need) (needs : AreNeeds q ns) (fits : ProgramF
         calls = calls_true b (calls_of q p) (calls_below q fits p) k.1;
       }
 
-  run_is : (p : ℕ) (o : Option StackSizes) → p < length q.procs → ((b : StackSizes) → o ≡ Some b → CoversRun q bs p b) → covers_run ns bs (need_at ns p) (calls_of q p) o ≡ true
+  run_is : (p : ℕ) (o : Option StackSizes) → p < length q.procs → ((b : StackSizes) → o ≡ Some b → CoversRun q bs p b)
+      → covers_run ns bs (need_at ns p) (calls_of q p) o ≡ true
   run_is p None lt h = refl
   run_is p (Some b) lt h =
       and_true (is_at_most (stack_sizes (need_at ns p).ctrl (need_at ns p).temp) b) (covers_calls ns bs b (calls_of q p))
       (subst (λ (n : Need). is_at_most (stack_sizes n.ctrl n.temp) b ≡ true) (sym (needs.each p lt)) (at_most_is (own_need (proc_at q p)) b (h b refl).own))
       (calls_is b (calls_of q p) (calls_below q fits p) (h b refl).calls)
 
-  from_true : (calls : List (List ℕ)) (k i : ℕ) → covers_from ns bs k calls ≡ true → i < length calls → covers_run ns bs (need_at ns (k + i)) (get_or calls i []) (bound_at bs (k + i)) ≡ true
+  from_true : (calls : List (List ℕ)) (k i : ℕ) → covers_from ns bs k calls ≡ true → i < length calls
+      → covers_run ns bs (need_at ns (k + i)) (get_or calls i []) (bound_at bs (k + i)) ≡ true
   from_true [] k i e lt = absurd (omega (arith, lt))
   from_true (ps ∷ calls) k zero e lt =
       let first : k ≡ k + 0 = omega arith in
-      subst (λ j. covers_run ns bs (need_at ns j) ps (bound_at bs j) ≡ true) first (and_parts (covers_run ns bs (need_at ns k) ps (bound_at bs k)) (covers_from ns bs (k + 1) calls) e).0
+      subst (λ j. covers_run ns bs (need_at ns j) ps (bound_at bs j) ≡ true) first
+      (and_parts (covers_run ns bs (need_at ns k) ps (bound_at bs k)) (covers_from ns bs (k + 1) calls) e).0
   from_true (ps ∷ calls) k (suc i) e lt =
       let next : (k + 1) + i ≡ k + suc i = omega arith in
-      subst (λ j. covers_run ns bs (need_at ns j) (get_or calls i []) (bound_at bs j) ≡ true) next (from_true calls (k + 1) i (and_parts (covers_run ns bs (need_at ns k) ps (bound_at bs k)) (covers_from ns bs (k + 1) calls) e).1 (omega (arith, lt)))
+      subst (λ j. covers_run ns bs (need_at ns j) (get_or calls i []) (bound_at bs j) ≡ true) next
+      (from_true calls (k + 1) i (and_parts (covers_run ns bs (need_at ns k) ps (bound_at bs k)) (covers_from ns bs (k + 1) calls) e).1
+      (omega (arith, lt)))
 
-  from_is : (calls : List (List ℕ)) (k : ℕ) → ((i : ℕ) → i < length calls → covers_run ns bs (need_at ns (k + i)) (get_or calls i []) (bound_at bs (k + i)) ≡ true) → covers_from ns bs k calls ≡ true
+  from_is : (calls : List (List ℕ)) (k : ℕ)
+      → ((i : ℕ) → i < length calls → covers_run ns bs (need_at ns (k + i)) (get_or calls i []) (bound_at bs (k + i)) ≡ true)
+      → covers_from ns bs k calls ≡ true
   from_is [] k h = refl
   from_is (ps ∷ calls) k h =
       let first : k + 0 ≡ k = omega arith in
       and_true (covers_run ns bs (need_at ns k) ps (bound_at bs k)) (covers_from ns bs (k + 1) calls)
       (subst (λ j. covers_run ns bs (need_at ns j) ps (bound_at bs j) ≡ true) first (h 0 (omega arith)))
-      (from_is calls (k + 1) (λ i lt. subst (λ j. covers_run ns bs (need_at ns j) (get_or calls i []) (bound_at bs j) ≡ true) (shift k i) (h (suc i) (omega (arith, lt)))))
+      (from_is calls (k + 1) (λ i lt. subst (λ j. covers_run ns bs (need_at ns j) (get_or calls i []) (bound_at bs j) ≡ true) (shift k i)
+      (h (suc i) (omega (arith, lt)))))
     where
       shift : (k i : ℕ) → k + suc i ≡ (k + 1) + i
       shift k i = omega arith
@@ -116,7 +131,8 @@ module _ (q : Program) (ns : List Need) (needs : AreNeeds q ns) (fits : ProgramF
       let k = and_parts (length bs == length (body_calls q)) (covers_main (main_used q) sizes (bound_at bs q.main) && covers_from ns bs 0 (body_calls q)) e in
       let j = and_parts (covers_main (main_used q) sizes (bound_at bs q.main)) (covers_from ns bs 0 (body_calls q)) k.1 in
       let number : length bs ≡ length q.procs = eqb-true (length bs) (length (body_calls q)) k.0 ∙ many in
-      let main = some_true (bound_at bs q.main) (λ b. is_at_most (words_sum (main_used q) b) sizes) (λ b. IsAtMost (words_sum (main_used q) b) sizes) (λ b i. at_most_true (words_sum (main_used q) b) sizes i) j.0 in
+      let main = some_true (bound_at bs q.main) (λ b. is_at_most (words_sum (main_used q) b) sizes) (λ b. IsAtMost (words_sum (main_used q) b) sizes)
+      (λ b i. at_most_true (words_sum (main_used q) b) sizes i) j.0 in
       record {
         certificate = record {
           number = number;
@@ -124,13 +140,16 @@ module _ (q : Program) (ns : List Need) (needs : AreNeeds q ns) (fits : ProgramF
           each = λ p b i.
               let lt : p < length q.procs = omega (arith, past_none bs p b i, number) in
               let zero_add : 0 + p ≡ p = omega arith in
-              let run = subst (λ x. covers_run ns bs (need_at ns x) (get_or (body_calls q) p []) (bound_at bs x) ≡ true) zero_add (from_true (body_calls q) 0 p j.1 (omega (arith, lt, many))) in
-              run_true p b lt (subst (λ o. covers_run ns bs (need_at ns p) (calls_of q p) o ≡ true) i (subst (λ x. covers_run ns bs (need_at ns p) x (bound_at bs p) ≡ true) (calls_same q.procs p) run));
+              let run = subst (λ x. covers_run ns bs (need_at ns x) (get_or (body_calls q) p []) (bound_at bs x) ≡ true) zero_add
+              (from_true (body_calls q) 0 p j.1 (omega (arith, lt, many))) in
+              run_true p b lt (subst (λ o. covers_run ns bs (need_at ns p) (calls_of q p) o ≡ true) i
+              (subst (λ x. covers_run ns bs (need_at ns p) x (bound_at bs p) ≡ true) (calls_same q.procs p) run));
         };
         within = main_enough (bound_at bs q.main) main;
       }
     where
-      main_enough : (o : Option StackSizes) → IsSomeAnd o (λ d. IsAtMost (words_sum (main_used q) d) sizes) → IsAtMost (words_sum (main_used q) (unwrap_or o (stack_sizes 0 0))) sizes
+      main_enough : (o : Option StackSizes) → IsSomeAnd o (λ d. IsAtMost (words_sum (main_used q) d) sizes)
+          → IsAtMost (words_sum (main_used q) (unwrap_or o (stack_sizes 0 0))) sizes
       main_enough None h = absurd h
       main_enough (Some d) h = h
 
@@ -143,7 +162,8 @@ module _ (q : Program) (ns : List Need) (needs : AreNeeds q ns) (fits : ProgramF
       (from_is (body_calls q) 0 (λ i lt.
       let zero_add : i ≡ 0 + i = omega arith in
       subst (λ x. covers_run ns bs (need_at ns x) (get_or (body_calls q) i []) (bound_at bs x) ≡ true) zero_add
-      (subst (λ x. covers_run ns bs (need_at ns i) x (bound_at bs i) ≡ true) (sym (calls_same q.procs i)) (run_is i (bound_at bs i) (omega (arith, lt, many)) (h.certificate.each i))))))
+      (subst (λ x. covers_run ns bs (need_at ns i) x (bound_at bs i) ≡ true) (sym (calls_same q.procs i))
+      (run_is i (bound_at bs i) (omega (arith, lt, many)) (h.certificate.each i))))))
     where
       main : (o : Option StackSizes) → bound_at bs q.main ≡ o → IsSome o → covers_main (main_used q) sizes o ≡ true
       main None e k = cc
@@ -170,7 +190,8 @@ are_needs q = record {
     zero_plus p = omega arith
 
 -- what is judged by the program is whether it is covered
-pub covered_is : (q : Program) → ProgramFits q → (bs : Bounds) (sizes : StackSizes) → (is_covered q bs sizes ≡ true → Covers q bs sizes) × (Covers q bs sizes → is_covered q bs sizes ≡ true)
+pub covered_is : (q : Program) → ProgramFits q → (bs : Bounds) (sizes : StackSizes) → (is_covered q bs sizes ≡ true → Covers q bs sizes)
+    × (Covers q bs sizes → is_covered q bs sizes ≡ true)
 unfolding is_covered
 covered_is q fits bs sizes = (
   λ t. covers_true q (needs_from q (length q.procs) 0) (are_needs q) fits bs sizes t,
@@ -178,11 +199,13 @@ covered_is q fits bs sizes = (
 )
 
 -- what is judged so is judged as the program has it
-pub is_covered_by : (q : Program) → ProgramFits q → (bs : Bounds) (sizes : StackSizes) (b : Bool) → (b ≡ true → Covers q bs sizes) → (Covers q bs sizes → b ≡ true) → b ≡ is_covered q bs sizes
+pub is_covered_by : (q : Program) → ProgramFits q → (bs : Bounds) (sizes : StackSizes) (b : Bool) → (b ≡ true → Covers q bs sizes)
+    → (Covers q bs sizes → b ≡ true) → b ≡ is_covered q bs sizes
 unfolding is_covered
 is_covered_by q fits bs sizes true to from = sym (covers_is q (needs_from q (length q.procs) 0) (are_needs q) fits bs sizes (to refl))
 is_covered_by q fits bs sizes false to from =
-    sym (false_from_ne_true (covers (needs_from q (length q.procs) 0) bs (main_used q) sizes q.main (body_calls q)) (λ t. let e : false ≡ true = from (covers_true q (needs_from q (length q.procs) 0) (are_needs q) fits bs sizes t) in cc))
+    sym (false_from_ne_true (covers (needs_from q (length q.procs) 0) bs (main_used q) sizes q.main (body_calls q))
+    (λ t. let e : false ≡ true = from (covers_true q (needs_from q (length q.procs) 0) (are_needs q) fits bs sizes t) in cc))
 
 -- The source's callees are its program's.
 
@@ -210,12 +233,14 @@ source_calls_are s = all s.procs
 
 -- Main's words, and its frame.
 
-module _ (s : SourceOf) (ns : List Need) (needs : AreNeeds (program_of s) ns) (fits : ProgramFits (program_of s)) (main : ℕ) (is : main ≡ (program_of s).main) where
+module _ (s : SourceOf) (ns : List Need) (needs : AreNeeds (program_of s) ns) (fits : ProgramFits (program_of s)) (main : ℕ)
+    (is : main ≡ (program_of s).main) where
   main_need_is : need_at ns main ≡ need_of (program_of s) (program_of s).main
   main_need_is = ap (need_at ns) is ∙ needs.each (program_of s).main fits.main
 
   -- the words of its formals, and those of its locals
-  pub used_is : (f : ℕ) → f ≡ words_of (proc_at (program_of s) (program_of s).main).formals → stack_sizes (2 + (need_at ns main).vars) (f + (need_at ns main).locals_words) ≡ main_used (program_of s)
+  pub used_is : (f : ℕ) → f ≡ words_of (proc_at (program_of s) (program_of s).main).formals
+      → stack_sizes (2 + (need_at ns main).vars) (f + (need_at ns main).locals_words) ≡ main_used (program_of s)
   unfolding main_used
   used_is f e =
       let p = proc_at (program_of s) (program_of s).main in
@@ -228,12 +253,14 @@ formals_small s fits =
     omega (arith, (fits.procs (program_of s).main).words, words_of-append p.formals (map (λ (v : ValueOf). v.shape) p.locals))
 
 -- a procedure of the source, as it is looked up
-pub formals_at : (s : SourceOf) (procs : List TextProc) (i : ℕ) (p : TextProc) → slice_get procs i ≡ Some p → (get_or (map (procedure_of s) (map proc_of procs)) i no_proc).formals ≡ map (λ (d : Decl). shape_of d.shape) p.formals.items
+pub formals_at : (s : SourceOf) (procs : List TextProc) (i : ℕ) (p : TextProc) → slice_get procs i ≡ Some p
+    → (get_or (map (procedure_of s) (map proc_of procs)) i no_proc).formals ≡ map (λ (d : Decl). shape_of d.shape) p.formals.items
 formals_at s [] i p e = cc
 formals_at s (q ∷ procs) zero p e = ap (λ (o : Option TextProc). map (λ (d : Decl). shape_of d.shape) (unwrap_or o q).formals.items) e
 formals_at s (q ∷ procs) (suc i) p e = formals_at s procs i p e
 
-pub no_formals : (s : SourceOf) (procs : List TextProc) (i : ℕ) → slice_get procs i ≡ None → (get_or (map (procedure_of s) (map proc_of procs)) i no_proc).formals ≡ []
+pub no_formals : (s : SourceOf) (procs : List TextProc) (i : ℕ) → slice_get procs i ≡ None
+    → (get_or (map (procedure_of s) (map proc_of procs)) i no_proc).formals ≡ []
 no_formals s [] i e = refl
 no_formals s (q ∷ procs) zero e = cc
 no_formals s (q ∷ procs) (suc i) e = no_formals s procs i e

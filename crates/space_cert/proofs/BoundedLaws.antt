@@ -15,4 +15,5 @@ all_bounds (o ∷ bs) h = and_true (is_bound o) (are_bounds bs) (first o (λ b e
   where
     first : (o : Option (ℕ × ℕ)) → ((b : StackSizes) → option_map as_words o ≡ Some b → (b.temp ≤ 2 ^ 40) × (b.ctrl ≤ 2 ^ 40)) → is_bound o ≡ true
     first None f = refl
-    first (Some b) f = and_true (nat_le b.0 (2 ^ 40)) (nat_le b.1 (2 ^ 40)) (le-leb b.0 (2 ^ 40) (f (as_words b) refl).0) (le-leb b.1 (2 ^ 40) (f (as_words b) refl).1)
+    first (Some b) f =
+        and_true (nat_le b.0 (2 ^ 40)) (nat_le b.1 (2 ^ 40)) (le-leb b.0 (2 ^ 40) (f (as_words b) refl).0) (le-leb b.1 (2 ^ 40) (f (as_words b) refl).1)

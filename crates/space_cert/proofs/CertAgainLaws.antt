@@ -1,5 +1,6 @@
 -- The least certificate of a source is read again.
-use Rattle.std.proofs.Common.{◌≡◌, ◌≤◌, ◌+◌, ◌*◌, ◌^◌, ℕ, zero, suc, max, Bool, true, false, if◌then◌else◌, Option, Some, None, Result, Ok, length, refl, sym, ap, ◌∙◌, subst, arith}
+use Rattle.std.proofs.Common.{◌≡◌, ◌≤◌, ◌+◌, ◌*◌, ◌^◌, ℕ, zero, suc, max, Bool, true, false, if◌then◌else◌, Option, Some, None, Result, Ok, length, refl, sym}
+use Rattle.std.proofs.Common.{ap, ◌∙◌, subst, arith}
 use Rattle.std.proofs.lemmas.Bool.{le-leb}
 use Rattle.std.proofs.lemmas.List.{length-map}
 use Rattle.std.specs.Result.{MatchResult}
@@ -37,7 +38,10 @@ module _ (q : Program) (fits : ProgramFits q) where
   call_small : (p k : ℕ) (d : StackSizes) → IsAtMost d (limit k) → IsAtMost (call_bound q p d) (limit (suc k))
   call_small p k d h =
       let words = small_words q (proc_at q p) (fits.procs p) in
-      record { temp = more (local_words (proc_at q p)) (vars_of (proc_at q p)) d.temp k words h.temp; ctrl = under (local_words (proc_at q p)) (vars_of (proc_at q p)) d.ctrl k words h.ctrl }
+      record {
+        temp = more (local_words (proc_at q p)) (vars_of (proc_at q p)) d.temp k words h.temp;
+        ctrl = under (local_words (proc_at q p)) (vars_of (proc_at q p)) d.ctrl k words h.ctrl;
+      }
     where
       more : (l v d k : ℕ) → l + v ≤ 131072 → d ≤ k * 262144 → max (l + v) (l + d) ≤ suc k * 262144
       more l v d k h g = omega (arith, h, g)

@@ -1,5 +1,6 @@
 -- What is computed is the least certificate, or the first recursive procedure.
-use Rattle.std.proofs.Common.{◌≡◌, ℕ, zero, suc, ◌+◌, ◌<◌, ◌≤◌, Bool, true, false, ◌==◌, if◌then◌else◌, List, [], ◌∷◌, length, get_or, Option, Some, None, Result, Ok, Err, IfErr, inl, inr, refl, sym, ap, ◌∙◌, subst, arith}
+use Rattle.std.proofs.Common.{◌≡◌, ℕ, zero, suc, ◌+◌, ◌<◌, ◌≤◌, Bool, true, false, ◌==◌, if◌then◌else◌, List, [], ◌∷◌, length, get_or, Option, Some, None}
+use Rattle.std.proofs.Common.{Result, Ok, Err, IfErr, inl, inr, refl, sym, ap, ◌∙◌, subst, arith}
 use Rattle.std.proofs.lemmas.Bool.{cases_eq, cases_lt, eqb-true, eq-eqb, or_cases, or_left, or_right, and_from, and_parts, false_from_ne_true}
 use Rattle.std.proofs.lemmas.List.Elements.{All-nil, All-cons, All-contains}
 use Rattle.std.specs.List.{All, Contains}
@@ -15,7 +16,8 @@ use Rattle.space_cert.specs.Covers.{Bounds, as_words, bound_at, IsAtMost, own_ne
 use Rattle.space_cert.specs.Reaches.{Directly, Further, calls_of, IsReached, IsRecursive}
 use Rattle.space_cert.specs.Least.{IsLeast, IsFirstRecursive, IsCertFault, IsThere}
 use Rattle.space_cert.specs.Order.{greater, call_words, greatest_call, run_bound}
-use Rattle.space_cert.specs.Certified.{reaches, is_reached, is_recursive, first_from, greatest_taken, run_within, least_bound, bounds_from, unless_recursive, certified, recursive_of, GivesCertified}
+use Rattle.space_cert.specs.Certified.{reaches, is_reached, is_recursive, first_from, greatest_taken, run_within, least_bound, bounds_from, unless_recursive}
+use Rattle.space_cert.specs.Certified.{certified, recursive_of, GivesCertified}
 use Rattle.stack_text.specs.Gives as common
 use Rattle.space_cert.proofs.ContainsLaws.{contains_first, contains_later}
 use Rattle.space_cert.proofs.ReachLaws.{reached_by, computed_reached, reached_below, reached_computed}
@@ -37,7 +39,8 @@ first_found test (suc n) k r h = by_test (test k) refl h (first_found test n (k 
     later s none first le lt =
         elim (cases_eq k s) [ inl e ↦ subst (λ x. test x ≡ false) e none | inr d ↦ first.earlier s (omega (arith, le, d)) lt ]
 
-    by_test : (t : Bool) → test k ≡ t → (if t then Some k else first_from test n (k + 1)) ≡ Some r → (first_from test n (k + 1) ≡ Some r → FirstFrom test (k + 1) r) → FirstFrom test k r
+    by_test : (t : Bool) → test k ≡ t → (if t then Some k else first_from test n (k + 1)) ≡ Some r
+        → (first_from test n (k + 1) ≡ Some r → FirstFrom test (k + 1) r) → FirstFrom test k r
     by_test true is h rest =
         let same : k ≡ r = ap (λ o. unwrap_or o k) h in
         record { passes = subst (λ x. test x ≡ true) same is; earlier = λ s le lt. absurd (omega (arith, le, lt, same)) }
@@ -48,7 +51,8 @@ unfolding first_from
 none_found test zero k h s le lt = absurd (omega (arith, le, lt))
 none_found test (suc n) k h s le lt = by_test (test k) refl h (none_found test n (k + 1))
   where
-    by_test : (t : Bool) → test k ≡ t → (if t then Some k else first_from test n (k + 1)) ≡ None → (first_from test n (k + 1) ≡ None → (s : ℕ) → k + 1 ≤ s → s < k + 1 + n → test s ≡ false) → test s ≡ false
+    by_test : (t : Bool) → test k ≡ t → (if t then Some k else first_from test n (k + 1)) ≡ None
+        → (first_from test n (k + 1) ≡ None → (s : ℕ) → k + 1 ≤ s → s < k + 1 + n → test s ≡ false) → test s ≡ false
     by_test true is h rest = absurd cc
     by_test false is h rest =
         elim (cases_eq k s) [ inl e ↦ subst (λ x. test x ≡ false) e is | inr d ↦ rest h s (omega (arith, le, d)) (omega (arith, lt)) ]
@@ -82,7 +86,8 @@ unfolding count
 count_more test other h zero = omega arith
 count_more test other h (suc n) = omega (arith, one_more (test n) (other n) (h n), count_more test other h n)
 
-count_grows : (test other : ℕ → Bool) → ((s : ℕ) → test s ≡ true → other s ≡ true) → (r : ℕ) → test r ≡ false → other r ≡ true → (n : ℕ) → r < n → count test n < count other n
+count_grows : (test other : ℕ → Bool) → ((s : ℕ) → test s ≡ true → other s ≡ true) → (r : ℕ) → test r ≡ false → other r ≡ true → (n : ℕ) → r < n
+    → count test n < count other n
 unfolding count
 count_grows test other h r fails holds zero lt = absurd (omega arith)
 count_grows test other h r fails holds (suc n) lt =
@@ -97,25 +102,29 @@ count_grows test other h r fails holds (suc n) lt =
 module _ (q : Program) where
   -- 3. The greatest of what calls take.
 
-  greatest_equal : (f g : ℕ → StackSizes) (ps : List ℕ) (w : StackSizes) → ((r : ℕ) → Contains ps r → f r ≡ g r) → greatest_taken q f ps w ≡ greatest_taken q g ps w
+  greatest_equal : (f g : ℕ → StackSizes) (ps : List ℕ) (w : StackSizes) → ((r : ℕ) → Contains ps r → f r ≡ g r)
+      → greatest_taken q f ps w ≡ greatest_taken q g ps w
   unfolding greatest_taken
   greatest_equal f g [] w h = refl
   greatest_equal f g (p ∷ ps) w h =
       ap (λ v. greatest_taken q f ps (greater w (call_bound q p v))) (h p (contains_first p ps))
       ∙ greatest_equal f g ps (greater w (call_bound q p (g p))) (λ r k. h r (contains_later p ps r k))
 
-  greatest_same : (taken : ℕ → StackSizes) (bs : Bounds) (ps : List ℕ) (w : StackSizes) → ((r : ℕ) → Contains ps r → taken r ≡ unwrap_or (bound_at bs r) (stack_sizes 0 0)) → greatest_taken q taken ps w ≡ greatest_call q bs ps w
+  greatest_same : (taken : ℕ → StackSizes) (bs : Bounds) (ps : List ℕ) (w : StackSizes)
+      → ((r : ℕ) → Contains ps r → taken r ≡ unwrap_or (bound_at bs r) (stack_sizes 0 0)) → greatest_taken q taken ps w ≡ greatest_call q bs ps w
   unfolding greatest_taken
   greatest_same taken bs [] w h = refl
   greatest_same taken bs (p ∷ ps) w h =
       ap (λ v. greatest_taken q taken ps (greater w (call_bound q p v))) (h p (contains_first p ps))
       ∙ greatest_same taken bs ps (greater w (call_words q bs p)) (λ r k. h r (contains_later p ps r k))
 
-  pub greatest_least : (taken : ℕ → StackSizes) (ps : List ℕ) (w v : StackSizes) → IsAtMost w v → ((r : ℕ) → Contains ps r → IsAtMost (call_bound q r (taken r)) v) → IsAtMost (greatest_taken q taken ps w) v
+  pub greatest_least : (taken : ℕ → StackSizes) (ps : List ℕ) (w v : StackSizes) → IsAtMost w v
+      → ((r : ℕ) → Contains ps r → IsAtMost (call_bound q r (taken r)) v) → IsAtMost (greatest_taken q taken ps w) v
   unfolding greatest_taken
   greatest_least taken [] w v h each = h
   greatest_least taken (p ∷ ps) w v h each =
-      greatest_least taken ps (greater w (call_bound q p (taken p))) v (greater_least h (each p (contains_first p ps))) (λ r k. each r (contains_later p ps r k))
+      greatest_least taken ps (greater w (call_bound q p (taken p))) v (greater_least h (each p (contains_first p ps)))
+      (λ r k. each r (contains_later p ps r k))
 
   -- no certificate has less, however deep calls are followed
   run_least : (ds : Bounds) → IsCertificate q ds → (depth p : ℕ) (d : StackSizes) → bound_at ds p ≡ Some d → IsAtMost (run_within q depth p) d
@@ -126,9 +135,11 @@ module _ (q : Program) where
       greatest_least (run_within q depth) (calls_of q p) (own_need (proc_at q p)) d run.own
       (λ r k. callee r (bound_at ds r) refl (All-contains (CoversCall q ds d) (calls_of q p) r run.calls k) (run_least ds cert depth r))
     where
-      callee : (r : ℕ) (o : Option StackSizes) → bound_at ds r ≡ o → IsSomeAnd o (λ e. IsAtMost (call_bound q r e) d) → ((e : StackSizes) → bound_at ds r ≡ Some e → IsAtMost (run_within q depth r) e) → IsAtMost (call_bound q r (run_within q depth r)) d
+      callee : (r : ℕ) (o : Option StackSizes) → bound_at ds r ≡ o → IsSomeAnd o (λ e. IsAtMost (call_bound q r e) d)
+          → ((e : StackSizes) → bound_at ds r ≡ Some e → IsAtMost (run_within q depth r) e) → IsAtMost (call_bound q r (run_within q depth r)) d
       callee r None i h least = absurd h
-      callee r (Some e) i h least = let less = more_taken q r (least e i) in record { temp = omega (arith, less.temp, h.temp); ctrl = omega (arith, less.ctrl, h.ctrl) }
+      callee r (Some e) i h least =
+          let less = more_taken q r (least e i) in record { temp = omega (arith, less.temp, h.temp); ctrl = omega (arith, less.ctrl, h.ctrl) }
 
   -- 4. What is reached is computed.
 
@@ -150,7 +161,8 @@ module _ (q : Program) where
         record { reached = true_reached p both.0; again = computed_reached (calls_of q) (length q.procs) p p both.1 }
 
     recursive_true : (p : ℕ) → IsRecursive q p → is_recursive q p ≡ true
-    recursive_true p h = and_from (is_reached q p) (reaches q p p) (reached_true p h.reached) (reached_computed (calls_of q) (length q.procs) (calls_below q fits) p p h.again)
+    recursive_true p h = and_from (is_reached q p) (reaches q p p) (reached_true p h.reached)
+        (reached_computed (calls_of q) (length q.procs) (calls_below q fits) p p h.again)
 
     recursive_below : (p : ℕ) → IsRecursive q p → p < length q.procs
     recursive_below p h = reached_below (calls_of q) (length q.procs) (calls_below q fits) p p h.again
@@ -175,7 +187,8 @@ module _ (q : Program) where
       rank_falls : (p r : ℕ) → IsReached q p → Contains (calls_of q p) r → rank r < rank p
       rank_falls p r h k =
           count_grows (reaches q r) (reaches q p)
-          (λ s t. reached_computed (calls_of q) (length q.procs) (calls_below q fits) p s (reached_by (calls_of q) p r s (Directly k) (computed_reached (calls_of q) (length q.procs) r s t)))
+          (λ s t. reached_computed (calls_of q) (length q.procs) (calls_below q fits) p s
+          (reached_by (calls_of q) p r s (Directly k) (computed_reached (calls_of q) (length q.procs) r s t)))
           r (not_again r (reached_callee p r h k)) (reached_computed (calls_of q) (length q.procs) (calls_below q fits) p r (Directly k))
           (length q.procs) (reached_there r (reached_callee p r h k))
 
@@ -224,7 +237,8 @@ module _ (q : Program) where
       known : (p : ℕ) → IsReached q p → bound_at computed p ≡ Some (run_of p)
       known p h =
           let zero_plus : 0 + p ≡ p = omega arith in
-          ap (option_map as_words) (bounds_at (length q.procs) 0 p (reached_there p h) ∙ ap (least_bound q) zero_plus ∙ ap (λ t. bound_by t (run_within q (length q.procs) p)) (reached_true p h))
+          ap (option_map as_words) (bounds_at (length q.procs) 0 p (reached_there p h) ∙ ap (least_bound q) zero_plus
+          ∙ ap (λ t. bound_by t (run_within q (length q.procs) p)) (reached_true p h))
 
       is_known : (p : ℕ) (b : StackSizes) → bound_at computed p ≡ Some b → IsReached q p
       is_known p b e =
@@ -252,11 +266,13 @@ module _ (q : Program) where
           (λ r c.
           let falls = rank_falls p r h c in
           let there = reached_callee p r h c in
-          deep_enough depth (length q.procs) r there (omega (arith, lt, falls)) (rank_few r there) ∙ ap (λ o. unwrap_or o (stack_sizes 0 0)) (sym (known r there)))
+          deep_enough depth (length q.procs) r there (omega (arith, lt, falls)) (rank_few r there)
+          ∙ ap (λ o. unwrap_or o (stack_sizes 0 0)) (sym (known r there)))
 
       all_known : (ps : List ℕ) → ((r : ℕ) → Contains ps r → IsReached q r) → All (λ r. IsSome (bound_at computed r)) ps
       all_known [] h = All-nil (λ r. IsSome (bound_at computed r))
-      all_known (p ∷ ps) h = All-cons (λ r. IsSome (bound_at computed r)) p ps (subst IsSome (sym (known p (h p (contains_first p ps)))) refl) (all_known ps (λ r k. h r (contains_later p ps r k)))
+      all_known (p ∷ ps) h = All-cons (λ r. IsSome (bound_at computed r)) p ps (subst IsSome (sym (known p (h p (contains_first p ps)))) refl)
+          (all_known ps (λ r k. h r (contains_later p ps r k)))
 
       computed_certificate : IsCertificate q computed
       computed_certificate = record {
@@ -269,7 +285,8 @@ module _ (q : Program) where
             let own = own_need (proc_at q p) in
             subst (λ w. CoversRun q computed p w) is (record {
               own = calls_rise q computed calls own;
-              calls = covered_by q computed calls (run_bound q computed p) (all_known calls (λ r c. reached_callee p r h c)) (calls_within q computed calls own);
+              calls = covered_by q computed calls (run_bound q computed p) (all_known calls (λ r c. reached_callee p r h c))
+                  (calls_within q computed calls own);
             });
       }
 
@@ -288,7 +305,8 @@ module _ (q : Program) where
           by_bound p n None e = refl
           by_bound p n (Some b) e = absurd (n (is_known p b e))
 
-          by_other : (ds : Bounds) → IsCertificate q ds → (p : ℕ) (o : Option StackSizes) → bound_at ds p ≡ o → IsSome o → (b : StackSizes) → run_of p ≡ b → IsSomeAnd o (IsAtMost b)
+          by_other : (ds : Bounds) → IsCertificate q ds → (p : ℕ) (o : Option StackSizes) → bound_at ds p ≡ o → IsSome o → (b : StackSizes)
+              → run_of p ≡ b → IsSomeAnd o (IsAtMost b)
           by_other ds cert p None e k b is = cc
           by_other ds cert p (Some d) e k b is = subst (λ w. IsAtMost w d) is (run_least ds cert (length q.procs) p d e)
 
@@ -298,8 +316,10 @@ module _ (q : Program) where
     unfolding certified
     certified_is = by_first (first_from (is_recursive q) (length q.procs) 0) refl
       where
-        by_first : (o : Option ℕ) → first_from (is_recursive q) (length q.procs) 0 ≡ o → MatchResult (unless_recursive o (bounds_from q (length q.procs) 0)) (IsLeast q) (IsFirstRecursive q)
-        by_first None e = computed_least (λ p h. not_both (sym (recursive_true p h) ∙ none_found (is_recursive q) (length q.procs) 0 e p (omega arith) (omega (arith, recursive_below p h))))
+        by_first : (o : Option ℕ) → first_from (is_recursive q) (length q.procs) 0 ≡ o
+            → MatchResult (unless_recursive o (bounds_from q (length q.procs) 0)) (IsLeast q) (IsFirstRecursive q)
+        by_first None e = computed_least (λ p h. not_both
+            (sym (recursive_true p h) ∙ none_found (is_recursive q) (length q.procs) 0 e p (omega arith) (omega (arith, recursive_below p h))))
         by_first (Some p) e =
             let first = first_found (is_recursive q) (length q.procs) 0 p e in
             record {
@@ -323,10 +343,12 @@ least_one q bs ds h g =
     same_bounds bs ds (h.certificate.number ∙ sym g.certificate.number)
     (λ p. one (get_or bs p None) (get_or ds p None) (λ b e. lower bs ds h g.certificate p b e) (λ d e. lower ds bs g h.certificate p d e) refl refl)
   where
-    lower : (bs ds : Bounds) → IsLeast q bs → IsCertificate q ds → (p : ℕ) (b : ℕ × ℕ) → get_or bs p None ≡ Some b → IsSomeAnd (bound_at ds p) (IsAtMost (as_words b))
+    lower : (bs ds : Bounds) → IsLeast q bs → IsCertificate q ds → (p : ℕ) (b : ℕ × ℕ) → get_or bs p None ≡ Some b
+        → IsSomeAnd (bound_at ds p) (IsAtMost (as_words b))
     lower bs ds h cert p b e = h.least ds cert p (as_words b) (ap (option_map as_words) e)
 
-    one : (o i : Option (ℕ × ℕ)) → ((b : ℕ × ℕ) → o ≡ Some b → IsSomeAnd (option_map as_words i) (IsAtMost (as_words b))) → ((d : ℕ × ℕ) → i ≡ Some d → IsSomeAnd (option_map as_words o) (IsAtMost (as_words d))) → o ≡ o → i ≡ i → o ≡ i
+    one : (o i : Option (ℕ × ℕ)) → ((b : ℕ × ℕ) → o ≡ Some b → IsSomeAnd (option_map as_words i) (IsAtMost (as_words b)))
+        → ((d : ℕ × ℕ) → i ≡ Some d → IsSomeAnd (option_map as_words o) (IsAtMost (as_words d))) → o ≡ o → i ≡ i → o ≡ i
     one None None below above k l = refl
     one (Some b) None below above k l = absurd (below b refl)
     one None (Some d) below above k l = absurd (above d refl)
@@ -338,16 +360,23 @@ least_one q bs ds h g =
         λ i. Some (temp i, ctrl i)
 
 -- what the code finds is what is computed
-pub certified_gives : (q : Program) → ProgramFits q → (r : Result Certificate CertFault) → MatchResult r (λ (c : Certificate). IsLeast q c.bounds.items) (IsCertFault q) → GivesCertified (λ (c : Certificate). c.bounds.items) r (certified q)
+pub certified_gives : (q : Program) → ProgramFits q → (r : Result Certificate CertFault)
+    → MatchResult r (λ (c : Certificate). IsLeast q c.bounds.items) (IsCertFault q)
+    → GivesCertified (λ (c : Certificate). c.bounds.items) r (certified q)
 certified_gives q fits r h = by_both (certified q) (certified_is q fits) r h
   where
-    by_both : (v : Result Bounds ℕ) → MatchResult v (IsLeast q) (IsFirstRecursive q) → (r : Result Certificate CertFault) → MatchResult r (λ (c : Certificate). IsLeast q c.bounds.items) (IsCertFault q)
+    by_both : (v : Result Bounds ℕ) → MatchResult v (IsLeast q) (IsFirstRecursive q) → (r : Result Certificate CertFault)
+        → MatchResult r (λ (c : Certificate). IsLeast q c.bounds.items) (IsCertFault q)
         → common.Gives recursive_of (λ (c : Certificate). c.bounds.items) r v
     by_both (Ok bs) g (Ok c) h = ap (λ b. Ok b) (least_one q bs c.bounds.items g h)
     by_both (Ok bs) g (Err (Recursive p)) h = absurd (never_recursive q p bs h.recursive g.certificate)
     by_both (Err p) g (Ok c) h = absurd (never_recursive q p c.bounds.items g.recursive h.certificate)
     by_both (Err p) g (Err (Recursive r)) h =
-        let same : p ≡ r = elim (cases_lt p r) [ inl lt ↦ absurd (h.first p lt g.recursive) | inr le ↦ elim (cases_lt r p) [ inl lt ↦ absurd (g.first r lt h.recursive) | inr le' ↦ omega (arith, le, le') ] ] in
+        let same : p ≡ r = elim (cases_lt p r) [
+          | inl lt ↦ absurd (h.first p lt g.recursive)
+          | inr le ↦
+              elim (cases_lt r p) [ inl lt ↦ absurd (g.first r lt h.recursive) | inr le' ↦ omega (arith, le, le') ]
+        ] in
         ap (λ x. Err x) same
     by_both (Ok bs) g (Err Memory) h = tt
     by_both (Err p) g (Err Memory) h = tt

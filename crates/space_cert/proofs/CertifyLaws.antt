@@ -1,5 +1,6 @@
 -- What is found along the calls of an accepted program is its least certificate, or its first recursive procedure.
-use Rattle.std.proofs.Common.{◌≡◌, ℕ, zero, suc, ◌+◌, ◌*◌, ◌<◌, ◌≤◌, max, if◌then◌else◌, ◌==◌, List, [], ◌∷◌, ◌++◌, map, length, get_or, take, reverse, Bool, true, false, Option, Some, None, inl, inr, refl, ap, sym, ◌∙◌, subst, arith, eq-eqb}
+use Rattle.std.proofs.Common.{◌≡◌, ℕ, zero, suc, ◌+◌, ◌*◌, ◌<◌, ◌≤◌, max, if◌then◌else◌, ◌==◌, List, [], ◌∷◌, ◌++◌, map, length, get_or, take, reverse, Bool}
+use Rattle.std.proofs.Common.{true, false, Option, Some, None, inl, inr, refl, ap, sym, ◌∙◌, subst, arith, eq-eqb}
 use Rattle.std.proofs.lemmas.Bool.{cases_eq}
 use Rattle.std.proofs.lemmas.List.{length-map, length-reverse, length-take, reverse-append, reverse-reverse, take_all}
 use Rattle.std.proofs.lemmas.List.Elements.{All-nil, All-cons, All-head, All-tail, All-append, All-take, All-contains, Contains-push, Contains-append_left}
@@ -20,7 +21,8 @@ use Rattle.gypsy_space.proofs.SmallLaws.{words_of-append}
 use Rattle.space_cert.specs.Covers.{Bounds, no_bounds, bound_at, IsAtMost, callees, own_need, call_bound}
 use Rattle.space_cert.specs.Reaches.{Reaches, Directly, Further, Leads, calls_of, IsReached}
 use Rattle.space_cert.specs.Least.{IsLeast, IsFirstRecursive}
-use Rattle.space_cert.specs.Order.{greater, call_words, greatest_call, run_bound, with_bound, bounds_of_order, call_bound_by, greatest_call_by, run_bound_by, bounds_by_needs, AreBounds}
+use Rattle.space_cert.specs.Order.{greater, call_words, greatest_call, run_bound, with_bound, bounds_of_order, call_bound_by, greatest_call_by, run_bound_by}
+use Rattle.space_cert.specs.Order.{bounds_by_needs, AreBounds}
 use Rattle.space_cert.specs.Internal.Search.{AreDone}
 use Rattle.space_cert.specs.Internal.SearchState.{call_of, IsFound}
 use Rattle.space_cert.specs.Internal.SearchView.{AreCalls, seen_calls}
@@ -48,10 +50,13 @@ module _ (q : Program) where
   callees_below shapes n b Skip h = All-nil (λ r. r < length q.procs)
   callees_below shapes n b (NoOp place) h = All-nil (λ r. r < length q.procs)
   callees_below shapes n b (Signal place c) h = All-nil (λ r. r < length q.procs)
-  callees_below shapes n b (Seq s w) h = All-append (λ r. r < length q.procs) (callees s) (callees w) (callees_below shapes n b s h.0) (callees_below shapes n b w h.1)
+  callees_below shapes n b (Seq s w) h =
+      All-append (λ r. r < length q.procs) (callees s) (callees w) (callees_below shapes n b s h.0) (callees_below shapes n b w h.1)
   callees_below shapes n b (Loop place s) h = callees_below shapes n true s h
-  callees_below shapes n b (If place i s w) h = All-append (λ r. r < length q.procs) (callees s) (callees w) (callees_below shapes n b s h.1) (callees_below shapes n b w h.2)
-  callees_below shapes n b (Begin place s cs w) h = All-append (λ r. r < length q.procs) (callees s) (callees w) (callees_below shapes n b s h.1) (callees_below shapes n b w h.2)
+  callees_below shapes n b (If place i s w) h =
+      All-append (λ r. r < length q.procs) (callees s) (callees w) (callees_below shapes n b s h.1) (callees_below shapes n b w h.2)
+  callees_below shapes n b (Begin place s cs w) h =
+      All-append (λ r. r < length q.procs) (callees s) (callees w) (callees_below shapes n b s h.1) (callees_below shapes n b w h.2)
   callees_below shapes n b (Call place c xs cs) h = All-cons (λ r. r < length q.procs) c [] h.callee (All-nil (λ r. r < length q.procs))
   callees_below shapes n b (Apply place r args) h = All-nil (λ r. r < length q.procs)
 
@@ -66,22 +71,27 @@ module _ (q : Program) where
 
   -- By the needs.
 
-  greatest_same : (ns : List Need) → AreNeeds q ns → (bs : Bounds) (ps : List ℕ) (w : StackSizes) → All (λ r. r < length q.procs) ps → greatest_call_by ns bs ps w ≡ greatest_call q bs ps w
+  greatest_same : (ns : List Need) → AreNeeds q ns → (bs : Bounds) (ps : List ℕ) (w : StackSizes) → All (λ r. r < length q.procs) ps
+      → greatest_call_by ns bs ps w ≡ greatest_call q bs ps w
   greatest_same ns h bs [] w lt = refl
   greatest_same ns h bs (p ∷ ps) w lt =
-      ap (λ n. greatest_call_by ns bs ps (greater w (call_bound_by n (unwrap_or (bound_at bs p) (stack_sizes 0 0))))) (h.each p (All-head (λ r. r < length q.procs) p ps lt))
+      ap (λ n. greatest_call_by ns bs ps (greater w (call_bound_by n (unwrap_or (bound_at bs p) (stack_sizes 0 0)))))
+      (h.each p (All-head (λ r. r < length q.procs) p ps lt))
       ∙ greatest_same ns h bs ps (greater w (call_words q bs p)) (All-tail (λ r. r < length q.procs) p ps lt)
 
-  pub along_same : (ns : List Need) → AreNeeds q ns → ProgramFits q → (order : List ℕ) → All (λ r. r < length q.procs) order → bounds_by_needs ns (body_calls q) order ≡ bounds_of_order q order
+  pub along_same : (ns : List Need) → AreNeeds q ns → ProgramFits q → (order : List ℕ) → All (λ r. r < length q.procs) order
+      → bounds_by_needs ns (body_calls q) order ≡ bounds_of_order q order
   along_same ns h fits [] lt = none_same
     where
       none_same : bounds_by_needs ns (body_calls q) [] ≡ bounds_of_order q []
       none_same = ap no_bounds (length-map q.procs (λ (p : Proc). callees p.body))
   along_same ns h fits (p ∷ before) lt =
       let old = along_same ns h fits before (All-tail (λ r. r < length q.procs) p before lt) in
-      let own : stack_sizes (need_at ns p).ctrl (need_at ns p).temp ≡ own_need (proc_at q p) = ap (λ (n : Need). stack_sizes n.ctrl n.temp) (h.each p (All-head (λ r. r < length q.procs) p before lt)) in
+      let own : stack_sizes (need_at ns p).ctrl (need_at ns p).temp ≡ own_need (proc_at q p) =
+      ap (λ (n : Need). stack_sizes n.ctrl n.temp) (h.each p (All-head (λ r. r < length q.procs) p before lt)) in
       let run : run_bound_by ns (bounds_of_order q before) (call_of (body_calls q) p) p ≡ run_bound q (bounds_of_order q before) p =
-      (λ i. greatest_call_by ns (bounds_of_order q before) (calls_same q.procs p i) (own i)) ∙ greatest_same ns h (bounds_of_order q before) (calls_of q p) (own_need (proc_at q p)) (calls_below fits p) in
+      (λ i. greatest_call_by ns (bounds_of_order q before) (calls_same q.procs p i) (own i))
+      ∙ greatest_same ns h (bounds_of_order q before) (calls_of q p) (own_need (proc_at q p)) (calls_below fits p) in
       ap (λ bs. with_bound bs p (run_bound_by ns bs (call_of (body_calls q) p) p)) old ∙ ap (with_bound (bounds_of_order q before) p) run
 
   -- No bound is large.
@@ -128,14 +138,18 @@ module _ (q : Program) where
   abbrev limit : ℕ → StackSizes
   limit k = stack_sizes (k * 262144) (k * 262144)
 
-  calls_small : (fits : ProgramFits q) (bs : Bounds) (k : ℕ) → ((r : ℕ) (b : StackSizes) → bound_at bs r ≡ Some b → IsAtMost b (limit k)) → (ps : List ℕ) → All (λ r. IsAtMost (call_words q bs r) (limit (k + 1))) ps
+  calls_small : (fits : ProgramFits q) (bs : Bounds) (k : ℕ) → ((r : ℕ) (b : StackSizes) → bound_at bs r ≡ Some b → IsAtMost b (limit k))
+      → (ps : List ℕ) → All (λ r. IsAtMost (call_words q bs r) (limit (k + 1))) ps
   calls_small fits bs k f [] = All-nil (λ r. IsAtMost (call_words q bs r) (limit (k + 1)))
   calls_small fits bs k f (r ∷ ps) = All-cons (λ x. IsAtMost (call_words q bs x) (limit (k + 1))) r ps (pick (bound_at bs r) refl) (calls_small fits bs k f ps)
     where
       bounded : (d : StackSizes) → IsAtMost d (limit k) → IsAtMost (call_bound q r d) (limit (k + 1))
       bounded d h =
           let words = small_words (proc_at q r) (fits.procs r) in
-          record { temp = more (local_words (proc_at q r)) (vars_of (proc_at q r)) d.temp k words h.temp; ctrl = under (local_words (proc_at q r)) (vars_of (proc_at q r)) d.ctrl k words h.ctrl }
+          record {
+            temp = more (local_words (proc_at q r)) (vars_of (proc_at q r)) d.temp k words h.temp;
+            ctrl = under (local_words (proc_at q r)) (vars_of (proc_at q r)) d.ctrl k words h.ctrl;
+          }
         where
           more : (l v d k : ℕ) → l + v ≤ 131072 → d ≤ k * 262144 → max (l + v) (l + d) ≤ (k + 1) * 262144
           more l v d k h g = omega (arith, h, g)
@@ -147,7 +161,8 @@ module _ (q : Program) where
       pick None e = bounded (stack_sizes 0 0) record { temp = omega arith; ctrl = omega arith }
       pick (Some d) e = bounded d (f r d e)
 
-  pub small_by : ProgramFits q → (order : List ℕ) → All (λ r. r < length q.procs) order → (r : ℕ) (b : StackSizes) → bound_at (bounds_of_order q order) r ≡ Some b → IsAtMost b (limit (length order))
+  pub small_by : ProgramFits q → (order : List ℕ) → All (λ r. r < length q.procs) order → (r : ℕ) (b : StackSizes)
+      → bound_at (bounds_of_order q order) r ≡ Some b → IsAtMost b (limit (length order))
   small_by fits [] lt r b e = absurd (none_some (sym (none_at (length q.procs) r) ∙ e))
     where
       none_some : None ≡ Some b → ⊥
@@ -159,7 +174,10 @@ module _ (q : Program) where
         | inl i ↦
             let now = known_now q p before (All-head (λ x. x < length q.procs) p before lt) in
             let is : run_bound q (bounds_of_order q before) p ≡ b = some_same (sym now ∙ (ap (bound_at (bounds_of_order q (p ∷ before))) (sym i) ∙ e)) in
-            subst (λ w. IsAtMost w (limit (suc k))) is (subst (λ n. IsAtMost (run_bound q (bounds_of_order q before) p) (limit n)) (succ k) (calls_least q (bounds_of_order q before) (calls_of q p) (own_need (proc_at q p)) (limit (k + 1)) (own_small (proc_at q p) k) (calls_small fits (bounds_of_order q before) k old (calls_of q p))))
+            subst (λ w. IsAtMost w (limit (suc k))) is
+            (subst (λ n. IsAtMost (run_bound q (bounds_of_order q before) p) (limit n)) (succ k)
+            (calls_least q (bounds_of_order q before) (calls_of q p) (own_need (proc_at q p)) (limit (k + 1)) (own_small (proc_at q p) k)
+            (calls_small fits (bounds_of_order q before) k old (calls_of q p))))
         | inr d ↦ grows (old r b (sym (bound_other (bounds_of_order q before) p r (run_bound q (bounds_of_order q before) p) d) ∙ e))
       ]
     where
@@ -167,7 +185,10 @@ module _ (q : Program) where
       succ k = omega arith
 
       own_small : (p : Proc) (k : ℕ) → IsAtMost (own_need p) (limit (k + 1))
-      own_small p k = record { temp = omega (arith, greatest_within 2 predef_temp 4 (omega arith) temp_small p.body); ctrl = omega (arith, greatest_within 0 predef_ctrl 10 (omega arith) ctrl_small p.body) }
+      own_small p k = record {
+        temp = omega (arith, greatest_within 2 predef_temp 4 (omega arith) temp_small p.body);
+        ctrl = omega (arith, greatest_within 0 predef_ctrl 10 (omega arith) ctrl_small p.body);
+      }
 
       grows : IsAtMost b (limit (length before)) → IsAtMost b (limit (suc (length before)))
       grows h = record { temp = omega (arith, h.temp); ctrl = omega (arith, h.ctrl) }
@@ -179,11 +200,13 @@ module _ (q : Program) where
 
   -- What is found.
 
-  in_done : (done : List ℕ) → ((a c : ℕ) → Contains done a → Contains (calls_of q a) c → Contains done c) → (p r : ℕ) → Contains done p → Reaches (calls_of q) p r → Contains done r
+  in_done : (done : List ℕ) → ((a c : ℕ) → Contains done a → Contains (calls_of q a) c → Contains done c) → (p r : ℕ) → Contains done p
+      → Reaches (calls_of q) p r → Contains done r
   in_done done closed p r k (Directly h) = closed p r k h
   in_done done closed p r k (Further {r = s} h g) = closed s r (in_done done closed p s k h) g
 
-  reached_done : (done : List ℕ) → ((a c : ℕ) → Contains done a → Contains (calls_of q a) c → Contains done c) → Contains done q.main → (p : ℕ) → IsReached q p → Contains done p
+  reached_done : (done : List ℕ) → ((a c : ℕ) → Contains done a → Contains (calls_of q a) c → Contains done c) → Contains done q.main → (p : ℕ)
+      → IsReached q p → Contains done p
   reached_done done closed k p (inl e) = subst (Contains done) e k
   reached_done done closed k p (inr h) = in_done done closed q.main p k h
 
@@ -239,7 +262,8 @@ all_reversed P (x ∷ xs) h =
 to_reversed : (P : ℕ → Type 0) (xs : List ℕ) → All P xs → All P (reverse xs)
 to_reversed P xs h = all_reversed P (reverse xs) (subst (All P) (sym (reverse-reverse xs)) h)
 
-module _ (q : Program) (fits : ProgramFits q) (few : length q.procs ≤ 1000) (ns : List Need) (needs : AreNeeds q ns) (calls : List (Vec ℕ)) (are : seen_calls calls ≡ body_calls q) where
+module _ (q : Program) (fits : ProgramFits q) (few : length q.procs ≤ 1000) (ns : List Need) (needs : AreNeeds q ns) (calls : List (Vec ℕ))
+    (are : seen_calls calls ≡ body_calls q) where
   pub calls_many : length calls ≡ length q.procs
   calls_many = sym (length-map calls (λ v. v.items)) ∙ (ap length are ∙ length-map q.procs (λ (p : Proc). callees p.body))
 
@@ -257,12 +281,15 @@ module _ (q : Program) (fits : ProgramFits q) (few : length q.procs ≤ 1000) (n
     order_below = subst (λ n. All (λ p. p < n) order) (sym calls_many) all_below
 
     along_is : (k : ℕ) → bounds_by_needs ns (seen_calls calls) (reverse (take k order)) ≡ bounds_of_order q (reverse (take k order))
-    along_is k = ap (λ cs. bounds_by_needs ns cs (reverse (take k order))) are ∙ along_same q ns needs fits (reverse (take k order)) (to_reversed (λ p. p < length q.procs) (take k order) (All-take (λ p. p < length q.procs) k order all_below))
+    along_is k = ap (λ cs. bounds_by_needs ns cs (reverse (take k order))) are ∙ along_same q ns needs fits (reverse (take k order))
+        (to_reversed (λ p. p < length q.procs) (take k order) (All-take (λ p. p < length q.procs) k order all_below))
 
     pub prefix_bounds : (k : ℕ) → AreBounds (bounds_by_needs ns (seen_calls calls) (reverse (take k order)))
     prefix_bounds k =
-        let short : length (reverse (take k order)) ≤ 1000000 = omega (arith, length-reverse (take k order), length-take k order, length-reverse order, done_few q (reverse order) first found_by, few) in
-        subst AreBounds (sym (along_is k)) (are_bounds q fits (reverse (take k order)) (to_reversed (λ p. p < length q.procs) (take k order) (All-take (λ p. p < length q.procs) k order all_below)) short)
+        let short : length (reverse (take k order)) ≤ 1000000 =
+        omega (arith, length-reverse (take k order), length-take k order, length-reverse order, done_few q (reverse order) first found_by, few) in
+        subst AreBounds (sym (along_is k)) (are_bounds q fits (reverse (take k order))
+        (to_reversed (λ p. p < length q.procs) (take k order) (All-take (λ p. p < length q.procs) k order all_below)) short)
 
     whole : take (length order) order ≡ order
     whole = take_all (length order) order (omega arith)
@@ -272,7 +299,8 @@ module _ (q : Program) (fits : ProgramFits q) (few : length q.procs ≤ 1000) (n
 
     pub is_least : first ≡ None → IsLeast q (bounds_by_needs ns (seen_calls calls) (reverse order))
     is_least e =
-        let along : bounds_by_needs ns (seen_calls calls) (reverse order) ≡ bounds_of_order q (reverse order) = subst (λ o. bounds_by_needs ns (seen_calls calls) (reverse o) ≡ bounds_of_order q (reverse o)) whole (along_is (length order)) in
+        let along : bounds_by_needs ns (seen_calls calls) (reverse order) ≡ bounds_of_order q (reverse order) =
+        subst (λ o. bounds_by_needs ns (seen_calls calls) (reverse o) ≡ bounds_of_order q (reverse o)) whole (along_is (length order)) in
         subst (IsLeast q) (sym along) (found_least q (reverse order) first found_by e)
 
     pub is_first : (r : ℕ) → first ≡ Some r → IsFirstRecursive q r

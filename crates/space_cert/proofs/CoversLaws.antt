@@ -4,12 +4,14 @@ use Rattle.std.proofs.lemmas.Bool.{le-leb}
 use Rattle.std.specs.Option.{IsSomeAnd, unwrap_or}
 use Rattle.stack_text.proofs.KeepsLaws.{and_true}
 use Rattle.gypsy_syntax.specs.Programs.{Program, proc_at}
-use Rattle.gypsy_space.specs.Needs.{StackSizes, stack_sizes, main_used, temp_need, ctrl_need, local_words, vars_of, frame_of, with_call, call_need, has_temp_room, has_ctrl_room, has_room, lack_of}
+use Rattle.gypsy_space.specs.Needs.{StackSizes, stack_sizes, main_used, temp_need, ctrl_need, local_words, vars_of, frame_of, with_call, call_need}
+use Rattle.gypsy_space.specs.Needs.{has_temp_room, has_ctrl_room, has_room, lack_of}
 use Rattle.gypsy_space.specs.declared.need.Lack.TheVariants.{Nothing, Temporary, Control}
 use Rattle.space_cert.specs.Covers.{Bounds, bound_at, words_sum, IsAtMost, own_need, call_bound, Covers}
 
 -- main's words with its bounds
-pub main_within : (q : Program) (bs : Bounds) (sizes : StackSizes) → Covers q bs sizes → (b : StackSizes) → bound_at bs q.main ≡ Some b → IsAtMost (words_sum (main_used q) b) sizes
+pub main_within : (q : Program) (bs : Bounds) (sizes : StackSizes) → Covers q bs sizes → (b : StackSizes) → bound_at bs q.main ≡ Some b
+    → IsAtMost (words_sum (main_used q) b) sizes
 main_within q bs sizes covers b e = subst (λ o. IsAtMost (words_sum (main_used q) (unwrap_or o (stack_sizes 0 0))) sizes) e covers.within
 
 -- the bound that the callee has
@@ -18,17 +20,20 @@ pub record HasBound (q : Program) (bs : Bounds) (b : StackSizes) (p : ℕ) : Typ
   pub known : bound_at bs p ≡ Some bound
   pub within : IsAtMost (call_bound q p bound) b
 
-pub bound_there : (q : Program) (bs : Bounds) (b : StackSizes) (p : ℕ) (o : Option StackSizes) → bound_at bs p ≡ o → IsSomeAnd o (λ d. IsAtMost (call_bound q p d) b) → HasBound q bs b p
+pub bound_there : (q : Program) (bs : Bounds) (b : StackSizes) (p : ℕ) (o : Option StackSizes) → bound_at bs p ≡ o
+    → IsSomeAnd o (λ d. IsAtMost (call_bound q p d) b) → HasBound q bs b p
 bound_there q bs b p None e h = absurd h
 bound_there q bs b p (Some d) e h = record { bound = d; known = e; within = h }
 
-module _ (q : Program) (sizes : StackSizes) (p : ℕ) (u b d : StackSizes) (own : IsAtMost (own_need (proc_at q p)) d) (call : IsAtMost (call_bound q p d) b) (within : IsAtMost (words_sum u b) sizes) where
+module _ (q : Program) (sizes : StackSizes) (p : ℕ) (u b d : StackSizes) (own : IsAtMost (own_need (proc_at q p)) d)
+    (call : IsAtMost (call_bound q p d) b) (within : IsAtMost (words_sum u b) sizes) where
   temp_room : has_temp_room q sizes p u ≡ true
   unfolding call_need
   temp_room =
       let c = proc_at q p in
       let l = local_words c in
-      le-leb (u.temp + max (l + length c.locals + length c.formals) (l + temp_need c)) sizes.temp (more u.temp l (length c.locals) (length c.formals) (temp_need c) d.temp b.temp sizes.temp own.temp call.temp within.temp)
+      le-leb (u.temp + max (l + length c.locals + length c.formals) (l + temp_need c)) sizes.temp
+      (more u.temp l (length c.locals) (length c.formals) (temp_need c) d.temp b.temp sizes.temp own.temp call.temp within.temp)
     where
       more : (a l m k t d b s : ℕ) → t ≤ d → max (l + (k + m)) (l + d) ≤ b → a + b ≤ s → a + max (l + m + k) (l + t) ≤ s
       more a l m k t d b s h g f = omega (arith, h, g, f)

@@ -15,18 +15,23 @@ use Rattle.space_cert.proofs.SearchingLaws.{called, joins_keeps, some_below, end
 pub mark_read : (marks : List Mark) (w : ℕ) (x m : Mark) → w < length marks → x ≡ get_or marks w x → x ≡ m → mark_at marks w ≡ m
 mark_read marks w x m lt e i = sym (get_or_read marks w x lt e New) ∙ i
 
-pub follow_below : (cs : List (List ℕ)) (main : ℕ) (s : SearchOf) (w : ℕ) → AreCalls cs → IsSearch cs main (with_call w s) → s.top.from ≤ length s.todo → w < length cs
+pub follow_below : (cs : List (List ℕ)) (main : ℕ) (s : SearchOf) (w : ℕ) → AreCalls cs → IsSearch cs main (with_call w s) → s.top.from ≤ length s.todo
+    → w < length cs
 follow_below cs main s w a h le = called cs main (with_call w s) h s.todo w refl le (length cs) a
 
-pub follow_joins : (cs : List (List ℕ)) (main : ℕ) (s : SearchOf) (w : ℕ) → IsSearch cs main (with_call w s) → s.top.from ≤ length s.todo → (at : ℕ) → mark_at s.marks w ≡ Entered at → at < s.top.first →
-    (t u : SearchOf) → t ≡ with_call w s → ((k : Group) (ks : List Group) → t.below ≡ k ∷ ks → u ≡ with_joined k ks t) → IsSearch cs main u × (left_to_do cs u < left_to_do cs (with_call w s))
+pub follow_joins : (cs : List (List ℕ)) (main : ℕ) (s : SearchOf) (w : ℕ) → IsSearch cs main (with_call w s) → s.top.from ≤ length s.todo → (at : ℕ)
+    → mark_at s.marks w ≡ Entered at → at < s.top.first →
+    (t u : SearchOf) → t ≡ with_call w s → ((k : Group) (ks : List Group) → t.below ≡ k ∷ ks → u ≡ with_joined k ks t) → IsSearch cs main u
+    × (left_to_do cs u < left_to_do cs (with_call w s))
 follow_joins cs main s w h le at m lt t u is f = pick s.below refl
   where
     pick : (ks : List Group) → s.below ≡ ks → IsSearch cs main u × (left_to_do cs u < left_to_do cs (with_call w s))
     pick [] b = absurd (some_below cs main (with_call w s) h s.todo w refl le at m lt b)
     pick (k ∷ ks) b =
-        let e = f k ks (ap (λ x. x.below) is ∙ b) ∙ ap (with_joined k ks) is in
-        (subst (IsSearch cs main) (sym e) (joins_keeps cs main (with_call w s) h s.todo w refl le at m lt k ks b), subst (λ x. left_to_do cs x < left_to_do cs (with_call w s)) (sym e) (omega (arith, ap length b)))
+        let e = f k ks (ap (λ x. x.below) is ∙ b) ∙ ap (with_joined k ks) is in (
+          subst (IsSearch cs main) (sym e) (joins_keeps cs main (with_call w s) h s.todo w refl le at m lt k ks b),
+          subst (λ x. left_to_do cs x < left_to_do cs (with_call w s)) (sym e) (omega (arith, ap length b)),
+        )
 
 -- what is entered is marked
 pub entered_below : (marks : List Mark) (entered done : List ℕ) → AreMarked marks entered done → All (λ p. p < length marks) entered
@@ -36,10 +41,14 @@ entered_below marks entered done h =
     new_apart : {at : ℕ} → New ≡ Entered at → ⊥
     new_apart e = cc
 
-pub finish_advances : (cs : List (List ℕ)) (main : ℕ) (s t : SearchOf) → IsSearch cs main s → length s.todo ≤ s.top.from → (more : Bool) → HasFinished s t more → HasAdvanced cs main s t more
+pub finish_advances : (cs : List (List ℕ)) (main : ℕ) (s t : SearchOf) → IsSearch cs main s → length s.todo ≤ s.top.from → (more : Bool)
+    → HasFinished s t more → HasAdvanced cs main s t more
 finish_advances cs main s t h le true (k, ks, b, e) =
-    let no_more : length s.todo ≡ s.top.from = omega (arith, le, h.cut.1) in
-    (subst (IsSearch cs main) (sym e) (ends_keeps cs main s h no_more k ks b), subst (λ x. left_to_do cs x < left_to_do cs s) (sym e) (ends_less cs main s h no_more k ks b))
+    let no_more : length s.todo ≡ s.top.from = omega (arith, le, h.cut.1) in (
+      subst (IsSearch cs main) (sym e) (ends_keeps cs main s h no_more k ks b),
+      subst (λ x. left_to_do cs x < left_to_do cs s) (sym e)
+          (ends_less cs main s h no_more k ks b),
+    )
 finish_advances cs main s t h le false (b, e) =
     let no_more : length s.todo ≡ s.top.from = omega (arith, le, h.cut.1) in
     let found = ends_found cs main s h no_more b in

@@ -28,12 +28,15 @@ module _ (q : Program) (s t : StackSizes) (most : IsAtMost s t) where
   unfolding lack_of
   more_room p u e =
       let both = rooms (has_temp_room q s p u) (has_ctrl_room q s p u) e in
-      let temp : has_temp_room q t p u ≡ true = le-leb (u.temp + (call_need q p).temp) t.temp (omega (arith, leb-true (u.temp + (call_need q p).temp) s.temp both.0, most.temp)) in
-      let ctrl : has_ctrl_room q t p u ≡ true = le-leb (u.ctrl + (call_need q p).ctrl) t.ctrl (omega (arith, leb-true (u.ctrl + (call_need q p).ctrl) s.ctrl both.1, most.ctrl)) in
+      let temp : has_temp_room q t p u ≡ true =
+      le-leb (u.temp + (call_need q p).temp) t.temp (omega (arith, leb-true (u.temp + (call_need q p).temp) s.temp both.0, most.temp)) in
+      let ctrl : has_ctrl_room q t p u ≡ true =
+      le-leb (u.ctrl + (call_need q p).ctrl) t.ctrl (omega (arith, leb-true (u.ctrl + (call_need q p).ctrl) s.ctrl both.1, most.ctrl)) in
       λ i. if not (temp i) then Temporary else if not (ctrl i) then Control else Nothing
 
   -- a step looks at the sizes where a call is made
-  do_same : (a : Stmt) (p : ℕ) (x : List ValueOf) (w : List Item) (fs : List Frame) (u : Tally) → HasCallRoom q s (At p x (Do a ∷ w) fs u) → do_step q s a p x w fs u ≡ do_step q t a p x w fs u
+  do_same : (a : Stmt) (p : ℕ) (x : List ValueOf) (w : List Item) (fs : List Frame) (u : Tally) → HasCallRoom q s (At p x (Do a ∷ w) fs u)
+      → do_step q s a p x w fs u ≡ do_step q t a p x w fs u
   do_same (Call place c xs cs) p x w fs u h = ap (λ l. call_step q l c xs cs p x w fs u) (h ∙ sym (more_room c (used q p fs) h))
   do_same a p x w fs u h = refl
 
@@ -48,7 +51,8 @@ module _ (q : Program) (s t : StackSizes) (most : IsAtMost s t) where
     moment_same (suc j) g k =
         by_move (gypsy_step q s g) refl (λ h l. moment_same j h l) ∙ ap (λ (m : Move). moved_on m (moment q t j)) (step_same g (room g k))
       where
-        by_move : (m : Move) → gypsy_step q s g ≡ m → ((h : State) → Visits q s v h → moment q s j h ≡ moment q t j h) → moved_on m (moment q s j) ≡ moved_on m (moment q t j)
+        by_move : (m : Move) → gypsy_step q s g ≡ m → ((h : State) → Visits q s v h → moment q s j h ≡ moment q t j h)
+            → moved_on m (moment q s j) ≡ moved_on m (moment q t j)
         by_move (Next h) e later = later h (Later k e)
         by_move (Ended x c u) e later = refl
 
@@ -62,7 +66,8 @@ module _ (q : Program) (s t : StackSizes) (most : IsAtMost s t) where
         by_move (Ended x c u) e later = refl
 
 -- where both have the same run, the meaning is done with one where it is with the other
-carried : (q : Program) (s t : StackSizes) (v : List ValueOf) → ((j : ℕ) → run q s j (start q v) ≡ run q t j (start q v)) → (x : List ValueOf) (c : CurrentCondition) (u : Tally) → EndsWith q s v x c u → EndsWith q t v x c u
+carried : (q : Program) (s t : StackSizes) (v : List ValueOf) → ((j : ℕ) → run q s j (start q v) ≡ run q t j (start q v))
+    → (x : List ValueOf) (c : CurrentCondition) (u : Tally) → EndsWith q s v x c u → EndsWith q t v x c u
 carried q s t v same x c u e =
     let over = (agree q s v).done e.0 x c u e.1 in
     (suc over.0, (agree q t v).ended over.0 x c u (sym (same over.0) ∙ over.1))

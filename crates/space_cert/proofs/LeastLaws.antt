@@ -7,7 +7,8 @@ use Rattle.std.specs.List.{All, Contains}
 use Rattle.std.specs.Option.{IsSome, IsSomeAnd, option_map, unwrap_or}
 use Rattle.gypsy_syntax.specs.Programs.{Program, proc_at}
 use Rattle.gypsy_space.specs.Needs.{StackSizes, stack_sizes, local_words, vars_of, main_used}
-use Rattle.space_cert.specs.Covers.{Bounds, no_bounds, as_words, bound_at, words_sum, IsAtMost, own_need, call_bound, CoversCall, CoversRun, IsCertificate, sizes_for, Covers}
+use Rattle.space_cert.specs.Covers.{Bounds, no_bounds, as_words, bound_at, words_sum, IsAtMost, own_need, call_bound, CoversCall, CoversRun, IsCertificate}
+use Rattle.space_cert.specs.Covers.{sizes_for, Covers}
 use Rattle.space_cert.specs.Reaches.{Reaches, Directly, Further, calls_of, IsReached, IsRecursive}
 use Rattle.space_cert.specs.Least.{IsLeast}
 use Rattle.space_cert.specs.Order.{IsOrder, greater, call_words, greatest_call, run_bound, with_bound, bounds_of_order}
@@ -87,11 +88,13 @@ module _ (q : Program) where
   pub unknown : (order : List ℕ) (r : ℕ) → (Contains order r → ⊥) → bound_at (bounds_of_order q order) r ≡ None
   unknown [] r h = none_at (length q.procs) r
   unknown (p ∷ before) r h =
-      bound_other (bounds_of_order q before) p r (run_bound q (bounds_of_order q before) p) (λ e. h (subst (λ x. Contains (p ∷ before) x) (sym e) (contains_first p before)))
+      bound_other (bounds_of_order q before) p r (run_bound q (bounds_of_order q before) p)
+      (λ e. h (subst (λ x. Contains (p ∷ before) x) (sym e) (contains_first p before)))
       ∙ unknown before r (λ k. h (contains_later p before r k))
 
   -- bounds that are there stay the same
-  stays : (p : ℕ) (before : List ℕ) (r : ℕ) → (Contains before p → ⊥) → Contains before r → bound_at (bounds_of_order q (p ∷ before)) r ≡ bound_at (bounds_of_order q before) r
+  stays : (p : ℕ) (before : List ℕ) (r : ℕ) → (Contains before p → ⊥) → Contains before r
+      → bound_at (bounds_of_order q (p ∷ before)) r ≡ bound_at (bounds_of_order q before) r
   stays p before r n h =
       bound_other (bounds_of_order q before) p r (run_bound q (bounds_of_order q before) p) (λ e. n (subst (Contains before) e h))
 
@@ -100,16 +103,19 @@ module _ (q : Program) where
       let e = length_by before in
       bound_same (bounds_of_order q before) p (run_bound q (bounds_of_order q before) p) (omega (arith, lt, e))
 
-  pub known : (order : List ℕ) → IsOrder (calls_of q) order → All (λ p. p < length q.procs) order → (r : ℕ) → Contains order r → IsSome (bound_at (bounds_of_order q order) r)
+  pub known : (order : List ℕ) → IsOrder (calls_of q) order → All (λ p. p < length q.procs) order → (r : ℕ) → Contains order r
+      → IsSome (bound_at (bounds_of_order q order) r)
   known [] o lt r h = absurd (contains_none h)
   known (p ∷ before) o lt r h =
       elim (contains_cases p before r h) [
-        | inl e ↦ subst (λ x. IsSome (bound_at (bounds_of_order q (p ∷ before)) x)) e (subst IsSome (sym (known_now p before (All-head (λ x. x < length q.procs) p before lt))) refl)
+        | inl e ↦ subst (λ x. IsSome (bound_at (bounds_of_order q (p ∷ before)) x)) e
+            (subst IsSome (sym (known_now p before (All-head (λ x. x < length q.procs) p before lt))) refl)
         | inr k ↦ subst IsSome (sym (stays p before r o.0 k)) (known before o.2 (All-tail (λ x. x < length q.procs) p before lt) r k)
       ]
 
   -- the callees' bounds are those of calls
-  pub covered_by : (bs : Bounds) (ps : List ℕ) (w : StackSizes) → All (λ r. IsSome (bound_at bs r)) ps → All (λ r. IsAtMost (call_words q bs r) w) ps → All (CoversCall q bs w) ps
+  pub covered_by : (bs : Bounds) (ps : List ℕ) (w : StackSizes) → All (λ r. IsSome (bound_at bs r)) ps → All (λ r. IsAtMost (call_words q bs r) w) ps
+      → All (CoversCall q bs w) ps
   covered_by bs [] w k h = All-nil (CoversCall q bs w)
   covered_by bs (p ∷ ps) w k h =
       All-cons (CoversCall q bs w) p ps
@@ -121,22 +127,29 @@ module _ (q : Program) where
       pick (Some d) e g = g
 
   -- what covers a call goes on covering it
-  covers_later : (p : ℕ) (before : List ℕ) (b : StackSizes) → (Contains before p → ⊥) → (ps : List ℕ) → All (CoversCall q (bounds_of_order q before) b) ps → All (CoversCall q (bounds_of_order q (p ∷ before)) b) ps
+  covers_later : (p : ℕ) (before : List ℕ) (b : StackSizes) → (Contains before p → ⊥) → (ps : List ℕ)
+      → All (CoversCall q (bounds_of_order q before) b) ps → All (CoversCall q (bounds_of_order q (p ∷ before)) b) ps
   covers_later p before b n [] h = All-nil (CoversCall q (bounds_of_order q (p ∷ before)) b)
   covers_later p before b n (r ∷ ps) h =
       All-cons (CoversCall q (bounds_of_order q (p ∷ before)) b) r ps
       (elim (cases_eq r p) [
-        | inl e ↦ absurd (subst (λ o. IsSomeAnd o (λ d. IsAtMost (call_bound q r d) b)) (ap (bound_at (bounds_of_order q before)) e ∙ unknown before p n) (All-head (CoversCall q (bounds_of_order q before) b) r ps h))
-        | inr d ↦ subst (λ o. IsSomeAnd o (λ d. IsAtMost (call_bound q r d) b)) (sym (bound_other (bounds_of_order q before) p r (run_bound q (bounds_of_order q before) p) d)) (All-head (CoversCall q (bounds_of_order q before) b) r ps h)
+        | inl e ↦ absurd (subst (λ o. IsSomeAnd o (λ d. IsAtMost (call_bound q r d) b))
+            (ap (bound_at (bounds_of_order q before)) e ∙ unknown before p n) (All-head (CoversCall q (bounds_of_order q before) b) r ps h))
+        | inr d ↦ subst (λ o. IsSomeAnd o (λ d. IsAtMost (call_bound q r d) b))
+            (sym (bound_other (bounds_of_order q before) p r (run_bound q (bounds_of_order q before) p) d))
+            (All-head (CoversCall q (bounds_of_order q before) b) r ps h)
       ])
       (covers_later p before b n ps (All-tail (CoversCall q (bounds_of_order q before) b) r ps h))
 
-  each_known : (order : List ℕ) → IsOrder (calls_of q) order → All (λ p. p < length q.procs) order → (ps : List ℕ) → All (Contains order) ps → All (λ r. IsSome (bound_at (bounds_of_order q order) r)) ps
+  each_known : (order : List ℕ) → IsOrder (calls_of q) order → All (λ p. p < length q.procs) order → (ps : List ℕ) → All (Contains order) ps
+      → All (λ r. IsSome (bound_at (bounds_of_order q order) r)) ps
   each_known order o lt [] h = All-nil (λ r. IsSome (bound_at (bounds_of_order q order) r))
   each_known order o lt (p ∷ ps) h =
-      All-cons (λ r. IsSome (bound_at (bounds_of_order q order) r)) p ps (known order o lt p (All-head (Contains order) p ps h)) (each_known order o lt ps (All-tail (Contains order) p ps h))
+      All-cons (λ r. IsSome (bound_at (bounds_of_order q order) r)) p ps (known order o lt p (All-head (Contains order) p ps h))
+      (each_known order o lt ps (All-tail (Contains order) p ps h))
 
-  pub covers : (order : List ℕ) → IsOrder (calls_of q) order → All (λ p. p < length q.procs) order → (r : ℕ) (b : StackSizes) → bound_at (bounds_of_order q order) r ≡ Some b → CoversRun q (bounds_of_order q order) r b
+  pub covers : (order : List ℕ) → IsOrder (calls_of q) order → All (λ p. p < length q.procs) order → (r : ℕ) (b : StackSizes)
+      → bound_at (bounds_of_order q order) r ≡ Some b → CoversRun q (bounds_of_order q order) r b
   covers [] o lt r b e = absurd (none_some (sym (none_at (length q.procs) r) ∙ e))
     where
       none_some : None ≡ Some b → ⊥
@@ -146,13 +159,16 @@ module _ (q : Program) where
         | inl i ↦
             let now = known_now p before (All-head (λ x. x < length q.procs) p before lt) in
             let is : run_bound q (bounds_of_order q before) p ≡ b = some_same (sym now ∙ (ap (bound_at (bounds_of_order q (p ∷ before))) (sym i) ∙ e)) in
-            subst (λ x. CoversRun q (bounds_of_order q (p ∷ before)) x b) (sym i) (subst (CoversRun q (bounds_of_order q (p ∷ before)) p) is (first p before o (All-tail (λ x. x < length q.procs) p before lt)))
+            subst (λ x. CoversRun q (bounds_of_order q (p ∷ before)) x b) (sym i)
+            (subst (CoversRun q (bounds_of_order q (p ∷ before)) p) is (first p before o (All-tail (λ x. x < length q.procs) p before lt)))
         | inr d ↦
-            let old = covers before o.2 (All-tail (λ x. x < length q.procs) p before lt) r b (sym (bound_other (bounds_of_order q before) p r (run_bound q (bounds_of_order q before) p) d) ∙ e) in
+            let old = covers before o.2 (All-tail (λ x. x < length q.procs) p before lt) r b
+            (sym (bound_other (bounds_of_order q before) p r (run_bound q (bounds_of_order q before) p) d) ∙ e) in
             record { own = old.own; calls = covers_later p before b o.0 (calls_of q r) old.calls }
       ]
     where
-      first : (p : ℕ) (before : List ℕ) → IsOrder (calls_of q) (p ∷ before) → All (λ x. x < length q.procs) before → CoversRun q (bounds_of_order q (p ∷ before)) p (run_bound q (bounds_of_order q before) p)
+      first : (p : ℕ) (before : List ℕ) → IsOrder (calls_of q) (p ∷ before) → All (λ x. x < length q.procs) before
+          → CoversRun q (bounds_of_order q (p ∷ before)) p (run_bound q (bounds_of_order q before) p)
       first p before o lt =
           let bs = bounds_of_order q before in
           let w = run_bound q bs p in
@@ -161,27 +177,34 @@ module _ (q : Program) where
           record { own = calls_rise q bs (calls_of q p) (own_need (proc_at q p)); calls = covers_later p before w o.0 (calls_of q p) within }
 
   -- one call: by no greater bounds it takes no more
-  call_least : (r : ℕ) (d : StackSizes) (o i : Option StackSizes) → IsSome o → ((b : StackSizes) → o ≡ Some b → IsSomeAnd i (IsAtMost b)) → IsSomeAnd i (λ e. IsAtMost (call_bound q r e) d) → IsAtMost (call_bound q r (unwrap_or o (stack_sizes 0 0))) d
+  call_least : (r : ℕ) (d : StackSizes) (o i : Option StackSizes) → IsSome o → ((b : StackSizes) → o ≡ Some b → IsSomeAnd i (IsAtMost b))
+      → IsSomeAnd i (λ e. IsAtMost (call_bound q r e) d) → IsAtMost (call_bound q r (unwrap_or o (stack_sizes 0 0))) d
   call_least r d None i k lower h = cc
   call_least r d (Some b) None k lower h = absurd h
   call_least r d (Some b) (Some e) k lower h = trans_at_most (more_taken q r (lower b refl)) h
 
-  all_least : (bs ds : Bounds) (d : StackSizes) → ((r : ℕ) (b : StackSizes) → bound_at bs r ≡ Some b → IsSomeAnd (bound_at ds r) (IsAtMost b)) → (ps : List ℕ) → All (λ r. IsSome (bound_at bs r)) ps → All (CoversCall q ds d) ps → All (λ r. IsAtMost (call_words q bs r) d) ps
+  all_least : (bs ds : Bounds) (d : StackSizes) → ((r : ℕ) (b : StackSizes) → bound_at bs r ≡ Some b → IsSomeAnd (bound_at ds r) (IsAtMost b))
+      → (ps : List ℕ) → All (λ r. IsSome (bound_at bs r)) ps → All (CoversCall q ds d) ps → All (λ r. IsAtMost (call_words q bs r) d) ps
   all_least bs ds d lower [] k h = All-nil (λ r. IsAtMost (call_words q bs r) d)
   all_least bs ds d lower (r ∷ ps) k h =
       All-cons (λ x. IsAtMost (call_words q bs x) d) r ps
       (call_least r d (bound_at bs r) (bound_at ds r) (All-head (λ x. IsSome (bound_at bs x)) r ps k) (lower r) (All-head (CoversCall q ds d) r ps h))
       (all_least bs ds d lower ps (All-tail (λ x. IsSome (bound_at bs x)) r ps k) (All-tail (CoversCall q ds d) r ps h))
 
-  last_least : (ds : Bounds) → IsCertificate q ds → (p : ℕ) (before : List ℕ) → IsOrder (calls_of q) (p ∷ before) → All (λ x. x < length q.procs) before → ((r : ℕ) (b : StackSizes) → bound_at (bounds_of_order q before) r ≡ Some b → IsSomeAnd (bound_at ds r) (IsAtMost b)) → (o : Option StackSizes) → bound_at ds p ≡ o → IsSome o → IsSomeAnd o (IsAtMost (run_bound q (bounds_of_order q before) p))
+  last_least : (ds : Bounds) → IsCertificate q ds → (p : ℕ) (before : List ℕ) → IsOrder (calls_of q) (p ∷ before) → All (λ x. x < length q.procs) before
+      → ((r : ℕ) (b : StackSizes) → bound_at (bounds_of_order q before) r ≡ Some b → IsSomeAnd (bound_at ds r) (IsAtMost b)) → (o : Option StackSizes)
+      → bound_at ds p ≡ o → IsSome o → IsSomeAnd o (IsAtMost (run_bound q (bounds_of_order q before) p))
   last_least ds cert p before o lt lower None e k = cc
   last_least ds cert p before o lt lower (Some d) e k =
       let bs = bounds_of_order q before in
       let run = cert.each p d e in
-      calls_least q bs (calls_of q p) (own_need (proc_at q p)) d run.own (all_least bs ds d lower (calls_of q p) (each_known before o.2 lt (calls_of q p) o.1) run.calls)
+      calls_least q bs (calls_of q p) (own_need (proc_at q p)) d run.own
+      (all_least bs ds d lower (calls_of q p) (each_known before o.2 lt (calls_of q p) o.1) run.calls)
 
   -- no certificate has less
-  pub least : (ds : Bounds) → IsCertificate q ds → (order : List ℕ) → IsOrder (calls_of q) order → All (λ p. p < length q.procs) order → All (λ p. IsSome (bound_at ds p)) order → (r : ℕ) (b : StackSizes) → bound_at (bounds_of_order q order) r ≡ Some b → IsSomeAnd (bound_at ds r) (IsAtMost b)
+  pub least : (ds : Bounds) → IsCertificate q ds → (order : List ℕ) → IsOrder (calls_of q) order → All (λ p. p < length q.procs) order
+      → All (λ p. IsSome (bound_at ds p)) order → (r : ℕ) (b : StackSizes) → bound_at (bounds_of_order q order) r ≡ Some b
+      → IsSomeAnd (bound_at ds r) (IsAtMost b)
   least ds cert [] o lt k r b e = absurd (none_some (sym (none_at (length q.procs) r) ∙ e))
     where
       none_some : None ≡ Some b → ⊥
@@ -192,7 +215,8 @@ module _ (q : Program) where
         | inl i ↦
             let now = known_now p before (All-head (λ x. x < length q.procs) p before lt) in
             let is : run_bound q (bounds_of_order q before) p ≡ b = some_same (sym now ∙ (ap (bound_at (bounds_of_order q (p ∷ before))) (sym i) ∙ e)) in
-            let last = last_least ds cert p before o (All-tail (λ x. x < length q.procs) p before lt) lower (bound_at ds p) refl (All-head (λ x. IsSome (bound_at ds x)) p before k) in
+            let last = last_least ds cert p before o (All-tail (λ x. x < length q.procs) p before lt) lower (bound_at ds p) refl
+            (All-head (λ x. IsSome (bound_at ds x)) p before k) in
             subst (λ x. IsSomeAnd (bound_at ds x) (IsAtMost b)) (sym i) (subst (λ w. IsSomeAnd (bound_at ds p) (IsAtMost w)) is last)
         | inr d ↦ lower r b (sym (bound_other (bounds_of_order q before) p r (run_bound q (bounds_of_order q before) p) d) ∙ e)
       ]
@@ -208,7 +232,8 @@ module _ (q : Program) where
 
       pick : (o : Option StackSizes) → bound_at bs p ≡ o → IsSome o → IsSome (bound_at bs r)
       pick None e k = cc
-      pick (Some b) e k = some (bound_at bs r) (λ d. IsAtMost (call_bound q r d) b) (All-contains (CoversCall q bs b) (calls_of q p) r (cert.each p b e).calls h)
+      pick (Some b) e k =
+          some (bound_at bs r) (λ d. IsAtMost (call_bound q r d) b) (All-contains (CoversCall q bs b) (calls_of q p) r (cert.each p b e).calls h)
 
   along : (bs : Bounds) → IsCertificate q bs → (p r : ℕ) → IsSome (bound_at bs p) → Reaches (calls_of q) p r → IsSome (bound_at bs r)
   along bs cert p r k (Directly h) = callee_known bs cert p r k h
@@ -222,12 +247,15 @@ module _ (q : Program) where
   all_known : (bs : Bounds) → IsCertificate q bs → (ps : List ℕ) → All (IsReached q) ps → All (λ p. IsSome (bound_at bs p)) ps
   all_known bs cert [] h = All-nil (λ p. IsSome (bound_at bs p))
   all_known bs cert (p ∷ ps) h =
-      All-cons (λ x. IsSome (bound_at bs x)) p ps (reached_known bs cert p (All-head (IsReached q) p ps h)) (all_known bs cert ps (All-tail (IsReached q) p ps h))
+      All-cons (λ x. IsSome (bound_at bs x)) p ps (reached_known bs cert p (All-head (IsReached q) p ps h))
+      (all_known bs cert ps (All-tail (IsReached q) p ps h))
 
   -- the bounds along an order of what main reaches are the least certificate
-  pub least_by : (order : List ℕ) → IsOrder (calls_of q) order → All (λ p. p < length q.procs) order → All (IsReached q) order → Contains order q.main → IsLeast q (bounds_of_order q order)
+  pub least_by : (order : List ℕ) → IsOrder (calls_of q) order → All (λ p. p < length q.procs) order → All (IsReached q) order → Contains order q.main
+      → IsLeast q (bounds_of_order q order)
   least_by order o lt reached main =
-      let cert : IsCertificate q (bounds_of_order q order) = record { number = length_by order; main = known order o lt q.main main; each = covers order o lt } in
+      let cert : IsCertificate q (bounds_of_order q order) =
+      record { number = length_by order; main = known order o lt q.main main; each = covers order o lt } in
       record {
         certificate = cert;
         reached = reached_known (bounds_of_order q order) cert;
@@ -252,17 +280,21 @@ module _ (q : Program) where
       main : (o : Option StackSizes) → bound_at bs q.main ≡ o → IsSome o → IsAtMost (sizes_for q bs) sizes
       main None e k = cc
       main (Some b) e k =
-          subst (λ o. IsAtMost (words_sum (main_used q) (unwrap_or o (stack_sizes 0 0))) sizes) (sym e) (least_words b (bound_at ds q.main) refl (h.least ds covers.certificate q.main b e))
+          subst (λ o. IsAtMost (words_sum (main_used q) (unwrap_or o (stack_sizes 0 0))) sizes) (sym e)
+          (least_words b (bound_at ds q.main) refl (h.least ds covers.certificate q.main b e))
 
   -- a call's bounds on the control stack are less
-  falls : (bs : Bounds) → IsCertificate q bs → (p r : ℕ) (b : StackSizes) → bound_at bs p ≡ Some b → Contains (calls_of q p) r → (d : StackSizes) × (bound_at bs r ≡ Some d) × (d.ctrl < b.ctrl)
+  falls : (bs : Bounds) → IsCertificate q bs → (p r : ℕ) (b : StackSizes) → bound_at bs p ≡ Some b → Contains (calls_of q p) r → (d : StackSizes)
+      × (bound_at bs r ≡ Some d) × (d.ctrl < b.ctrl)
   falls bs cert p r b e h = pick (bound_at bs r) refl (All-contains (CoversCall q bs b) (calls_of q p) r (cert.each p b e).calls h)
     where
-      pick : (o : Option StackSizes) → bound_at bs r ≡ o → IsSomeAnd o (λ d. IsAtMost (call_bound q r d) b) → (d : StackSizes) × (bound_at bs r ≡ Some d) × (d.ctrl < b.ctrl)
+      pick : (o : Option StackSizes) → bound_at bs r ≡ o → IsSomeAnd o (λ d. IsAtMost (call_bound q r d) b) → (d : StackSizes)
+          × (bound_at bs r ≡ Some d) × (d.ctrl < b.ctrl)
       pick None i k = absurd k
       pick (Some d) i k = (d, i, omega (arith, k.ctrl))
 
-  all_fall : (bs : Bounds) → IsCertificate q bs → (p r : ℕ) (b : StackSizes) → bound_at bs p ≡ Some b → Reaches (calls_of q) p r → (d : StackSizes) × (bound_at bs r ≡ Some d) × (d.ctrl < b.ctrl)
+  all_fall : (bs : Bounds) → IsCertificate q bs → (p r : ℕ) (b : StackSizes) → bound_at bs p ≡ Some b → Reaches (calls_of q) p r → (d : StackSizes)
+      × (bound_at bs r ≡ Some d) × (d.ctrl < b.ctrl)
   all_fall bs cert p r b e (Directly h) = falls bs cert p r b e h
   all_fall bs cert p r b e (Further {r = s} h g) = on (all_fall bs cert p s b e h)
     where

@@ -1,7 +1,9 @@
 -- Marks.
-use Rattle.std.proofs.Common.{◌≡◌, ℕ, zero, suc, ◌+◌, ◌-◌, ◌<◌, ◌≤◌, List, [], ◌∷◌, ◌++◌, length, get_or, take, drop, set, ◌⊎◌, inl, inr, refl, ap, sym, ◌∙◌, subst, arith}
+use Rattle.std.proofs.Common.{◌≡◌, ℕ, zero, suc, ◌+◌, ◌-◌, ◌<◌, ◌≤◌, List, [], ◌∷◌, ◌++◌, length, get_or, take, drop, set, ◌⊎◌, inl, inr, refl, ap, sym, ◌∙◌}
+use Rattle.std.proofs.Common.{subst, arith}
 use Rattle.std.proofs.lemmas.Bool.{cases_eq, cases_lt}
-use Rattle.std.proofs.lemmas.List.{get_or-set_same, get_or-set_other, length-set, get_or_past, get_or_push, get_or_append_left, length_push, get_or-take, get_or-drop, get_or_default, length-drop, length-take, set_past}
+use Rattle.std.proofs.lemmas.List.{get_or-set_same, get_or-set_other, length-set, get_or_past, get_or_push, get_or_append_left, length_push, get_or-take}
+use Rattle.std.proofs.lemmas.List.{get_or-drop, get_or_default, length-drop, length-take, set_past}
 use Rattle.std.specs.List.{Contains}
 use Rattle.std.proofs.lemmas.List.Elements.{Contains-append_left, Contains-append_right, Contains-append_cases}
 use Rattle.space_cert.specs.Internal.SearchState.{mark_at, is_new, new_count, weight, new_weight, AreMarked, done_marks}
@@ -15,7 +17,8 @@ count_set [] p m lt = absurd (omega (arith, lt))
 count_set (x ∷ marks) zero m lt = omega arith
 count_set (x ∷ marks) (suc p) m lt = omega (arith, count_set marks p m (omega (arith, lt)))
 
-pub weight_set : (marks : List Mark) (cs : List (List ℕ)) (p : ℕ) (m : Mark) → p < length marks → p < length cs → new_weight (set marks p m) cs + weight (mark_at marks p) (get_or cs p []) ≡ new_weight marks cs + weight m (get_or cs p [])
+pub weight_set : (marks : List Mark) (cs : List (List ℕ)) (p : ℕ) (m : Mark) → p < length marks → p < length cs
+    → new_weight (set marks p m) cs + weight (mark_at marks p) (get_or cs p []) ≡ new_weight marks cs + weight m (get_or cs p [])
 weight_set [] cs p m lt le = absurd (omega (arith, lt))
 weight_set (x ∷ marks) [] p m lt le = absurd (omega (arith, le))
 weight_set (x ∷ marks) (c ∷ cs) zero m lt le = omega arith
@@ -67,7 +70,9 @@ module _ (marks : List Mark) (entered done : List ℕ) (h : AreMarked marks ente
   pub enters : (w : ℕ) → w < length marks → mark_at marks w ≡ New → AreMarked (set marks w (Entered (length entered))) (entered ++ w ∷ []) done
   enters w lt new = record {
     places = λ i l. elim (cases_eq i (length entered)) [
-      | inl e ↦ subst (λ x. mark_at now x ≡ Entered i) (sym (ap (λ j. get_or (entered ++ w ∷ []) j 0) e ∙ get_or_push entered w 0 (length entered) refl)) (get_or-set_same marks w (Entered (length entered)) New lt ∙ ap Entered (sym e))
+      | inl e ↦ subst (λ x. mark_at now x ≡ Entered i)
+          (sym (ap (λ j. get_or (entered ++ w ∷ []) j 0) e ∙ get_or_push entered w 0 (length entered) refl))
+          (get_or-set_same marks w (Entered (length entered)) New lt ∙ ap Entered (sym e))
       | inr n ↦
           let small : i < length entered = omega (arith, l, n, length_push entered w) in
           let is = get_or_append_left entered (w ∷ []) 0 i small in
@@ -76,8 +81,11 @@ module _ (marks : List Mark) (entered done : List ℕ) (h : AreMarked marks ente
     finished = λ p k. other p (λ e. (new_is w new).1 (subst (Contains done) e k)) ∙ h.finished p k;
     entered_is = λ p at e. elim (cases_eq p w) [
       | inl i ↦
-          let place : length entered ≡ at = entered_same (sym (get_or-set_same marks w (Entered (length entered)) New lt) ∙ (ap (mark_at now) (sym i) ∙ e)) in
-          (omega (arith, length_push entered w, place), ap (λ j. get_or (entered ++ w ∷ []) j 0) (sym place) ∙ (get_or_push entered w 0 (length entered) refl ∙ sym i))
+          let place : length entered ≡ at = entered_same (sym (get_or-set_same marks w (Entered (length entered)) New lt) ∙ (ap (mark_at now) (sym i) ∙ e)) in (
+            omega (arith, length_push entered w, place),
+            ap (λ j. get_or (entered ++ w ∷ []) j 0) (sym place)
+                ∙ (get_or_push entered w 0 (length entered) refl ∙ sym i),
+          )
       | inr n ↦
           let old = h.entered_is p at (sym (other p n) ∙ e) in
           (omega (arith, old.0, length_push entered w), get_or_append_left entered (w ∷ []) 0 at old.0 ∙ old.1)
@@ -105,12 +113,17 @@ done_marks-push [] p marks = refl
 done_marks-push (x ∷ ps) p marks = ap (λ m. set m x Done) (done_marks-push ps p marks)
 
 -- a mark afterwards
-pub done_mark : (ps : List ℕ) (marks : List Mark) (p : ℕ) (m : Mark) → mark_at (done_marks ps marks) p ≡ m → (Contains ps p × (m ≡ Done)) ⊎ (mark_at marks p ≡ m)
+pub done_mark : (ps : List ℕ) (marks : List Mark) (p : ℕ) (m : Mark) → mark_at (done_marks ps marks) p ≡ m → (Contains ps p × (m ≡ Done))
+    ⊎ (mark_at marks p ≡ m)
 done_mark [] marks p m e = inr e
 done_mark (x ∷ ps) marks p m e =
     elim (cases_eq p x) [
       | inl i ↦ elim (cases_lt x (length (done_marks ps marks))) [
-        | inl lt ↦ inl (subst (Contains (x ∷ ps)) (sym i) (contains_first x ps), sym e ∙ (ap (mark_at (set (done_marks ps marks) x Done)) i ∙ get_or-set_same (done_marks ps marks) x Done New lt))
+        | inl lt ↦ inl (
+          subst (Contains (x ∷ ps)) (sym i) (contains_first x ps),
+          sym e
+              ∙ (ap (mark_at (set (done_marks ps marks) x Done)) i ∙ get_or-set_same (done_marks ps marks) x Done New lt),
+        )
         | inr ge ↦ up (done_mark ps marks p m (sym (set_out (done_marks ps marks) x ge p) ∙ e))
       ]
       | inr n ↦ up (done_mark ps marks p m (sym (get_or-set_other (done_marks ps marks) x p Done New n) ∙ e))
@@ -127,7 +140,8 @@ pub done_there : (ps : List ℕ) (marks : List Mark) (p : ℕ) → Contains ps p
 done_there [] marks p k lt = absurd (contains_none k)
 done_there (x ∷ ps) marks p k lt =
     elim (cases_eq p x) [
-      | inl i ↦ ap (mark_at (set (done_marks ps marks) x Done)) i ∙ get_or-set_same (done_marks ps marks) x Done New (omega (arith, lt, i, done_marks-length ps marks))
+      | inl i ↦ ap (mark_at (set (done_marks ps marks) x Done)) i ∙ get_or-set_same (done_marks ps marks) x Done New
+          (omega (arith, lt, i, done_marks-length ps marks))
       | inr n ↦ elim (contains_cases x ps p k) [
         | inl e ↦ absurd (n (sym e))
         | inr l ↦ get_or-set_other (done_marks ps marks) x p Done New n ∙ done_there ps marks p l lt
@@ -145,23 +159,37 @@ pub done_counts : (ps : List ℕ) (marks : List Mark) → ((p : ℕ) → Contain
 done_counts [] marks f = refl
 done_counts (x ∷ ps) marks f = one (mark_at (done_marks ps marks) x) refl (done_counts ps marks (λ p k. f p (contains_later x ps p k)))
   where
-    one : (m : Mark) → mark_at (done_marks ps marks) x ≡ m → new_count (done_marks ps marks) ≡ new_count marks → new_count (set (done_marks ps marks) x Done) ≡ new_count marks
+    one : (m : Mark) → mark_at (done_marks ps marks) x ≡ m → new_count (done_marks ps marks) ≡ new_count marks
+        → new_count (set (done_marks ps marks) x Done) ≡ new_count marks
     one New e h = absurd (f x (contains_first x ps) (elim (done_mark ps marks x New e) [ inl k ↦ absurd (new_not_done k.1) | inr i ↦ i ]))
-    one (Entered at) e h = omega (arith, h, count_set (done_marks ps marks) x Done (marked_below (done_marks ps marks) x (λ i. new_apart (sym i ∙ e))), ap is_new e)
+    one (Entered at) e h =
+        omega (arith, h, count_set (done_marks ps marks) x Done (marked_below (done_marks ps marks) x (λ i. new_apart (sym i ∙ e))), ap is_new e)
     one Done e h = omega (arith, h, count_set (done_marks ps marks) x Done (marked_below (done_marks ps marks) x (λ i. new_not_done (sym i ∙ e))), ap is_new e)
 
-pub done_weighs : (ps : List ℕ) (marks : List Mark) (cs : List (List ℕ)) → length marks ≡ length cs → ((p : ℕ) → Contains ps p → mark_at marks p ≡ New → ⊥) → new_weight (done_marks ps marks) cs ≡ new_weight marks cs
+pub done_weighs : (ps : List ℕ) (marks : List Mark) (cs : List (List ℕ)) → length marks ≡ length cs
+    → ((p : ℕ) → Contains ps p → mark_at marks p ≡ New → ⊥) → new_weight (done_marks ps marks) cs ≡ new_weight marks cs
 done_weighs [] marks cs n f = refl
 done_weighs (x ∷ ps) marks cs n f = one (mark_at (done_marks ps marks) x) refl (done_weighs ps marks cs n (λ p k. f p (contains_later x ps p k)))
   where
-    one : (m : Mark) → mark_at (done_marks ps marks) x ≡ m → new_weight (done_marks ps marks) cs ≡ new_weight marks cs → new_weight (set (done_marks ps marks) x Done) cs ≡ new_weight marks cs
+    one : (m : Mark) → mark_at (done_marks ps marks) x ≡ m → new_weight (done_marks ps marks) cs ≡ new_weight marks cs
+        → new_weight (set (done_marks ps marks) x Done) cs ≡ new_weight marks cs
     one New e h = absurd (f x (contains_first x ps) (elim (done_mark ps marks x New e) [ inl k ↦ absurd (new_not_done k.1) | inr i ↦ i ]))
     one (Entered at) e h =
         let lt = marked_below (done_marks ps marks) x (λ i. new_apart (sym i ∙ e)) in
-        omega (arith, h, weight_set (done_marks ps marks) cs x Done lt (omega (arith, lt, n, done_marks-length ps marks)), ap (λ m. weight m (get_or cs x [])) e)
+        omega (
+          arith,
+          h,
+          weight_set (done_marks ps marks) cs x Done lt (omega (arith, lt, n, done_marks-length ps marks)),
+          ap (λ m. weight m (get_or cs x [])) e,
+        )
     one Done e h =
         let lt = marked_below (done_marks ps marks) x (λ i. new_not_done (sym i ∙ e)) in
-        omega (arith, h, weight_set (done_marks ps marks) cs x Done lt (omega (arith, lt, n, done_marks-length ps marks)), ap (λ m. weight m (get_or cs x [])) e)
+        omega (
+          arith,
+          h,
+          weight_set (done_marks ps marks) cs x Done lt (omega (arith, lt, n, done_marks-length ps marks)),
+          ap (λ m. weight m (get_or cs x [])) e,
+        )
 
 -- the entered ones from a place on are done
 module _ (marks : List Mark) (entered done : List ℕ) (first : ℕ) (h : AreMarked marks entered done) where
@@ -176,12 +204,20 @@ module _ (marks : List Mark) (entered done : List ℕ) (first : ℕ) (h : AreMar
   pub drop_there : (at : ℕ) → at < length entered → first ≤ at → Contains (drop first entered) (get_or entered at 0)
   drop_there at lt le =
       let d = get_or-drop first entered (at - first) (get_or entered at 0) in
-      let e : first + (at - first) ≡ at = omega (arith, le) in
-      (at - first, omega (arith, lt, le, length-drop first entered), d ∙ (ap (λ j. get_or entered j (get_or entered at 0)) e ∙ get_or_default entered at (get_or entered at 0) 0 lt))
+      let e : first + (at - first) ≡ at = omega (arith, le) in (
+        at - first,
+        omega (arith, lt, le, length-drop first entered),
+        d
+            ∙ (ap (λ j. get_or entered j (get_or entered at 0)) e ∙ get_or_default entered at (get_or entered at 0) 0 lt),
+      )
 
   pub take_there : (at : ℕ) → at < length entered → at < first → Contains (take first entered) (get_or entered at 0)
-  take_there at lt small =
-      (at, omega (arith, length-take first entered, lt, small), get_or-take first entered at (get_or entered at 0) small ∙ get_or_default entered at (get_or entered at 0) 0 lt)
+  take_there at lt small = (
+    at,
+    omega (arith, length-take first entered, lt, small),
+    get_or-take first entered at (get_or entered at 0) small
+        ∙ get_or_default entered at (get_or entered at 0) 0 lt,
+  )
 
   pub leaves : first ≤ length entered → AreMarked (done_marks (drop first entered) marks) (take first entered) (drop first entered ++ done)
   leaves le = record {
@@ -190,7 +226,8 @@ module _ (marks : List Mark) (entered done : List ℕ) (first : ℕ) (h : AreMar
         let there : i < length entered = omega (arith, small, le) in
         let is = get_or-take first entered i 0 small in
         ap (mark_at (done_marks (drop first entered) marks)) is
-        ∙ (done_elsewhere (drop first entered) marks (get_or entered i 0) (λ k. absurd (omega (arith, small, from_there (get_or entered i 0) i (h.places i there) k)))
+        ∙ (done_elsewhere (drop first entered) marks (get_or entered i 0)
+        (λ k. absurd (omega (arith, small, from_there (get_or entered i 0) i (h.places i there) k)))
         ∙ h.places i there);
     finished = λ p k. elim (Contains-append_cases (drop first entered) done p k) [
       | inl d ↦ done_there (drop first entered) marks p d (member_below p d)
@@ -212,8 +249,10 @@ module _ (marks : List Mark) (entered done : List ℕ) (first : ℕ) (h : AreMar
       member_below : (p : ℕ) → Contains (drop first entered) p → p < length marks
       member_below p k = marked_below marks p (λ e. (new_is marks entered done h p e).0 (dropped p k))
 
-      old : (p at : ℕ) → mark_at marks p ≡ Entered at → (at < length entered) × (get_or entered at 0 ≡ p) → mark_at (done_marks (drop first entered) marks) p ≡ Entered at → (at < length (take first entered)) × (get_or (take first entered) at 0 ≡ p)
+      old : (p at : ℕ) → mark_at marks p ≡ Entered at → (at < length entered) × (get_or entered at 0 ≡ p)
+          → mark_at (done_marks (drop first entered) marks) p ≡ Entered at → (at < length (take first entered)) × (get_or (take first entered) at 0 ≡ p)
       old p at m (lt, is) e = elim (cases_lt at first) [
         | inl small ↦ (omega (arith, small, le, length-take first entered), get_or-take first entered at 0 small ∙ is)
-        | inr ge ↦ absurd (entered_not_done (sym e ∙ done_there (drop first entered) marks p (subst (Contains (drop first entered)) is (drop_there at lt ge)) (marked_below marks p (λ i. new_apart (sym i ∙ m)))))
+        | inr ge ↦ absurd (entered_not_done (sym e ∙ done_there (drop first entered) marks p
+            (subst (Contains (drop first entered)) is (drop_there at lt ge)) (marked_below marks p (λ i. new_apart (sym i ∙ m)))))
       ]

@@ -1,5 +1,6 @@
 -- Names of procedures: they differ, and each stands where it is found.
-use Rattle.std.proofs.Common.{◌≡◌, Bor, ℕ, zero, suc, ◌+◌, ◌<◌, ◌≤◌, List, [], ◌∷◌, ◌++◌, map, length, get_or, take, Bool, true, false, cond, Some, option_map, sym, ap, subst, ◌∙◌, arith}
+use Rattle.std.proofs.Common.{◌≡◌, Bor, ℕ, zero, suc, ◌+◌, ◌<◌, ◌≤◌, List, [], ◌∷◌, ◌++◌, map, length, get_or, take, Bool, true, false, cond, Some, option_map}
+use Rattle.std.proofs.Common.{sym, ap, subst, ◌∙◌, arith}
 use Rattle.std.specs.List.{All, AllByRecursion, IsDistinct, list_any, position}
 use Rattle.std.specs.Str.{bytes_eq}
 use Rattle.std.proofs.lemmas.List.{length-map, map_push, take_more, take-map}
@@ -30,24 +31,30 @@ use Rattle.gypsy_space.specs.Callees.{names_of}
 pub names_same : (procs : List Proc) → names_of procs ≡ map (λ (p : ProcOf). p.name.name) (map proc_of procs)
 names_same procs = sym (map-map (λ (p : ProcOf). p.name.name) proc_of procs)
 
-pub place_same : (name : List ℕ) (procs : List Proc) → position (λ (p : Proc). bytes_eq name p.name.name) procs ≡ place_among name (map (λ (p : ProcOf). p.name.name) (map proc_of procs))
+pub place_same : (name : List ℕ) (procs : List Proc) → position (λ (p : Proc). bytes_eq name p.name.name) procs
+    ≡ place_among name (map (λ (p : ProcOf). p.name.name) (map proc_of procs))
 place_same name procs = position-map name (λ (p : Proc). p.name.name) procs ∙ ap (place_among name) (names_same procs)
 
 -- They differ.
 
 -- none of these is m, where m is among the earlier ones
-all_apart : (rule : ℕ) (earlier : List (List ℕ)) (m : List ℕ) (ns : List Named) → ((n : List ℕ) → is_among n earlier ≡ false → bytes_eq n m ≡ false) → repeats rule earlier ns ≡ [] → AllByRecursion (λ y. bytes_eq m y ≡ false) (map (λ (n : Named). n.name) ns)
+all_apart : (rule : ℕ) (earlier : List (List ℕ)) (m : List ℕ) (ns : List Named) → ((n : List ℕ) → is_among n earlier ≡ false → bytes_eq n m ≡ false)
+    → repeats rule earlier ns ≡ [] → AllByRecursion (λ y. bytes_eq m y ≡ false) (map (λ (n : Named). n.name) ns)
 all_apart rule earlier m [] f e = tt
 all_apart rule earlier m (n ∷ ns) f e =
-    let k = append_none _ (repeats rule (n.name ∷ earlier) ns) e in
-    (bytes_apart n.name m (f n.name (rule_fails (is_among n.name earlier) n.place rule k.0)), all_apart rule (n.name ∷ earlier) m ns (λ x h. f x (or_parts (bytes_eq x n.name) (is_among x earlier) h).1) k.1)
+    let k = append_none _ (repeats rule (n.name ∷ earlier) ns) e in (
+      bytes_apart n.name m (f n.name (rule_fails (is_among n.name earlier) n.place rule k.0)),
+      all_apart rule (n.name ∷ earlier) m ns (λ x h. f x (or_parts (bytes_eq x n.name) (is_among x earlier) h).1) k.1,
+    )
 
 distinct_names : (rule : ℕ) (earlier : List (List ℕ)) (ns : List Named) → repeats rule earlier ns ≡ [] → IsDistinct bytes_eq (map (λ (n : Named). n.name) ns)
 unfolding IsDistinct
 distinct_names rule earlier [] e = tt
 distinct_names rule earlier (n ∷ ns) e =
     let k = append_none _ (repeats rule (n.name ∷ earlier) ns) e in
-    IsDistinct-cons bytes_eq n.name (map (λ (n : Named). n.name) ns) (all_apart rule (n.name ∷ earlier) n.name ns (λ x h. (or_parts (bytes_eq x n.name) (is_among x earlier) h).0) k.1) (distinct_names rule (n.name ∷ earlier) ns k.1)
+    IsDistinct-cons bytes_eq n.name (map (λ (n : Named). n.name) ns)
+    (all_apart rule (n.name ∷ earlier) n.name ns (λ x h. (or_parts (bytes_eq x n.name) (is_among x earlier) h).0) k.1)
+    (distinct_names rule (n.name ∷ earlier) ns k.1)
 
 pub own_names : (s : SourceOf) → violations s ≡ [] → IsDistinct bytes_eq (procedure_names s)
 unfolding violations
@@ -61,7 +68,8 @@ own_names s e =
 all_names : (procs : List ProcOf) → All FitsProcedure procs → All (λ n. is_name n ≡ true) (map (λ (p : ProcOf). p.name.name) procs)
 all_names [] h = All-nil (λ n. is_name n ≡ true)
 all_names (p ∷ procs) h =
-    All-cons (λ n. is_name n ≡ true) p.name.name (map (λ (p : ProcOf). p.name.name) procs) (All-head FitsProcedure p procs h).name (all_names procs (All-tail FitsProcedure p procs h))
+    All-cons (λ n. is_name n ≡ true) p.name.name (map (λ (p : ProcOf). p.name.name) procs) (All-head FitsProcedure p procs h).name
+    (all_names procs (All-tail FitsProcedure p procs h))
 
 pub are_names : (s : SourceOf) → KeepsForm s → All (λ n. is_name n ≡ true) (procedure_names s)
 are_names s form = all_names s.procs (keeps_fits s form).procs
@@ -70,7 +78,8 @@ pub few_names : (s : SourceOf) → KeepsForm s → length (procedure_names s) �
 few_names s form = omega (arith, (keeps_fits s form).few_procs, length-map s.procs (λ (p : ProcOf). p.name.name))
 
 -- each is found at its place
-pub place_own : (names : List (List ℕ)) (i : ℕ) (name : List ℕ) → IsDistinct bytes_eq names → i < length names → name ≡ get_or names i name → place_among name names ≡ Some i
+pub place_own : (names : List (List ℕ)) (i : ℕ) (name : List ℕ) → IsDistinct bytes_eq names → i < length names → name ≡ get_or names i name
+    → place_among name names ≡ Some i
 place_own [] i name own lt is = absurd (omega (arith, lt))
 place_own (x ∷ xs) zero name own lt is =
     let same : bytes_eq name x ≡ true = (bytes_eq-Decides name x).1 is in
@@ -78,7 +87,8 @@ place_own (x ∷ xs) zero name own lt is =
 place_own (x ∷ xs) (suc i) name own lt is =
     let apart = apart_from_distinct bytes_eq (x ∷ xs) 0 (suc i) name own (omega arith) lt in
     let other : bytes_eq name x ≡ false = bytes_apart x name (ap (bytes_eq x) is ∙ apart) in
-    place_cons name x xs ∙ (ap (λ (b : Bool). cond b (Some 0) (option_map suc (place_among name xs))) other ∙ ap (option_map suc) (place_own xs i name (IsDistinct-tail bytes_eq x xs own) (omega (arith, lt)) is))
+    place_cons name x xs ∙ (ap (λ (b : Bool). cond b (Some 0) (option_map suc (place_among name xs))) other
+    ∙ ap (option_map suc) (place_own xs i name (IsDistinct-tail bytes_eq x xs own) (omega (arith, lt)) is))
 
 -- The set of the names, one procedure after another.
 
@@ -88,15 +98,19 @@ name_at (q ∷ procs) zero p lt is = ap (λ (q : Proc). q.name.name) is
 name_at (q ∷ procs) (suc i) p lt is = name_at procs i p (omega (arith, lt)) is
 
 -- one more name among the keys
-pub names_next : (procs : List Proc) (i : ℕ) (p : Proc) (key : Bor (List ℕ)) (keys new : List (Bor (List ℕ))) → i < length procs → p ≡ get_or procs i p → key.now ≡ p.name.name → IsDistinct bytes_eq (names_of procs)
-    → new ≡ cond (list_any (λ other. bytes_eq key.now other.now) keys) keys (keys ++ key ∷ []) → map (λ k. k.now) keys ≡ names_of (take i procs) → map (λ k. k.now) new ≡ names_of (take (i + 1) procs)
+pub names_next : (procs : List Proc) (i : ℕ) (p : Proc) (key : Bor (List ℕ)) (keys new : List (Bor (List ℕ))) → i < length procs → p ≡ get_or procs i p
+    → key.now ≡ p.name.name → IsDistinct bytes_eq (names_of procs)
+    → new ≡ cond (list_any (λ other. bytes_eq key.now other.now) keys) keys (keys ++ key ∷ []) → map (λ k. k.now) keys ≡ names_of (take i procs)
+    → map (λ k. k.now) new ≡ names_of (take (i + 1) procs)
 names_next procs i p key keys new lt is same own added so_far =
     let below : i < length (names_of procs) = omega (arith, lt, length-map procs (λ (q : Proc). q.name.name)) in
     let first = no_earlier (names_of procs) i p.name.name below (name_at procs i p lt is) own in
     let absent : list_any (λ other. bytes_eq key.now other.now) keys ≡ false =
-    any_now key.now keys ∙ (ap (λ (ns : List (List ℕ)). list_any (bytes_eq key.now) ns) so_far ∙ (ap (λ (n : List ℕ). list_any (bytes_eq n) (names_of (take i procs))) same
+    any_now key.now keys ∙ (ap (λ (ns : List (List ℕ)). list_any (bytes_eq key.now) ns) so_far
+    ∙ (ap (λ (n : List ℕ). list_any (bytes_eq n) (names_of (take i procs))) same
     ∙ (ap (λ (ns : List (List ℕ)). list_any (bytes_eq p.name.name) ns) (sym (take-map (λ (q : Proc). q.name.name) i procs)) ∙ first))) in
     let new_is : new ≡ keys ++ key ∷ [] = added ∙ ap (λ (b : Bool). cond b keys (keys ++ key ∷ [])) absent in
     ap (λ (ks : List (Bor (List ℕ))). map (λ k. k.now) ks) new_is ∙ (map_push (λ (k : Bor (List ℕ)). k.now) keys key
     ∙ (ap (λ (ns : List (List ℕ)). ns ++ key.now ∷ []) so_far ∙ (ap (λ (n : List ℕ). names_of (take i procs) ++ n ∷ []) same
-    ∙ (sym (map_push (λ (q : Proc). q.name.name) (take i procs) p) ∙ ap names_of (sym (take_more procs i p lt ∙ ap (λ (q : Proc). take i procs ++ q ∷ []) (sym is)))))))
+    ∙ (sym (map_push (λ (q : Proc). q.name.name) (take i procs) p) ∙ ap names_of
+    (sym (take_more procs i p lt ∙ ap (λ (q : Proc). take i procs ++ q ∷ []) (sym is)))))))

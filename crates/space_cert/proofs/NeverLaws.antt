@@ -36,7 +36,8 @@ module _ (q : Program) (bs : Bounds) (sizes : StackSizes) (covers : Covers q bs 
   visits_safe v g (First e) = subst IsSafe (sym e) (start_safe v)
   visits_safe v g (Later {g = f} k e) = step_safe f g (visits_safe v f k) e
 
-  step_other : (n : ℕ) (g : State) → IsSafe g → (m : Move) → gypsy_step q sizes g ≡ m → ((h : State) → IsSafe h → EndIsOther (run q sizes n h)) → EndIsOther (go_on m (run q sizes n))
+  step_other : (n : ℕ) (g : State) → IsSafe g → (m : Move) → gypsy_step q sizes g ≡ m → ((h : State) → IsSafe h → EndIsOther (run q sizes n h))
+      → EndIsOther (go_on m (run q sizes n))
   step_other n g s (Next h) e later = later h (step_safe g h s e)
   step_other n g s (Ended x c t) e later =
       subst MoveOmitsSpace e (step_omits q sizes (body_omits q fits) g (call_on_top q bs sizes covers.certificate g s.covered) s.omits)

@@ -11,7 +11,8 @@ use Rattle.gypsy_syntax.specs.Effects.{Effect, Normal, Fault, Beyond, value_at, 
 use Rattle.gypsy_space.specs.Costs.{Tally, spend, predef_spend, out_spend}
 use Rattle.gypsy_space.specs.Needs.{StackSizes}
 use Rattle.gypsy_semantics.specs.Calls.{has_cond, is_leave, is_passed_on, main_way, matching, values_of, copied_out}
-use Rattle.gypsy_semantics.specs.Machine.{Item, Do, Back, JoinThen, JoinOne, Guard, Out, Frame, Held, State, At, Next, opens, open_on, settle, stop_if, raise, either_move, apply_step, call_step, do_step, end_step, out_step, gypsy_step}
+use Rattle.gypsy_semantics.specs.Machine.{Item, Do, Back, JoinThen, JoinOne, Guard, Out, Frame, Held, State, At, Next, opens, open_on, settle, stop_if, raise}
+use Rattle.gypsy_semantics.specs.Machine.{either_move, apply_step, call_step, do_step, end_step, out_step, gypsy_step}
 use Rattle.space_cert.specs.Never.{HasCallRoom, raised, raised_for, raised_after}
 use Rattle.space_cert.specs.Internal.Omits.{IsOther, OmitsSpace, WorkOmitsSpace, WaitingOmitsSpace, StateOmitsSpace, MoveOmitsSpace}
 
@@ -68,7 +69,8 @@ open_omits s w f h = opens_omits s w (settle w) f h (settle_omits w h)
 
 -- What is raised.
 
-raise_omits : (c : ConditionOf) (p : ℕ) (x : List ValueOf) (w : List Item) (fs : List Frame) (t : Tally) → IsOther c → WorkOmitsSpace w → WaitingOmitsSpace fs → StateOmitsSpace (raise c p x w fs t)
+raise_omits : (c : ConditionOf) (p : ℕ) (x : List ValueOf) (w : List Item) (fs : List Frame) (t : Tally) → IsOther c → WorkOmitsSpace w
+    → WaitingOmitsSpace fs → StateOmitsSpace (raise c p x w fs t)
 raise_omits c p x [] fs t o h g = ((o, tt), g)
 raise_omits c p x (Do s ∷ w) fs t o h g = raise_omits c p x w fs t o h.1 g
 raise_omits c p x (Back place s ∷ w) fs t o h g = pick (is_leave c) (raise_omits c p x w fs t o h.1 g)
@@ -80,7 +82,8 @@ raise_omits c p x (JoinThen place v ∷ w) fs t o h g = raise_omits c p x w fs t
 raise_omits c p x (JoinOne place ∷ w) fs t o h g = raise_omits c p x w fs t o h g
 raise_omits c p x (Guard place cs v ∷ w) fs t o h g = pick (has_cond c cs) (raise_omits c p x w fs t o h.1 g)
   where
-    pick : (i : Bool) → StateOmitsSpace (raise c p x w fs t) → StateOmitsSpace (stop_if i (At p x (open_on v (JoinOne place ∷ w)) fs (spend 3 2 t)) (raise c p x w fs t))
+    pick : (i : Bool) → StateOmitsSpace (raise c p x w fs t) → StateOmitsSpace
+        (stop_if i (At p x (open_on v (JoinOne place ∷ w)) fs (spend 3 2 t)) (raise c p x w fs t))
     pick true r = (open_omits v (JoinOne place ∷ w) h.0 h.1, g)
     pick false r = r
 raise_omits c p x (Out d ∷ w) fs t o h g = raise_omits c p x w fs t o h.1 g
@@ -111,7 +114,8 @@ main_omits q c o = pick (is_passed_on q q.main c)
 
 -- A step.
 
-apply_omits : (r : Predef) (args : List Arg) (e : Effect) (p : ℕ) (x : List ValueOf) (w : List Item) (fs : List Frame) (t : Tally) → WorkOmitsSpace w → WaitingOmitsSpace fs → MoveOmitsSpace (apply_step r args e p x w fs t)
+apply_omits : (r : Predef) (args : List Arg) (e : Effect) (p : ℕ) (x : List ValueOf) (w : List Item) (fs : List Frame) (t : Tally) → WorkOmitsSpace w
+    → WaitingOmitsSpace fs → MoveOmitsSpace (apply_step r args e p x w fs t)
 apply_omits r args (Normal v) p x w fs t h g = (settle_omits w h, g)
 apply_omits r args Fault p x w fs t h g = raise_omits Routine p x w fs (predef_spend r Fault t) tt h g
 apply_omits r args Beyond p x w fs t h g = raise_omits Routine p x w fs (predef_spend r Beyond t) tt h g
@@ -120,13 +124,15 @@ end_omits : (q : Program) (p : ℕ) (y : List ValueOf) (fs : List Frame) (t : Ta
 end_omits q p y [] t g = tt
 end_omits q p y (Held c x w xs cs ∷ fs) t g = (settle_omits w g.0, g.2)
 
-out_omits : (q : Program) (d : ConditionOf) (p : ℕ) (y : List ValueOf) (fs : List Frame) (t : Tally) → IsOther d → WaitingOmitsSpace fs → MoveOmitsSpace (out_step q d p y fs t)
+out_omits : (q : Program) (d : ConditionOf) (p : ℕ) (y : List ValueOf) (fs : List Frame) (t : Tally) → IsOther d → WaitingOmitsSpace fs
+    → MoveOmitsSpace (out_step q d p y fs t)
 out_omits q d p y [] t o g = main_omits q d o
 out_omits q d p y (Held c x w xs cs ∷ fs) t o g =
     raise_omits (matching q p cs d) c (copied_out xs y x) w fs (out_spend (is_passed_on q p d) t) (matching_omits q p cs d g.1 o) g.0 g.2
 
 module _ (q : Program) (sizes : StackSizes) (bodies : (p : ℕ) → OmitsSpace (body_of q p)) where
-  do_omits : (s : Stmt) (p : ℕ) (x : List ValueOf) (w : List Item) (fs : List Frame) (t : Tally) → HasCallRoom q sizes (At p x (Do s ∷ w) fs t) → OmitsSpace s → WorkOmitsSpace w → WaitingOmitsSpace fs → MoveOmitsSpace (do_step q sizes s p x w fs t)
+  do_omits : (s : Stmt) (p : ℕ) (x : List ValueOf) (w : List Item) (fs : List Frame) (t : Tally) → HasCallRoom q sizes (At p x (Do s ∷ w) fs t)
+      → OmitsSpace s → WorkOmitsSpace w → WaitingOmitsSpace fs → MoveOmitsSpace (do_step q sizes s p x w fs t)
   do_omits Skip p x w fs t r f h g = (settle_omits w h, g)
   do_omits (NoOp place) p x w fs t r f h g = (settle_omits w h, g)
   do_omits (Signal place c) p x w fs t r f h g = raise_omits c p x w fs (spend 4 3 t) f h g
@@ -134,7 +140,8 @@ module _ (q : Program) (sizes : StackSizes) (bodies : (p : ℕ) → OmitsSpace (
   do_omits (Loop place s) p x w fs t r f h g = (open_omits s (Back place s ∷ w) f (f, h), g)
   do_omits (If place i s v) p x w fs t r f h g = pick (is_true_value (value_at x i))
     where
-      pick : (e : Bool) → MoveOmitsSpace (either_move e (Next (At p x (open_on s (JoinThen place v ∷ w)) fs (spend 8 3 t))) (Next (At p x (open_on v (JoinOne place ∷ w)) fs (spend 9 4 t))))
+      pick : (e : Bool) → MoveOmitsSpace (either_move e (Next (At p x (open_on s (JoinThen place v ∷ w)) fs (spend 8 3 t)))
+          (Next (At p x (open_on v (JoinOne place ∷ w)) fs (spend 9 4 t))))
       pick true = (open_omits s (JoinThen place v ∷ w) f.0 h, g)
       pick false = (open_omits v (JoinOne place ∷ w) f.1 h, g)
   do_omits (Begin place s cs v) p x w fs t r f h g = (open_omits (Begin place s cs v) w f h, g)

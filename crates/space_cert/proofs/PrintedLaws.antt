@@ -1,5 +1,6 @@
 -- Printing entries one after another.
-use Rattle.std.proofs.Common.{◌≡◌, ℕ, zero, suc, ◌+◌, ◌<◌, ◌≤◌, List, [], ◌∷◌, ◌++◌, length, get_or, drop, Bool, true, false, if◌then◌else◌, ◌==◌, Some, None, refl, ap, sym, ◌∙◌, arith}
+use Rattle.std.proofs.Common.{◌≡◌, ℕ, zero, suc, ◌+◌, ◌<◌, ◌≤◌, List, [], ◌∷◌, ◌++◌, length, get_or, drop, Bool, true, false, if◌then◌else◌, ◌==◌, Some, None}
+use Rattle.std.proofs.Common.{refl, ap, sym, ◌∙◌, arith}
 use Rattle.std.proofs.lemmas.Bool.{ne_eqb}
 use Rattle.std.proofs.lemmas.List.{append-nil, drop_all}
 use Rattle.stack_text.specs.Trees.{Node, none}
@@ -36,7 +37,8 @@ module _ (procs : List Proc) (bs : Bounds) (many : length bs ≡ length procs) (
   first_left b e = one_left ∙ ap (λ o. entry_trees (p.name.name ∷ names_of (drop (i + 1) procs)) (o ∷ drop (i + 1) bs)) (sym e)
 
   -- one with bounds
-  pub printed_next : (b : ℕ × ℕ) (k : ℕ) (out apart new all : List ℕ) → Some b ≡ get_or bs i None → apart ≡ out ++ (if k == 0 then [] else 32 ∷ []) → new ≡ apart ++ tree_text (entry_tree p.name.name b) →
+  pub printed_next : (b : ℕ × ℕ) (k : ℕ) (out apart new all : List ℕ) → Some b ≡ get_or bs i None → apart ≡ out ++ (if k == 0 then [] else 32 ∷ [])
+      → new ≡ apart ++ tree_text (entry_tree p.name.name b) →
       out ++ items_after k (nodes (entries_left procs bs i)) ≡ all → new ++ items_after (k + 1) (nodes (entries_left procs bs (i + 1))) ≡ all
   printed_next b k out apart new all e ea en so_far =
       let t = entry_tree p.name.name b in
@@ -50,7 +52,8 @@ no_more : (b : Bool) → (if b then items_text none else spaced_text none) ≡ [
 no_more true = refl
 no_more false = refl
 
-pub printed_end : (procs : List Proc) (bs : Bounds) (i k : ℕ) (out all : List ℕ) → length procs ≤ i → out ++ items_after k (nodes (entries_left procs bs i)) ≡ all → out ≡ all
+pub printed_end : (procs : List Proc) (bs : Bounds) (i k : ℕ) (out all : List ℕ) → length procs ≤ i
+    → out ++ items_after k (nodes (entries_left procs bs i)) ≡ all → out ≡ all
 printed_end procs bs i k out all le so_far =
     sym (append-nil out) ∙ (ap (λ (w : List ℕ). out ++ w) (sym (no_more (k == 0)))
     ∙ (ap (λ (ps : List Proc). out ++ items_after k (nodes (entry_trees (names_of ps) (drop i bs)))) (sym (drop_all i procs le)) ∙ so_far))

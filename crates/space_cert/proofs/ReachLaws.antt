@@ -41,7 +41,8 @@ module _ (calls : ℕ → List ℕ) where
 
   joins : (n p r : ℕ) → Computed n p n → Computed n n r → Computed (suc n) p r
   unfolding reaches_below
-  joins n p r h g = or_right (reaches_below calls n p r) (reaches_below calls n p n && reaches_below calls n n r) (and_from (reaches_below calls n p n) (reaches_below calls n n r) h g)
+  joins n p r h g = or_right (reaches_below calls n p r) (reaches_below calls n p n && reaches_below calls n n r)
+      (and_from (reaches_below calls n p n) (reaches_below calls n n r) h g)
 
   splits : (n p r : ℕ) → Computed (suc n) p r → Computed n p r ⊎ (Computed n p n × Computed n n r)
   unfolding reaches_below

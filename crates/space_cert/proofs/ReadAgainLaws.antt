@@ -1,5 +1,6 @@
 -- The text that is printed for a certificate is read as that certificate, and is short.
-use Rattle.std.proofs.Common.{◌≡◌, ℕ, zero, suc, ◌+◌, ◌*◌, ◌<◌, ◌≤◌, ◌^◌, nat_le, List, [], ◌∷◌, ◌++◌, length, get_or, set, drop, true, if◌then◌else◌, Option, Some, None, Result, Ok, Err, refl, ap, sym, ◌∙◌, arith}
+use Rattle.std.proofs.Common.{◌≡◌, ℕ, zero, suc, ◌+◌, ◌*◌, ◌<◌, ◌≤◌, ◌^◌, nat_le, List, [], ◌∷◌, ◌++◌, length, get_or, set, drop, true, if◌then◌else◌, Option}
+use Rattle.std.proofs.Common.{Some, None, Result, Ok, Err, refl, ap, sym, ◌∙◌, arith}
 use Rattle.std.specs.Prelude.{pos}
 use Rattle.std.specs.List.{All, IsDistinct}
 use Rattle.std.specs.Option.{is_some}
@@ -12,7 +13,8 @@ use Rattle.std.proofs.lemmas.Fmt.{length-decimal-le}
 use Rattle.stack_text.specs.Names.{is_name, name_of}
 use Rattle.stack_text.specs.Numerals.{fits_128_bits}
 use Rattle.stack_text.specs.Results.{◌>>=◌}
-use Rattle.stack_text.specs.Trees.{Node, Nodes, atom, list, none, more, node_counts, depths, AtomsAreRuns, AllAtomsAreRuns, IsWellFormed, without_places, all_without_places}
+use Rattle.stack_text.specs.Trees.{Node, Nodes, atom, list, none, more, node_counts, depths, AtomsAreRuns, AllAtomsAreRuns, IsWellFormed, without_places}
+use Rattle.stack_text.specs.Trees.{all_without_places}
 use Rattle.stack_text.specs.TreeText.{tree_text, items_text, spaced_text}
 use Rattle.stack_text.specs.Views.TreeView.{nodes}
 use Rattle.stack_text.proofs.AtomLaws.{name_is_run, numeral_is_run}
@@ -23,7 +25,8 @@ use Rattle.stack_text.proofs.SharedLaws.{name_few}
 use Rattle.gypsy_syntax.specs.Resolved.{place_among}
 use Rattle.space_cert.specs.Bounded.{is_bound, are_bounds}
 use Rattle.space_cert.specs.Covers.{Bounds, no_bounds}
-use Rattle.space_cert.specs.CertText.{Fault, or_fault, name_at, three_of, place_for, up_to_limit, number_of, number_at, parts_entry, entry_at, with_entries, bounds_at, bounds_on, bounds_in, entry_tree, entry_trees, certificate_tree, certificate_text}
+use Rattle.space_cert.specs.CertText.{Fault, or_fault, name_at, three_of, place_for, up_to_limit, number_of, number_at, parts_entry, entry_at, with_entries}
+use Rattle.space_cert.specs.CertText.{bounds_at, bounds_on, bounds_in, entry_tree, entry_trees, certificate_tree, certificate_text}
 use Rattle.space_cert.proofs.NameLaws.{place_own}
 
 -- What is read goes by no place.
@@ -54,11 +57,14 @@ found_lifts place (Some p) (Some t) None e h = cc
 found_lifts place (Some p) (Some t) (Some c) e h = h
 
 module _ (names : List (List ℕ)) where
-  named_lifts : (bs : Bounds) (place : ℕ) (o : Option (List ℕ)) (temp ctrl : Option ℕ) (e : ℕ × (ℕ × ℕ)) → named_entry names bs 0 o temp ctrl ≡ Ok e → named_entry names bs place o temp ctrl ≡ Ok e
+  named_lifts : (bs : Bounds) (place : ℕ) (o : Option (List ℕ)) (temp ctrl : Option ℕ) (e : ℕ × (ℕ × ℕ)) → named_entry names bs 0 o temp ctrl ≡ Ok e
+      → named_entry names bs place o temp ctrl ≡ Ok e
   named_lifts bs place None temp ctrl e h = cc
   named_lifts bs place (Some name) temp ctrl e h = found_lifts place (place_for bs (place_among name names)) temp ctrl e h
 
-  three_lifts : (bs : Bounds) (place : ℕ) (ts : Nodes) (e : ℕ × (ℕ × ℕ)) → (or_fault (1, 0) (three_of (all_without_places ts)) >>= parts_entry names bs 0) ≡ Ok e → (or_fault (1, place) (three_of ts) >>= parts_entry names bs place) ≡ Ok e
+  three_lifts : (bs : Bounds) (place : ℕ) (ts : Nodes) (e : ℕ × (ℕ × ℕ))
+      → (or_fault (1, 0) (three_of (all_without_places ts)) >>= parts_entry names bs 0) ≡ Ok e
+      → (or_fault (1, place) (three_of ts) >>= parts_entry names bs place) ≡ Ok e
   unfolding parts_entry
   three_lifts bs place none e h = cc
   three_lifts bs place (more a none) e h = cc
@@ -73,7 +79,8 @@ module _ (names : List (List ℕ)) where
   entry_lifts bs (list p ts) e h = three_lifts bs p ts e h
 
   -- an entry, and then the others
-  then_lifts : (bs ds : Bounds) (t : Node) (ts us : Nodes) (r : Result (ℕ × (ℕ × ℕ)) Fault) → entry_at names bs (without_places t) ≡ r → ((cs : Bounds) → with_entries names cs us ≡ Ok ds → with_entries names cs ts ≡ Ok ds) →
+  then_lifts : (bs ds : Bounds) (t : Node) (ts us : Nodes) (r : Result (ℕ × (ℕ × ℕ)) Fault) → entry_at names bs (without_places t) ≡ r
+      → ((cs : Bounds) → with_entries names cs us ≡ Ok ds → with_entries names cs ts ≡ Ok ds) →
       (r >>= λ e. with_entries names (set bs e.0 (Some e.1)) us) ≡ Ok ds → (entry_at names bs t >>= λ e. with_entries names (set bs e.0 (Some e.1)) ts) ≡ Ok ds
   then_lifts bs ds t ts us (Ok e) is later h =
       ap (λ r. r >>= λ e. with_entries names (set bs e.0 (Some e.1)) ts) (entry_lifts bs t e is) ∙ later (set bs e.0 (Some e.1)) h
@@ -109,7 +116,8 @@ both_small b h =
 
 -- Each entry gives its procedure its bounds.
 
-drop_head : (names : List (List ℕ)) (k : ℕ) (name : List ℕ) (rest : List (List ℕ)) → drop k names ≡ name ∷ rest → (k < length names) × (name ≡ get_or names k name) × (drop (k + 1) names ≡ rest)
+drop_head : (names : List (List ℕ)) (k : ℕ) (name : List ℕ) (rest : List (List ℕ)) → drop k names ≡ name ∷ rest → (k < length names)
+    × (name ≡ get_or names k name) × (drop (k + 1) names ≡ rest)
 drop_head [] zero name rest e = cc
 drop_head [] (suc k) name rest e = cc
 drop_head (x ∷ names) zero name rest e =
@@ -128,14 +136,18 @@ set_between [] back o p = refl
 set_between (x ∷ front) back o p = ap (λ (bs : Bounds). x ∷ bs) (set_between front back o p)
 
 module _ (names : List (List ℕ)) (own : IsDistinct bytes_eq names) where
-  entry_gives : (bs : Bounds) (k : ℕ) (name : List ℕ) (b : ℕ × ℕ) → k < length names → name ≡ get_or names k name → is_name name ≡ true → get_or bs k None ≡ None → is_bound (Some b) ≡ true → entry_at names bs (entry_tree name b) ≡ Ok (k, b)
+  entry_gives : (bs : Bounds) (k : ℕ) (name : List ℕ) (b : ℕ × ℕ) → k < length names → name ≡ get_or names k name → is_name name ≡ true
+      → get_or bs k None ≡ None → is_bound (Some b) ≡ true → entry_at names bs (entry_tree name b) ≡ Ok (k, b)
   unfolding entry_at parts_entry
   entry_gives bs k name b lt is named free small =
-      let place : place_for bs (place_among name names) ≡ Some k = ap (place_for bs) (place_own names k name own lt is) ∙ ap (λ o. if is_some o then None else Some k) free in
+      let place : place_for bs (place_among name names) ≡ Some k =
+      ap (place_for bs) (place_own names k name own lt is) ∙ ap (λ o. if is_some o then None else Some k) free in
       let s = both_small b small in
-      (λ i. named_entry names bs 0 (name_reads name named i) (number_reads b.0 s.0 i) (number_reads b.1 s.1 i)) ∙ ap (λ o. found_entry 0 o (Some b.0) (Some b.1)) place
+      (λ i. named_entry names bs 0 (name_reads name named i) (number_reads b.0 s.0 i) (number_reads b.1 s.1 i))
+      ∙ ap (λ o. found_entry 0 o (Some b.0) (Some b.1)) place
 
-  entries_give : (rest : List (List ℕ)) (bs front : Bounds) → drop (length front) names ≡ rest → All (λ n. is_name n ≡ true) rest → length bs ≡ length rest → are_bounds bs ≡ true →
+  entries_give : (rest : List (List ℕ)) (bs front : Bounds) → drop (length front) names ≡ rest → All (λ n. is_name n ≡ true) rest
+      → length bs ≡ length rest → are_bounds bs ≡ true →
       with_entries names (front ++ no_bounds (length rest)) (nodes (entry_trees rest bs)) ≡ Ok (front ++ bs)
   unfolding with_entries
   entries_give [] [] front e named many small = refl
@@ -145,15 +157,18 @@ module _ (names : List (List ℕ)) (own : IsDistinct bytes_eq names) where
       let h = drop_head names (length front) name rest e in
       let next : drop (length (front ++ None ∷ [])) names ≡ rest = ap (λ (n : ℕ). drop n names) (length_push front None) ∙ h.2 in
       ap (λ (cs : Bounds). with_entries names cs (nodes (entry_trees rest bs))) (sym (append_assoc front (None ∷ []) (no_bounds (length rest))))
-      ∙ (entries_give rest bs (front ++ None ∷ []) next (All-tail (λ n. is_name n ≡ true) name rest named) (omega (arith, many)) (and_parts (is_bound None) (are_bounds bs) small).1
+      ∙ (entries_give rest bs (front ++ None ∷ []) next (All-tail (λ n. is_name n ≡ true) name rest named) (omega (arith, many))
+      (and_parts (is_bound None) (are_bounds bs) small).1
       ∙ ap (λ (cs : Bounds). Ok cs) (append_assoc front (None ∷ []) bs))
   entries_give (name ∷ rest) (Some b ∷ bs) front e named many small =
       let h = drop_head names (length front) name rest e in
       let k = and_parts (is_bound (Some b)) (are_bounds bs) small in
       let next : drop (length (front ++ Some b ∷ [])) names ≡ rest = ap (λ (n : ℕ). drop n names) (length_push front (Some b)) ∙ h.2 in
-      let one = entry_gives (front ++ None ∷ no_bounds (length rest)) (length front) name b h.0 h.1 (All-head (λ n. is_name n ≡ true) name rest named) (get_between front (no_bounds (length rest)) None) k.0 in
+      let one = entry_gives (front ++ None ∷ no_bounds (length rest)) (length front) name b h.0 h.1 (All-head (λ n. is_name n ≡ true) name rest named)
+      (get_between front (no_bounds (length rest)) None) k.0 in
       ap (λ r. r >>= λ e. with_entries names (set (front ++ None ∷ no_bounds (length rest)) e.0 (Some e.1)) (nodes (entry_trees rest bs))) one
-      ∙ (ap (λ (cs : Bounds). with_entries names cs (nodes (entry_trees rest bs))) (set_between front (no_bounds (length rest)) None (Some b) ∙ sym (append_assoc front (Some b ∷ []) (no_bounds (length rest))))
+      ∙ (ap (λ (cs : Bounds). with_entries names cs (nodes (entry_trees rest bs)))
+      (set_between front (no_bounds (length rest)) None (Some b) ∙ sym (append_assoc front (Some b ∷ []) (no_bounds (length rest))))
       ∙ (entries_give rest bs (front ++ Some b ∷ []) next (All-tail (λ n. is_name n ≡ true) name rest named) (omega (arith, many)) k.1
       ∙ ap (λ (cs : Bounds). Ok cs) (append_assoc front (Some b ∷ []) bs)))
 
@@ -165,11 +180,14 @@ number_run n le = numeral_is_run (decimal n) (numeral-signed_decimal (pos n) (fi
 entries_run : (names : List (List ℕ)) (bs : Bounds) → All (λ n. is_name n ≡ true) names → are_bounds bs ≡ true → AllAtomsAreRuns (nodes (entry_trees names bs))
 entries_run [] bs named small = tt
 entries_run (name ∷ names) [] named small = tt
-entries_run (name ∷ names) (None ∷ bs) named small = entries_run names bs (All-tail (λ n. is_name n ≡ true) name names named) (and_parts (is_bound None) (are_bounds bs) small).1
+entries_run (name ∷ names) (None ∷ bs) named small =
+    entries_run names bs (All-tail (λ n. is_name n ≡ true) name names named) (and_parts (is_bound None) (are_bounds bs) small).1
 entries_run (name ∷ names) (Some b ∷ bs) named small =
     let k = and_parts (is_bound (Some b)) (are_bounds bs) small in
-    let s = both_small b k.0 in
-    ((name_is_run name (All-head (λ n. is_name n ≡ true) name names named), (number_run b.0 s.0, (number_run b.1 s.1, tt))), entries_run names bs (All-tail (λ n. is_name n ≡ true) name names named) k.1)
+    let s = both_small b k.0 in (
+      (name_is_run name (All-head (λ n. is_name n ≡ true) name names named), (number_run b.0 s.0, (number_run b.1 s.1, tt))),
+      entries_run names bs (All-tail (λ n. is_name n ≡ true) name names named) k.1,
+    )
 
 entries_low : (names : List (List ℕ)) (bs : Bounds) → depths (nodes (entry_trees names bs)) ≤ 1
 entries_low [] bs = omega arith
@@ -191,9 +209,16 @@ entries_plain (name ∷ names) (Some b ∷ bs) = ap (more (entry_tree name b)) (
 
 entry_length : (n t c : List ℕ) → length (40 ∷ ((n ++ (32 ∷ (t ++ (32 ∷ (c ++ []))))) ++ 41 ∷ [])) ≡ length n + length t + length c + 4
 entry_length n t c =
-    omega (arith, length-append (n ++ (32 ∷ (t ++ (32 ∷ (c ++ []))))) (41 ∷ []), length-append n (32 ∷ (t ++ (32 ∷ (c ++ [])))), length-append t (32 ∷ (c ++ [])), length-append c [])
+    omega (
+      arith,
+      length-append (n ++ (32 ∷ (t ++ (32 ∷ (c ++ []))))) (41 ∷ []),
+      length-append n (32 ∷ (t ++ (32 ∷ (c ++ [])))),
+      length-append t (32 ∷ (c ++ [])),
+      length-append c [],
+    )
 
-entries_short : (names : List (List ℕ)) (bs : Bounds) → All (λ n. is_name n ≡ true) names → are_bounds bs ≡ true → length (spaced_text (nodes (entry_trees names bs))) ≤ 95 * length names
+entries_short : (names : List (List ℕ)) (bs : Bounds) → All (λ n. is_name n ≡ true) names → are_bounds bs ≡ true
+    → length (spaced_text (nodes (entry_trees names bs))) ≤ 95 * length names
 entries_short [] bs named small = omega arith
 entries_short (name ∷ names) [] named small = omega arith
 entries_short (name ∷ names) (None ∷ bs) named small =
@@ -224,7 +249,11 @@ module _ (names : List (List ℕ)) (bs : Bounds) (named : All (λ n. is_name n �
   unfolding bounds_in certificate_text
   printed_reads own many =
       let t = certificate_tree names bs in
-      let form : IsWellFormed t = record { atoms = entries_run names bs named small; shallow = omega (arith, entries_low names bs); few = omega (arith, few, entries_few names bs) } in
+      let form : IsWellFormed t = record {
+        atoms = entries_run names bs named small;
+        shallow = omega (arith, entries_low names bs);
+        few = omega (arith, few, entries_few names bs);
+      } in
       let read = tree_text_reads t form in
       let plain : without_places t ≡ t = ap (list 0) (entries_plain names bs) in
       ap (bounds_on names) (tree_in-TreeOf (tree_text t) read.0 read.1)

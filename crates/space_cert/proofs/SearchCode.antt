@@ -1,5 +1,6 @@
 -- The search as the code keeps it.
-use Rattle.std.proofs.Common.{◌≡◌, ℕ, zero, suc, ◌<◌, ◌≤◌, List, [], ◌∷◌, ◌++◌, length, get_or, set, take, drop, reverse, Bool, true, false, Option, refl, ap, sym, ◌∙◌, subst, arith}
+use Rattle.std.proofs.Common.{◌≡◌, ℕ, zero, suc, ◌<◌, ◌≤◌, List, [], ◌∷◌, ◌++◌, length, get_or, set, take, drop, reverse, Bool, true, false, Option, refl, ap}
+use Rattle.std.proofs.Common.{sym, ◌∙◌, subst, arith}
 use Rattle.std.proofs.lemmas.List.{append_assoc, drop-append-le, take-append-le, length_push, length-set}
 use Rattle.std.specs.List.{All}
 use Rattle.std.specs.Global.{Vec}
@@ -12,7 +13,8 @@ use Rattle.space_cert.specs.declared.search.Mark.TheVariants.{Done}
 use Rattle.space_cert.proofs.AllLaws.{all_left}
 use Rattle.space_cert.proofs.MarkLaws.{done_marks-push}
 
-pub search_same : (s t : SearchOf) → s.marks ≡ t.marks → s.entered ≡ t.entered → s.todo ≡ t.todo → s.top ≡ t.top → s.below ≡ t.below → s.done ≡ t.done → s.first ≡ t.first → s ≡ t
+pub search_same : (s t : SearchOf) → s.marks ≡ t.marks → s.entered ≡ t.entered → s.todo ≡ t.todo → s.top ≡ t.top → s.below ≡ t.below → s.done ≡ t.done
+    → s.first ≡ t.first → s ≡ t
 search_same s t a b c d e f g = λ i. record { marks = a i; entered = b i; todo = c i; top = d i; below = e i; done = f i; first = g i }
 
 -- the calls of a procedure, as they are read
@@ -30,14 +32,24 @@ first_push true ps p first = earliest_push ps p first
 first_push false ps p first = refl
 
 -- one more of the top group is done
-pub closes_on : (s t u : Search) (es : List ℕ) (p : ℕ) → IsClosing s t → s.top.first < length t.entered.items → t.entered.items ≡ es ++ p ∷ [] → u.entered.items ≡ es → u.marks.items ≡ set t.marks.items p Done → u.order.items ≡ t.order.items ++ p ∷ [] → u.first ≡ first_with t.top.again (p ∷ []) t.first → u.todo.items ≡ t.todo.items → u.top ≡ t.top → u.below.items ≡ t.below.items → u.main ≡ t.main → IsClosing s u
+pub closes_on : (s t u : Search) (es : List ℕ) (p : ℕ) → IsClosing s t → s.top.first < length t.entered.items → t.entered.items ≡ es ++ p ∷ []
+    → u.entered.items ≡ es → u.marks.items ≡ set t.marks.items p Done → u.order.items ≡ t.order.items ++ p ∷ []
+    → u.first ≡ first_with t.top.again (p ∷ []) t.first → u.todo.items ≡ t.todo.items → u.top ≡ t.top → u.below.items ≡ t.below.items → u.main ≡ t.main
+    → IsClosing s u
 closes_on s t u es p h lt is ee em eo ef et ep eb ea = record {
   there = omega (arith, le, ap length ee);
   taken = ap (take f) ee ∙ (sym (take-append-le f es (p ∷ []) le) ∙ (ap (take f) (sym is) ∙ h.taken));
-  marks_are = (λ i. done_marks (drop f (ee i)) (em i)) ∙ (sym (done_marks-push (drop f es) p t.marks.items) ∙ (ap (λ x. done_marks x t.marks.items) dropped ∙ h.marks_are));
-  order_is = (λ i. drop f (ee i) ++ reverse (eo i)) ∙ (ap (λ x. drop f es ++ x) (reverse_snoc t.order.items p) ∙ (sym (append_assoc (drop f es) (p ∷ []) (reverse t.order.items)) ∙ (ap (λ x. x ++ reverse t.order.items) dropped ∙ h.order_is)));
-  first_is = (λ i. first_with s.top.again (drop f (ee i)) (ef i)) ∙ (ap (λ b. first_with s.top.again (drop f es) (first_with b (p ∷ []) t.first)) (ap (λ k. k.again) h.top_is) ∙ (sym (first_push s.top.again (drop f es) p t.first) ∙ (ap (λ x. first_with s.top.again x t.first) dropped ∙ h.first_is)));
-  within = subst (λ n. All (λ x. x < n) u.entered.items) (sym (ap length em ∙ length-set t.marks.items p Done)) (subst (All (λ x. x < length t.marks.items)) (sym ee) (all_left (λ x. x < length t.marks.items) es (p ∷ []) (subst (All (λ x. x < length t.marks.items)) is h.within)));
+  marks_are = (λ i. done_marks (drop f (ee i)) (em i))
+      ∙ (sym (done_marks-push (drop f es) p t.marks.items) ∙ (ap (λ x. done_marks x t.marks.items) dropped ∙ h.marks_are));
+  order_is = (λ i. drop f (ee i) ++ reverse (eo i))
+      ∙ (ap (λ x. drop f es ++ x) (reverse_snoc t.order.items p)
+      ∙ (sym (append_assoc (drop f es) (p ∷ []) (reverse t.order.items)) ∙ (ap (λ x. x ++ reverse t.order.items) dropped ∙ h.order_is)));
+  first_is = (λ i. first_with s.top.again (drop f (ee i)) (ef i))
+      ∙ (ap (λ b. first_with s.top.again (drop f es) (first_with b (p ∷ []) t.first)) (ap (λ k. k.again) h.top_is)
+      ∙ (sym (first_push s.top.again (drop f es) p t.first) ∙ (ap (λ x. first_with s.top.again x t.first) dropped ∙ h.first_is)));
+  within = subst (λ n. All (λ x. x < n) u.entered.items) (sym (ap length em ∙ length-set t.marks.items p Done))
+      (subst (All (λ x. x < length t.marks.items)) (sym ee)
+      (all_left (λ x. x < length t.marks.items) es (p ∷ []) (subst (All (λ x. x < length t.marks.items)) is h.within)));
   todo_is = et ∙ h.todo_is;
   top_is = ep ∙ h.top_is;
   below_is = eb ∙ h.below_is;

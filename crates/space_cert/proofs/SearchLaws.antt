@@ -32,7 +32,8 @@ module _ (calls : ℕ → List ℕ) where
 
   -- More is above.
 
-  group_more : (done above more : List ℕ) (g : GroupOf) → ((c : ℕ) → Contains above c → Contains more c) → IsGroup calls done above g → IsGroup calls done more g
+  group_more : (done above more : List ℕ) (g : GroupOf) → ((c : ℕ) → Contains above c → Contains more c) → IsGroup calls done above g
+      → IsGroup calls done more g
   group_more done above more g f h = record {
     strong = h.strong;
     sources = h.sources;
@@ -49,14 +50,16 @@ module _ (calls : ℕ → List ℕ) where
   append_more xs above more f c h =
       elim (Contains-append_cases xs above c h) [ inl k ↦ Contains-append_left xs more c k | inr k ↦ Contains-append_right xs more c (f c k) ]
 
-  pub groups_more : (done above more : List ℕ) (gs : List GroupOf) → ((c : ℕ) → Contains above c → Contains more c) → AreGroups calls done above gs → AreGroups calls done more gs
+  pub groups_more : (done above more : List ℕ) (gs : List GroupOf) → ((c : ℕ) → Contains above c → Contains more c) → AreGroups calls done above gs
+      → AreGroups calls done more gs
   groups_more done above more [] f h = tt
   groups_more done above more (g ∷ gs) f h =
       (group_more done above more g f h.0, h.1, groups_more done (g.members ++ above) (g.members ++ more) gs (append_more g.members above more f) h.2)
 
   -- What is above becomes done.
 
-  group_done : (done above now up : List ℕ) (g : GroupOf) → ((c : ℕ) → Contains done c → Contains now c) → ((c : ℕ) → Contains above c → Contains now c ⊎ Contains up c) → IsGroup calls done above g → IsGroup calls now up g
+  group_done : (done above now up : List ℕ) (g : GroupOf) → ((c : ℕ) → Contains done c → Contains now c)
+      → ((c : ℕ) → Contains above c → Contains now c ⊎ Contains up c) → IsGroup calls done above g → IsGroup calls now up g
   group_done done above now up g f u h = record {
     strong = h.strong;
     sources = h.sources;
@@ -75,14 +78,16 @@ module _ (calls : ℕ → List ℕ) where
     single = h.single;
   }
 
-  append_done : (xs above now up : List ℕ) → ((c : ℕ) → Contains above c → Contains now c ⊎ Contains up c) → (c : ℕ) → Contains (xs ++ above) c → Contains now c ⊎ Contains (xs ++ up) c
+  append_done : (xs above now up : List ℕ) → ((c : ℕ) → Contains above c → Contains now c ⊎ Contains up c) → (c : ℕ) → Contains (xs ++ above) c
+      → Contains now c ⊎ Contains (xs ++ up) c
   append_done xs above now up u c h =
       elim (Contains-append_cases xs above c h) [
         | inl k ↦ inr (Contains-append_left xs up c k)
         | inr k ↦ elim (u c k) [ inl d ↦ inl d | inr w ↦ inr (Contains-append_right xs up c w) ]
       ]
 
-  pub groups_done : (done above now up : List ℕ) (gs : List GroupOf) → ((c : ℕ) → Contains done c → Contains now c) → ((c : ℕ) → Contains above c → Contains now c ⊎ Contains up c) → AreGroups calls done above gs → AreGroups calls now up gs
+  pub groups_done : (done above now up : List ℕ) (gs : List GroupOf) → ((c : ℕ) → Contains done c → Contains now c)
+      → ((c : ℕ) → Contains above c → Contains now c ⊎ Contains up c) → AreGroups calls done above gs → AreGroups calls now up gs
   groups_done done above now up [] f u h = tt
   groups_done done above now up (g ∷ gs) f u h =
       (group_done done above now up g f u h.0, h.1, groups_done done (g.members ++ above) now (g.members ++ up) gs f (append_done g.members above now up u) h.2)
@@ -97,8 +102,16 @@ module _ (calls : ℕ → List ℕ) where
   pub visited : (done : List ℕ) (g : GroupOf) (gs : List GroupOf) (ts : List ℕ) (w : ℕ) → g.todo ≡ ts ++ w ∷ [] → AreGroups calls done [] (g ∷ gs) →
       AreGroups calls done [] (record { members = w ∷ []; todo = calls w; again = false } ∷ record { members = g.members; todo = ts; again = g.again } ∷ gs)
   visited done g gs ts w e h =
-      let source = h.0.sources w (subst (λ t. Contains t w) (sym e) (todo_last ts w)) in
-      (fresh, chain source, (below, h.1, groups_more done (g.members ++ []) (g.members ++ w ∷ []) gs (append_more g.members [] (w ∷ []) (λ c k. absurd (contains_none k))) h.2))
+      let source = h.0.sources w (subst (λ t. Contains t w) (sym e) (todo_last ts w)) in (
+        fresh,
+        chain source,
+        (
+          below,
+          h.1,
+          groups_more done (g.members ++ []) (g.members ++ w ∷ []) gs
+              (append_more g.members [] (w ∷ []) (λ c k. absurd (contains_none k))) h.2,
+        ),
+      )
     where
       is_w : (a : ℕ) → Contains (w ∷ []) a → w ≡ a
       is_w a k = elim (contains_cases w [] a k) [ inl e ↦ e | inr n ↦ absurd (contains_none n) ]
@@ -112,9 +125,11 @@ module _ (calls : ℕ → List ℕ) where
         single = λ e. (w, refl);
       }
 
-      chain : (a : ℕ) × Contains g.members a × Contains (calls a) w → (b a : ℕ) → Contains (g.members ++ all_members gs) b → Contains (w ∷ []) a → Leads calls b a
+      chain : (a : ℕ) × Contains g.members a × Contains (calls a) w → (b a : ℕ) → Contains (g.members ++ all_members gs) b → Contains (w ∷ []) a
+          → Leads calls b a
       chain (u, m, c) b a k l =
-          subst (Leads calls b) (is_w a l) (lead_on b u w (elim (Contains-append_cases g.members (all_members gs) b k) [ inl i ↦ h.0.strong b u i m | inr i ↦ h.1 b u i m ]) (call_leads u w c))
+          subst (Leads calls b) (is_w a l) (lead_on b u w
+          (elim (Contains-append_cases g.members (all_members gs) b k) [ inl i ↦ h.0.strong b u i m | inr i ↦ h.1 b u i m ]) (call_leads u w c))
 
       below : IsGroup calls done (w ∷ []) (record { members = g.members; todo = ts; again = g.again })
       below = record {
@@ -133,7 +148,8 @@ module _ (calls : ℕ → List ℕ) where
       }
 
   -- a procedure that is done
-  pub passed : (done : List ℕ) (g : GroupOf) (gs : List GroupOf) (ts : List ℕ) (w : ℕ) → g.todo ≡ ts ++ w ∷ [] → Contains done w → AreGroups calls done [] (g ∷ gs) →
+  pub passed : (done : List ℕ) (g : GroupOf) (gs : List GroupOf) (ts : List ℕ) (w : ℕ) → g.todo ≡ ts ++ w ∷ [] → Contains done w
+      → AreGroups calls done [] (g ∷ gs) →
       AreGroups calls done [] (record { members = g.members; todo = ts; again = g.again } ∷ gs)
   passed done g gs ts w e there h = (now, h.1, h.2)
     where
@@ -157,7 +173,8 @@ module _ (calls : ℕ → List ℕ) where
       }
 
   -- a procedure of the top group
-  pub circled : (done : List ℕ) (g : GroupOf) (gs : List GroupOf) (ts : List ℕ) (w : ℕ) → g.todo ≡ ts ++ w ∷ [] → Contains g.members w → AreGroups calls done [] (g ∷ gs) →
+  pub circled : (done : List ℕ) (g : GroupOf) (gs : List GroupOf) (ts : List ℕ) (w : ℕ) → g.todo ≡ ts ++ w ∷ [] → Contains g.members w
+      → AreGroups calls done [] (g ∷ gs) →
       AreGroups calls done [] (record { members = g.members; todo = ts; again = true } ∷ gs)
   circled done g gs ts w e there h = (now (h.0.sources w (subst (λ t. Contains t w) (sym e) (todo_last ts w))), h.1, h.2)
     where
@@ -172,7 +189,8 @@ module _ (calls : ℕ → List ℕ) where
             elim (h.0.followed a c k l) [
               | inl d ↦ inl d
               | inr r ↦ elim r [
-                | inl t ↦ elim (Contains-append_cases ts (w ∷ []) c (subst (λ x. Contains x c) e t)) [ inl i ↦ inr (inl i) | inr i ↦ inr (inr (inr (is_member c i, refl))) ]
+                | inl t ↦ elim (Contains-append_cases ts (w ∷ []) c (subst (λ x. Contains x c) e t))
+                    [ inl i ↦ inr (inl i) | inr i ↦ inr (inr (inr (is_member c i, refl))) ]
                 | inr s ↦ elim s [ inl n ↦ inr (inr (inl n)) | inr o ↦ inr (inr (inr (o.0, refl))) ]
               ]
             ];
@@ -181,7 +199,8 @@ module _ (calls : ℕ → List ℕ) where
       }
 
   -- a procedure of a group below: the two topmost are one
-  pub joined : (done : List ℕ) (g k : GroupOf) (gs : List GroupOf) (w : ℕ) → Contains g.todo w → Contains (all_members (k ∷ gs)) w → AreGroups calls done [] (g ∷ k ∷ gs) →
+  pub joined : (done : List ℕ) (g k : GroupOf) (gs : List GroupOf) (w : ℕ) → Contains g.todo w → Contains (all_members (k ∷ gs)) w
+      → AreGroups calls done [] (g ∷ k ∷ gs) →
       AreGroups calls done [] (record { members = k.members ++ g.members; todo = k.todo ++ g.todo; again = true } ∷ gs)
   joined done g k gs w t there h =
       let up = h.0 in
@@ -213,7 +232,8 @@ module _ (calls : ℕ → List ℕ) where
             | inr m ↦ h.1 w a there m
           ]
 
-      now : (a : ℕ) × Contains g.members a × Contains (calls a) w → IsGroup calls done [] (record { members = k.members ++ g.members; todo = k.todo ++ g.todo; again = true })
+      now : (a : ℕ) × Contains g.members a × Contains (calls a) w → IsGroup calls done []
+          (record { members = k.members ++ g.members; todo = k.todo ++ g.todo; again = true })
       now (u, m, c) = record {
         strong = λ a b i l. inr (lead_reach a u b (back a i) (reach_lead u w b (Directly c) (leads b l)));
         sources = λ x i.
@@ -228,7 +248,8 @@ module _ (calls : ℕ → List ℕ) where
                 | inr r ↦ elim r [
                   | inl t ↦ inr (inl (Contains-append_left k.todo g.todo x t))
                   | inr s ↦ elim s [
-                    | inl v ↦ elim (Contains-append_cases g.members [] x v) [ inl y ↦ inr (inr (inr (Contains-append_right k.members g.members x y, refl))) | inr n ↦ absurd (contains_none n) ]
+                    | inl v ↦ elim (Contains-append_cases g.members [] x v)
+                        [ inl y ↦ inr (inr (inr (Contains-append_right k.members g.members x y, refl))) | inr n ↦ absurd (contains_none n) ]
                     | inr o ↦ inr (inr (inr (Contains-append_left k.members g.members x o.0, refl)))
                   ]
                 ]
@@ -259,7 +280,8 @@ module _ (calls : ℕ → List ℕ) where
           right_source x (a, i, l) = (a, Contains-append_right k.members g.members a i, l)
 
   -- a group is done
-  pub closed_now : (done : List ℕ) (first : Option ℕ) (g : GroupOf) (gs : List GroupOf) → g.todo ≡ [] → AreGroups calls done [] (g ∷ gs) → AreDone calls done first → (a c : ℕ) → Contains (g.members ++ done) a → Contains (calls a) c → Contains (g.members ++ done) c
+  pub closed_now : (done : List ℕ) (first : Option ℕ) (g : GroupOf) (gs : List GroupOf) → g.todo ≡ [] → AreGroups calls done [] (g ∷ gs)
+      → AreDone calls done first → (a c : ℕ) → Contains (g.members ++ done) a → Contains (calls a) c → Contains (g.members ++ done) c
   closed_now done first g gs e h d a c k l =
       elim (Contains-append_cases g.members done a k) [
         | inl m ↦ elim (h.0.followed a c m l) [
@@ -273,14 +295,17 @@ module _ (calls : ℕ → List ℕ) where
       ]
 
   -- where all of p's calls are of what is closed, so is all that p reaches
-  stays_in : (done : List ℕ) → ((a c : ℕ) → Contains done a → Contains (calls a) c → Contains done c) → (p r : ℕ) → ((c : ℕ) → Contains (calls p) c → Contains done c) → Reaches calls p r → Contains done r
+  stays_in : (done : List ℕ) → ((a c : ℕ) → Contains done a → Contains (calls a) c → Contains done c) → (p r : ℕ)
+      → ((c : ℕ) → Contains (calls p) c → Contains done c) → Reaches calls p r → Contains done r
   stays_in done closed p r f (Directly h) = f r h
   stays_in done closed p r f (Further {r = s} h g) = closed s r (stays_in done closed p s f h) g
 
   -- a group of one procedure that doesn't reach itself
-  once : (done : List ℕ) (first : Option ℕ) (v : ℕ) → AreDone calls done first → (Contains done v → ⊥) → ((c : ℕ) → Contains (calls v) c → Contains done c) → AreDone calls (v ∷ done) first
+  once : (done : List ℕ) (first : Option ℕ) (v : ℕ) → AreDone calls done first → (Contains done v → ⊥)
+      → ((c : ℕ) → Contains (calls v) c → Contains done c) → AreDone calls (v ∷ done) first
   once done first v d n f = record {
-    closed = λ a c k l. contains_later v done c (elim (contains_cases v done a k) [ inl e ↦ f c (subst (λ x. Contains (calls x) c) (sym e) l) | inr m ↦ d.closed a c m l ]);
+    closed = λ a c k l. contains_later v done c
+        (elim (contains_cases v done a k) [ inl e ↦ f c (subst (λ x. Contains (calls x) c) (sym e) l) | inr m ↦ d.closed a c m l ]);
     order = λ e. (n, each (calls v) f, d.order e);
     circular = λ r e. (contains_later v done r (d.circular r e).0, (d.circular r e).1);
     least = λ a k h.
@@ -298,7 +323,8 @@ module _ (calls : ℕ → List ℕ) where
   earliest_there [] first m k = absurd (contains_none k)
   earliest_there (p ∷ ps) first m k = pick (earliest ps first) refl (contains_cases p ps m k) (earliest_there ps first m)
     where
-      pick : (o : Option ℕ) → earliest ps first ≡ o → (p ≡ m) ⊎ Contains ps m → (Contains ps m → (r : ℕ) × (earliest ps first ≡ Some r) × (r ≤ m)) → (r : ℕ) × (earlier p o ≡ Some r) × (r ≤ m)
+      pick : (o : Option ℕ) → earliest ps first ≡ o → (p ≡ m) ⊎ Contains ps m → (Contains ps m → (r : ℕ) × (earliest ps first ≡ Some r) × (r ≤ m))
+          → (r : ℕ) × (earlier p o ≡ Some r) × (r ≤ m)
       pick None e (inl i) f = (p, refl, omega (arith, i))
       pick (Some r) e (inl i) f = (min p r, refl, omega (arith, i))
       pick None e (inr l) f = absurd (none_is_some (sym e ∙ (f l).1))
@@ -329,7 +355,8 @@ module _ (calls : ℕ → List ℕ) where
   earliest_of [] first r e = inr e
   earliest_of (p ∷ ps) first r e = pick (earliest ps first) refl e (earliest_of ps first)
     where
-      pick : (o : Option ℕ) → earliest ps first ≡ o → earlier p o ≡ Some r → ((r : ℕ) → earliest ps first ≡ Some r → Contains ps r ⊎ (first ≡ Some r)) → Contains (p ∷ ps) r ⊎ (first ≡ Some r)
+      pick : (o : Option ℕ) → earliest ps first ≡ o → earlier p o ≡ Some r → ((r : ℕ) → earliest ps first ≡ Some r → Contains ps r ⊎ (first ≡ Some r))
+          → Contains (p ∷ ps) r ⊎ (first ≡ Some r)
       pick None e i f = inl (subst (Contains (p ∷ ps)) (ap (λ o. unwrap_or o 0) i) (contains_first p ps))
       pick (Some s) e i f =
           elim (one_of p s) [
@@ -350,7 +377,9 @@ module _ (calls : ℕ → List ℕ) where
           none_is_some e = cc
 
   -- a group whose procedures reach themselves
-  again_done : (done : List ℕ) (first : Option ℕ) (members : List ℕ) → ((a c : ℕ) → Contains (members ++ done) a → Contains (calls a) c → Contains (members ++ done) c) → ((a : ℕ) → Contains members a → Reaches calls a a) → AreDone calls done first → AreDone calls (members ++ done) (earliest members first)
+  again_done : (done : List ℕ) (first : Option ℕ) (members : List ℕ)
+      → ((a c : ℕ) → Contains (members ++ done) a → Contains (calls a) c → Contains (members ++ done) c)
+      → ((a : ℕ) → Contains members a → Reaches calls a a) → AreDone calls done first → AreDone calls (members ++ done) (earliest members first)
   again_done done first [] closed f d = d
   again_done done first (p ∷ ps) closed f d = record {
     closed = closed;
@@ -373,7 +402,8 @@ module _ (calls : ℕ → List ℕ) where
           pick : (s : ℕ) × (earliest (p ∷ ps) (Some r) ≡ Some s) × (s ≤ r) → (s : ℕ) × (earliest (p ∷ ps) first ≡ Some s) × (s ≤ a)
           pick (s, i, l) = (s, ap (earliest (p ∷ ps)) e ∙ i, omega (arith, h, l))
 
-  pub finished : (done : List ℕ) (first : Option ℕ) (g : GroupOf) (gs : List GroupOf) → g.todo ≡ [] → AreGroups calls done [] (g ∷ gs) → AreDone calls done first → ((c : ℕ) → Contains g.members c → Contains done c → ⊥) →
+  pub finished : (done : List ℕ) (first : Option ℕ) (g : GroupOf) (gs : List GroupOf) → g.todo ≡ [] → AreGroups calls done [] (g ∷ gs)
+      → AreDone calls done first → ((c : ℕ) → Contains g.members c → Contains done c → ⊥) →
       AreDone calls (g.members ++ done) (first_with g.again g.members first)
   finished done first g gs e h d apart = pick g.again refl
     where

@@ -1,16 +1,20 @@
 -- Each move of the search keeps what is known of it, and leaves less to do.
-use Rattle.std.proofs.Common.{◌≡◌, ℕ, zero, suc, ◌+◌, ◌<◌, ◌≤◌, List, [], ◌∷◌, ◌++◌, length, take, drop, set, replicate, true, false, ◌⊎◌, inl, inr, Some, None, refl, ap, sym, ◌∙◌, subst, arith}
-use Rattle.std.proofs.lemmas.List.{get_or-replicate, length-set, length-replicate, length_push, length-append, length-take, length-drop, take-append-drop, take-append-le, drop-append-le, take-take, take_at, drop_at, drop_all, take_all}
+use Rattle.std.proofs.Common.{◌≡◌, ℕ, zero, suc, ◌+◌, ◌<◌, ◌≤◌, List, [], ◌∷◌, ◌++◌, length, take, drop, set, replicate, true, false, ◌⊎◌, inl, inr, Some, None}
+use Rattle.std.proofs.Common.{refl, ap, sym, ◌∙◌, subst, arith}
+use Rattle.std.proofs.lemmas.List.{get_or-replicate, length-set, length-replicate, length_push, length-append, length-take, length-drop, take-append-drop}
+use Rattle.std.proofs.lemmas.List.{take-append-le, drop-append-le, take-take, take_at, drop_at, drop_all, take_all}
 use Rattle.std.specs.List.{Contains}
 use Rattle.std.proofs.lemmas.List.Elements.{Contains-push, Contains-append_left, Contains-append_right, Contains-append_cases}
 use Rattle.space_cert.specs.Reaches.{Leads}
 use Rattle.space_cert.specs.Internal.Search.{GroupOf, all_members, IsGroup, AreGroups, AreDone, first_with}
-use Rattle.space_cert.specs.Internal.SearchState.{SearchOf, call_of, mark_at, groups_in, IsCut, is_new, new_count, weight, new_weight, AreMarked, AreReached, IsSearch, IsFound, left_to_do, done_marks, with_entered, with_todo, with_circle, with_joined}
+use Rattle.space_cert.specs.Internal.SearchState.{SearchOf, call_of, mark_at, groups_in, IsCut, is_new, new_count, weight, new_weight, AreMarked, AreReached}
+use Rattle.space_cert.specs.Internal.SearchState.{IsSearch, IsFound, left_to_do, done_marks, with_entered, with_todo, with_circle, with_joined}
 use Rattle.space_cert.specs.declared.search.Mark.TheVariants.{New, Entered, Done}
 use Rattle.space_cert.specs.declared.search.Group.{Group}
 use Rattle.space_cert.proofs.ContainsLaws.{contains_none, contains_first, contains_cases}
 use Rattle.space_cert.proofs.SearchLaws.{visited, passed, circled, joined, finished, left_groups, lead_on, call_leads}
-use Rattle.space_cert.proofs.MarkLaws.{count_set, weight_set, marked_below, new_is, not_both, enters, leaves, done_marks-length, done_counts, done_weighs, take_there, drop_there}
+use Rattle.space_cert.proofs.MarkLaws.{count_set, weight_set, marked_below, new_is, not_both, enters, leaves, done_marks-length, done_counts, done_weighs}
+use Rattle.space_cert.proofs.MarkLaws.{take_there, drop_there}
 
 -- Lists that end with w.
 
@@ -20,11 +24,14 @@ group_of k es ts = record { members = drop k.first es; todo = drop k.from ts; ag
 module _ (cs : List (List ℕ)) (main : ℕ) where
   -- the groups, where the last call to be followed is of w
   last_call : (top : Group) (below : List Group) (es ts : List ℕ) (w : ℕ) → top.from ≤ length ts →
-      groups_in (top ∷ below) es (ts ++ w ∷ []) ≡ record { members = drop top.first es; todo = drop top.from ts ++ w ∷ []; again = top.again } ∷ groups_in below (take top.first es) (take top.from ts)
-  last_call top below es ts w le = λ i. record { members = drop top.first es; todo = drop-append-le top.from ts (w ∷ []) le i; again = top.again } ∷ groups_in below (take top.first es) (take-append-le top.from ts (w ∷ []) le i)
+      groups_in (top ∷ below) es (ts ++ w ∷ []) ≡ record { members = drop top.first es; todo = drop top.from ts ++ w ∷ []; again = top.again }
+      ∷ groups_in below (take top.first es) (take top.from ts)
+  last_call top below es ts w le = λ i. record { members = drop top.first es; todo = drop-append-le top.from ts (w ∷ []) le i; again = top.again }
+      ∷ groups_in below (take top.first es) (take-append-le top.from ts (w ∷ []) le i)
 
   -- what is cut stays cut
-  last_cut : (top : Group) (below : List Group) (es ts : List ℕ) (w : ℕ) → top.from ≤ length ts → IsCut (top ∷ below) es (ts ++ w ∷ []) → IsCut (top ∷ below) es ts
+  last_cut : (top : Group) (below : List Group) (es ts : List ℕ) (w : ℕ) → top.from ≤ length ts → IsCut (top ∷ below) es (ts ++ w ∷ [])
+      → IsCut (top ∷ below) es ts
   last_cut top below es ts w le h = (h.0, le, subst (IsCut below (take top.first es)) (take-append-le top.from ts (w ∷ []) le) h.2)
 
   -- all that is entered is in a group
@@ -32,13 +39,16 @@ module _ (cs : List (List ℕ)) (main : ℕ) where
   in_groups [] es ts p h k = subst (λ x. Contains x p) h.0 k
   in_groups (g ∷ ks) es ts p h k =
       elim (Contains-append_cases (take g.first es) (drop g.first es) p (subst (λ x. Contains x p) (sym (take-append-drop g.first es)) k)) [
-        | inl l ↦ Contains-append_right (drop g.first es) (all_members (groups_in ks (take g.first es) (take g.from ts))) p (in_groups ks (take g.first es) (take g.from ts) p h.2 l)
+        | inl l ↦ Contains-append_right (drop g.first es) (all_members (groups_in ks (take g.first es) (take g.from ts))) p
+            (in_groups ks (take g.first es) (take g.from ts) p h.2 l)
         | inr l ↦ Contains-append_left (drop g.first es) (all_members (groups_in ks (take g.first es) (take g.from ts))) p l
       ]
 
   module _ (s : SearchOf) (h : IsSearch cs main s) (ts : List ℕ) (w : ℕ) (is : s.todo ≡ ts ++ w ∷ []) (le : s.top.from ≤ length ts) where
     -- the groups, where w is called last
-    last_groups : AreGroups (call_of cs) s.done [] (record { members = drop s.top.first s.entered; todo = drop s.top.from ts ++ w ∷ []; again = s.top.again } ∷ groups_in s.below (take s.top.first s.entered) (take s.top.from ts))
+    last_groups : AreGroups (call_of cs) s.done []
+        (record { members = drop s.top.first s.entered; todo = drop s.top.from ts ++ w ∷ []; again = s.top.again }
+        ∷ groups_in s.below (take s.top.first s.entered) (take s.top.from ts))
     last_groups = subst (AreGroups (call_of cs) s.done []) (ap (groups_in (s.top ∷ s.below) s.entered) is ∙ last_call s.top s.below s.entered ts w le) h.groups
 
     still_cut : IsCut (s.top ∷ s.below) s.entered ts
@@ -49,7 +59,12 @@ module _ (cs : List (List ℕ)) (main : ℕ) where
     source = up (last_groups.0.sources w (Contains-push (drop s.top.from ts) w))
       where
         up : (a : ℕ) × Contains (drop s.top.first s.entered) a × Contains (call_of cs a) w → (a : ℕ) × Contains s.entered a × Contains (call_of cs a) w
-        up (a, i, c) = (a, subst (λ x. Contains x a) (take-append-drop s.top.first s.entered) (Contains-append_right (take s.top.first s.entered) (drop s.top.first s.entered) a i), c)
+        up (a, i, c) = (
+          a,
+          subst (λ x. Contains x a) (take-append-drop s.top.first s.entered)
+              (Contains-append_right (take s.top.first s.entered) (drop s.top.first s.entered) a i),
+          c,
+        )
 
     pub called : (n : ℕ) → ((a c : ℕ) → Contains (call_of cs a) c → c < n) → w < n
     called n f = f source.0 w source.2
@@ -57,8 +72,15 @@ module _ (cs : List (List ℕ)) (main : ℕ) where
     pub enters_keeps : mark_at s.marks w ≡ New → w < length cs → IsSearch cs main (with_entered cs w ts s)
     enters_keeps new lt = record {
       number = length-set s.marks w (Entered (length s.entered)) ∙ h.number;
-      cut = (omega (arith, length_push s.entered w), omega (arith, length-append ts (call_of cs w)), subst (IsCut (s.top ∷ s.below) (take (length s.entered) (s.entered ++ w ∷ []))) (sym (take_at ts (call_of cs w) (length ts) refl)) (subst (λ x. IsCut (s.top ∷ s.below) x ts) (sym (take_at s.entered (w ∷ []) (length s.entered) refl)) still_cut));
-      groups = subst (AreGroups (call_of cs) s.done []) (sym same) (visited (call_of cs) s.done (record { members = drop s.top.first s.entered; todo = drop s.top.from ts ++ w ∷ []; again = s.top.again }) (groups_in s.below (take s.top.first s.entered) (take s.top.from ts)) (drop s.top.from ts) w refl last_groups);
+      cut = (
+        omega (arith, length_push s.entered w),
+        omega (arith, length-append ts (call_of cs w)),
+        subst (IsCut (s.top ∷ s.below) (take (length s.entered) (s.entered ++ w ∷ []))) (sym (take_at ts (call_of cs w) (length ts) refl))
+            (subst (λ x. IsCut (s.top ∷ s.below) x ts) (sym (take_at s.entered (w ∷ []) (length s.entered) refl)) still_cut),
+      );
+      groups = subst (AreGroups (call_of cs) s.done []) (sym same)
+          (visited (call_of cs) s.done (record { members = drop s.top.first s.entered; todo = drop s.top.from ts ++ w ∷ []; again = s.top.again })
+          (groups_in s.below (take s.top.first s.entered) (take s.top.from ts)) (drop s.top.from ts) w refl last_groups);
       done = h.done;
       marked = enters s.marks s.entered s.done h.marked w (omega (arith, lt, h.number)) new;
       reached = record {
@@ -66,7 +88,8 @@ module _ (cs : List (List ℕ)) (main : ℕ) where
           | inl e ↦ elim (Contains-append_cases s.entered (w ∷ []) p e) [
             | inl i ↦ h.reached.leads p (inl i)
             | inr i ↦ elim (contains_cases w [] p i) [
-              | inl j ↦ subst (Leads (call_of cs) main) j (lead_on (call_of cs) main source.0 w (h.reached.leads source.0 (inl source.1)) (call_leads (call_of cs) source.0 w source.2))
+              | inl j ↦ subst (Leads (call_of cs) main) j
+                  (lead_on (call_of cs) main source.0 w (h.reached.leads source.0 (inl source.1)) (call_leads (call_of cs) source.0 w source.2))
               | inr n ↦ absurd (contains_none n)
             ]
           ]
@@ -78,8 +101,15 @@ module _ (cs : List (List ℕ)) (main : ℕ) where
     }
       where
         same : groups_in (record { first = length s.entered; from = length ts; again = false } ∷ s.top ∷ s.below) (s.entered ++ w ∷ []) (ts ++ call_of cs w)
-            ≡ record { members = w ∷ []; todo = call_of cs w; again = false } ∷ record { members = drop s.top.first s.entered; todo = drop s.top.from ts; again = s.top.again } ∷ groups_in s.below (take s.top.first s.entered) (take s.top.from ts)
-        same = λ i. record { members = drop_at s.entered (w ∷ []) (length s.entered) refl i; todo = drop_at ts (call_of cs w) (length ts) refl i; again = false } ∷ groups_in (s.top ∷ s.below) (take_at s.entered (w ∷ []) (length s.entered) refl i) (take_at ts (call_of cs w) (length ts) refl i)
+            ≡ record { members = w ∷ []; todo = call_of cs w; again = false }
+            ∷ record { members = drop s.top.first s.entered; todo = drop s.top.from ts; again = s.top.again }
+            ∷ groups_in s.below (take s.top.first s.entered) (take s.top.from ts)
+        same = λ i. record {
+          members = drop_at s.entered (w ∷ []) (length s.entered) refl i;
+          todo = drop_at ts (call_of cs w) (length ts) refl i;
+          again =
+              false;
+        } ∷ groups_in (s.top ∷ s.below) (take_at s.entered (w ∷ []) (length s.entered) refl i) (take_at ts (call_of cs w) (length ts) refl i)
 
     pub enters_less : mark_at s.marks w ≡ New → w < length cs → left_to_do cs (with_entered cs w ts s) < left_to_do cs s
     enters_less new lt =
@@ -90,7 +120,8 @@ module _ (cs : List (List ℕ)) (main : ℕ) where
     passes_keeps m = record {
       number = h.number;
       cut = still_cut;
-      groups = passed (call_of cs) s.done (record { members = drop s.top.first s.entered; todo = drop s.top.from ts ++ w ∷ []; again = s.top.again }) (groups_in s.below (take s.top.first s.entered) (take s.top.from ts)) (drop s.top.from ts) w refl (h.marked.finished_is w m) last_groups;
+      groups = passed (call_of cs) s.done (record { members = drop s.top.first s.entered; todo = drop s.top.from ts ++ w ∷ []; again = s.top.again })
+          (groups_in s.below (take s.top.first s.entered) (take s.top.from ts)) (drop s.top.from ts) w refl (h.marked.finished_is w m) last_groups;
       done = h.done;
       marked = h.marked;
       reached = h.reached;
@@ -106,7 +137,9 @@ module _ (cs : List (List ℕ)) (main : ℕ) where
         record {
           number = h.number;
           cut = still_cut;
-          groups = circled (call_of cs) s.done (record { members = drop s.top.first s.entered; todo = drop s.top.from ts ++ w ∷ []; again = s.top.again }) (groups_in s.below (take s.top.first s.entered) (take s.top.from ts)) (drop s.top.from ts) w refl
+          groups = circled (call_of cs) s.done (record
+              { members = drop s.top.first s.entered; todo = drop s.top.from ts ++ w ∷ []; again = s.top.again })
+              (groups_in s.below (take s.top.first s.entered) (take s.top.from ts)) (drop s.top.from ts) w refl
               (subst (Contains (drop s.top.first s.entered)) there.1 (drop_there s.marks s.entered s.done s.top.first h.marked at there.0 ge)) last_groups;
           done = h.done;
           marked = h.marked;
@@ -114,12 +147,19 @@ module _ (cs : List (List ℕ)) (main : ℕ) where
           count = h.count;
         }
 
-    pub joins_keeps : (at : ℕ) → mark_at s.marks w ≡ Entered at → at < s.top.first → (k : Group) (ks : List Group) → s.below ≡ k ∷ ks → IsSearch cs main (with_joined k ks s)
+    pub joins_keeps : (at : ℕ) → mark_at s.marks w ≡ Entered at → at < s.top.first → (k : Group) (ks : List Group) → s.below ≡ k ∷ ks
+        → IsSearch cs main (with_joined k ks s)
     joins_keeps at m lt k ks b = record {
       number = h.number;
-      cut = (omega (arith, cut.0, cut.2.0, length-take s.top.first s.entered), omega (arith, cut.1, cut.2.1, length-take s.top.from s.todo), subst (IsCut ks (take k.first s.entered)) twice_todo (subst (λ x. IsCut ks x (take k.from (take s.top.from s.todo))) twice cut.2.2));
+      cut = (
+        omega (arith, cut.0, cut.2.0, length-take s.top.first s.entered),
+        omega (arith, cut.1, cut.2.1, length-take s.top.from s.todo),
+        subst (IsCut ks (take k.first s.entered)) twice_todo (subst (λ x. IsCut ks x (take k.from (take s.top.from s.todo))) twice cut.2.2),
+      );
       groups = subst (AreGroups (call_of cs) s.done []) same
-          (joined (call_of cs) s.done (record { members = drop s.top.first s.entered; todo = drop s.top.from s.todo; again = s.top.again }) (record { members = drop k.first (take s.top.first s.entered); todo = drop k.from (take s.top.from s.todo); again = k.again }) (groups_in ks (take k.first (take s.top.first s.entered)) (take k.from (take s.top.from s.todo))) w
+          (joined (call_of cs) s.done (record { members = drop s.top.first s.entered; todo = drop s.top.from s.todo; again = s.top.again })
+          (record { members = drop k.first (take s.top.first s.entered); todo = drop k.from (take s.top.from s.todo); again = k.again })
+          (groups_in ks (take k.first (take s.top.first s.entered)) (take k.from (take s.top.from s.todo))) w
           (subst (λ x. Contains x w) (sym (ap (drop s.top.from) is ∙ drop-append-le s.top.from ts (w ∷ []) le)) (Contains-push (drop s.top.from ts) w)) below
           (subst (λ x. AreGroups (call_of cs) s.done [] (groups_in (s.top ∷ x) s.entered s.todo)) b h.groups));
       done = h.done;
@@ -144,26 +184,35 @@ module _ (cs : List (List ℕ)) (main : ℕ) where
         twice_todo = take-take k.from s.top.from s.todo from_le
 
         members_are : drop k.first (take s.top.first s.entered) ++ drop s.top.first s.entered ≡ drop k.first s.entered
-        members_are = sym (drop-append-le k.first (take s.top.first s.entered) (drop s.top.first s.entered) cut.2.0) ∙ ap (drop k.first) (take-append-drop s.top.first s.entered)
+        members_are = sym (drop-append-le k.first (take s.top.first s.entered) (drop s.top.first s.entered) cut.2.0)
+            ∙ ap (drop k.first) (take-append-drop s.top.first s.entered)
 
         todo_is : drop k.from (take s.top.from s.todo) ++ drop s.top.from s.todo ≡ drop k.from s.todo
         todo_is = sym (drop-append-le k.from (take s.top.from s.todo) (drop s.top.from s.todo) cut.2.1) ∙ ap (drop k.from) (take-append-drop s.top.from s.todo)
 
-        same : record { members = drop k.first (take s.top.first s.entered) ++ drop s.top.first s.entered; todo = drop k.from (take s.top.from s.todo) ++ drop s.top.from s.todo; again = true } ∷ groups_in ks (take k.first (take s.top.first s.entered)) (take k.from (take s.top.from s.todo))
+        same : record {
+          members = drop k.first (take s.top.first s.entered) ++ drop s.top.first s.entered;
+          todo = drop k.from (take s.top.from s.todo) ++ drop s.top.from s.todo;
+          again = true;
+        }
+            ∷ groups_in ks (take k.first (take s.top.first s.entered)) (take k.from (take s.top.from s.todo))
             ≡ record { members = drop k.first s.entered; todo = drop k.from s.todo; again = true } ∷ groups_in ks (take k.first s.entered) (take k.from s.todo)
         same = λ i. record { members = members_are i; todo = todo_is i; again = true } ∷ groups_in ks (twice i) (twice_todo i)
 
-        below : Contains (drop k.first (take s.top.first s.entered) ++ all_members (groups_in ks (take k.first (take s.top.first s.entered)) (take k.from (take s.top.from s.todo)))) w
+        below : Contains (drop k.first (take s.top.first s.entered) ++ all_members
+            (groups_in ks (take k.first (take s.top.first s.entered)) (take k.from (take s.top.from s.todo)))) w
         below =
             let there = h.marked.entered_is w at m in
-            in_groups (k ∷ ks) (take s.top.first s.entered) (take s.top.from s.todo) w cut.2 (subst (Contains (take s.top.first s.entered)) there.1 (take_there s.marks s.entered s.done s.top.first h.marked at there.0 lt))
+            in_groups (k ∷ ks) (take s.top.first s.entered) (take s.top.from s.todo) w cut.2
+            (subst (Contains (take s.top.first s.entered)) there.1 (take_there s.marks s.entered s.done s.top.first h.marked at there.0 lt))
 
     -- where w is of a group below, there is one
     pub some_below : (at : ℕ) → mark_at s.marks w ≡ Entered at → at < s.top.first → s.below ≡ [] → ⊥
     some_below at m lt b =
         let cut : IsCut (s.top ∷ []) s.entered s.todo = subst (λ x. IsCut (s.top ∷ x) s.entered s.todo) b h.cut in
         let there = h.marked.entered_is w at m in
-        contains_none (subst (λ x. Contains x w) cut.2.0 (subst (Contains (take s.top.first s.entered)) there.1 (take_there s.marks s.entered s.done s.top.first h.marked at there.0 lt)))
+        contains_none (subst (λ x. Contains x w) cut.2.0
+        (subst (Contains (take s.top.first s.entered)) there.1 (take_there s.marks s.entered s.done s.top.first h.marked at there.0 lt)))
 
   -- The top group is done.
 
@@ -181,23 +230,29 @@ module _ (cs : List (List ℕ)) (main : ℕ) where
     all_todo = take_all s.top.from s.todo (omega (arith, no_more))
 
     member_entered : (p : ℕ) → Contains (drop s.top.first s.entered) p → Contains s.entered p
-    member_entered p k = subst (λ x. Contains x p) (take-append-drop s.top.first s.entered) (Contains-append_right (take s.top.first s.entered) (drop s.top.first s.entered) p k)
+    member_entered p k = subst (λ x. Contains x p) (take-append-drop s.top.first s.entered)
+        (Contains-append_right (take s.top.first s.entered) (drop s.top.first s.entered) p k)
 
     not_new : (p : ℕ) → Contains (drop s.top.first s.entered) p → mark_at s.marks p ≡ New → ⊥
     not_new p k e = (new_is s.marks s.entered s.done h.marked p e).0 (member_entered p k)
 
     all_done : AreDone (call_of cs) (drop s.top.first s.entered ++ s.done) (first_with s.top.again (drop s.top.first s.entered) s.first)
-    all_done = finished (call_of cs) s.done s.first (record { members = drop s.top.first s.entered; todo = drop s.top.from s.todo; again = s.top.again }) (groups_in s.below (take s.top.first s.entered) (take s.top.from s.todo)) no_todo h.groups h.done
+    all_done = finished (call_of cs) s.done s.first
+        (record { members = drop s.top.first s.entered; todo = drop s.top.from s.todo; again = s.top.again })
+        (groups_in s.below (take s.top.first s.entered) (take s.top.from s.todo)) no_todo h.groups h.done
         (λ p k d. not_both s.marks s.entered s.done h.marked p (member_entered p k) d)
 
     moved : (p : ℕ) → Contains s.entered p → Contains (take s.top.first s.entered) p ⊎ Contains (drop s.top.first s.entered) p
-    moved p k = Contains-append_cases (take s.top.first s.entered) (drop s.top.first s.entered) p (subst (λ x. Contains x p) (sym (take-append-drop s.top.first s.entered)) k)
+    moved p k = Contains-append_cases (take s.top.first s.entered) (drop s.top.first s.entered) p
+        (subst (λ x. Contains x p) (sym (take-append-drop s.top.first s.entered)) k)
 
     still_reached : AreReached cs main (take s.top.first s.entered) (drop s.top.first s.entered ++ s.done)
     still_reached = record {
       leads = λ p k. elim k [
-        | inl e ↦ h.reached.leads p (inl (subst (λ x. Contains x p) (take-append-drop s.top.first s.entered) (Contains-append_left (take s.top.first s.entered) (drop s.top.first s.entered) p e)))
-        | inr d ↦ elim (Contains-append_cases (drop s.top.first s.entered) s.done p d) [ inl i ↦ h.reached.leads p (inl (member_entered p i)) | inr i ↦ h.reached.leads p (inr i) ]
+        | inl e ↦ h.reached.leads p (inl (subst (λ x. Contains x p) (take-append-drop s.top.first s.entered)
+            (Contains-append_left (take s.top.first s.entered) (drop s.top.first s.entered) p e)))
+        | inr d ↦ elim (Contains-append_cases (drop s.top.first s.entered) s.done p d)
+            [ inl i ↦ h.reached.leads p (inl (member_entered p i)) | inr i ↦ h.reached.leads p (inr i) ]
       ];
       main_there = elim h.reached.main_there [
         | inl e ↦ elim (moved main e) [ inl i ↦ inl i | inr i ↦ inr (Contains-append_left (drop s.top.first s.entered) s.done main i) ]
@@ -205,8 +260,16 @@ module _ (cs : List (List ℕ)) (main : ℕ) where
       ];
     }
 
-    still_count : new_count (done_marks (drop s.top.first s.entered) s.marks) + length (take s.top.first s.entered) + length (drop s.top.first s.entered ++ s.done) ≡ length cs
-    still_count = omega (arith, h.count, done_counts (drop s.top.first s.entered) s.marks not_new, length-append (drop s.top.first s.entered) s.done, length-take s.top.first s.entered, length-drop s.top.first s.entered)
+    still_count : new_count (done_marks (drop s.top.first s.entered) s.marks) + length (take s.top.first s.entered)
+        + length (drop s.top.first s.entered ++ s.done) ≡ length cs
+    still_count = omega (
+      arith,
+      h.count,
+      done_counts (drop s.top.first s.entered) s.marks not_new,
+      length-append (drop s.top.first s.entered) s.done,
+      length-take s.top.first s.entered,
+      length-drop s.top.first s.entered,
+    )
 
     pub ends_found : s.below ≡ [] → IsFound cs main (drop s.top.first s.entered ++ s.done) (first_with s.top.again (drop s.top.first s.entered) s.first)
     ends_found b = record {
@@ -217,7 +280,9 @@ module _ (cs : List (List ℕ)) (main : ℕ) where
         | inr d ↦ d
       ];
       below = λ p k.
-          let lt = marked_below (done_marks (drop s.top.first s.entered) s.marks) p (λ e. (new_is (done_marks (drop s.top.first s.entered) s.marks) (take s.top.first s.entered) (drop s.top.first s.entered ++ s.done) top_marked p e).1 k) in
+          let lt = marked_below (done_marks (drop s.top.first s.entered) s.marks) p
+          (λ e. (new_is (done_marks (drop s.top.first s.entered) s.marks) (take s.top.first s.entered) (drop s.top.first s.entered ++ s.done)
+          top_marked p e).1 k) in
           omega (arith, lt, done_marks-length (drop s.top.first s.entered) s.marks, h.number);
       few = omega (arith, still_count);
     }
@@ -239,14 +304,16 @@ module _ (cs : List (List ℕ)) (main : ℕ) where
       cut = subst (IsCut (k ∷ ks) (take s.top.first s.entered)) all_todo (subst (λ x. IsCut (s.top ∷ x) s.entered s.todo) b h.cut).2;
       groups = subst (λ x. AreGroups (call_of cs) (drop s.top.first s.entered ++ s.done) [] (groups_in x (take s.top.first s.entered) s.todo)) b
           (subst (λ t. AreGroups (call_of cs) (drop s.top.first s.entered ++ s.done) [] (groups_in s.below (take s.top.first s.entered) t)) all_todo
-          (left_groups (call_of cs) s.done (record { members = drop s.top.first s.entered; todo = drop s.top.from s.todo; again = s.top.again }) (groups_in s.below (take s.top.first s.entered) (take s.top.from s.todo)) h.groups));
+          (left_groups (call_of cs) s.done (record { members = drop s.top.first s.entered; todo = drop s.top.from s.todo; again = s.top.again })
+          (groups_in s.below (take s.top.first s.entered) (take s.top.from s.todo)) h.groups));
       done = all_done;
       marked = top_marked;
       reached = still_reached;
       count = still_count;
     }
 
-    pub ends_less : (k : Group) (ks : List Group) → s.below ≡ k ∷ ks → length s.todo + length ks + new_weight (done_marks (drop s.top.first s.entered) s.marks) cs < left_to_do cs s
+    pub ends_less : (k : Group) (ks : List Group) → s.below ≡ k ∷ ks → length s.todo + length ks
+        + new_weight (done_marks (drop s.top.first s.entered) s.marks) cs < left_to_do cs s
     ends_less k ks b = omega (arith, ap length b, done_weighs (drop s.top.first s.entered) s.marks cs h.number not_new)
 
   -- The beginning: main is entered.
@@ -264,13 +331,29 @@ module _ (cs : List (List ℕ)) (main : ℕ) where
     number = length-set (replicate (length cs) New) main (Entered 0) ∙ length-replicate (length cs) New;
     cut = (omega arith, omega arith, (refl, refl));
     groups = (alone, (λ b a k l. absurd (contains_none k)), tt);
-    done = record { closed = λ a c k l. absurd (contains_none k); order = λ e. tt; circular = λ r e. absurd (none_is_some r e); least = λ a k r. absurd (contains_none k) };
-    marked = enters (replicate (length cs) New) [] [] nothing main (omega (arith, lt, length-replicate (length cs) New)) (get_or-replicate (length cs) main New New lt);
+    done = record {
+      closed = λ a c k l. absurd (contains_none k);
+      order = λ e. tt;
+      circular = λ r e. absurd (none_is_some r e);
+      least = λ a k r. absurd (contains_none k);
+    };
+    marked = enters (replicate (length cs) New) [] [] nothing main (omega (arith, lt, length-replicate (length cs) New))
+        (get_or-replicate (length cs) main New New lt);
     reached = record {
-      leads = λ p k. elim k [ inl e ↦ elim (contains_cases main [] p e) [ inl i ↦ inl i | inr n ↦ absurd (contains_none n) ] | inr d ↦ absurd (contains_none d) ];
+      leads = λ p k. elim k [
+        | inl e ↦ elim (contains_cases main [] p e) [ inl i ↦ inl i | inr n ↦ absurd (contains_none n) ]
+        | inr d ↦
+            absurd (contains_none d)
+      ];
       main_there = inl (contains_first main []);
     };
-    count = omega (arith, all_new (length cs), count_set (replicate (length cs) New) main (Entered 0) (omega (arith, lt, length-replicate (length cs) New)), ap is_new (get_or-replicate (length cs) main New New lt));
+    count = omega (
+      arith,
+      all_new (length cs),
+      count_set (replicate (length cs) New) main (Entered 0)
+          (omega (arith, lt, length-replicate (length cs) New)),
+      ap is_new (get_or-replicate (length cs) main New New lt),
+    );
   }
     where
       none_is_some : (r : ℕ) → None ≡ Some r → ⊥

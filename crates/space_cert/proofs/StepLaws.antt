@@ -12,7 +12,8 @@ use Rattle.gypsy_space.specs.Costs.{Tally, spend, predef_spend, out_spend}
 use Rattle.gypsy_space.specs.Needs.{StackSizes, lack_of, with_call}
 use Rattle.gypsy_space.specs.declared.need.Lack.TheVariants.{Nothing}
 use Rattle.gypsy_semantics.specs.Calls.{has_cond, is_leave, is_passed_on, matching, values_of, copied_out}
-use Rattle.gypsy_semantics.specs.Machine.{Item, Do, Back, JoinThen, JoinOne, Guard, Out, Frame, Held, State, At, Move, Next, Ended, opens, open_on, settle, stop_if, raise, either_move, apply_step, used, call_step, do_step, end_step, out_step, gypsy_step, start}
+use Rattle.gypsy_semantics.specs.Machine.{Item, Do, Back, JoinThen, JoinOne, Guard, Out, Frame, Held, State, At, Move, Next, Ended, opens, open_on, settle}
+use Rattle.gypsy_semantics.specs.Machine.{stop_if, raise, either_move, apply_step, used, call_step, do_step, end_step, out_step, gypsy_step, start}
 use Rattle.space_cert.specs.Covers.{Bounds, bound_at, callees, CoversCall, CoversCalls, IsCertificate, Covers}
 use Rattle.space_cert.specs.CoveredStates.{WorkCovered, ActivationCovered, WaitingCovered, StateCovered}
 use Rattle.space_cert.specs.Never.{HasCallRoom}
@@ -55,27 +56,32 @@ module _ (q : Program) (bs : Bounds) (b : StackSizes) where
 
 module _ (q : Program) (bs : Bounds) (sizes : StackSizes) where
   -- the same activation with other work
-  with_work : {p : ℕ} {w : List Item} {u : StackSizes} (k : ActivationCovered q bs sizes p w u) (v : List Item) → WorkCovered q bs k.bound v → ActivationCovered q bs sizes p v u
+  with_work : {p : ℕ} {w : List Item} {u : StackSizes} (k : ActivationCovered q bs sizes p w u) (v : List Item) → WorkCovered q bs k.bound v
+      → ActivationCovered q bs sizes p v u
   with_work k v h = record { bound = k.bound; known = k.known; work = h; within = k.within }
 
-  raise_covered : (c : ConditionOf) (p : ℕ) (x : List ValueOf) (w : List Item) (fs : List Frame) (t : Tally) → ActivationCovered q bs sizes p w (used q p fs) → WaitingCovered q bs sizes fs → StateCovered q bs sizes (raise c p x w fs t)
+  raise_covered : (c : ConditionOf) (p : ℕ) (x : List ValueOf) (w : List Item) (fs : List Frame) (t : Tally)
+      → ActivationCovered q bs sizes p w (used q p fs) → WaitingCovered q bs sizes fs → StateCovered q bs sizes (raise c p x w fs t)
   raise_covered c p x [] fs t k g = (with_work k (Out c ∷ []) tt, g)
   raise_covered c p x (Do s ∷ w) fs t k g = raise_covered c p x w fs t (with_work k w k.work.1) g
   raise_covered c p x (Back place s ∷ w) fs t k g = pick (is_leave c) (raise_covered c p x w fs t (with_work k w k.work.1) g)
     where
-      pick : (i : Bool) → StateCovered q bs sizes (raise c p x w fs t) → StateCovered q bs sizes (stop_if i (At p x (settle w) fs (spend 3 2 t)) (raise c p x w fs t))
+      pick : (i : Bool) → StateCovered q bs sizes (raise c p x w fs t) → StateCovered q bs sizes
+          (stop_if i (At p x (settle w) fs (spend 3 2 t)) (raise c p x w fs t))
       pick true r = (with_work k (settle w) (settle_covered q bs k.bound w k.work.1), g)
       pick false r = r
   raise_covered c p x (JoinThen place v ∷ w) fs t k g = raise_covered c p x w fs t (with_work k w k.work) g
   raise_covered c p x (JoinOne place ∷ w) fs t k g = raise_covered c p x w fs t (with_work k w k.work) g
   raise_covered c p x (Guard place cs v ∷ w) fs t k g = pick (has_cond c cs) (raise_covered c p x w fs t (with_work k w k.work.1) g)
     where
-      pick : (i : Bool) → StateCovered q bs sizes (raise c p x w fs t) → StateCovered q bs sizes (stop_if i (At p x (open_on v (JoinOne place ∷ w)) fs (spend 3 2 t)) (raise c p x w fs t))
+      pick : (i : Bool) → StateCovered q bs sizes (raise c p x w fs t) → StateCovered q bs sizes
+          (stop_if i (At p x (open_on v (JoinOne place ∷ w)) fs (spend 3 2 t)) (raise c p x w fs t))
       pick true r = (with_work k (open_on v (JoinOne place ∷ w)) (open_covered q bs k.bound v (JoinOne place ∷ w) k.work.0 k.work.1), g)
       pick false r = r
   raise_covered c p x (Out d ∷ w) fs t k g = raise_covered c p x w fs t (with_work k w k.work) g
 
-  apply_covered : (r : Predef) (args : List Arg) (e : Effect) (p : ℕ) (x : List ValueOf) (w : List Item) (fs : List Frame) (t : Tally) → ActivationCovered q bs sizes p w (used q p fs) → WaitingCovered q bs sizes fs → MoveCovered q bs sizes (apply_step r args e p x w fs t)
+  apply_covered : (r : Predef) (args : List Arg) (e : Effect) (p : ℕ) (x : List ValueOf) (w : List Item) (fs : List Frame) (t : Tally)
+      → ActivationCovered q bs sizes p w (used q p fs) → WaitingCovered q bs sizes fs → MoveCovered q bs sizes (apply_step r args e p x w fs t)
   apply_covered r args (Normal v) p x w fs t k g = (with_work k (settle w) (settle_covered q bs k.bound w k.work), g)
   apply_covered r args Fault p x w fs t k g = raise_covered Routine p x w fs (predef_spend r Fault t) k g
   apply_covered r args Beyond p x w fs t k g = raise_covered Routine p x w fs (predef_spend r Beyond t) k g
@@ -84,19 +90,22 @@ module _ (q : Program) (bs : Bounds) (sizes : StackSizes) where
   end_covered p y [] t g = tt
   end_covered p y (Held c x w xs cs ∷ fs) t g = (with_work g.0 (settle w) (settle_covered q bs g.0.bound w g.0.work), g.1)
 
-  out_covered : (d : ConditionOf) (p : ℕ) (y : List ValueOf) (fs : List Frame) (t : Tally) → WaitingCovered q bs sizes fs → MoveCovered q bs sizes (out_step q d p y fs t)
+  out_covered : (d : ConditionOf) (p : ℕ) (y : List ValueOf) (fs : List Frame) (t : Tally) → WaitingCovered q bs sizes fs
+      → MoveCovered q bs sizes (out_step q d p y fs t)
   out_covered d p y [] t g = tt
   out_covered d p y (Held c x w xs cs ∷ fs) t g =
       raise_covered (matching q p cs d) c (copied_out xs y x) w fs (out_spend (is_passed_on q p d) t) g.0 g.1
 
 module _ (q : Program) (bs : Bounds) (sizes : StackSizes) (cert : IsCertificate q bs) where
   -- a call in the work of an activation
-  call_room : (place c : ℕ) (xs : List ℕ) (cs : List ConditionOf) (p : ℕ) (w : List Item) (u : StackSizes) → ActivationCovered q bs sizes p (Do (Call place c xs cs) ∷ w) u → lack_of q sizes c u ≡ Nothing
+  call_room : (place c : ℕ) (xs : List ℕ) (cs : List ConditionOf) (p : ℕ) (w : List Item) (u : StackSizes)
+      → ActivationCovered q bs sizes p (Do (Call place c xs cs) ∷ w) u → lack_of q sizes c u ≡ Nothing
   call_room place c xs cs p w u k =
       let there = bound_there q bs k.bound c (bound_at bs c) refl (All-head (CoversCall q bs k.bound) c [] k.work.0) in
       lacks_nothing q sizes c u k.bound there.bound (cert.each c there.bound there.known).own there.within k.within
 
-  callee_covered : (place c : ℕ) (xs : List ℕ) (cs : List ConditionOf) (p : ℕ) (w : List Item) (u : StackSizes) → ActivationCovered q bs sizes p (Do (Call place c xs cs) ∷ w) u → ActivationCovered q bs sizes c (open_on (body_of q c) []) (with_call q c u)
+  callee_covered : (place c : ℕ) (xs : List ℕ) (cs : List ConditionOf) (p : ℕ) (w : List Item) (u : StackSizes)
+      → ActivationCovered q bs sizes p (Do (Call place c xs cs) ∷ w) u → ActivationCovered q bs sizes c (open_on (body_of q c) []) (with_call q c u)
   callee_covered place c xs cs p w u k =
       let there = bound_there q bs k.bound c (bound_at bs c) refl (All-head (CoversCall q bs k.bound) c [] k.work.0) in
       let each = cert.each c there.bound there.known in
@@ -107,30 +116,38 @@ module _ (q : Program) (bs : Bounds) (sizes : StackSizes) (cert : IsCertificate 
         within = left q sizes c u k.bound there.bound each.own there.within k.within;
       }
 
-  do_covered : (s : Stmt) (p : ℕ) (x : List ValueOf) (w : List Item) (fs : List Frame) (t : Tally) → ActivationCovered q bs sizes p (Do s ∷ w) (used q p fs) → WaitingCovered q bs sizes fs → MoveCovered q bs sizes (do_step q sizes s p x w fs t)
+  do_covered : (s : Stmt) (p : ℕ) (x : List ValueOf) (w : List Item) (fs : List Frame) (t : Tally)
+      → ActivationCovered q bs sizes p (Do s ∷ w) (used q p fs) → WaitingCovered q bs sizes fs → MoveCovered q bs sizes (do_step q sizes s p x w fs t)
   do_covered Skip p x w fs t k g = (with_work q bs sizes k (settle w) (settle_covered q bs k.bound w k.work.1), g)
   do_covered (NoOp place) p x w fs t k g = (with_work q bs sizes k (settle w) (settle_covered q bs k.bound w k.work.1), g)
   do_covered (Signal place c) p x w fs t k g = raise_covered q bs sizes c p x w fs (spend 4 3 t) (with_work q bs sizes k w k.work.1) g
   do_covered (Seq a c) p x w fs t k g = (with_work q bs sizes k (open_on (Seq a c) w) (open_covered q bs k.bound (Seq a c) w k.work.0 k.work.1), g)
-  do_covered (Loop place s) p x w fs t k g = (with_work q bs sizes k (open_on s (Back place s ∷ w)) (open_covered q bs k.bound s (Back place s ∷ w) k.work.0 k.work), g)
+  do_covered (Loop place s) p x w fs t k g =
+      (with_work q bs sizes k (open_on s (Back place s ∷ w)) (open_covered q bs k.bound s (Back place s ∷ w) k.work.0 k.work), g)
   do_covered (If place i s v) p x w fs t k g = pick (is_true_value (value_at x i))
     where
-      pick : (e : Bool) → MoveCovered q bs sizes (either_move e (Next (At p x (open_on s (JoinThen place v ∷ w)) fs (spend 8 3 t))) (Next (At p x (open_on v (JoinOne place ∷ w)) fs (spend 9 4 t))))
+      pick : (e : Bool) → MoveCovered q bs sizes
+          (either_move e (Next (At p x (open_on s (JoinThen place v ∷ w)) fs (spend 8 3 t)))
+          (Next (At p x (open_on v (JoinOne place ∷ w)) fs (spend 9 4 t))))
       pick true =
           let fs' = all_left (CoversCall q bs k.bound) (callees s) (callees v) k.work.0 in
           (with_work q bs sizes k (open_on s (JoinThen place v ∷ w)) (open_covered q bs k.bound s (JoinThen place v ∷ w) fs' k.work.1), g)
       pick false =
           let fv = all_right (CoversCall q bs k.bound) (callees s) (callees v) k.work.0 in
           (with_work q bs sizes k (open_on v (JoinOne place ∷ w)) (open_covered q bs k.bound v (JoinOne place ∷ w) fv k.work.1), g)
-  do_covered (Begin place s cs v) p x w fs t k g = (with_work q bs sizes k (open_on (Begin place s cs v) w) (open_covered q bs k.bound (Begin place s cs v) w k.work.0 k.work.1), g)
+  do_covered (Begin place s cs v) p x w fs t k g =
+      (with_work q bs sizes k (open_on (Begin place s cs v) w) (open_covered q bs k.bound (Begin place s cs v) w k.work.0 k.work.1), g)
   do_covered (Call place c xs cs) p x w fs t k g =
-      subst (λ r. MoveCovered q bs sizes (call_step q r c xs cs p x w fs t)) (sym (call_room place c xs cs p w (used q p fs) k)) (callee_covered place c xs cs p w (used q p fs) k, (with_work q bs sizes k w k.work.1, g))
-  do_covered (Apply place r args) p x w fs t k g = apply_covered q bs sizes r args (predef_effect r (values_of x args)) p x w fs t (with_work q bs sizes k w k.work.1) g
+      subst (λ r. MoveCovered q bs sizes (call_step q r c xs cs p x w fs t)) (sym (call_room place c xs cs p w (used q p fs) k))
+      (callee_covered place c xs cs p w (used q p fs) k, (with_work q bs sizes k w k.work.1, g))
+  do_covered (Apply place r args) p x w fs t k g =
+      apply_covered q bs sizes r args (predef_effect r (values_of x args)) p x w fs t (with_work q bs sizes k w k.work.1) g
 
   pub step_covered : (g : State) → StateCovered q bs sizes g → MoveCovered q bs sizes (gypsy_step q sizes g)
   step_covered (At p x [] fs t) h = end_covered q bs sizes p x fs t h.1
   step_covered (At p x (Do s ∷ w) fs t) h = do_covered s p x w fs t h.0 h.1
-  step_covered (At p x (Back place s ∷ w) fs t) h = (with_work q bs sizes h.0 (open_on (Loop place s) w) (open_covered q bs h.0.bound (Loop place s) w h.0.work.0 h.0.work.1), h.1)
+  step_covered (At p x (Back place s ∷ w) fs t) h =
+      (with_work q bs sizes h.0 (open_on (Loop place s) w) (open_covered q bs h.0.bound (Loop place s) w h.0.work.0 h.0.work.1), h.1)
   step_covered (At p x (JoinThen place v ∷ w) fs t) h = (with_work q bs sizes h.0 (settle w) (settle_covered q bs h.0.bound w h.0.work), h.1)
   step_covered (At p x (JoinOne place ∷ w) fs t) h = (with_work q bs sizes h.0 (settle w) (settle_covered q bs h.0.bound w h.0.work), h.1)
   step_covered (At p x (Guard place cs v ∷ w) fs t) h = (with_work q bs sizes h.0 (settle w) (settle_covered q bs h.0.bound w h.0.work.1), h.1)

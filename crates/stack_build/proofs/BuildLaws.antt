@@ -35,7 +35,8 @@ use Rattle.gypsy_codegen.specs.declared.fault.GenFault.TheVariants as gen
 use Rattle.stack_build.specs.declared.fault.BuildFault.{BuildFault}
 use Rattle.stack_build.specs.declared.fault.BuildFault.TheVariants as fault
 use Rattle.stack_build.specs.Image.{image_on, image_of}
-use Rattle.stack_build.specs.Build.{reading_fault, checking_fault, generating_fault, linking_fault, fault_of, accepted_unless, accepted_by, accepted_source, generated_by, built_with, placed_size, linked_of, source_built, built}
+use Rattle.stack_build.specs.Build.{reading_fault, checking_fault, generating_fault, linking_fault, fault_of, accepted_unless, accepted_by, accepted_source}
+use Rattle.stack_build.specs.Build.{generated_by, built_with, placed_size, linked_of, source_built, built}
 
 -- ---- reading and checking
 
@@ -45,7 +46,8 @@ reading_fails (gypsy.Text rule place) text h = ap accepted_by h
 reading_fails (gypsy.Form rule place) text h = ap accepted_by h
 reading_fails gypsy.Memory text h = tt
 
-pub checking_fails : (e : CheckFault) (text : List ℕ) (source : SourceOf) → gypsy_in text ≡ Ok source → IsLeast source e → Fails (fault_of (checking_fault e)) (accepted_source text)
+pub checking_fails : (e : CheckFault) (text : List ℕ) (source : SourceOf) → gypsy_in text ≡ Ok source → IsLeast source e
+    → Fails (fault_of (checking_fault e)) (accepted_source text)
 unfolding accepted_source
 checking_fails (check.Violation rule place) text source h e = ap accepted_by h ∙ ap (accepted_unless source) e
 checking_fails check.Memory text source h e = tt
@@ -56,7 +58,8 @@ accepted_found text source h e = ap accepted_by h ∙ ap (λ (breaches : List Br
 
 -- ---- generating and linking
 
-pub generating_fails : (e : GenFault) (s : SourceOf) (sizes : StackSizes) (base : ℕ) → Fails (generating.fault_of e) (generation s sizes base) → Fails (fault_of (generating_fault e)) (source_built s sizes base)
+pub generating_fails : (e : GenFault) (s : SourceOf) (sizes : StackSizes) (base : ℕ) → Fails (generating.fault_of e) (generation s sizes base)
+    → Fails (fault_of (generating_fault e)) (source_built s sizes base)
 unfolding source_built
 generating_fails gen.Size s sizes base h = ap (λ (r : Result SystemOf GenFault). generated_by r >>= linked_of s sizes base) h
 generating_fails (gen.Control need) s sizes base h = ap (λ (r : Result SystemOf GenFault). generated_by r >>= linked_of s sizes base) h
@@ -69,15 +72,18 @@ module _ (s : SourceOf) (sizes : StackSizes) (base : ℕ) (out : SystemOf) (made
   unfolding source_built linked_of
   built_large large =
       ap (λ (r : Result SystemOf GenFault). generated_by r >>= linked_of s sizes base) made
-      ∙ ap (λ (b : Bool). cond b (Err (fault.Words (placed_size s sizes base))) (Ok (built_with s sizes base out))) (lt-ltb (2 ^ 20) (placed_size s sizes base) large)
+      ∙ ap (λ (b : Bool). cond b (Err (fault.Words (placed_size s sizes base))) (Ok (built_with s sizes base out)))
+      (lt-ltb (2 ^ 20) (placed_size s sizes base) large)
 
   pub built_small : placed_size s sizes base ≤ 2 ^ 20 → source_built s sizes base ≡ Ok (built_with s sizes base out)
   unfolding source_built linked_of
   built_small small =
       ap (λ (r : Result SystemOf GenFault). generated_by r >>= linked_of s sizes base) made
-      ∙ ap (λ (b : Bool). cond b (Err (fault.Words (placed_size s sizes base))) (Ok (built_with s sizes base out))) (le-ltb (2 ^ 20) (placed_size s sizes base) small)
+      ∙ ap (λ (b : Bool). cond b (Err (fault.Words (placed_size s sizes base))) (Ok (built_with s sizes base out)))
+      (le-ltb (2 ^ 20) (placed_size s sizes base) small)
 
-  pub linking_fails : (e : LinkFault) (system : SystemView) → system ≡ generated_view (program_of s) sizes base → IsFault system e → Fails (fault_of (linking_fault e)) (source_built s sizes base)
+  pub linking_fails : (e : LinkFault) (system : SystemView) → system ≡ generated_view (program_of s) sizes base → IsFault system e
+      → Fails (fault_of (linking_fault e)) (source_built s sizes base)
   linking_fails (link.Large words) system is h =
       let count : words ≡ placed_size s sizes base = h.0 ∙ ap (λ (v : SystemView). (placed v).size) is in
       let large : 2 ^ 20 < placed_size s sizes base = subst (λ (v : SystemView). 2 ^ 20 < (placed v).size) is h.1 in
@@ -85,8 +91,10 @@ module _ (s : SourceOf) (sizes : StackSizes) (base : ℕ) (out : SystemOf) (made
   linking_fails link.Memory system is h = tt
 
 -- what was made is what is to be built
-pub built_is : (s : SourceOf) (sizes : StackSizes) (base : ℕ) (piton : CheckedOf) (image : ImageOf) (bytes : List ℕ) → generation s sizes base ≡ Ok piton.system → IsChecked piton →
-    system_in piton ≡ generated_view (program_of s) sizes base → (placed (system_in piton)).size ≤ 2 ^ 20 → image ≡ image_on s (system_in piton) → bytes ≡ spelling image →
+pub built_is : (s : SourceOf) (sizes : StackSizes) (base : ℕ) (piton : CheckedOf) (image : ImageOf) (bytes : List ℕ)
+    → generation s sizes base ≡ Ok piton.system → IsChecked piton →
+    system_in piton ≡ generated_view (program_of s) sizes base → (placed (system_in piton)).size ≤ 2 ^ 20 → image ≡ image_on s (system_in piton)
+    → bytes ≡ spelling image →
     source_built s sizes base ≡ Ok record { piton = piton; image = image; bytes = bytes }
 unfolding image_of
 built_is s sizes base piton image bytes made is view small image_is bytes_are =
@@ -103,10 +111,12 @@ stays : {X Y : Type 0} (o : Option BuildFault) (r : Result X BuildFault) (go : X
 stays None r go h = tt
 stays (Some f) r go h = ap (λ (z : Result _ BuildFault). z >>= go) h
 
-pub text_fails : (e : BuildFault) (text : List ℕ) (ctrl temp base : ℕ) → Fails (fault_of e) (accepted_source text) → Fails (fault_of e) (built text ctrl temp base)
+pub text_fails : (e : BuildFault) (text : List ℕ) (ctrl temp base : ℕ) → Fails (fault_of e) (accepted_source text)
+    → Fails (fault_of e) (built text ctrl temp base)
 unfolding built
 text_fails e text ctrl temp base h = stays (fault_of e) (accepted_source text) (λ source. source_built source (stack_sizes ctrl temp) base) h
 
-pub text_builds : (text : List ℕ) (ctrl temp base : ℕ) (source : SourceOf) → accepted_source text ≡ Ok source → built text ctrl temp base ≡ source_built source (stack_sizes ctrl temp) base
+pub text_builds : (text : List ℕ) (ctrl temp base : ℕ) (source : SourceOf) → accepted_source text ≡ Ok source
+    → built text ctrl temp base ≡ source_built source (stack_sizes ctrl temp) base
 unfolding built
 text_builds text ctrl temp base source h = ap (λ (r : Result SourceOf BuildFault). r >>= λ source. source_built source (stack_sizes ctrl temp) base) h

@@ -53,11 +53,13 @@ module _ (s : SourceOf) (sizes : StackSizes) (base : ℕ) (accepted : IsAccepted
   image_builds piton =
       let shows = generated_shows s sizes base (generated_view (program_of s) sizes base) accepted refl in
       let implements = image_implements s sizes base accepted sound theorem runs in
-      let keeps = keeps_moments s sizes base accepted sound theorem (end_fits (generated_view (program_of s) sizes base) sound.low_base small) moments implements in
+      let keeps = keeps_moments s sizes base accepted sound theorem (end_fits (generated_view (program_of s) sizes base) sound.low_base small) moments
+      implements in
       record {
         base = base;
         is = refl;
-        spells = file_spells (generated_view (program_of s) sizes base) (shown_formals s) (shown_conditions s) (source_tables s (generated_view (program_of s) sizes base)) sound small shows
+        spells = file_spells (generated_view (program_of s) sizes base) (shown_formals s) (shown_conditions s)
+            (source_tables s (generated_view (program_of s) sizes base)) sound small shows
             (tables_fit s sizes base accepted sound small);
         implements = implements;
         moments = keeps;
@@ -65,7 +67,8 @@ module _ (s : SourceOf) (sizes : StackSizes) (base : ℕ) (accepted : IsAccepted
       }
 
 -- what was made by generating and linking
-pub made_builds : (s : SourceOf) (sizes : StackSizes) (base : ℕ) (piton : CheckedOf) (image : ImageOf) (bytes : List ℕ) → IsAccepted s → IsChecked piton → generating.SystemImplements s sizes base piton →
+pub made_builds : (s : SourceOf) (sizes : StackSizes) (base : ℕ) (piton : CheckedOf) (image : ImageOf) (bytes : List ℕ) → IsAccepted s → IsChecked piton
+    → generating.SystemImplements s sizes base piton →
     RunsOnProcessor (system_in piton) → (placed (system_in piton)).size ≤ 2 ^ 20 → image ≡ image_on s (system_in piton) → bytes ≡ spelling image →
     Builds s sizes record { piton = piton; image = image; bytes = bytes }
 unfolding image_of
@@ -74,7 +77,9 @@ made_builds s sizes base piton image bytes accepted is meant theorem small image
     let same : image_of s sizes base ≡ image = ap (image_on s) (sym view) ∙ sym image_is in
     let file : spelling (image_of s sizes base) ≡ bytes = ap spelling same ∙ sym bytes_are in
     subst (λ (b : BuiltOf). Builds s sizes b) (λ i. record { piton = piton; image = same i; bytes = file i })
-    (image_builds s sizes base accepted (subst IsSound view is.sound) (subst RunsOnProcessor view theorem) (subst (RunsAsMeant (program_of s) sizes) view meant.runs) (subst (MomentsAsMeant (program_of s) sizes) view meant.moments) (subst (λ (v : SystemView). (placed v).size ≤ 2 ^ 20) view small) piton)
+    (image_builds s sizes base accepted (subst IsSound view is.sound) (subst RunsOnProcessor view theorem)
+    (subst (RunsAsMeant (program_of s) sizes) view meant.runs) (subst (MomentsAsMeant (program_of s) sizes) view meant.moments)
+    (subst (λ (v : SystemView). (placed v).size ≤ 2 ^ 20) view small) piton)
 
 -- ---- what is built of a source, and of a text
 
@@ -106,8 +111,10 @@ module _ (meaning_runs : MeaningRuns) (each_moment : EachMomentIsReached) (accep
   unfolding built
   built_implements text ctrl temp base short low = by_source (accepted_source text) refl
     where
-      by_source : (r : Result SourceOf BuildFault) → accepted_source text ≡ r → IfOk (r >>= λ source. source_built source (stack_sizes ctrl temp) base) (BuildsText text ctrl temp)
-      by_source (Ok s) read = text_builds_if text ctrl temp s (source_built s (stack_sizes ctrl temp) base) read (source_builds s (stack_sizes ctrl temp) base (source_is_accepted text short s read) low)
+      by_source : (r : Result SourceOf BuildFault) → accepted_source text ≡ r → IfOk (r >>= λ source. source_built source (stack_sizes ctrl temp) base)
+          (BuildsText text ctrl temp)
+      by_source (Ok s) read = text_builds_if text ctrl temp s (source_built s (stack_sizes ctrl temp) base) read
+          (source_builds s (stack_sizes ctrl temp) base (source_is_accepted text short s read) low)
       by_source (Err f) read = tt
 
   -- what was built has the image of the source
@@ -115,11 +122,13 @@ module _ (meaning_runs : MeaningRuns) (each_moment : EachMomentIsReached) (accep
   unfolding source_built linked_of
   built_image s sizes base b = by_fault (generating.size_fault (program_of s) sizes)
     where
-      by_size : (large : Bool) → cond large (Err (fault.Words (placed_size s sizes base))) (Ok (built_with s sizes base (generated s sizes base))) ≡ Ok b → image_of s sizes base ≡ b.image
+      by_size : (large : Bool) → cond large (Err (fault.Words (placed_size s sizes base))) (Ok (built_with s sizes base (generated s sizes base)))
+          ≡ Ok b → image_of s sizes base ≡ b.image
       by_size true h = cc
       by_size false h = let same : built_with s sizes base (generated s sizes base) ≡ b = cc in ap (λ (made : BuiltOf). made.image) same
 
-      by_fault : (f : Option GenFault) → (generated_by (unless_fault f (generated s sizes base)) >>= linked_of s sizes base) ≡ Ok b → image_of s sizes base ≡ b.image
+      by_fault : (f : Option GenFault) → (generated_by (unless_fault f (generated s sizes base)) >>= linked_of s sizes base) ≡ Ok b
+          → image_of s sizes base ≡ b.image
       by_fault None h = by_size (nat_lt (2 ^ 20) (placed_size s sizes base)) h
       by_fault (Some f) h = cc
 

@@ -26,7 +26,8 @@ pub record EndsWell (q : Program) (x : List ValueOf) (c : CurrentCondition) : Ty
   pub way : EndFits q c
 
 module _ (q : Program) (sizes : StackSizes) (fits : ProgramFits q) (x : List ValueOf) (c : CurrentCondition) (t : Tally) where
-  move_ends : (m : Move) (rest : State → Ending) → MoveFits q m → ((g : State) → StateFits q g → rest g ≡ Over x c t → EndsWell q x c) → go_on m rest ≡ Over x c t → EndsWell q x c
+  move_ends : (m : Move) (rest : State → Ending) → MoveFits q m → ((g : State) → StateFits q g → rest g ≡ Over x c t → EndsWell q x c)
+      → go_on m rest ≡ Over x c t → EndsWell q x c
   move_ends (Next g) rest f later e = later g f e
   move_ends (Ended y d u) rest f later e =
       let values : y ≡ x = cc in
@@ -55,7 +56,8 @@ declared_read names w le = by_tests (eqb w 0) (eqb w 1) (eqb w 2) refl refl refl
     by_tests false false false e f g = refl
 
 -- the number of a declared condition is read as that, behind spaceerror
-pub own_read : (names : List (List ℕ)) (i : ℕ) → i < length names → condition_of (space_name ∷ names) (suc (suc (suc (suc i)))) ≡ shown.Named (get_or names i [])
+pub own_read : (names : List (List ℕ)) (i : ℕ) → i < length names → condition_of (space_name ∷ names) (suc (suc (suc (suc i))))
+    ≡ shown.Named (get_or names i [])
 own_read names i lt =
     let at : suc (suc (suc (suc i))) - 3 ≡ suc i = omega arith in
     declared_read (space_name ∷ names) (suc (suc (suc (suc i)))) (omega arith)
@@ -63,7 +65,8 @@ own_read names i lt =
     ∙ ap (λ o. named_or_odd o (suc (suc (suc (suc i))))) (slice_get-get_or names i [] lt)
 
 -- the number of what a program ends with is read as that
-pub way_read : (q : Program) (names : List (List ℕ)) (c : CurrentCondition) → EndFits q c → length names ≡ (proc_at q q.main).conds → condition_of (space_name ∷ names) (number_of_way c) ≡ way_shown names c
+pub way_read : (q : Program) (names : List (List ℕ)) (c : CurrentCondition) → EndFits q c → length names ≡ (proc_at q q.main).conds
+    → condition_of (space_name ∷ names) (number_of_way c) ≡ way_shown names c
 unfolding condition_of
 way_read q names None f e = refl
 way_read q names (Some Leave) f e = refl

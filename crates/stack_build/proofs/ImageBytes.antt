@@ -10,7 +10,8 @@ use Rattle.fm_image.specs.declared.window.Window.{Window}
 use Rattle.fm_image.specs.Image.{ImageOf}
 use Rattle.fm_image.specs.Limits.{Tables, tables_of, window_of, is_new, is_condition, is_slot, is_slot_address, are_tables, all_after}
 use Rattle.fm_image.specs.Limits.{is_image}
-use Rattle.fm_image.specs.Spelling.{number_bytes, numbers_bytes, name_bytes, counted_bytes, shape_bytes, slot_bytes, opening_bytes, window_bytes, flags_bytes, condition_address_bytes, tables_bytes, spelling, Spelled}
+use Rattle.fm_image.specs.Spelling.{number_bytes, numbers_bytes, name_bytes, counted_bytes, shape_bytes, slot_bytes, opening_bytes, window_bytes, flags_bytes}
+use Rattle.fm_image.specs.Spelling.{condition_address_bytes, tables_bytes, spelling, Spelled}
 use Rattle.fm_image.proofs.LimitLaws.{limits_of, sixteen, condition_count, slot_count, word_count}
 use Rattle.piton_check.specs.Instruction.{SystemView}
 use Rattle.piton_check.specs.Sound.{IsSound}
@@ -34,21 +35,31 @@ names_few earlier (name ∷ names) h =
     omega (arith, name_few name q.0, names_few (earlier ++ name ∷ []) names p.1, length-append (name_bytes name) (flat_map name_bytes names))
 
 slot_few : (slot : Slot) → length slot.name ≤ 64 → length (slot_bytes slot) ≤ 80
-slot_few slot few = omega (arith, length-append (slot.name ++ shape_bytes slot.shape) (number_bytes slot.address), length-append slot.name (shape_bytes slot.shape))
+slot_few slot few =
+    omega (arith, length-append (slot.name ++ shape_bytes slot.shape) (number_bytes slot.address), length-append slot.name (shape_bytes slot.shape))
 
-slots_few : (window : Window) (earlier slots : List Slot) → all_after (is_slot window) earlier slots ≡ true → length (flat_map slot_bytes slots) ≤ 80 * length slots
+slots_few : (window : Window) (earlier slots : List Slot) → all_after (is_slot window) earlier slots ≡ true
+    → length (flat_map slot_bytes slots) ≤ 80 * length slots
 unfolding all_after
 slots_few window earlier [] h = omega arith
 slots_few window earlier (slot ∷ slots) h =
     let p = and_parts (is_slot window earlier slot) (all_after (is_slot window) (earlier ++ slot ∷ []) slots) h in
-    let q = and_parts ((is_name slot.name && is_new (map (λ other. other.name) earlier) slot.name) && leb slot.shape.length 4096) (is_slot_address window slot.shape slot.address) p.0 in
+    let q = and_parts ((is_name slot.name && is_new (map (λ other. other.name) earlier) slot.name) && leb slot.shape.length 4096)
+    (is_slot_address window slot.shape slot.address) p.0 in
     let r = and_parts (is_name slot.name && is_new (map (λ other. other.name) earlier) slot.name) (leb slot.shape.length 4096) q.0 in
     let t = and_parts (is_name slot.name) (is_new (map (λ other. other.name) earlier) slot.name) r.0 in
-    omega (arith, slot_few slot (name_few slot.name t.0), slots_few window (earlier ++ slot ∷ []) slots p.1, length-append (slot_bytes slot) (flat_map slot_bytes slots))
+    omega (
+      arith,
+      slot_few slot (name_few slot.name t.0),
+      slots_few window (earlier ++ slot ∷ []) slots p.1,
+      length-append (slot_bytes slot) (flat_map slot_bytes slots),
+    )
 
 -- the bytes are few where the fields of variable length are
-pub fields_few : (image : ImageOf) (conditions slots words tables : ℕ) → length image.registers ≡ 16 → length (flat_map name_bytes image.conditions) ≤ conditions → length (flat_map slot_bytes image.slots) ≤ slots →
-    length image.words ≤ words → length (tables_bytes image.version (tables_of image)) ≤ tables → length (spelling image) ≤ 104 + conditions + slots + 4 * words + tables
+pub fields_few : (image : ImageOf) (conditions slots words tables : ℕ) → length image.registers ≡ 16
+    → length (flat_map name_bytes image.conditions) ≤ conditions → length (flat_map slot_bytes image.slots) ≤ slots →
+    length image.words ≤ words → length (tables_bytes image.version (tables_of image)) ≤ tables
+    → length (spelling image) ≤ 104 + conditions + slots + 4 * words + tables
 unfolding spelling
 fields_few image conditions slots words tables sixteen c s w few =
     let o : List ℕ = opening_bytes image.version ++ window_bytes (window_of image) in
@@ -83,7 +94,8 @@ file_few image h =
     (omega (arith, conditions, condition_count image h)) (omega (arith, slots, slot_count image h)) (word_count image h) (omega arith) in
     omega (arith, all)
 
-module _ (s : SystemView) (ds : List Decl) (conditions : List (List ℕ)) (tables : Tables) (sound : IsSound s) (small : (placed s).size ≤ 2 ^ 20) (shows : IsShowable s ds conditions)
+module _ (s : SystemView) (ds : List Decl) (conditions : List (List ℕ)) (tables : Tables) (sound : IsSound s) (small : (placed s).size ≤ 2 ^ 20)
+    (shows : IsShowable s ds conditions)
     (fit : are_tables (placed_window s) tables ≡ true) where
   pub file_spells : Spelled (spelling (image_with ds conditions tables s)) (image_with ds conditions tables s)
   file_spells = record {

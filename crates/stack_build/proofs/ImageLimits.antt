@@ -1,5 +1,6 @@
 -- The image of an accepted source keeps the limits of images.
-use Rattle.std.proofs.Common.{◌≡◌, ◌<◌, ◌≤◌, ◌+◌, ◌-◌, ℕ, suc, List, [], ◌∷◌, ◌++◌, true, false, Option, Some, length, map, flat_map, refl, sym, ap, ◌∙◌, subst, arith, true≢false}
+use Rattle.std.proofs.Common.{◌≡◌, ◌<◌, ◌≤◌, ◌+◌, ◌-◌, ℕ, suc, List, [], ◌∷◌, ◌++◌, true, false, Option, Some, length, map, flat_map, refl, sym, ap, ◌∙◌, subst}
+use Rattle.std.proofs.Common.{arith, true≢false}
 use Rattle.std.specs.Prelude.{◌^◌, IsTrue, All}
 use Rattle.std.specs.List.{list_all, AllByRecursion, IsDistinct}
 use Rattle.std.specs.Str.{bytes_eq}
@@ -30,7 +31,8 @@ use Rattle.gypsy_syntax.specs.ProgramFits.{Each}
 use Rattle.gypsy_syntax.specs.Resolved.{shape_of, program_of}
 use Rattle.gypsy_check.specs.Accepted.{IsAccepted}
 use Rattle.gypsy_check.specs.Declarations.{variables_of, conditions_of, repeats}
-use Rattle.gypsy_check.specs.Rules.{type_breaches, local_breaches, is_reserved, condition_breaches, variable_breaches, condition_name_breaches, size_breaches, statement_breaches, procedure_breaches}
+use Rattle.gypsy_check.specs.Rules.{type_breaches, local_breaches, is_reserved, condition_breaches, variable_breaches, condition_name_breaches, size_breaches}
+use Rattle.gypsy_check.specs.Rules.{statement_breaches, procedure_breaches}
 use Rattle.gypsy_check.proofs.CleanLaws.{three, four}
 use Rattle.gypsy_space.specs.Needs.{StackSizes}
 use Rattle.gypsy_codegen.specs.WordsOf.{words_of_values, zero_value}
@@ -68,7 +70,8 @@ differ_front : (xs ys : List (List ℕ)) → Differ (xs ++ ys) → Differ xs
 differ_front [] ys d = tt
 differ_front (x ∷ xs) ys d = (unlike_front x xs ys d.0, differ_front xs ys d.1)
 
-pub mapped_front : {X : Type 0} (f : X → List ℕ) (g : X → Named) (xs : List X) (ys : List Named) → ((x : X) → (g x).name ≡ f x) → map (λ (n : Named). n.name) (map g xs ++ ys) ≡ map f xs ++ map (λ (n : Named). n.name) ys
+pub mapped_front : {X : Type 0} (f : X → List ℕ) (g : X → Named) (xs : List X) (ys : List Named) → ((x : X) → (g x).name ≡ f x)
+    → map (λ (n : Named). n.name) (map g xs ++ ys) ≡ map f xs ++ map (λ (n : Named). n.name) ys
 mapped_front f g [] ys same = refl
 mapped_front f g (x ∷ xs) ys same = λ i. same x i ∷ mapped_front f g xs ys same i
 
@@ -78,8 +81,10 @@ formals_differ s p e =
     let h = four (variable_breaches p) (condition_name_breaches p) (size_breaches p) (statement_breaches s p false p.body) e in
     let k = three (repeats 4 [] (variables_of p)) (flat_map type_breaches (variable_types p)) (flat_map local_breaches p.locals) h.0 in
     let locals : List Named = map (λ (l : LocalOf). l.decl.name) p.locals in
-    let all = subst Differ (mapped_front (λ (d : Decl). d.name.name) (λ (d : Decl). d.name) p.formals locals (λ d. refl)) (differ_source 4 [] (variables_of p) k.0) in
-    distinct_names (map (λ (d : Decl). d.name.name) p.formals) (differ_front (map (λ (d : Decl). d.name.name) p.formals) (map (λ (n : Named). n.name) locals) all)
+    let all = subst Differ (mapped_front (λ (d : Decl). d.name.name) (λ (d : Decl). d.name) p.formals locals (λ d. refl))
+    (differ_source 4 [] (variables_of p) k.0) in
+    distinct_names (map (λ (d : Decl). d.name.name) p.formals)
+    (differ_front (map (λ (d : Decl). d.name.name) p.formals) (map (λ (n : Named). n.name) locals) all)
 
 -- no condition is declared as spaceerror
 not_space : (c : Named) → condition_breaches c ≡ [] → bytes_eq space_name c.name ≡ false
@@ -90,7 +95,8 @@ not_space c e = false_from_ne_true (bytes_eq space_name c.name) is_not
         let same : space_name ≡ c.name = (bytes_eq-Decides space_name c.name).0 k in
         true≢false (ap is_reserved same ∙ rule_fails (is_reserved c.name) c.place 6 e)
 
-pub others_than_space : (cs ds : List Named) → flat_map condition_breaches (cs ++ ds) ≡ [] → AllByRecursion (λ other. bytes_eq space_name other ≡ false) (map (λ (n : Named). n.name) cs)
+pub others_than_space : (cs ds : List Named) → flat_map condition_breaches (cs ++ ds) ≡ []
+    → AllByRecursion (λ other. bytes_eq space_name other ≡ false) (map (λ (n : Named). n.name) cs)
 others_than_space [] ds e = tt
 others_than_space (c ∷ cs) ds e =
     let h = append_none (condition_breaches c) (flat_map condition_breaches (cs ++ ds)) e in
@@ -101,10 +107,14 @@ unfolding IsDistinct
 conditions_differ s p e =
     let h = four (variable_breaches p) (condition_name_breaches p) (size_breaches p) (statement_breaches s p false p.body) e in
     let k = append_none (repeats 5 [] (conditions_of p)) (flat_map condition_breaches (conditions_of p)) h.1 in
-    let all = subst Differ (map-append (λ (n : Named). n.name) p.conds p.local_conds) (differ_source 5 [] (conditions_of p) k.0) in
-    (others_than_space p.conds p.local_conds k.1, distinct_names (map (λ (n : Named). n.name) p.conds) (differ_front (map (λ (n : Named). n.name) p.conds) (map (λ (n : Named). n.name) p.local_conds) all))
+    let all = subst Differ (map-append (λ (n : Named). n.name) p.conds p.local_conds) (differ_source 5 [] (conditions_of p) k.0) in (
+      others_than_space p.conds p.local_conds k.1,
+      distinct_names (map (λ (n : Named). n.name) p.conds)
+          (differ_front (map (λ (n : Named). n.name) p.conds) (map (λ (n : Named). n.name) p.local_conds) all),
+    )
 
-pub all_named : {X : Type 0} (P : X → Type 0) (name : X → List ℕ) → ((x : X) → P x → is_name (name x) ≡ true) → (xs : List X) → All P xs → list_all is_name (map name xs) ≡ true
+pub all_named : {X : Type 0} (P : X → Type 0) (name : X → List ℕ) → ((x : X) → P x → is_name (name x) ≡ true) → (xs : List X) → All P xs
+    → list_all is_name (map name xs) ≡ true
 all_named P name fits [] h = refl
 all_named P name fits (x ∷ xs) h = and_from _ _ (fits x (All-head P x xs h)) (all_named P name fits xs (All-tail P x xs h))
 
@@ -127,7 +137,8 @@ each_fits window a (d ∷ ds) named few low high =
     let count : ℕ = item_count (shape_of d.shape) in
     let inside : is_slot_address window (shape_of d.shape) a ≡ true =
     and_from _ _ (le-leb (window.base + count) (a + 1) (omega arith)) (lt-ltb a (window.base + window.size) high) in
-    and_from _ _ (and_from _ _ p.0 (and_from _ _ (le-leb (shape_of d.shape).length 4096 few.0) inside)) (each_fits window (a - count) ds p.1 few.1 (omega arith) (omega arith))
+    and_from _ _ (and_from _ _ p.0 (and_from _ _ (le-leb (shape_of d.shape).length 4096 few.0) inside))
+    (each_fits window (a - count) ds p.1 few.1 (omega arith) (omega arith))
 
 -- ---- the image of a placed system
 
@@ -153,7 +164,8 @@ placed_fits s sound small =
       few = omega (arith, shorter (placed s).words);
     }
 
-pub system_fits : (s : SystemView) (ds : List Decl) (conditions : List (List ℕ)) (tables : Tables) → IsSound s → (placed s).size ≤ 2 ^ 20 → IsShowable s ds conditions →
+pub system_fits : (s : SystemView) (ds : List Decl) (conditions : List (List ℕ)) (tables : Tables) → IsSound s → (placed s).size ≤ 2 ^ 20
+    → IsShowable s ds conditions →
     are_tables (placed_window s) tables ≡ true → IsTrue (is_image (image_with ds conditions tables s))
 unfolding all_after
 system_fits s ds conditions tables sound small shows fit_tables =
@@ -175,7 +187,8 @@ system_fits s ds conditions tables sound small shows fit_tables =
       condition_count = le-leb _ 201 shows.conditions_few;
       conditions = conditions_fit conditions shows.conditions_named shows.conditions_differ;
       slot_count = le-leb _ 200 (let few = shows.formals_few in let count = length-slots_from (end_of s - 1) ds in omega arith);
-      slots = slots_fit (window_of image) image.slots (each_fits (window_of image) (end_of s - 1) ds shows.formals_named shows.formals_short (omega arith) (omega arith))
+      slots = slots_fit (window_of image) image.slots
+          (each_fits (window_of image) (end_of s - 1) ds shows.formals_named shows.formals_short (omega arith) (omega arith))
           (subst (IsDistinct bytes_eq) (sym (names-slots_from (end_of s - 1) ds)) shows.formals_differ);
       words = le-leb (length (trimmed (placed s).words)) size fits.few;
     }
@@ -190,7 +203,8 @@ words_front : (a b : List Shape) → words_of a ≤ words_of (a ++ b)
 words_front [] b = omega arith
 words_front (s ∷ a) b = omega (arith, words_front a b)
 
-main_shows : (s : SourceOf) (sizes : StackSizes) (base : ℕ) (p : ProcOf) → IsAccepted s → IsMain s p → IsShowable (generated_view (program_of s) sizes base) p.formals (conditions_in (Some p))
+main_shows : (s : SourceOf) (sizes : StackSizes) (base : ℕ) (p : ProcOf) → IsAccepted s → IsMain s p
+    → IsShowable (generated_view (program_of s) sizes base) p.formals (conditions_in (Some p))
 main_shows s sizes base p accepted main =
     let q : Program = program_of s in
     let c : Proc = proc_at q q.main in
@@ -199,7 +213,8 @@ main_shows s sizes base p accepted main =
     let few_variables = main.form.few_variables in
     let few_conds = main.form.few_conds in
     let locals : List Shape = map (λ (v : ValueOf). v.shape) c.locals in
-    let opening = values_words (c.formals ++ locals) (map zero_value c.formals ++ c.locals) (vars_join c.formals locals (map zero_value c.formals) c.locals (zero_values c.formals here.formals) (locals_fit c.locals here.locals)) in
+    let opening = values_words (c.formals ++ locals) (map zero_value c.formals ++ c.locals)
+    (vars_join c.formals locals (map zero_value c.formals) c.locals (zero_values c.formals here.formals) (locals_fit c.locals here.locals)) in
     let stand : words_of c.formals ≤ length (words_of_values (map zero_value c.formals ++ c.locals)) = omega (arith, opening, words_front c.formals locals) in
     record {
       formals_named = all_named FitsDecl (λ (d : Decl). d.name.name) (λ d h. h.name) p.formals main.form.formals;
@@ -219,4 +234,5 @@ pub generated_shows : (s : SourceOf) (sizes : StackSizes) (base : ℕ) (system :
 generated_shows s sizes base system accepted is =
     let main = main_is s accepted in
     subst (λ (v : SystemView). IsShowable v (shown_formals s) (shown_conditions s)) (sym is)
-    (subst (λ (o : Option ProcOf). IsShowable (generated_view (program_of s) sizes base) (formals_in o) (conditions_in o)) (sym main.1.found) (main_shows s sizes base main.0 accepted main.1))
+    (subst (λ (o : Option ProcOf). IsShowable (generated_view (program_of s) sizes base) (formals_in o) (conditions_in o)) (sym main.1.found)
+    (main_shows s sizes base main.0 accepted main.1))

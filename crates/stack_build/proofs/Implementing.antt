@@ -46,12 +46,19 @@ RunsAsMeant q sizes system =
 abbrev ComesAs : Option ProcOf → Tables → SystemView → List ValueOf → List ValueOf → CurrentCondition → ℕ → Type 0
 ComesAs main tables system v x c count =
     ComesTo (image_with (formals_in main) (conditions_in main) tables system) v count
-    record { condition = Some (way_shown (formal_conditions_in main) c); items = map variable_shown (zip (map (λ (d : Decl). d.name.name) (formals_in main)) x) }
+    record {
+      condition = Some (way_shown (formal_conditions_in main) c);
+      items = map variable_shown
+          (zip (map (λ (d : Decl). d.name.name) (formals_in main)) x);
+    }
 
 module _ (s : SourceOf) (sizes : StackSizes) (base : ℕ) (accepted : IsAccepted s) (sound : IsSound (generated_view (program_of s) sizes base))
-    (theorem : RunsOnProcessor (generated_view (program_of s) sizes base)) (runs : RunsAsMeant (program_of s) sizes (generated_view (program_of s) sizes base)) where
-  comes : (p : ProcOf) → IsMain s p → (v x : List ValueOf) (c : CurrentCondition) (n : ℕ) → VarsFit (proc_at (program_of s) (program_of s).main).formals v → meaning (program_of s) sizes v n ≡ Done x c →
-      (t : Tally) × (counted_meaning (program_of s) sizes v n ≡ CountedDone x c t) × ComesAs (Some p) (source_tables s (generated_view (program_of s) sizes base)) (generated_view (program_of s) sizes base) v x c t.count
+    (theorem : RunsOnProcessor (generated_view (program_of s) sizes base))
+    (runs : RunsAsMeant (program_of s) sizes (generated_view (program_of s) sizes base)) where
+  comes : (p : ProcOf) → IsMain s p → (v x : List ValueOf) (c : CurrentCondition) (n : ℕ)
+      → VarsFit (proc_at (program_of s) (program_of s).main).formals v → meaning (program_of s) sizes v n ≡ Done x c →
+      (t : Tally) × (counted_meaning (program_of s) sizes v n ≡ CountedDone x c t)
+      × ComesAs (Some p) (source_tables s (generated_view (program_of s) sizes base)) (generated_view (program_of s) sizes base) v x c t.count
   unfolding main_start
   comes p main v x c n fits done =
       let q : Program = program_of s in
@@ -61,12 +68,16 @@ module _ (s : SourceOf) (sizes : StackSizes) (base : ℕ) (accepted : IsAccepted
       let formals : (proc_at q q.main).formals ≡ shapes_in p.formals = ap (λ (z : Proc). z.formals) main.at in
       let here = accepted.fits.procs q.main in
       let zeros : VarsFit (shapes_in p.formals) (map zero_value (proc_at q q.main).formals) =
-      subst (λ (shapes : List Shape). VarsFit shapes (map zero_value (proc_at q q.main).formals)) formals (zero_values (proc_at q q.main).formals here.formals) in
-      let count : length (map (λ (m : Named). m.name) p.conds) ≡ (proc_at q q.main).conds = length-map p.conds (λ (m : Named). m.name) ∙ sym (ap (λ (z : Proc). z.conds) main.at) in (
+      subst (λ (shapes : List Shape). VarsFit shapes (map zero_value (proc_at q q.main).formals)) formals
+      (zero_values (proc_at q q.main).formals here.formals) in
+      let count : length (map (λ (m : Named). m.name) p.conds) ≡ (proc_at q q.main).conds =
+      length-map p.conds (λ (m : Named). m.name) ∙ sym (ap (λ (z : Proc). z.conds) main.at) in (
         t,
         r.1,
-        image_comes (generated_view q sizes base) sound theorem p.formals (conditions_in (Some p)) (source_tables s (generated_view q sizes base)) (map (λ (m : Named). m.name) p.conds) (map zero_value (proc_at q q.main).formals) v x (proc_at q q.main).locals c t
-            zeros (subst (λ (shapes : List Shape). VarsFit shapes v) formals fits) (subst (λ (shapes : List Shape). VarsFit shapes x) formals ends.values) here.locals refl r.2
+        image_comes (generated_view q sizes base) sound theorem p.formals (conditions_in (Some p)) (source_tables s (generated_view q sizes base))
+            (map (λ (m : Named). m.name) p.conds) (map zero_value (proc_at q q.main).formals) v x (proc_at q q.main).locals c t
+            zeros (subst (λ (shapes : List Shape). VarsFit shapes v) formals fits)
+            (subst (λ (shapes : List Shape). VarsFit shapes x) formals ends.values) here.locals refl r.2
             (way_read q (map (λ (m : Named). m.name) p.conds) c ends.way count),
       )
 
@@ -75,10 +86,13 @@ module _ (s : SourceOf) (sizes : StackSizes) (base : ℕ) (accepted : IsAccepted
   image_implements v x c count fits finishes =
       let main = main_is s accepted in
       let r = comes main.0 main.1 v x c finishes.bound fits finishes.done in
-      let counted : Some (r.0).count ≡ Some count = sym (ap (λ (o : CountedOutcome). option_map (λ (t : Tally). t.count) (tally_of o)) r.1) ∙ finishes.counted in
+      let counted : Some (r.0).count ≡ Some count =
+      sym (ap (λ (o : CountedOutcome). option_map (λ (t : Tally). t.count) (tally_of o)) r.1) ∙ finishes.counted in
       let same : (r.0).count ≡ count = cc in
-      subst (λ (n : ℕ). ComesAs (main_of s) (source_tables s (generated_view (program_of s) sizes base)) (generated_view (program_of s) sizes base) v x c n) same
-      (subst (λ (o : Option ProcOf). ComesAs o (source_tables s (generated_view (program_of s) sizes base)) (generated_view (program_of s) sizes base) v x c (r.0).count) (sym main.1.found) r.2)
+      subst (λ (n : ℕ). ComesAs (main_of s) (source_tables s (generated_view (program_of s) sizes base)) (generated_view (program_of s) sizes base) v x
+      c n) same
+      (subst (λ (o : Option ProcOf). ComesAs o (source_tables s (generated_view (program_of s) sizes base)) (generated_view (program_of s) sizes base) v
+      x c (r.0).count) (sym main.1.found) r.2)
 
 -- from the three theorems
 pub images_implement : MeaningRuns → GeneratedIsAcceptable → PitonRunsOnProcessor → GeneratedImageImplements

@@ -34,7 +34,8 @@ not_refused (Ok t) e is ok = absurd cc
 not_refused (Err x) e is ok = absurd cc
 
 -- Each step costs an instruction at least, so after enough of them the machine has come past the count, or to the end.
-pub keeps_inside : (s : SourceOf) (sizes : StackSizes) (image : ImageOf) → KeepsMoments image s sizes → (values : List ValueOf) → FitsFormals s values → RunsInside image values
+pub keeps_inside : (s : SourceOf) (sizes : StackSizes) (image : ImageOf) → KeepsMoments image s sizes → (values : List ValueOf) → FitsFormals s values
+    → RunsInside image values
 keeps_inside s sizes image keeps values fits k m e runs avoids out =
     by_moment (moment_from (program_of s) sizes values (k + 1)) refl (keeps values (k + 1) fits)
   where
@@ -43,7 +44,8 @@ keeps_inside s sizes image keeps values fits k m e runs avoids out =
 
     by_moment : (move : Move) → moment_from (program_of s) sizes values (k + 1) ≡ move → ArrivesAt s sizes image values move → ⊥
     by_moment (Next (At p x w fs t)) is arrives =
-        not_refused (fm_run (k + 1) (loaded image values)) e refused (arrives.inside (k + 1) (counts_grow (program_of s) sizes values (k + 1) (At p x w fs t) is))
+        not_refused (fm_run (k + 1) (loaded image values)) e refused
+        (arrives.inside (k + 1) (counts_grow (program_of s) sizes values (k + 1) (At p x w fs t) is))
     by_moment (Ended x c t) is arrives =
         ⊎_elim (λ below. avoids t.count arrives.comes.state below arrives.comes.first.reached arrives.comes.first.there)
         (λ past. not_refused (fm_run (k + 1) (loaded image values)) e refused (arrives.inside (k + 1) past)) (cases_lt t.count (k + 1))
@@ -54,7 +56,8 @@ unfolding built source_built linked_of image_of
 built_at_base text ctrl temp base b = by_source (accepted_source text)
   where
     by_size : (s : SourceOf) (system : SystemOf) (large : Bool)
-        → cond large (Err (TooManyWords (placed_size s (stack_sizes ctrl temp) base))) (Ok (built_with s (stack_sizes ctrl temp) base system)) ≡ Ok b → b.image.base ≡ base
+        → cond large (Err (TooManyWords (placed_size s (stack_sizes ctrl temp) base))) (Ok (built_with s (stack_sizes ctrl temp) base system)) ≡ Ok b
+        → b.image.base ≡ base
     by_size s system true h = absurd cc
     by_size s system false h =
         let same : built_with s (stack_sizes ctrl temp) base system ≡ b = cc in
@@ -74,7 +77,8 @@ built_runs_inside implements text ctrl temp base source b values short low read 
     let builds : BuildsText text ctrl temp b = rw made at (implements text ctrl temp base short low) in
     let both : Ok builds.source ≡ Ok source = sym builds.read ∙ read in
     let same : builds.source ≡ source = same_source builds.source source both in
-    keeps_inside source (stack_sizes ctrl temp) b.image (subst (λ (s : SourceOf). KeepsMoments b.image s (stack_sizes ctrl temp)) same builds.builds.moments) values fits
+    keeps_inside source (stack_sizes ctrl temp) b.image
+    (subst (λ (s : SourceOf). KeepsMoments b.image s (stack_sizes ctrl temp)) same builds.builds.moments) values fits
   where
     same_source : (x y : SourceOf) → let r : Result SourceOf BuildFault = Ok x in r ≡ Ok y → x ≡ y
     same_source x y h = cc

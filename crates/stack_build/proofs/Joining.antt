@@ -40,7 +40,8 @@ use Rattle.stack_build.proofs.Initial.{is_initial}
 use Rattle.stack_build.proofs.ReadBack.{word_read, values_read}
 
 -- a sound system whose stack begins with words of values of main's formals
-module _ (s : SystemView) (sound : IsSound s) (theorem : RunsOnProcessor s) (ds : List Decl) (conditions : List (List ℕ)) (tables : Tables) (names : List (List ℕ)) (old new finals locals : List ValueOf) (c : CurrentCondition) (t : Tally)
+module _ (s : SystemView) (sound : IsSound s) (theorem : RunsOnProcessor s) (ds : List Decl) (conditions : List (List ℕ)) (tables : Tables)
+    (names : List (List ℕ)) (old new finals locals : List ValueOf) (c : CurrentCondition) (t : Tally)
     (f : VarsFit (shapes_in ds) old) (g : VarsFit (shapes_in ds) new) (h : VarsFit (shapes_in ds) finals) (l : Each ValueFits locals)
     (is : s.stack ≡ words_of_values (old ++ locals)) (run : RunsTo s (started s (words_of_values (new ++ locals))) finals c t) where
   begin : List Word
@@ -51,18 +52,22 @@ module _ (s : SystemView) (sound : IsSound s) (theorem : RunsOnProcessor s) (ds 
   comes =
       subst (λ (n : ℕ). ComesToStand s (loaded s (words_of_values (new ++ locals))) n run.to)
       (steps_cost s t.steps t.count (started s (words_of_values (new ++ locals))) run.to run.runs)
-      (theorem (words_of_values (new ++ locals)) t.steps run.to (is_initial s (shapes_in ds) old new locals f g l is) (steps_run s t.steps t.count (started s (words_of_values (new ++ locals))) run.to run.runs))
+      (theorem (words_of_values (new ++ locals)) t.steps run.to (is_initial s (shapes_in ds) old new locals f g l is)
+      (steps_run s t.steps t.count (started s (words_of_values (new ++ locals))) run.to run.runs))
 
   base_is : comes.state.base ≡ s.base
   base_is = comes.stands.is.base_is
 
   -- the condition
-  condition_read : condition_of conditions (number_of_way c) ≡ way_shown names c → condition_of conditions (word_or_zero comes.state (areas_start s)) ≡ way_shown names c
+  condition_read : condition_of conditions (number_of_way c) ≡ way_shown names c
+      → condition_of conditions (word_or_zero comes.state (areas_start s)) ≡ way_shown names c
   condition_read shown =
       let laid = comes.stands.is.laid in
       let areas : Holds s.base comes.state.memory (areas_start s) (number_of_way c ∷ []) =
-      subst (λ (areas : List (List Word)). Holds s.base comes.state.memory (areas_start s) (joined (map (numbers (addresses_of s)) areas))) run.condition laid.areas_at in
-      let here : Holds comes.state.base comes.state.memory (areas_start s) (number_of_way c ∷ []) = subst (λ (b : ℕ). Holds b comes.state.memory (areas_start s) (number_of_way c ∷ [])) (sym base_is) areas in
+      subst (λ (areas : List (List Word)). Holds s.base comes.state.memory (areas_start s) (joined (map (numbers (addresses_of s)) areas)))
+      run.condition laid.areas_at in
+      let here : Holds comes.state.base comes.state.memory (areas_start s) (number_of_way c ∷ []) =
+      subst (λ (b : ℕ). Holds b comes.state.memory (areas_start s) (number_of_way c ∷ [])) (sym base_is) areas in
       ap (condition_of conditions) (word_read comes.state (areas_start s) (number_of_way c) here.0) ∙ shown
 
   -- the stack
@@ -71,7 +76,9 @@ module _ (s : SystemView) (sound : IsSound s) (theorem : RunsOnProcessor s) (ds 
       let A = addresses_of s in
       ap (λ (ws : List Word). numbers A ws) run.stack
       ∙ map-reversed (word_number A) (words_of_values finals ++ run.locals) []
-      ∙ ap (λ (ws : List ℕ). reverse_aux ws []) (map-append (word_number A) (words_of_values finals) run.locals ∙ ap (λ (ws : List ℕ). ws ++ numbers A run.locals) (values_numbers A finals (each_fits (shapes_in ds) finals h)))
+      ∙ ap (λ (ws : List ℕ). reverse_aux ws [])
+      (map-append (word_number A) (words_of_values finals) run.locals ∙ ap (λ (ws : List ℕ). ws ++ numbers A run.locals)
+      (values_numbers A finals (each_fits (shapes_in ds) finals h)))
       ∙ reversed_append (items_words finals) (numbers A run.locals) []
 
   variables_read : map (variable_of comes.state) (slots_from (end_of s - 1) ds) ≡ map variable_shown (zip (map (λ (d : Decl). d.name.name) ds) finals)
@@ -81,7 +88,8 @@ module _ (s : SystemView) (sound : IsSound s) (theorem : RunsOnProcessor s) (ds 
       let words : List ℕ = reverse_aux (items_words finals) [] in
       let top : ℕ = slice_index comes.state.registers 2 in
       let temp : Holds s.base comes.state.memory top (reverse_aux others words) = subst (Holds s.base comes.state.memory top) stack_is laid.temp_at in
-      let here : Holds comes.state.base comes.state.memory top (reverse_aux others words) = subst (λ (b : ℕ). Holds b comes.state.memory top (reverse_aux others words)) (sym base_is) temp in
+      let here : Holds comes.state.base comes.state.memory top (reverse_aux others words) =
+      subst (λ (b : ℕ). Holds b comes.state.memory top (reverse_aux others words)) (sym base_is) temp in
       let long : top + length (reverse_aux others words) ≡ end_of s = subst (λ (ws : List ℕ). top + length ws ≡ end_of s) stack_is laid.temp_end in
       let count : length (reverse_aux others words) ≡ length others + length words = length-reverse_aux others words in
       let count_words : length words ≡ length (items_words finals) + 0 = length-reverse_aux (items_words finals) [] in
@@ -93,11 +101,13 @@ module _ (s : SystemView) (sound : IsSound s) (theorem : RunsOnProcessor s) (ds 
       address top end all a b n e e1 e2 = omega arith
 
   pub image_comes : condition_of conditions (number_of_way c) ≡ way_shown names c →
-      ComesTo (image_with ds conditions tables s) new t.count record { condition = Some (way_shown names c); items = map variable_shown (zip (map (λ (d : Decl). d.name.name) ds) finals) }
+      ComesTo (image_with ds conditions tables s) new t.count
+      record { condition = Some (way_shown names c); items = map variable_shown (zip (map (λ (d : Decl). d.name.name) ds) finals) }
   image_comes shown =
       let machine = image_loaded s (known s sound) ds old new locals f g l is conditions tables in
       record {
         state = comes.state;
-        first = subst (λ (m : Fm). IsFirst m (final_pc_of s) t.count comes.state) (sym machine) (record { reached = comes.runs; there = comes.halted.0 run.halted; before = comes.before });
+        first = subst (λ (m : Fm). IsFirst m (final_pc_of s) t.count comes.state) (sym machine)
+            (record { reached = comes.runs; there = comes.halted.0 run.halted; before = comes.before });
         reads = λ i. record { condition = Some (condition_read shown i); items = variables_read i };
       }

@@ -18,7 +18,8 @@ pub source_is_accepted : (text : List ℕ) → length text ≤ 2 ^ 31 → (sourc
 unfolding accepted_source
 source_is_accepted text short source is = by_reading (gypsy_in text) refl is
   where
-    by_breach : (s : SourceOf) → KeepsForm s → (breach : Option Breach) → least (violations s) ≡ breach → accepted_unless s breach ≡ Ok source → IsAccepted source
+    by_breach : (s : SourceOf) → KeepsForm s → (breach : Option Breach) → least (violations s) ≡ breach → accepted_unless s breach ≡ Ok source
+        → IsAccepted source
     by_breach s form None none h =
         let same : s ≡ source = cc in
         let clean = none_least (violations s) none in

@@ -14,7 +14,8 @@ use Rattle.fm_image.specs.Limits.{Tables}
 use Rattle.piton_check.specs.Instruction.{SystemView}
 use Rattle.piton_semantics.specs.Fits.{IsWellFormed}
 use Rattle.piton_semantics.specs.Addresses.{word_number, numbers}
-use Rattle.piton_semantics.specs.Placed.{code_of, addresses_of, first_frame, first_frame_at, first_top, ctrl_start, temp_start, end_of, words_with, placed, loaded}
+use Rattle.piton_semantics.specs.Placed.{code_of, addresses_of, first_frame, first_frame_at, first_top, ctrl_start, temp_start, end_of, words_with, placed}
+use Rattle.piton_semantics.specs.Placed.{loaded}
 use Rattle.piton_semantics.proofs.SizeLaws.{length-placed}
 use Rattle.gypsy_syntax.specs.declared.literal.Decl.{Decl}
 use Rattle.gypsy_syntax.specs.ProgramFits.{Each}
@@ -47,9 +48,12 @@ words_split : (s : SystemView) (stack : List Word) → words_with s stack ≡ fi
 words_split s stack =
     let A = addresses_of s in
     ap
-    (λ (n : List ℕ). code_of s ++ (halt_word ∷ (joined (map (numbers A) s.areas) ++ (replicate (first_frame_at s - ctrl_start s) 0 ++ (first_frame s ++ (replicate (first_top s - temp_start s) 0 ++ n))))))
+    (λ (n : List ℕ). code_of s ++ (halt_word
+    ∷ (joined (map (numbers A) s.areas) ++ (replicate (first_frame_at s - ctrl_start s) 0
+    ++ (first_frame s ++ (replicate (first_top s - temp_start s) 0 ++ n))))))
     (map-reversed (word_number A) stack [])
-    ∙ regroup (code_of s) halt_word (joined (map (numbers A) s.areas)) (replicate (first_frame_at s - ctrl_start s) 0) (first_frame s) (replicate (first_top s - temp_start s) 0) (reverse_aux (numbers A stack) [])
+    ∙ regroup (code_of s) halt_word (joined (map (numbers A) s.areas)) (replicate (first_frame_at s - ctrl_start s) 0) (first_frame s)
+    (replicate (first_top s - temp_start s) 0) (reverse_aux (numbers A stack) [])
 
 -- a system whose stack has words of these values at its bottom, and values of the same shapes
 module _ (s : SystemView) (known : IsWellFormed s) (ds : List Decl) (old new locals : List ValueOf)
@@ -58,7 +62,8 @@ module _ (s : SystemView) (known : IsWellFormed s) (ds : List Decl) (old new loc
   stack_numbers x h =
       values_numbers (addresses_of s) (x ++ locals) (each_both ValueFits x locals (each_fits (shapes_in ds) x h) l) ∙ words_both x locals
 
-  laid : (x : List ValueOf) → VarsFit (shapes_in ds) x → words_with s (words_of_values (x ++ locals)) ≡ (fixed_words s ++ reverse_aux (items_words locals) []) ++ reverse_aux (items_words x) []
+  laid : (x : List ValueOf) → VarsFit (shapes_in ds) x → words_with s (words_of_values (x ++ locals))
+      ≡ (fixed_words s ++ reverse_aux (items_words locals) []) ++ reverse_aux (items_words x) []
   laid x h =
       words_split s (words_of_values (x ++ locals))
       ∙ ap (λ (ws : List ℕ). fixed_words s ++ reverse_aux ws []) (stack_numbers x h)
@@ -81,7 +86,8 @@ module _ (s : SystemView) (known : IsWellFormed s) (ds : List Decl) (old new loc
       address : (base end a b : ℕ) → a + b ≡ end - base → base ≤ end → end - 1 ≡ base + a + b - 1
       address base end a b e le = omega arith
 
-  pub image_loaded : (conditions : List (List ℕ)) (tables : Tables) → loader.loaded (image_with ds conditions tables s) new ≡ loaded s (words_of_values (new ++ locals))
+  pub image_loaded : (conditions : List (List ℕ)) (tables : Tables) → loader.loaded (image_with ds conditions tables s) new
+      ≡ loaded s (words_of_values (new ++ locals))
   image_loaded conditions tables =
       let all = all_stand s.base (placed s).size (placed s).words (length-placed s known) in
       ap (λ (memory : List ℕ). record { base = s.base; registers = (placed s).registers; flags = no_flags; memory = memory })

@@ -1,5 +1,6 @@
 -- What is known of the main procedure of an accepted source.
-use Rattle.std.proofs.Common.{◌≡◌, ◌<◌, ◌≤◌, ◌∙◌, ℕ, zero, suc, pos, false, List, [], ◌∷◌, length, map, flat_map, get_or, slice_get, Option, Some, None, refl, ap, subst, arith}
+use Rattle.std.proofs.Common.{◌≡◌, ◌<◌, ◌≤◌, ◌∙◌, ℕ, zero, suc, pos, false, List, [], ◌∷◌, length, map, flat_map, get_or, slice_get, Option, Some, None, refl}
+use Rattle.std.proofs.Common.{ap, subst, arith}
 use Rattle.std.specs.Prelude.{is_none, All}
 use Rattle.std.specs.Option.{unwrap_or}
 use Rattle.std.proofs.lemmas.List.{length-map, length-replicate}
@@ -28,7 +29,8 @@ pub record IsMain (s : SourceOf) (p : ProcOf) : Type 0 where
   pub form : FitsProcedure p
   pub rules : procedure_breaches s p ≡ []
 
-proc_is : (s : SourceOf) (procs : List ProcOf) (i : ℕ) → i < length procs → (p : ProcOf) × (slice_get procs i ≡ Some p) × (get_or (map (procedure_of s) procs) i no_proc ≡ procedure_of s p)
+proc_is : (s : SourceOf) (procs : List ProcOf) (i : ℕ) → i < length procs → (p : ProcOf) × (slice_get procs i ≡ Some p)
+    × (get_or (map (procedure_of s) procs) i no_proc ≡ procedure_of s p)
 proc_is s [] i lt = absurd (omega (arith, lt))
 proc_is s (p ∷ procs) zero lt = (p, refl, refl)
 proc_is s (p ∷ procs) (suc i) lt = proc_is s procs i (omega (arith, lt))
@@ -38,7 +40,8 @@ form_is [] i p h e = absurd cc
 form_is (q ∷ procs) zero p h e = let same : q ≡ p = cc in subst FitsProcedure same (All-head FitsProcedure q procs h)
 form_is (q ∷ procs) (suc i) p h e = form_is procs i p (All-tail FitsProcedure q procs h) e
 
-rules_are : (s : SourceOf) (procs : List ProcOf) (i : ℕ) (p : ProcOf) → flat_map (procedure_breaches s) procs ≡ [] → slice_get procs i ≡ Some p → procedure_breaches s p ≡ []
+rules_are : (s : SourceOf) (procs : List ProcOf) (i : ℕ) (p : ProcOf) → flat_map (procedure_breaches s) procs ≡ [] → slice_get procs i ≡ Some p
+    → procedure_breaches s p ≡ []
 rules_are s [] i p h e = absurd cc
 rules_are s (q ∷ procs) zero p h e =
     let same : q ≡ p = cc in

@@ -1,5 +1,6 @@
 -- Every moment of a run of the source is one of the processor.
-use Rattle.std.proofs.Common.{◌≡◌, ◌≢◌, ◌+◌, ◌-◌, ◌<◌, ◌≤◌, ℕ, zero, suc, ℤ, List, [], ◌∷◌, ◌++◌, length, map, Bool, true, false, Option, Some, None, Result, Ok, Err, refl, sym, ap, subst, ◌∙◌, ⊎_elim, arith, length-append}
+use Rattle.std.proofs.Common.{◌≡◌, ◌≢◌, ◌+◌, ◌-◌, ◌<◌, ◌≤◌, ℕ, zero, suc, ℤ, List, [], ◌∷◌, ◌++◌, length, map, Bool, true, false, Option, Some, None, Result}
+use Rattle.std.proofs.Common.{Ok, Err, refl, sym, ap, subst, ◌∙◌, ⊎_elim, arith, length-append}
 use Rattle.std.specs.Prelude.{◌^◌, slice_get, slice_index, nat_lt, if◌then◌else◌, IsOk, option_map}
 use Rattle.std.specs.List.{list_all}
 use Rattle.std.proofs.lemmas.Bool.{cases_lt, ltb-true, lt-ltb, and_parts}
@@ -86,7 +87,8 @@ inside_up_to : (n : ℕ) (m t : Fm) → fm_run n m ≡ Ok t → (i : ℕ) → i 
 inside_up_to n m t h i le = let r = run_up_to i n m t le h in subst (λ (x : Result Fm Outside). IsOk x) (sym r.1) refl
 
 -- where the last count is not at pc either, none is
-final_avoided : (m state : Fm) (pc n : ℕ) → Avoids m pc n → pc_of state ≢ pc → fm_run n m ≡ Ok state → (i : ℕ) (u : Fm) → i ≤ n → fm_run i m ≡ Ok u → pc_of u ≢ pc
+final_avoided : (m state : Fm) (pc n : ℕ) → Avoids m pc n → pc_of state ≢ pc → fm_run n m ≡ Ok state → (i : ℕ) (u : Fm) → i ≤ n → fm_run i m ≡ Ok u
+    → pc_of u ≢ pc
 final_avoided m state pc n before last runs i u le e =
     ⊎_elim (λ lt. before i u lt e)
     (λ ge there.
@@ -108,11 +110,13 @@ Holds-behind b m p (x ∷ xs) ys h =
     subst (λ (a : ℕ). Holds b m a ys) e (Holds-behind b m (p + 1) xs ys h.1)
 
 -- the element at a position, from the last word downwards
-pub element_held : (A : Addresses) (b : ℕ) (m : List ℕ) (t k : ℕ) (stack : List Word) (w : Word) → Holds b m t (numbers A stack) → t + length (numbers A stack) ≡ A.end → element stack k ≡ Some w →
+pub element_held : (A : Addresses) (b : ℕ) (m : List ℕ) (t k : ℕ) (stack : List Word) (w : Word) → Holds b m t (numbers A stack)
+    → t + length (numbers A stack) ≡ A.end → element stack k ≡ Some w →
     word_at b m (A.end - 1 - k) ≡ Some (word_number A w)
 element_held A b m t k stack w h long e = by_side (nat_lt k (length stack)) refl e
   where
-    by_side : (c : Bool) → nat_lt k (length stack) ≡ c → (if c then slice_get stack (length stack - 1 - k) else None) ≡ Some w → word_at b m (A.end - 1 - k) ≡ Some (word_number A w)
+    by_side : (c : Bool) → nat_lt k (length stack) ≡ c → (if c then slice_get stack (length stack - 1 - k) else None) ≡ Some w
+        → word_at b m (A.end - 1 - k) ≡ Some (word_number A w)
     by_side true is f =
         let lt = ltb-true k (length stack) is in
         let count : length (numbers A stack) ≡ length stack = length-map stack (word_number A) in
@@ -122,7 +126,8 @@ element_held A b m t k stack w h long e = by_side (nat_lt k (length stack)) refl
     by_side false is f = absurd cc
 
 -- the local at an offset of the newest frame
-pub local_held : (A : Addresses) (b : ℕ) (m : List ℕ) (c k i : ℕ) (frames : List piton.Frame) → Holds b m c (frame_words A frames) → slice_get (locals_of frames) k ≡ Some (Nat i) → word_at b m (c + k) ≡ Some i
+pub local_held : (A : Addresses) (b : ℕ) (m : List ℕ) (c k i : ℕ) (frames : List piton.Frame) → Holds b m c (frame_words A frames)
+    → slice_get (locals_of frames) k ≡ Some (Nat i) → word_at b m (c + k) ≡ Some i
 local_held A b m c k i [] h e = absurd cc
 local_held A b m c k i (f ∷ fs) h e =
     let rest = pointer_to A fs (frame_words A fs) ∷ return_address A f fs ∷ frame_words A fs in
@@ -158,7 +163,8 @@ module _ (q : Program) (A : Addresses) (m : Fm) where
       let all : length (words ++ (head ++ older)) ≡ length words + length (head ++ older) = length-append words (head ++ older) in
       let two : length (head ++ older) ≡ 2 + length older = omega (arith, length-append head older) in
       let at : c + length words + 2 ≡ next = omega (arith, long, all, two) in
-      let behind : Holds m.base m.memory (c + length words + 2) older = Holds-behind m.base m.memory (c + length words) head older (Holds-behind m.base m.memory c words (head ++ older) h) in
+      let behind : Holds m.base m.memory (c + length words + 2) older =
+      Holds-behind m.base m.memory (c + length words) head older (Holds-behind m.base m.memory c words (head ++ older) h) in
       let some : next ≢ 0 = not_none next (c + length words) at in
       let ends : next + length older ≡ A.temp_at = omega (arith, long, all, two, at) in (
         next,
@@ -171,7 +177,8 @@ module _ (q : Program) (A : Addresses) (m : Fm) where
       not_none n k e z = omega (arith, e, z)
 
 -- a frame is there
-pub going : (q : Program) (p : ℕ) (fs : List Frame) (frames : List piton.Frame) → AreActivations q p fs frames → (f : piton.Frame) × (rest : List piton.Frame) × (frames ≡ f ∷ rest)
+pub going : (q : Program) (p : ℕ) (fs : List Frame) (frames : List piton.Frame) → AreActivations q p fs frames → (f : piton.Frame)
+    × (rest : List piton.Frame) × (frames ≡ f ∷ rest)
 going q p fs [] a = absurd (none_active q p fs a)
 going q p fs (f ∷ rest) a = (f, rest, refl)
 
@@ -183,7 +190,8 @@ item_in_range k (y ∷ items) zero z all e =
 item_in_range k (y ∷ items) (suc h) z all e = item_in_range k items h z (and_parts (is_in_range k y) (list_all (is_in_range k) items) all).1 e
 
 -- A machine that stands for a state that reads as an activation reads so itself.
-module _ (q : Program) (s : SystemView) (m : Fm) (a : PitonState) (stands : Stands s m a) (p : ℕ) (x : List ValueOf) (w : List Item) (fs : List Frame) (reads : ReadsAs q a p x w fs) where
+module _ (q : Program) (s : SystemView) (m : Fm) (a : PitonState) (stands : Stands s m a) (p : ℕ) (x : List ValueOf) (w : List Item) (fs : List Frame)
+    (reads : ReadsAs q a p x w fs) where
   base_is : m.base ≡ s.base
   base_is = stands.is.base_is
 
@@ -197,27 +205,34 @@ module _ (q : Program) (s : SystemView) (m : Fm) (a : PitonState) (stands : Stan
   frame_is =
       let g = going q p fs a.frames reads.frames in
       let words = frame_words (addresses_of s) a.frames in
-      let r0 : slice_index m.registers 0 ≡ (addresses_of s).temp_at - length words = stands.is.r0_is ∙ ap (λ (l : List piton.Frame). pointer_to (addresses_of s) l words) g.2 in
+      let r0 : slice_index m.registers 0 ≡ (addresses_of s).temp_at - length words =
+      stands.is.r0_is ∙ ap (λ (l : List piton.Frame). pointer_to (addresses_of s) l words) g.2 in
       omega (arith, r0, stands.is.laid.ctrl_end)
 
   frames_here : HoldsFrames q m (slice_index m.registers 0) p fs
   frames_here =
       let words = frame_words (addresses_of s) a.frames in
-      let held : Holds m.base m.memory (slice_index m.registers 1) words = subst (λ (b : ℕ). Holds b m.memory (slice_index m.registers 1) words) (sym base_is) stands.is.laid.ctrl_at in
-      subst (λ (c : ℕ). HoldsFrames q m c p fs) (sym frame_is) (frames_held q (addresses_of s) m fs p (slice_index m.registers 1) a.frames reads.frames held stands.is.laid.ctrl_end)
+      let held : Holds m.base m.memory (slice_index m.registers 1) words =
+      subst (λ (b : ℕ). Holds b m.memory (slice_index m.registers 1) words) (sym base_is) stands.is.laid.ctrl_at in
+      subst (λ (c : ℕ). HoldsFrames q m c p fs) (sym frame_is)
+      (frames_held q (addresses_of s) m fs p (slice_index m.registers 1) a.frames reads.frames held stands.is.laid.ctrl_end)
 
   condition_here : word_in m (areas_start s) ≡ Some (number_of_way (top_way w))
   condition_here =
       let n = number_of_way (top_way w) in
       let areas : Holds s.base m.memory (areas_start s) (n ∷ []) =
-      subst (λ (areas : List (List Word)). Holds s.base m.memory (areas_start s) (joined (map (numbers (addresses_of s)) areas))) reads.condition stands.is.laid.areas_at in
+      subst (λ (areas : List (List Word)). Holds s.base m.memory (areas_start s) (joined (map (numbers (addresses_of s)) areas))) reads.condition
+      stands.is.laid.areas_at in
       subst (λ (b : ℕ). word_at b m.memory (areas_start s) ≡ Some n) (sym base_is) areas.0
 
-  variable_here : (image : ImageOf) → image.base ≡ s.base → image.base + image.size ≡ end_of s → end_of s < 2 ^ 32 → (b : ℕ) (v : ValueOf) → ValueFits v → VariableStands q a p b v → HoldsVariable q image m p b v
+  variable_here : (image : ImageOf) → image.base ≡ s.base → image.base + image.size ≡ end_of s → end_of s < 2 ^ 32 → (b : ℕ) (v : ValueOf) → ValueFits v
+      → VariableStands q a p b v → HoldsVariable q image m p b v
   variable_here image base last below_32 b v fits var =
       let words = frame_words (addresses_of s) a.frames in
-      let held : Holds m.base m.memory (slice_index m.registers 1) words = subst (λ (b : ℕ). Holds b m.memory (slice_index m.registers 1) words) (sym base_is) stands.is.laid.ctrl_at in
-      let temp : Holds m.base m.memory (slice_index m.registers 2) (numbers (addresses_of s) a.stack) = subst (λ (b : ℕ). Holds b m.memory (slice_index m.registers 2) (numbers (addresses_of s) a.stack)) (sym base_is) stands.is.laid.temp_at in
+      let held : Holds m.base m.memory (slice_index m.registers 1) words =
+      subst (λ (b : ℕ). Holds b m.memory (slice_index m.registers 1) words) (sym base_is) stands.is.laid.ctrl_at in
+      let temp : Holds m.base m.memory (slice_index m.registers 2) (numbers (addresses_of s) a.stack) =
+      subst (λ (b : ℕ). Holds b m.memory (slice_index m.registers 2) (numbers (addresses_of s) a.stack)) (sym base_is) stands.is.laid.temp_at in
       record {
         index = var.index;
         local =
@@ -228,11 +243,13 @@ module _ (q : Program) (s : SystemView) (m : Fm) (a : PitonState) (stands : Stan
             let low : address < 2 ^ 32 = omega (arith, within.1, base_is, stands.is.laid.size, below_32) in
             ap (λ (b : Bool). if b then word_in m address else None) (lt-ltb address (2 ^ 32) low) ∙ found;
         items = λ h z e.
-            let there = element_there a.stack (var.index + h) (word_of_item v.shape.kind z) (var.words h (word_of_item v.shape.kind z) (get_map (word_of_item v.shape.kind) v.items h z e)) in
+            let there = element_there a.stack (var.index + h) (word_of_item v.shape.kind z)
+            (var.words h (word_of_item v.shape.kind z) (get_map (word_of_item v.shape.kind) v.items h z e)) in
             let size : image.size ≡ end_of s - s.base = omega (arith, last, base) in
             let count : length (numbers (addresses_of s) a.stack) ≡ length a.stack = length-map a.stack (word_number (addresses_of s)) in
             let below : var.index + h < image.size = omega (arith, there, count, size, stands.is.laid.temp_end, stands.is.laid.temp_fits) in
-            let one = element_held (addresses_of s) m.base m.memory (slice_index m.registers 2) (var.index + h) a.stack (word_of_item v.shape.kind z) temp stands.is.laid.temp_end
+            let one = element_held (addresses_of s) m.base m.memory (slice_index m.registers 2) (var.index + h) a.stack (word_of_item v.shape.kind z)
+            temp stands.is.laid.temp_end
             (var.words h (word_of_item v.shape.kind z) (get_map (word_of_item v.shape.kind) v.items h z e)) in
             let at : end_of s - 1 - (var.index + h) ≡ image.base + image.size - 1 - (var.index + h) = omega (arith, last) in
             ap (λ (b : Bool). if b then word_in m (image.base + image.size - 1 - (var.index + h)) else None) (lt-ltb (var.index + h) image.size below)
@@ -245,7 +262,8 @@ module _ (q : Program) (s : SystemView) (m : Fm) (a : PitonState) (stands : Stan
 -- every moment of the step machine is one of this system
 abbrev pub MomentsAsMeant : Program → StackSizes → SystemView → Type 0
 MomentsAsMeant q sizes system =
-    (v : List ValueOf) (j : ℕ) → VarsFit (proc_at q q.main).formals v → HasMoment q system (started system (words_of_values (main_start q v))) (moment_from q sizes v j)
+    (v : List ValueOf) (j : ℕ) → VarsFit (proc_at q q.main).formals v → HasMoment q system (started system (words_of_values (main_start q v)))
+    (moment_from q sizes v j)
 
 module _ (s : SourceOf) (sizes : StackSizes) (base : ℕ) (accepted : IsAccepted s) (sound : IsSound (generated_view (program_of s) sizes base))
     (theorem : RunsOnProcessor (generated_view (program_of s) sizes base)) (below_32 : end_of (generated_view (program_of s) sizes base) < 2 ^ 32) where
@@ -261,17 +279,23 @@ module _ (s : SourceOf) (sizes : StackSizes) (base : ℕ) (accepted : IsAccepted
       let formals : (proc_at q q.main).formals ≡ shapes_in p.formals = ap (λ (z : Proc). z.formals) main.at in
       let here = accepted.fits.procs q.main in
       let zeros : VarsFit (shapes_in p.formals) (map zero_value (proc_at q q.main).formals) =
-      subst (λ (shapes : List Shape). VarsFit shapes (map zero_value (proc_at q q.main).formals)) formals (zero_values (proc_at q q.main).formals here.formals) in
+      subst (λ (shapes : List Shape). VarsFit shapes (map zero_value (proc_at q q.main).formals)) formals
+      (zero_values (proc_at q q.main).formals here.formals) in
       let new : VarsFit (shapes_in p.formals) v = subst (λ (shapes : List Shape). VarsFit shapes v) formals fits in
-      let whole = image_loaded (generated_view q sizes base) (known (generated_view q sizes base) sound) p.formals (map zero_value (proc_at q q.main).formals) v (proc_at q q.main).locals
+      let whole = image_loaded (generated_view q sizes base) (known (generated_view q sizes base) sound) p.formals
+      (map zero_value (proc_at q q.main).formals) v (proc_at q q.main).locals
       zeros new here.locals refl (conditions_in (Some p)) (source_tables s (generated_view q sizes base)) in
-      subst (λ (o : Option ProcOf). loader.loaded (image_with (formals_in o) (conditions_in o) (source_tables s (generated_view q sizes base)) (generated_view q sizes base)) v ≡ loaded (generated_view q sizes base) (words_of_values (v ++ (proc_at q q.main).locals)))
+      subst (λ (o : Option ProcOf). loader.loaded
+      (image_with (formals_in o) (conditions_in o) (source_tables s (generated_view q sizes base)) (generated_view q sizes base)) v
+      ≡ loaded (generated_view q sizes base) (words_of_values (v ++ (proc_at q q.main).locals)))
       (sym main.found) whole
 
   -- it comes to stand for each state that the system comes to
   pub stands_for : (v : List ValueOf) → VarsFit (proc_at (program_of s) (program_of s).main).formals v → (steps count : ℕ) (a : PitonState) →
-      Steps (generated_view (program_of s) sizes base) steps count (started (generated_view (program_of s) sizes base) (words_of_values (main_start (program_of s) v))) a →
-      ComesToStand (generated_view (program_of s) sizes base) (loaded (generated_view (program_of s) sizes base) (words_of_values (main_start (program_of s) v))) count a
+      Steps (generated_view (program_of s) sizes base) steps count
+      (started (generated_view (program_of s) sizes base) (words_of_values (main_start (program_of s) v))) a →
+      ComesToStand (generated_view (program_of s) sizes base)
+      (loaded (generated_view (program_of s) sizes base) (words_of_values (main_start (program_of s) v))) count a
   unfolding main_start
   stands_for v fits steps count a runs =
       let q : Program = program_of s in
@@ -289,7 +313,8 @@ module _ (s : SourceOf) (sizes : StackSizes) (base : ℕ) (accepted : IsAccepted
   last_is = omega arith
 
   mark_reads : (m : Fm) (a : PitonState) (p : ℕ) (x : List ValueOf) (w : List Item) (fs : List Frame) → VarsFit (shapes_of (proc_at (program_of s) p)) x →
-      Stands (generated_view (program_of s) sizes base) m a → ReadsAs (program_of s) a p x w fs → MemoryReads (program_of s) sizes (image_of s sizes base) m p x w fs
+      Stands (generated_view (program_of s) sizes base) m a → ReadsAs (program_of s) a p x w fs
+      → MemoryReads (program_of s) sizes (image_of s sizes base) m p x w fs
   unfolding image_of
   mark_reads m a p x w fs vars stands reads =
       let q : Program = program_of s in
@@ -299,11 +324,14 @@ module _ (s : SourceOf) (sizes : StackSizes) (base : ℕ) (accepted : IsAccepted
         condition = ap (λ (o : Option ℕ). Some o) (condition_here q S m a stands p x w fs reads);
         frames = frames_here q S m a stands p x w fs reads;
         variables = λ b shape e.
-            variable_here q S m a stands p x w fs reads (image_of s sizes base) refl last_is below_32 b (value_at x b) (value_fits (shapes_of (proc_at q p)) x b shape vars e).1 (reads.variables b shape e);
+            variable_here q S m a stands p x w fs reads (image_of s sizes base) refl last_is below_32 b (value_at x b)
+            (value_fits (shapes_of (proc_at q p)) x b shape vars e).1 (reads.variables b shape e);
       }
 
-  arrives_at_mark : (v : List ValueOf) → VarsFit (proc_at (program_of s) (program_of s).main).formals v → (p : ℕ) (x : List ValueOf) (w : List Item) (fs : List Frame) (t : Tally) → VarsFit (shapes_of (proc_at (program_of s) p)) x →
-      ComesToMark (program_of s) (generated_view (program_of s) sizes base) (started (generated_view (program_of s) sizes base) (words_of_values (main_start (program_of s) v))) p x w fs t →
+  arrives_at_mark : (v : List ValueOf) → VarsFit (proc_at (program_of s) (program_of s).main).formals v
+      → (p : ℕ) (x : List ValueOf) (w : List Item) (fs : List Frame) (t : Tally) → VarsFit (shapes_of (proc_at (program_of s) p)) x →
+      ComesToMark (program_of s) (generated_view (program_of s) sizes base)
+      (started (generated_view (program_of s) sizes base) (words_of_values (main_start (program_of s) v))) p x w fs t →
       ArrivesAtMark s sizes (image_of s sizes base) v p x w fs t.count
   unfolding image_of
   arrives_at_mark v fits p x w fs t vars comes =
@@ -326,7 +354,8 @@ module _ (s : SourceOf) (sizes : StackSizes) (base : ℕ) (accepted : IsAccepted
       no_frames : (f : piton.Frame) (rest : List piton.Frame) → f ∷ rest ≡ [] → ⊥
       no_frames f rest e = cc
 
-  ends_at : Implements (image_of s sizes base) s sizes → (v : List ValueOf) → VarsFit (proc_at (program_of s) (program_of s).main).formals v → (j : ℕ) (x : List ValueOf) (c : CurrentCondition) (t : Tally) →
+  ends_at : Implements (image_of s sizes base) s sizes → (v : List ValueOf) → VarsFit (proc_at (program_of s) (program_of s).main).formals v
+      → (j : ℕ) (x : List ValueOf) (c : CurrentCondition) (t : Tally) →
       moment_from (program_of s) sizes v j ≡ Ended x c t → ArrivesAtEnd s (image_of s sizes base) v x c t.count
   ends_at implements v fits j x c t e =
       let q : Program = program_of s in
@@ -340,11 +369,13 @@ module _ (s : SourceOf) (sizes : StackSizes) (base : ℕ) (accepted : IsAccepted
       } in
       record { inside = inside_up_to t.count (loader.loaded (image_of s sizes base) v) comes.state comes.first.reached; comes = comes }
 
-  pub keeps_moments : MomentsAsMeant (program_of s) sizes (generated_view (program_of s) sizes base) → Implements (image_of s sizes base) s sizes → KeepsMoments (image_of s sizes base) s sizes
+  pub keeps_moments : MomentsAsMeant (program_of s) sizes (generated_view (program_of s) sizes base) → Implements (image_of s sizes base) s sizes
+      → KeepsMoments (image_of s sizes base) s sizes
   keeps_moments moments implements v j fits = by_moment (moment_from (program_of s) sizes v j) refl (moments v j fits)
     where
       by_moment : (m : Move) → moment_from (program_of s) sizes v j ≡ m →
-          HasMoment (program_of s) (generated_view (program_of s) sizes base) (started (generated_view (program_of s) sizes base) (words_of_values (main_start (program_of s) v))) m →
+          HasMoment (program_of s) (generated_view (program_of s) sizes base)
+          (started (generated_view (program_of s) sizes base) (words_of_values (main_start (program_of s) v))) m →
           ArrivesAt s sizes (image_of s sizes base) v m
       by_moment (Next (At p x w fs t)) e h =
           arrives_at_mark v fits p x w fs t (moment_fits (program_of s) sizes accepted.fits v j (At p x w fs t) fits e).0 h
@@ -356,7 +387,8 @@ stays_unfinished s sizes image keeps v budget fits never =
     let g = never budget in
     by_state g.0 g.1 (subst (ArrivesAt s sizes image v) g.1 (keeps v budget fits))
   where
-    by_state : (g : State) → moment_from (program_of s) sizes v budget ≡ Next g → ArrivesAt s sizes image v (Next g) → (outcome budget image.final_pc (loader.loaded image v)).run ≡ run.Spent
+    by_state : (g : State) → moment_from (program_of s) sizes v budget ≡ Next g → ArrivesAt s sizes image v (Next g)
+        → (outcome budget image.final_pc (loader.loaded image v)).run ≡ run.Spent
     by_state (At p x w fs t) e a =
         let m : Fm = loader.loaded image v in
         let enough : budget ≤ t.count = counts_grow (program_of s) sizes v budget (At p x w fs t) e in

@@ -28,7 +28,8 @@ item_number A Boolean (pos n) h = truth_number A n h
 item_number A Boolean (negsuc n) h = absurd (true≢false (sym h))
 item_number A Character z h = refl
 
-items_numbers : (A : Addresses) (k : Kind) (items : List ℤ) → list_all (is_in_range k) items ≡ true → numbers A (map (word_of_item k) items) ≡ map word_of_int items
+items_numbers : (A : Addresses) (k : Kind) (items : List ℤ) → list_all (is_in_range k) items ≡ true
+    → numbers A (map (word_of_item k) items) ≡ map word_of_int items
 items_numbers A k [] h = refl
 items_numbers A k (z ∷ items) h =
     let p = and_parts (is_in_range k z) (list_all (is_in_range k) items) h in
@@ -49,4 +50,5 @@ each_fits (s ∷ shapes) (v ∷ x) h = (h.1, each_fits shapes x h.2)
 
 pub words_both : (x y : List ValueOf) → items_words (x ++ y) ≡ items_words x ++ items_words y
 words_both [] y = refl
-words_both (v ∷ x) y = ap (λ (l : List ℕ). map word_of_int v.items ++ l) (words_both x y) ∙ sym (append_assoc (map word_of_int v.items) (items_words x) (items_words y))
+words_both (v ∷ x) y =
+    ap (λ (l : List ℕ). map word_of_int v.items ++ l) (words_both x y) ∙ sym (append_assoc (map word_of_int v.items) (items_words x) (items_words y))

@@ -1,5 +1,6 @@
 -- A window whose stack has the words of values at its bottom is read as the values.
-use Rattle.std.proofs.Common.{◌≡◌, ◌+◌, ◌-◌, ℕ, zero, suc, ℤ, pos, negsuc, true, List, [], ◌∷◌, ◌++◌, length, map, Some, refl, sym, ap, subst, ◌∙◌, arith, length-append, eq-eqb, true≢false}
+use Rattle.std.proofs.Common.{◌≡◌, ◌+◌, ◌-◌, ℕ, zero, suc, ℤ, pos, negsuc, true, List, [], ◌∷◌, ◌++◌, length, map, Some, refl, sym, ap, subst, ◌∙◌, arith}
+use Rattle.std.proofs.Common.{length-append, eq-eqb, true≢false}
 use Rattle.std.specs.Prelude.{unwrap_or}
 use Rattle.std.specs.List.{list_all, zip}
 use Rattle.std.proofs.lemmas.Bool.{and_parts, and_from, leb-true, lt-ltb}
@@ -36,7 +37,8 @@ item_fits Boolean (negsuc n) h = absurd (true≢false (sym h))
 item_fits Character (pos n) h = let le = leb-true n 127 h in (h, lt-ltb n 2147483648 (omega (arith, le)))
 item_fits Character (negsuc n) h = absurd (true≢false (sym h))
 
-pub items_fit : (k : Kind) (items : List ℤ) → list_all (is_in_range k) items ≡ true → (list_all (λ item. is_item k item) items ≡ true) × (list_all is_int items ≡ true)
+pub items_fit : (k : Kind) (items : List ℤ) → list_all (is_in_range k) items ≡ true → (list_all (λ item. is_item k item) items ≡ true)
+    × (list_all is_int items ≡ true)
 items_fit k [] h = (refl, refl)
 items_fit k (z ∷ items) h =
     let p = and_parts (is_in_range k z) (list_all (is_in_range k) items) h in
@@ -71,7 +73,8 @@ values_read s (d ∷ ds) (v ∷ x) above p a f h e =
     let many : length is ≡ item_count v.shape = length-map v.items word_of_int ∙ f.1.number in
     let same : item_count v.shape ≡ count = ap item_count f.0 in
     let whole : Holds s.base s.memory p (reverse_aux rest (reverse_aux is above)) = subst (Holds s.base s.memory p) (reversed_append is rest above) h in
-    let here : Holds s.base s.memory (p + length rest) (reverse_aux is above) = Holds-reversed s.base s.memory p (p + length rest) rest (reverse_aux is above) refl whole in
+    let here : Holds s.base s.memory (p + length rest) (reverse_aux is above) =
+    Holds-reversed s.base s.memory p (p + length rest) rest (reverse_aux is above) refl whole in
     let down : words_down s a (length is) ≡ is = words_read s is above (p + length rest) a here (omega arith) in
     let kinds = items_fit v.shape.kind v.items f.1.items in
     let is_one : is_value v.shape v.items ≡ true = and_from _ _ (eq-eqb (length v.items) (item_count v.shape) f.1.number) kinds.0 in

@@ -1,5 +1,6 @@
 -- At each moment what is read is the state of the step machine.
-use Rattle.std.proofs.Common.{◌≡◌, ◌≢◌, ◌+◌, ◌-◌, ℕ, zero, suc, ℤ, List, [], ◌∷◌, ◌++◌, length, map, Bool, Option, Some, option_map, cond, refl, sym, ap, subst, ◌∙◌, inl, inr, arith, length-append}
+use Rattle.std.proofs.Common.{◌≡◌, ◌≢◌, ◌+◌, ◌-◌, ℕ, zero, suc, ℤ, List, [], ◌∷◌, ◌++◌, length, map, Bool, Option, Some, option_map, cond, refl, sym, ap, subst}
+use Rattle.std.proofs.Common.{◌∙◌, inl, inr, arith, length-append}
 use Rattle.std.specs.Prelude.{IsTrue, slice_get, get_or, if◌then◌else◌}
 use Rattle.std.specs.List.{Contains}
 use Rattle.std.proofs.lemmas.Bool.{eq-eqb, ne_eqb}
@@ -76,12 +77,14 @@ each_of P (m ∷ ms) x h (suc k, lt, is) = each_of P ms x h.1 (k, omega (arith, 
 
 module _ (q : Program) (sizes : StackSizes) (base : ℕ) where
   find_mark : (ms : List MarkAt) (x : MarkAt) → Ascend ms → Each (IsMarkPlace q sizes base) ms → Contains ms x →
-      mark_there (address_of_place (generated_view q sizes base) x.program x.at) (map (mark_info (generated_view q sizes base)) ms) ≡ Some (mark_info (generated_view q sizes base) x)
+      mark_there (address_of_place (generated_view q sizes base) x.program x.at) (map (mark_info (generated_view q sizes base)) ms)
+      ≡ Some (mark_info (generated_view q sizes base) x)
   find_mark [] x up places c = absurd (omega (arith, c.1))
   find_mark (m ∷ ms) x up places (zero, lt, is) =
       let S : SystemView = generated_view q sizes base in
       let same : address_of_place S m.program m.at ≡ address_of_place S x.program x.at = ap (λ (n : MarkAt). address_of_place S n.program n.at) is in
-      ap (λ (b : Bool). if b then Some (mark_info S m) else mark_there (address_of_place S x.program x.at) (map (mark_info S) ms)) (eq-eqb (address_of_place S m.program m.at) (address_of_place S x.program x.at) same)
+      ap (λ (b : Bool). if b then Some (mark_info S m) else mark_there (address_of_place S x.program x.at) (map (mark_info S) ms))
+      (eq-eqb (address_of_place S m.program m.at) (address_of_place S x.program x.at) same)
       ∙ ap (λ (n : MarkAt). Some (mark_info S n)) is
   find_mark (m ∷ ms) x up places (suc k, lt, is) =
       let S : SystemView = generated_view q sizes base in
@@ -90,7 +93,8 @@ module _ (q : Program) (sizes : StackSizes) (base : ℕ) where
       let place = each_of (IsMarkPlace q sizes base) ms x places.1 there in
       let other : address_of_place S m.program m.at ≢ address_of_place S x.program x.at =
       λ e. apart m x (same_places S m.program x.program m.at x.at places.0.1 place.1 e) before in
-      ap (λ (b : Bool). if b then Some (mark_info S m) else mark_there (address_of_place S x.program x.at) (map (mark_info S) ms)) (ne_eqb (address_of_place S m.program m.at) (address_of_place S x.program x.at) other)
+      ap (λ (b : Bool). if b then Some (mark_info S m) else mark_there (address_of_place S x.program x.at) (map (mark_info S) ms))
+      (ne_eqb (address_of_place S m.program m.at) (address_of_place S x.program x.at) other)
       ∙ find_mark ms x (ascend_behind m ms up) places.1 there
     where
       apart : (m x : MarkAt) → (m.program ≡ x.program) × (m.at ≡ x.at) → IsBefore m x → ⊥
@@ -99,7 +103,8 @@ module _ (q : Program) (sizes : StackSizes) (base : ℕ) where
 
 -- ---- the procedure is found
 
-info_at : (q : Program) (k : ℕ) (procs : List ProcOf) (i : ℕ) (proc : ProcOf) → slice_get procs i ≡ Some proc → slice_get (procedure_infos q k procs) i ≡ Some (procedure_info q (k + i) proc)
+info_at : (q : Program) (k : ℕ) (procs : List ProcOf) (i : ℕ) (proc : ProcOf) → slice_get procs i ≡ Some proc
+    → slice_get (procedure_infos q k procs) i ≡ Some (procedure_info q (k + i) proc)
 info_at q k [] i proc e = absurd cc
 info_at q k (c ∷ procs) zero proc e =
     let same : c ≡ proc = cc in
@@ -111,7 +116,8 @@ info_at q k (c ∷ procs) (suc i) proc e =
 
 -- ---- the condition is read
 
-way_fits : (q : Program) (p : Proc) (w : List Item) (names : List (List ℕ)) → WorkFits q p w → length names ≡ conds_of p → condition_of (space_name ∷ names) (number_of_way (top_way w)) ≡ way_shown names (top_way w)
+way_fits : (q : Program) (p : Proc) (w : List Item) (names : List (List ℕ)) → WorkFits q p w → length names ≡ conds_of p
+    → condition_of (space_name ∷ names) (number_of_way (top_way w)) ≡ way_shown names (top_way w)
 unfolding condition_of
 way_fits q p [] names f e = refl
 way_fits q p (Do s ∷ w) names f e = refl
@@ -126,7 +132,8 @@ way_fits q p (Out (Declared i) ∷ w) names f e = own_read names i (omega (arith
 
 -- ---- the variables are read
 
-words_held : (run : StandingOf) (items : List ℤ) (k n : ℕ) → length items ≡ n → ((h : ℕ) (z : ℤ) → slice_get items h ≡ Some z → run.below (k + h) ≡ Some (word_of_int z)) →
+words_held : (run : StandingOf) (items : List ℤ) (k n : ℕ) → length items ≡ n
+    → ((h : ℕ) (z : ℤ) → slice_get items h ≡ Some z → run.below (k + h) ≡ Some (word_of_int z)) →
     words_below run k n ≡ Some (map word_of_int items)
 words_held run [] k zero e held = refl
 words_held run [] k (suc n) e held = absurd (omega (arith, e))
@@ -165,14 +172,16 @@ module _ (run : StandingOf) (offset : ℕ → ℕ) where
       let next : b + suc i ≡ b + 1 + i = omega arith in
       subst (λ (k : ℕ). ShowsVariable run (offset k) (value_at x i)) next (held (suc i) shape f)) in
       let shape : v.shape ≡ s = fit.0 in
-      ap (λ (o : Option (List Shown)). o >>= λ items. reading.variables_at run (variable_infos offset (b + 1) names shapes) >>= λ others. Some ((name, s, items) ∷ others)) first
+      ap (λ (o : Option (List Shown)). o >>= λ items. reading.variables_at run (variable_infos offset (b + 1) names shapes)
+      >>= λ others. Some ((name, s, items) ∷ others)) first
       ∙ ap (λ (o : Option (List ItemsOf)). o >>= λ others. Some ((name, s, value_shown v) ∷ others)) rest
       ∙ ap (λ (z : Shape). Some ((name, z, value_shown v) ∷ variables_shown names x)) (sym shape)
 
 -- ---- all together
 
 module _ (s : SourceOf) (sizes : StackSizes) (base : ℕ) (accepted : IsAccepted s) where
-  names_number : (p : ℕ) (proc : ProcOf) → proc_at (program_of s) p ≡ procedure_of s proc → length (variable_names proc) ≡ length (shapes_of (proc_at (program_of s) p))
+  names_number : (p : ℕ) (proc : ProcOf) → proc_at (program_of s) p ≡ procedure_of s proc
+      → length (variable_names proc) ≡ length (shapes_of (proc_at (program_of s) p))
   names_number p proc here =
       let formals = map (λ (d : Decl). shape_of d.shape) proc.formals in
       let locals = map (λ (v : ValueOf). v.shape) (map local_value proc.locals) in
@@ -189,12 +198,20 @@ module _ (s : SourceOf) (sizes : StackSizes) (base : ℕ) (accepted : IsAccepted
         length-map proc.locals (λ (l : LocalOf). l.decl.name.name),
       )
 
-  conditions_number : (p : ℕ) (proc : ProcOf) → proc_at (program_of s) p ≡ procedure_of s proc → length (condition_names proc) ≡ conds_of (proc_at (program_of s) p)
+  conditions_number : (p : ℕ) (proc : ProcOf) → proc_at (program_of s) p ≡ procedure_of s proc
+      → length (condition_names proc) ≡ conds_of (proc_at (program_of s) p)
   conditions_number p proc here =
       let conds : conds_of (proc_at (program_of s) p) ≡ length proc.conds + length proc.local_conds = ap conds_of here in
-      omega (arith, conds, length-append (map (λ (n : Named). n.name) proc.conds) (map (λ (n : Named). n.name) proc.local_conds), length-map proc.conds (λ (n : Named). n.name), length-map proc.local_conds (λ (n : Named). n.name))
+      omega (
+        arith,
+        conds,
+        length-append (map (λ (n : Named). n.name) proc.conds) (map (λ (n : Named). n.name) proc.local_conds),
+        length-map proc.conds (λ (n : Named). n.name),
+        length-map proc.local_conds (λ (n : Named). n.name),
+      )
 
-  state_is_read : IsTrue (places_fit (program_of s)) → (v : List ValueOf) (j : ℕ) (run : StandingOf) (g : State) → FitsFormals s v → moment_from (program_of s) sizes v j ≡ Next g →
+  state_is_read : IsTrue (places_fit (program_of s)) → (v : List ValueOf) (j : ℕ) (run : StandingOf) (g : State) → FitsFormals s v
+      → moment_from (program_of s) sizes v j ≡ Next g →
       StateFits (program_of s) g → ShowsState s sizes (image_of s sizes base) run g →
       read_from (image_of s sizes base) run ≡ Some (moment_shown s g)
   unfolding read_from image_of
@@ -223,19 +240,29 @@ module _ (s : SourceOf) (sizes : StackSizes) (base : ℕ) (accepted : IsAccepted
       let names : variable_names proc ≡ variables_at s p = sym (get_or_map variable_names s.procs p proc [] found.1) in
       let conds : condition_names proc ≡ conditions_at s p = sym (get_or_map condition_names s.procs p proc [] found.1) in
       let name : proc.name.name ≡ get_or (procedure_names s) p [] = sym (get_or_map (λ (c : ProcOf). c.name.name) s.procs p proc [] found.1) in
-      let way : condition_of (space_name ∷ condition_names proc) (number_of_way (top_way w)) ≡ way_shown (condition_names proc) (top_way w) = way_fits q (proc_at q p) w (condition_names proc) sf.1 (conditions_number p proc here) in
+      let way : condition_of (space_name ∷ condition_names proc) (number_of_way (top_way w)) ≡ way_shown (condition_names proc) (top_way w) =
+      way_fits q (proc_at q p) w (condition_names proc) sf.1 (conditions_number p proc here) in
       let address : Option ℕ = Some (areas_start S) in
-      ap (λ (o : Option Mark). o >>= λ mark. slice_get (source_tables s S).procedures mark.procedure >>= λ procedure. condition_word run address >>= λ word. read_in run word mark procedure) mark
+      ap (λ (o : Option Mark). o >>= λ mark. slice_get (source_tables s S).procedures mark.procedure >>= λ procedure. condition_word run address
+      >>= λ word. read_in run word mark procedure) mark
       ∙ ap (λ (o : Option ProcedureOf). o >>= λ procedure. condition_word run address >>= λ word. read_in run word M procedure) info
       ∙ ap (λ (o : Option ℕ). o >>= λ word. read_in run word M I) at.condition
-      ∙ ap (λ (o : Option (List ItemsOf)). o >>= λ items. Some record { procedure = I.name; place = place; condition = condition_of I.conditions (number_of_way (top_way w)); items = items }) items
-      ∙ (λ i. Some record { procedure = name i; place = place; condition = (way ∙ ap (λ (ns : List (List ℕ)). way_shown ns (top_way w)) conds) i; items = variables_shown (names i) x })
+      ∙ ap (λ (o : Option (List ItemsOf)). o >>= λ items. Some
+      record { procedure = I.name; place = place; condition = condition_of I.conditions (number_of_way (top_way w)); items = items }) items
+      ∙ (λ i. Some record {
+        procedure = name i;
+        place = place;
+        condition = (way ∙ ap (λ (ns : List (List ℕ)). way_shown ns (top_way w)) conds) i;
+        items = variables_shown (names i) x;
+      })
 
 pub shown_moments_are_read : ShownMomentsAreRead
-shown_moments_are_read s sizes base j v run g accepted short fits e at = state_is_read s sizes base accepted short v j run g fits e (moment_fits (program_of s) sizes accepted.fits v j g fits e) at
+shown_moments_are_read s sizes base j v run g accepted short fits e at =
+    state_is_read s sizes base accepted short v j run g fits e (moment_fits (program_of s) sizes accepted.fits v j g fits e) at
 
 -- the machine of the image shows the state that its memory has
-memory_shows : (s : SourceOf) (sizes : StackSizes) (base : ℕ) (m : Fm) (g : State) → IsAtMoment s sizes base m g → ShowsState s sizes (image_of s sizes base) (machine_at (image_of s sizes base) m) g
+memory_shows : (s : SourceOf) (sizes : StackSizes) (base : ℕ) (m : Fm) (g : State) → IsAtMoment s sizes base m g
+    → ShowsState s sizes (image_of s sizes base) (machine_at (image_of s sizes base) m) g
 unfolding image_of
 memory_shows s sizes base m (At p x w fs t) at = record {
   mark = at.mark;

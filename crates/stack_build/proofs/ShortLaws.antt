@@ -1,5 +1,6 @@
 -- What is built of a text of at most 2^20 bytes has its marks, and its file is short enough to be read again.
-use Rattle.std.proofs.Common.{◌≡◌, ◌<◌, ◌≤◌, ◌+◌, ◌*◌, ℕ, suc, Bool, true, false, cond, List, [], ◌∷◌, ◌++◌, length, map, flat_map, Option, Some, None, Result, Ok, Err, IfOk, refl, sym, ap, subst, ◌∙◌, arith, length-append}
+use Rattle.std.proofs.Common.{◌≡◌, ◌<◌, ◌≤◌, ◌+◌, ◌*◌, ℕ, suc, Bool, true, false, cond, List, [], ◌∷◌, ◌++◌, length, map, flat_map, Option, Some, None, Result}
+use Rattle.std.proofs.Common.{Ok, Err, IfOk, refl, sym, ap, subst, ◌∙◌, arith, length-append}
 use Rattle.std.specs.Prelude.{◌^◌, slice_get}
 use Rattle.std.specs.List.{list_all}
 use Rattle.std.proofs.lemmas.Bool.{and_parts, and_from, lt-ltb}
@@ -31,7 +32,8 @@ use Rattle.stack_build.specs.declared.fault.BuildFault.{BuildFault}
 use Rattle.stack_build.specs.Build.{BuiltOf, accepted_unless, accepted_by, accepted_source, Builds, BuildsText}
 use Rattle.stack_build.specs.Image.{variable_infos, procedure_info, procedure_infos, mark_info, places_fit, source_tables, image_of}
 use Rattle.stack_build.proofs.ImageBytes.{file_few}
-use Rattle.stack_build.proofs.TextLaws.{marks_in, marks_in_all, StandsBelow, AllStandBelow, conditions_cost, formals_cost, locals_cost, procedures_cost, EachStands, LightSource, tree_is_light}
+use Rattle.stack_build.proofs.TextLaws.{marks_in, marks_in_all, StandsBelow, AllStandBelow, conditions_cost, formals_cost, locals_cost, procedures_cost}
+use Rattle.stack_build.proofs.TextLaws.{EachStands, LightSource, tree_is_light}
 
 -- ---- the source of a text
 
@@ -39,7 +41,8 @@ text_is_light : (text : List ℕ) (source : SourceOf) → accepted_source text �
 unfolding accepted_source
 text_is_light text source is = by_reading (gypsy_in text) refl is
   where
-    by_breach : (s : SourceOf) → gypsy_in text ≡ Ok s → (breach : Option Breach) → accepted_unless s breach ≡ Ok source → LightSource (length text) (length text) source
+    by_breach : (s : SourceOf) → gypsy_in text ≡ Ok s → (breach : Option Breach) → accepted_unless s breach ≡ Ok source
+        → LightSource (length text) (length text) source
     by_breach s reads None h =
         let same : s ≡ source = cc in
         let found = value_tree gypsy_reader text source (reads ∙ ap (λ (x : SourceOf). Ok x) same) in
@@ -71,20 +74,25 @@ module _ (s : SourceOf) (c : ProcOf) (q : Program) (p high : ℕ) (low : high �
     marks_short (loop place b) at h =
         let end = at + 1 + size q (statement_of s c b) in
         and_from _ _ (short place at h.0)
-        (all_both (statement_marks q p (at + 1) (statement_of s c b)) (mark_at p end place ∷ []) (marks_short b (at + 1) h.1) (and_from _ _ (short place end h.0) refl))
+        (all_both (statement_marks q p (at + 1) (statement_of s c b)) (mark_at p end place ∷ []) (marks_short b (at + 1) h.1)
+        (and_from _ _ (short place end h.0) refl))
     marks_short (branch place test a b) at h =
         let jump = at + 3 + size q (statement_of s c a) in
         let end = jump + 2 + size q (statement_of s c b) in
         and_from _ _ (short place at h.0)
-        (all_both (statement_marks q p (at + 3) (statement_of s c a)) (mark_at p jump place ∷ (statement_marks q p (jump + 2) (statement_of s c b) ++ mark_at p end place ∷ [])) (marks_short a (at + 3) h.1)
+        (all_both (statement_marks q p (at + 3) (statement_of s c a))
+        (mark_at p jump place ∷ (statement_marks q p (jump + 2) (statement_of s c b) ++ mark_at p end place ∷ [])) (marks_short a (at + 3) h.1)
         (and_from _ _ (short place jump h.0)
-        (all_both (statement_marks q p (jump + 2) (statement_of s c b)) (mark_at p end place ∷ []) (marks_short b (jump + 2) h.2) (and_from _ _ (short place end h.0) refl))))
+        (all_both (statement_marks q p (jump + 2) (statement_of s c b)) (mark_at p end place ∷ []) (marks_short b (jump + 2) h.2)
+        (and_from _ _ (short place end h.0) refl))))
     marks_short (begin place a cs b) at h =
         let jump = at + size q (statement_of s c a) in
         let end = jump + 3 + size q (statement_of s c b) in
-        all_both (statement_marks q p at (statement_of s c a)) (mark_at p jump place ∷ (statement_marks q p (jump + 3) (statement_of s c b) ++ mark_at p end place ∷ [])) (marks_short a at h.1)
+        all_both (statement_marks q p at (statement_of s c a))
+        (mark_at p jump place ∷ (statement_marks q p (jump + 3) (statement_of s c b) ++ mark_at p end place ∷ [])) (marks_short a at h.1)
         (and_from _ _ (short place jump h.0)
-        (all_both (statement_marks q p (jump + 3) (statement_of s c b)) (mark_at p end place ∷ []) (marks_short b (jump + 3) h.2) (and_from _ _ (short place end h.0) refl)))
+        (all_both (statement_marks q p (jump + 3) (statement_of s c b)) (mark_at p end place ∷ []) (marks_short b (jump + 3) h.2)
+        (and_from _ _ (short place end h.0) refl)))
     marks_short (call place f xp xs cp cs) at h = and_from _ _ (short place at h) refl
     marks_short (predef place r xs) at h = and_from _ _ (short place at h) refl
 
@@ -92,7 +100,8 @@ module _ (s : SourceOf) (c : ProcOf) (q : Program) (p high : ℕ) (low : high �
     all_marks_short no_parts at h = refl
     all_marks_short (part a ss) at h =
         let next = at + size q (statement_of s c a) in
-        all_both (statement_marks q p at (statement_of s c a)) (statement_marks q p next (statement_of_all s c ss)) (marks_short a at h.0) (all_marks_short ss next h.1)
+        all_both (statement_marks q p at (statement_of s c a)) (statement_marks q p next (statement_of_all s c ss)) (marks_short a at h.0)
+        (all_marks_short ss next h.1)
 
 module _ (s : SourceOf) (c : ProcOf) (q : Program) (p : ℕ) where
   mutual
@@ -101,7 +110,12 @@ module _ (s : SourceOf) (c : ProcOf) (q : Program) (p : ℕ) where
     marks_number (signal place n) at = omega arith
     marks_number (seq place ss) at = all_marks_number ss at
     marks_number (loop place b) at =
-        omega (arith, marks_number b (at + 1), length-append (statement_marks q p (at + 1) (statement_of s c b)) (mark_at p (at + 1 + size q (statement_of s c b)) place ∷ []))
+        omega (
+          arith,
+          marks_number b (at + 1),
+          length-append (statement_marks q p (at + 1) (statement_of s c b))
+              (mark_at p (at + 1 + size q (statement_of s c b)) place ∷ []),
+        )
     marks_number (branch place test a b) at =
         let jump = at + 3 + size q (statement_of s c a) in
         let end = jump + 2 + size q (statement_of s c b) in
@@ -109,7 +123,8 @@ module _ (s : SourceOf) (c : ProcOf) (q : Program) (p : ℕ) where
           arith,
           marks_number a (at + 3),
           marks_number b (jump + 2),
-          length-append (statement_marks q p (at + 3) (statement_of s c a)) (mark_at p jump place ∷ (statement_marks q p (jump + 2) (statement_of s c b) ++ mark_at p end place ∷ [])),
+          length-append (statement_marks q p (at + 3) (statement_of s c a))
+              (mark_at p jump place ∷ (statement_marks q p (jump + 2) (statement_of s c b) ++ mark_at p end place ∷ [])),
           length-append (statement_marks q p (jump + 2) (statement_of s c b)) (mark_at p end place ∷ []),
         )
     marks_number (begin place a cs b) at =
@@ -119,7 +134,8 @@ module _ (s : SourceOf) (c : ProcOf) (q : Program) (p : ℕ) where
           arith,
           marks_number a at,
           marks_number b (jump + 3),
-          length-append (statement_marks q p at (statement_of s c a)) (mark_at p jump place ∷ (statement_marks q p (jump + 3) (statement_of s c b) ++ mark_at p end place ∷ [])),
+          length-append (statement_marks q p at (statement_of s c a))
+              (mark_at p jump place ∷ (statement_marks q p (jump + 3) (statement_of s c b) ++ mark_at p end place ∷ [])),
           length-append (statement_marks q p (jump + 3) (statement_of s c b)) (mark_at p end place ∷ []),
         )
     marks_number (call place f xp xs cp cs) at = omega arith
@@ -129,14 +145,21 @@ module _ (s : SourceOf) (c : ProcOf) (q : Program) (p : ℕ) where
     all_marks_number no_parts at = omega arith
     all_marks_number (part a ss) at =
         let next = at + size q (statement_of s c a) in
-        omega (arith, marks_number a at, all_marks_number ss next, length-append (statement_marks q p at (statement_of s c a)) (statement_marks q p next (statement_of_all s c ss)))
+        omega (
+          arith,
+          marks_number a at,
+          all_marks_number ss next,
+          length-append (statement_marks q p at (statement_of s c a))
+              (statement_marks q p next (statement_of_all s c ss)),
+        )
 
 -- ---- the bytes of its tables
 
 names_bytes : (ns : List Named) → length (flat_map name_bytes (map (λ (n : Named). n.name) ns)) ≡ conditions_cost ns
 unfolding conditions_cost
 names_bytes [] = refl
-names_bytes (n ∷ ns) = let rest = names_bytes ns in omega (arith, rest, length-append (name_bytes n.name) (flat_map name_bytes (map (λ (n : Named). n.name) ns)))
+names_bytes (n ∷ ns) =
+    let rest = names_bytes ns in omega (arith, rest, length-append (name_bytes n.name) (flat_map name_bytes (map (λ (n : Named). n.name) ns)))
 
 flat_names : (xs ys : List (List ℕ)) → length (flat_map name_bytes (xs ++ ys)) ≡ length (flat_map name_bytes xs) + length (flat_map name_bytes ys)
 flat_names [] ys = omega arith
@@ -149,7 +172,8 @@ variables_cost : List (List ℕ) → ℕ
 variables_cost [] = 0
 variables_cost (name ∷ names) = 16 + length name + variables_cost names
 
-infos_bytes : (f : ℕ → ℕ) (b : ℕ) (names : List (List ℕ)) (shapes : List Shape) → length (flat_map variable_bytes (variable_infos f b names shapes)) ≤ variables_cost names
+infos_bytes : (f : ℕ → ℕ) (b : ℕ) (names : List (List ℕ)) (shapes : List Shape) → length (flat_map variable_bytes (variable_infos f b names shapes))
+    ≤ variables_cost names
 unfolding variables_cost
 infos_bytes f b [] shapes = omega arith
 infos_bytes f b (name ∷ names) [] = omega arith
@@ -174,7 +198,8 @@ unfolding variables_cost locals_cost
 locals_names [] = refl
 locals_names (l ∷ ls) = let k = locals_names ls in omega (arith, k)
 
-procedure_few : (q : Program) (p : ℕ) (c : ProcOf) → length (procedure_bytes (procedure_info q p c)) ≤ 26 + length c.name.name + conditions_cost c.conds + conditions_cost c.local_conds + formals_cost c.formals + locals_cost c.locals
+procedure_few : (q : Program) (p : ℕ) (c : ProcOf) → length (procedure_bytes (procedure_info q p c)) ≤ 26 + length c.name.name + conditions_cost c.conds
+    + conditions_cost c.local_conds + formals_cost c.formals + locals_cost c.locals
 procedure_few q p c =
     let conditions : List (List ℕ) = condition_names c in
     let names : List (List ℕ) = variable_names c in
@@ -208,12 +233,14 @@ module _ (s : SourceOf) (q : Program) where
   others : (k : ℕ) (c : ProcOf) (procs : List ProcOf) → Stand k (c ∷ procs) → Stand (suc k) procs
   others k c procs stand i d e = let next : k + suc i ≡ suc k + i = omega arith in subst (λ (j : ℕ). proc_at q j ≡ procedure_of s d) next (stand (suc i) d e)
 
-  procedures_few : (k : ℕ) (procs : List ProcOf) → Stand k procs → length (flat_map procedure_bytes (procedure_infos q k procs)) + 12 * length (flat_map (procedure_marks q) (count_from k (length procs))) ≤ procedures_cost procs
+  procedures_few : (k : ℕ) (procs : List ProcOf) → Stand k procs → length (flat_map procedure_bytes (procedure_infos q k procs)) + 12
+      * length (flat_map (procedure_marks q) (count_from k (length procs))) ≤ procedures_cost procs
   unfolding procedures_cost
   procedures_few k [] stand = omega arith
   procedures_few k (c ∷ procs) stand =
       let body : body_of q k ≡ statement_of s c c.body = ap (λ (d : Proc). d.body) (here k c procs stand) in
-      let marks : length (statement_marks q k 0 (body_of q k)) ≤ marks_in c.body = subst (λ (b : Stmt). length (statement_marks q k 0 b) ≤ marks_in c.body) (sym body) (marks_number s c q k c.body 0) in
+      let marks : length (statement_marks q k 0 (body_of q k)) ≤ marks_in c.body =
+      subst (λ (b : Stmt). length (statement_marks q k 0 b) ≤ marks_in c.body) (sym body) (marks_number s c q k c.body 0) in
       let tail = tail_marks k (size q (body_of q k)) (proc_at q k).place in
       let rest = procedures_few (suc k) procs (others k c procs stand) in
       omega (
@@ -226,13 +253,15 @@ module _ (s : SourceOf) (q : Program) where
         length-append (procedure_bytes (procedure_info q k c)) (flat_map procedure_bytes (procedure_infos q (suc k) procs)),
       )
 
-  procedures_short : (high : ℕ) → high ≤ 1048576 → (k : ℕ) (procs : List ProcOf) → Stand k procs → EachStands high procs → list_all short_place (flat_map (procedure_marks q) (count_from k (length procs))) ≡ true
+  procedures_short : (high : ℕ) → high ≤ 1048576 → (k : ℕ) (procs : List ProcOf) → Stand k procs → EachStands high procs
+      → list_all short_place (flat_map (procedure_marks q) (count_from k (length procs))) ≡ true
   procedures_short high low k [] stand each = refl
   procedures_short high low k (c ∷ procs) stand each =
       let at = here k c procs stand in
       let body : body_of q k ≡ statement_of s c c.body = ap (λ (d : Proc). d.body) at in
       let place : (proc_at q k).place ≡ c.place = ap (λ (d : Proc). d.place) at in
-      let marks : list_all short_place (statement_marks q k 0 (body_of q k)) ≡ true = subst (λ (b : Stmt). list_all short_place (statement_marks q k 0 b) ≡ true) (sym body) (marks_short s c q k high low c.body 0 each.0.1) in
+      let marks : list_all short_place (statement_marks q k 0 (body_of q k)) ≡ true =
+      subst (λ (b : Stmt). list_all short_place (statement_marks q k 0 b) ≡ true) (sym body) (marks_short s c q k high low c.body 0 each.0.1) in
       let ends : is_place (proc_at q k).place ≡ true = lt-ltb (proc_at q k).place (2 ^ 20) (omega (arith, each.0.0, low, place)) in
       let tail = tail_marks k (size q (body_of q k)) (proc_at q k).place in
       all_both (procedure_marks q k) (flat_map (procedure_marks q) (count_from (suc k) (length procs)))
@@ -263,8 +292,17 @@ tables_few s system = by_places (places_fit (program_of s))
         let all = procedures_few s q 0 s.procs (stand_all s) in
         let marks = map (mark_info system) (marks_of q) in
         let number : length marks ≡ length (marks_of q) = length-map (marks_of q) (mark_info system) in
-        let same : length (marks_of q) ≡ length (flat_map (procedure_marks q) (count_from 0 (length s.procs))) = ap (λ (n : ℕ). length (flat_map (procedure_marks q) (count_from 0 n))) (same_number s) in
-        omega (arith, all, number, same, marks_bytes marks, length-append (counted_bytes procedure_bytes (procedure_infos q 0 s.procs)) (counted_bytes mark_bytes marks))
+        let same : length (marks_of q) ≡ length (flat_map (procedure_marks q) (count_from 0 (length s.procs))) =
+        ap (λ (n : ℕ). length (flat_map (procedure_marks q) (count_from 0 n))) (same_number s) in
+        omega (
+          arith,
+          all,
+          number,
+          same,
+          marks_bytes marks,
+          length-append (counted_bytes procedure_bytes (procedure_infos q 0 s.procs))
+              (counted_bytes mark_bytes marks),
+        )
     by_places false = omega arith
 
 -- ---- what is built of it
@@ -275,11 +313,13 @@ text_places_fit text s read few =
     ap (λ (n : ℕ). list_all short_place (flat_map (procedure_marks (program_of s)) (count_from 0 n))) (same_number s)
     ∙ procedures_short s (program_of s) (length text) (omega (arith, few)) 0 s.procs (stand_all s) light.each
 
-tables_of_image : (s : SourceOf) (sizes : StackSizes) (base : ℕ) → length (tables_bytes (image_of s sizes base).version (tables_of (image_of s sizes base))) ≤ 8 + procedures_cost s.procs
+tables_of_image : (s : SourceOf) (sizes : StackSizes) (base : ℕ) → length
+    (tables_bytes (image_of s sizes base).version (tables_of (image_of s sizes base))) ≤ 8 + procedures_cost s.procs
 unfolding image_of
 tables_of_image s sizes base = tables_few s (generated_view (program_of s) sizes base)
 
-text_builds_whole : (text : List ℕ) (ctrl temp : ℕ) (s : SourceOf) (b : BuiltOf) → accepted_source text ≡ Ok s → Builds s (stack_sizes ctrl temp) b → BuildsText text ctrl temp b
+text_builds_whole : (text : List ℕ) (ctrl temp : ℕ) (s : SourceOf) (b : BuiltOf) → accepted_source text ≡ Ok s → Builds s (stack_sizes ctrl temp) b
+    → BuildsText text ctrl temp b
 text_builds_whole text ctrl temp s b read builds = record {
   source = s;
   read = read;
@@ -289,13 +329,15 @@ text_builds_whole text ctrl temp s b read builds = record {
       let image : ImageOf = image_of s (stack_sizes ctrl temp) builds.base in
       let file : length b.bytes ≡ length (spelling b.image) = ap length builds.spells.fields in
       let before = file_few b.image builds.spells.limits in
-      let same : length (tables_bytes b.image.version (tables_of b.image)) ≡ length (tables_bytes image.version (tables_of image)) = ap (λ (i : ImageOf). length (tables_bytes i.version (tables_of i))) builds.is in
+      let same : length (tables_bytes b.image.version (tables_of b.image)) ≡ length (tables_bytes image.version (tables_of image)) =
+      ap (λ (i : ImageOf). length (tables_bytes i.version (tables_of i))) builds.is in
       let tables = tables_of_image s (stack_sizes ctrl temp) builds.base in
       let cost = light.few in
       omega (arith, file, before, same, tables, cost, few);
   builds = builds;
 }
 
-pub text_builds_if : (text : List ℕ) (ctrl temp : ℕ) (s : SourceOf) (r : Result BuiltOf BuildFault) → accepted_source text ≡ Ok s → IfOk r (Builds s (stack_sizes ctrl temp)) → IfOk r (BuildsText text ctrl temp)
+pub text_builds_if : (text : List ℕ) (ctrl temp : ℕ) (s : SourceOf) (r : Result BuiltOf BuildFault) → accepted_source text ≡ Ok s
+    → IfOk r (Builds s (stack_sizes ctrl temp)) → IfOk r (BuildsText text ctrl temp)
 text_builds_if text ctrl temp s (Ok b) read builds = text_builds_whole text ctrl temp s b read builds
 text_builds_if text ctrl temp s (Err fault) read builds = tt

@@ -13,7 +13,8 @@ use Rattle.fm_loader.specs.declared.fault.Rule.{Rule}
 use Rattle.fm_loader.specs.declared.parsed.Entry.{Entry}
 use Rattle.fm_loader.specs.declared.parsed.ParsedValue.{ParsedValue}
 use Rattle.fm_loader.specs.Rules.{Fault}
-use Rattle.fm_loader.specs.Values.{entries_of, mismatch, slot_named, is_named, rule_broken, rule_of, fault_at, entry_fault, value_for, found_in, all_found, values_at, values_on, values_in}
+use Rattle.fm_loader.specs.Values.{entries_of, mismatch, slot_named, is_named, rule_broken, rule_of, fault_at, entry_fault, value_for, found_in, all_found}
+use Rattle.fm_loader.specs.Values.{values_at, values_on, values_in}
 use Rattle.gypsy_syntax.specs.declared.literal.Decl.{Decl}
 use Rattle.gypsy_syntax.specs.Resolved.{shape_of}
 use Rattle.gypsy_syntax.specs.Sources.{SourceOf}
@@ -29,14 +30,18 @@ same_shape : (name : List ℕ) (a b : ℕ) (ds : List Decl) → found_shape (slo
 same_shape name a b [] = refl
 same_shape name a b (d ∷ ds) = by_test (bytes_eq name d.name.name) (same_shape name (a - item_count (shape_of d.shape)) (b - item_count (shape_of d.shape)) ds)
   where
-    by_test : (t : Bool) → found_shape (slot_named name (slots_from (a - item_count (shape_of d.shape)) ds)) ≡ found_shape (slot_named name (slots_from (b - item_count (shape_of d.shape)) ds))
-        → found_shape (cond t (Some record { name = d.name.name; shape = shape_of d.shape; address = a }) (slot_named name (slots_from (a - item_count (shape_of d.shape)) ds)))
-        ≡ found_shape (cond t (Some record { name = d.name.name; shape = shape_of d.shape; address = b }) (slot_named name (slots_from (b - item_count (shape_of d.shape)) ds)))
+    by_test : (t : Bool) → found_shape (slot_named name (slots_from (a - item_count (shape_of d.shape)) ds))
+        ≡ found_shape (slot_named name (slots_from (b - item_count (shape_of d.shape)) ds))
+        → found_shape (cond t (Some record { name = d.name.name; shape = shape_of d.shape; address = a })
+        (slot_named name (slots_from (a - item_count (shape_of d.shape)) ds)))
+        ≡ found_shape (cond t (Some record { name = d.name.name; shape = shape_of d.shape; address = b })
+        (slot_named name (slots_from (b - item_count (shape_of d.shape)) ds)))
     by_test true rest = refl
     by_test false rest = rest
 
 -- so an entry breaks the same rule
-same_rule : (o p : Option Slot) (is_repeated : Bool) (value : ParsedValue) → found_shape o ≡ found_shape p → rule_broken o is_repeated value ≡ rule_broken p is_repeated value
+same_rule : (o p : Option Slot) (is_repeated : Bool) (value : ParsedValue) → found_shape o ≡ found_shape p
+    → rule_broken o is_repeated value ≡ rule_broken p is_repeated value
 same_rule None None is_repeated value e = refl
 same_rule None (Some t) is_repeated value e = absurd cc
 same_rule (Some s) None is_repeated value e = absurd cc
@@ -49,8 +54,10 @@ module _ (a b : ℕ) (ds : List Decl) where
   same_fault earlier [] = refl
   same_fault earlier (entry ∷ entries) =
       ap (λ (r : Option Rule). option_or (option_map (fault_at entry.place) r) (entry_fault (slots_from a ds) (earlier ++ entry ∷ []) entries))
-      (same_rule (slot_named entry.name (slots_from a ds)) (slot_named entry.name (slots_from b ds)) (is_named entry.name earlier) entry.value (same_shape entry.name a b ds))
-      ∙ ap (λ (f : Option Fault). option_or (option_map (fault_at entry.place) (rule_of (slots_from b ds) earlier entry)) f) (same_fault (earlier ++ entry ∷ []) entries)
+      (same_rule (slot_named entry.name (slots_from a ds)) (slot_named entry.name (slots_from b ds)) (is_named entry.name earlier) entry.value
+      (same_shape entry.name a b ds))
+      ∙ ap (λ (f : Option Fault). option_or (option_map (fault_at entry.place) (rule_of (slots_from b ds) earlier entry)) f)
+      (same_fault (earlier ++ entry ∷ []) entries)
 
 -- and each slot gets the same
 same_found : (entries : List Entry) (a b : ℕ) (ds : List Decl) → map (value_for entries) (slots_from a ds) ≡ map (value_for entries) (slots_from b ds)
@@ -74,6 +81,7 @@ same_on a b ds (Err fault) = refl
 same_on a b ds (Ok tree) = same_at a b ds tree
 
 -- the image's slots take the values that main's formals take
-pub image_takes : (source : SourceOf) (sizes : StackSizes) (base : ℕ) (text : List ℕ) → values_in (image_of source sizes base).slots text ≡ values_in (formal_slots source) text
+pub image_takes : (source : SourceOf) (sizes : StackSizes) (base : ℕ) (text : List ℕ)
+    → values_in (image_of source sizes base).slots text ≡ values_in (formal_slots source) text
 unfolding values_in image_of
 image_takes source sizes base text = same_on _ 0 (shown_formals source) (tree_in text)

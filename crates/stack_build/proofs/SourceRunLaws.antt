@@ -38,7 +38,8 @@ module _ (meant : KeptMeansOnly) (text values_text : List ℕ) (sizes : StackSiz
   tells (run.Ended count) ended =
       let o : RunOutcome = outcome budget image.final_pc (loaded image on.values) in
       let is : IsOutcome (loaded image on.values) image.final_pc budget (run.Ended count) o.state =
-      subst (λ (r : Run). IsOutcome (loaded image on.values) image.final_pc budget r o.state) ended (outcome_is (loaded image on.values) image.final_pc budget) in
+      subst (λ (r : Run). IsOutcome (loaded image on.values) image.final_pc budget r o.state) ended
+      (outcome_is (loaded image on.values) image.final_pc budget) in
       let m : IsMeant on.source sizes image on.values count o.state = (meant image on.source sizes keeps).ends on.values count o.state on.fits is.1 in
       record { on = on; finals = m.finals; way = m.way; finishes = m.finishes; within = is.0; reads = m.reads }
   tells run.Spent spent = record { on = on; beyond = not_within image on.source sizes does on.values on.fits budget spent }
@@ -66,11 +67,13 @@ source_runs_tell implement take meant text ctrl temp values_text budget short =
               ∙ ap (λ (i : ImageOf). values_in i.slots values_text) (sym builds.builds.is) ∙ gives;
           fits = take text ctrl temp 0 builds.source b values_text values short (omega arith) builds.read made gives;
         } in
-        tells meant text values_text sizes budget b.image on builds.builds.implements builds.builds.moments (outcome budget b.image.final_pc (loaded b.image values)).run refl
+        tells meant text values_text sizes budget b.image on builds.builds.implements builds.builds.moments
+        (outcome budget b.image.final_pc (loaded b.image values)).run refl
     by_values b made builds (Err fault) gives = tt
 
     by_built : (found : Result BuiltOf BuildFault) → built text ctrl temp 0 ≡ found → IfOk found (BuildsText text ctrl temp)
-        → IfOk (or_build found >>= λ built. or_values (values_in built.image.slots values_text) >>= λ values. Ok (run_with built.image values budget)) (TellsMeaning text (stack_sizes ctrl temp) values_text budget)
+        → IfOk (or_build found >>= λ built. or_values (values_in built.image.slots values_text) >>= λ values. Ok (run_with built.image values budget))
+        (TellsMeaning text (stack_sizes ctrl temp) values_text budget)
     by_built (Ok b) made builds = by_values b made builds (values_in b.image.slots values_text) refl
     by_built (Err fault) made builds = tt
 

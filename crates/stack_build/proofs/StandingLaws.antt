@@ -27,5 +27,6 @@ images_stand acceptable piton_runs s sizes base accepted limits small v j a fits
     let p = proc_at q q.main in
     let here = accepted.fits.procs q.main in
     let initial = is_initial S p.formals (map zero_value p.formals) v p.locals (zero_values p.formals here.formals) fits here.locals refl in
-    subst (λ (m : Fm). ComesToStand S m (run_cost S j (opened_on S s v)) a) (sym (loaded_is s sizes base accepted sound theorem (end_fits S sound.low_base small) v fits))
+    subst (λ (m : Fm). ComesToStand S m (run_cost S j (opened_on S s v)) a)
+    (sym (loaded_is s sizes base accepted sound theorem (end_fits S sound.low_base small) v fits))
     (theorem (words_of_values (main_start q v)) j a initial runs)

@@ -1,5 +1,6 @@
 -- A run of what is built of an accepted source begins with the words of main's variables.
-use Rattle.std.proofs.Common.{◌≡◌, ◌≤◌, ℕ, Bool, true, false, cond, List, ◌++◌, length, drop, map, Option, Some, None, Result, Ok, Err, refl, sym, ap, subst, ◌∙◌, arith}
+use Rattle.std.proofs.Common.{◌≡◌, ◌≤◌, ℕ, Bool, true, false, cond, List, ◌++◌, length, drop, map, Option, Some, None, Result, Ok, Err, refl, sym, ap, subst}
+use Rattle.std.proofs.Common.{◌∙◌, arith}
 use Rattle.std.specs.Prelude.{◌^◌, IsTrue, nat_lt}
 use Rattle.std.proofs.Math.Seq.{drop-append_seam}
 use Rattle.std.proofs.lemmas.Bool.{ltb-false}
@@ -58,7 +59,8 @@ module _ (acceptable : GeneratedIsAcceptable) (s : SourceOf) (sizes : StackSizes
   unfolding source_built linked_of
   made = by_fault (size_fault (program_of s) sizes) refl
     where
-      by_size : SizesFit (program_of s) sizes → system_in (built_with s sizes 0 (generated s sizes 0)).piton ≡ generated_view (program_of s) sizes 0 → (large : Bool) → nat_lt (2 ^ 20) (placed_size s sizes 0) ≡ large →
+      by_size : SizesFit (program_of s) sizes → system_in (built_with s sizes 0 (generated s sizes 0)).piton ≡ generated_view (program_of s) sizes 0
+          → (large : Bool) → nat_lt (2 ^ 20) (placed_size s sizes 0) ≡ large →
           cond large (Err (fault.Words (placed_size s sizes 0))) (Ok (built_with s sizes 0 (generated s sizes 0))) ≡ Ok b → IsMade s sizes b
       by_size suffice view true e h = absurd cc
       by_size suffice view false e h =
@@ -71,7 +73,8 @@ module _ (acceptable : GeneratedIsAcceptable) (s : SourceOf) (sizes : StackSizes
             image = refl;
           })
 
-      by_fault : (f : Option GenFault) → size_fault (program_of s) sizes ≡ f → (generated_by (unless_fault f (generated s sizes 0)) >>= linked_of s sizes 0) ≡ Ok b → IsMade s sizes b
+      by_fault : (f : Option GenFault) → size_fault (program_of s) sizes ≡ f
+          → (generated_by (unless_fault f (generated s sizes 0)) >>= linked_of s sizes 0) ≡ Ok b → IsMade s sizes b
       by_fault None e h =
           let fit = limits_fit (program_of s) sizes 0 (omega arith) e in
           let good = acceptable s sizes 0 accepted fit in
@@ -96,19 +99,23 @@ module _ (s : SourceOf) (sizes : StackSizes) (accepted : IsAccepted s) (values :
 
   may_begin : IsInitialStack (generated_view (program_of s) sizes 0) (main_words s values)
   unfolding main_start
-  may_begin = is_initial (generated_view (program_of s) sizes 0) shapes (map zero_value shapes) values locals zeros fits (accepted.fits.procs (program_of s).main).locals refl
+  may_begin = is_initial (generated_view (program_of s) sizes 0) shapes (map zero_value shapes) values locals zeros fits
+      (accepted.fits.procs (program_of s).main).locals refl
 
   words_are : with_values values (generated_view (program_of s) sizes 0).stack ≡ main_words s values
   unfolding main_start
   words_are =
-      let same : length (words_of_values values) ≡ length (words_of_values (map zero_value shapes)) = values_words shapes values fits ∙ sym (values_words shapes (map zero_value shapes) zeros) in
+      let same : length (words_of_values values) ≡ length (words_of_values (map zero_value shapes)) =
+      values_words shapes values fits ∙ sym (values_words shapes (map zero_value shapes) zeros) in
       ap (λ (ws : List Word). words_of_values values ++ ws)
-      (ap (drop (length (words_of_values values))) (values-split (map zero_value shapes) locals) ∙ drop_front (words_of_values (map zero_value shapes)) (words_of_values locals) (length (words_of_values values)) same)
+      (ap (drop (length (words_of_values values))) (values-split (map zero_value shapes) locals)
+      ∙ drop_front (words_of_values (map zero_value shapes)) (words_of_values locals) (length (words_of_values values)) same)
       ∙ sym (values-split values locals)
 
 -- 3. Together.
 
-pub can_run : GeneratedIsAcceptable → (s : SourceOf) (sizes : StackSizes) (b : BuiltOf) (text : List ℕ) (values : List ValueOf) → IsAccepted s → source_built s sizes 0 ≡ Ok b → IsTrue (is_image b.image) →
+pub can_run : GeneratedIsAcceptable → (s : SourceOf) (sizes : StackSizes) (b : BuiltOf) (text : List ℕ) (values : List ValueOf) → IsAccepted s
+    → source_built s sizes 0 ≡ Ok b → IsTrue (is_image b.image) →
     values_in b.image.slots text ≡ Ok values → CanRun s (record { checked = b.piton; image = b.image; values = values })
 can_run acceptable s sizes b text values accepted is image read =
     let m = made acceptable s sizes accepted b is in
@@ -121,7 +128,8 @@ can_run acceptable s sizes b text values accepted is image read =
     }
 
 -- values that break a rule
-pub values_failed : (s : SourceOf) (sizes : StackSizes) (b : BuiltOf) (text : List ℕ) (error : ValuesFault) → source_built s sizes 0 ≡ Ok b → common.Fails (values_rule error) (values_in b.image.slots text)
+pub values_failed : (s : SourceOf) (sizes : StackSizes) (b : BuiltOf) (text : List ℕ) (error : ValuesFault) → source_built s sizes 0 ≡ Ok b
+    → common.Fails (values_rule error) (values_in b.image.slots text)
     → common.Fails (start_fault_of (values_fault error)) (built_start s sizes text)
 unfolding built_start
 values_failed s sizes b text (Refused rule place) is fails =

@@ -41,7 +41,8 @@ item_ranges Boolean (negsuc n) h i = h
 item_ranges Character (pos n) h i = h
 item_ranges Character (negsuc n) h i = h
 
-items_range : (k : Kind) (items : List ℤ) → list_all (λ item. is_item k item) items ≡ true → list_all is_int items ≡ true → list_all (is_in_range k) items ≡ true
+items_range : (k : Kind) (items : List ℤ) → list_all (λ item. is_item k item) items ≡ true → list_all is_int items ≡ true
+    → list_all (is_in_range k) items ≡ true
 items_range k [] h i = refl
 items_range k (z ∷ items) h i =
     let p = and_parts (is_item k z) (list_all (λ item. is_item k item) items) h in
@@ -83,10 +84,12 @@ takes s a text values accepted own read =
     let q = program_of s in
     let formals = formals_are s accepted in
     let here = accepted.fits.procs q.main in
-    let shapes : map (λ value. value.shape) values ≡ (proc_at q q.main).formals = values_fit slots text values read ∙ shapes-slots_from a (shown_formals s) ∙ sym formals in
+    let shapes : map (λ value. value.shape) values ≡ (proc_at q q.main).formals =
+    values_fit slots text values read ∙ shapes-slots_from a (shown_formals s) ∙ sym formals in
     vars_fit (proc_at q q.main).formals values here.formals shapes (values_are slots text values own read) (values_have_32_bits slots text values read)
 
-pub takes_values : (s : SourceOf) (sizes : StackSizes) (base : ℕ) (text : List ℕ) (values : List ValueOf) → IsAccepted s → IsTrue (is_image (image_of s sizes base)) →
+pub takes_values : (s : SourceOf) (sizes : StackSizes) (base : ℕ) (text : List ℕ) (values : List ValueOf) → IsAccepted s
+    → IsTrue (is_image (image_of s sizes base)) →
     values_in (image_of s sizes base).slots text ≡ Ok values → FitsFormals s values
 unfolding image_of
 takes_values s sizes base text values accepted image read = takes s _ text values accepted (own_names (image_of s sizes base) image) read
@@ -104,7 +107,8 @@ formals_own_names s accepted = subst (IsDistinct bytes_eq) (sym (names-slots_fro
 pub formals_take : (s : SourceOf) (text : List ℕ) (values : List ValueOf) → IsAccepted s → values_in (formal_slots s) text ≡ Ok values → FitsFormals s values
 formals_take s text values accepted read = takes s 0 text values accepted (formals_own_names s accepted) read
 
-pub fits_from : {X : Type 0} (s : SourceOf) (slots : List Slot) (text : List ℕ) (view : X → List ValueOf) (result : Result X ValuesFault) → IsAccepted s → slots ≡ formal_slots s →
+pub fits_from : {X : Type 0} (s : SourceOf) (slots : List Slot) (text : List ℕ) (view : X → List ValueOf) (result : Result X ValuesFault) → IsAccepted s
+    → slots ≡ formal_slots s →
     GivesValues view result (values_in slots text) → IfOk result (λ x. FitsFormals s (view x))
 fits_from s slots text view (Ok x) accepted is gives = formals_take s text (view x) accepted (ap (λ (z : List Slot). values_in z text) (sym is) ∙ gives)
 fits_from s slots text view (Err fault) accepted is gives = tt

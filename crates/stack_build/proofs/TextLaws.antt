@@ -1,13 +1,15 @@
 -- A text of so many bytes has no place past them, and no more names and statements than they allow: so the image file of its source has
 -- room for the places of all marks, and stays short.
-use Rattle.std.proofs.Common.{◌≡◌, ◌<◌, ◌≤◌, ◌+◌, ◌*◌, ◌&&◌, ℕ, suc, true, List, [], ◌∷◌, ◌++◌, length, map, Option, Some, None, Ok, Err, refl, sym, ap, subst, ◌∙◌, arith, append_assoc}
+use Rattle.std.proofs.Common.{◌≡◌, ◌<◌, ◌≤◌, ◌+◌, ◌*◌, ◌&&◌, ℕ, suc, true, List, [], ◌∷◌, ◌++◌, length, map, Option, Some, None, Ok, Err, refl, sym, ap, subst}
+use Rattle.std.proofs.Common.{◌∙◌, arith, append_assoc}
 use Rattle.std.specs.Prelude.{codes, nat_le}
 use Rattle.std.proofs.lemmas.List.{append-nil}
 use Rattle.stack_text.specs.declared.class.Class.{Class}
 use Rattle.stack_text.specs.declared.class.Class.TheVariants.{LineEnd, Space, Semicolon, Opening, Closing, AtomByte, Invalid}
 use Rattle.stack_text.specs.declared.name.Named.{Named}
 use Rattle.stack_text.specs.Names.{is_name}
-use Rattle.stack_text.specs.Tokens.{class_of, Token, opens_at, closes_at, atom_at, invalid_at, Mode, between, in_atom, in_comment, next, if_atom_byte, atom_run, begins, tokens}
+use Rattle.stack_text.specs.Tokens.{class_of, Token, opens_at, closes_at, atom_at, invalid_at, Mode, between, in_atom, in_comment, next, if_atom_byte, atom_run}
+use Rattle.stack_text.specs.Tokens.{begins, tokens}
 use Rattle.stack_text.specs.Trees.{Node, Nodes, atom, list, none, more, place_of, tokens_of, tokens_of_all, as_kept, TreeOf}
 use Rattle.stack_text.specs.Grammar.Judged.{Judged, ◌⊛◌, front, each_of}
 use Rattle.stack_text.specs.Grammar.Parts.{count_of, list_or}
@@ -15,7 +17,8 @@ use Rattle.stack_text.proofs.KeepsLaws.{Holds, holds_judged, holds_one, holds_tw
 use Rattle.gypsy_syntax.specs.declared.keyword.Keyword.{Keyword}
 use Rattle.gypsy_syntax.specs.declared.keyword.Keyword.TheVariants as word
 use Rattle.gypsy_syntax.specs.declared.literal.Decl.{Decl}
-use Rattle.gypsy_syntax.specs.Grammar.{named_in, names_in, is_word, type_in, literal_in, decl_in, local_in, arg_in, is_empty_list, statement_in, form_in, statements_in, are_few, procedure_in, source_in}
+use Rattle.gypsy_syntax.specs.Grammar.{named_in, names_in, is_word, type_in, literal_in, decl_in, local_in, arg_in, is_empty_list, statement_in, form_in}
+use Rattle.gypsy_syntax.specs.Grammar.{statements_in, are_few, procedure_in, source_in}
 use Rattle.gypsy_syntax.specs.Keywords.{keyword_named}
 use Rattle.gypsy_syntax.specs.Made.{statements, new_decl, new_local, new_seq, new_branch, new_begin, new_call, new_predef, new_proc, new_source}
 use Rattle.gypsy_syntax.specs.Sources.{StmtOf, StmtsOf, no_op, signal, seq, loop, branch, begin, call, predef, no_parts, part, LocalOf, ProcOf, SourceOf}
@@ -49,7 +52,8 @@ module _ (at b : ℕ) (bs : List ℕ) (ts : List Token) where
   no_run : (k : Class) → class_of b ≡ k → length (if_atom_byte k (b ∷ atom_run bs)) ≡ length (atom_run (b ∷ bs))
   no_run k is = ap (λ (c : Class). length (if_atom_byte c (b ∷ atom_run bs))) (sym is)
 
-  light_byte : (m : Mode) (k : Class) → class_of b ≡ k → heft ts + left_of (next m k) bs ≤ length bs → heft (begins m k at (b ∷ bs) ++ ts) + left_of m (b ∷ bs) ≤ suc (length bs)
+  light_byte : (m : Mode) (k : Class) → class_of b ≡ k → heft ts + left_of (next m k) bs ≤ length bs
+      → heft (begins m k at (b ∷ bs) ++ ts) + left_of m (b ∷ bs) ≤ suc (length bs)
   unfolding heft left_of
   light_byte in_comment LineEnd is h = omega (arith, h)
   light_byte in_comment Space is h = omega (arith, h)
@@ -115,7 +119,8 @@ below_byte between Invalid at high bs ts lt h = h
 tokens_below : (m : Mode) (at high : ℕ) (bs : List ℕ) → at + length bs ≤ high → Below high (tokens m at bs)
 unfolding tokens
 tokens_below m at high [] le = tt
-tokens_below m at high (b ∷ bs) le = below_byte m (class_of b) at high (b ∷ bs) (tokens (next m (class_of b)) (at + 1) bs) (omega (arith, le)) (tokens_below (next m (class_of b)) (at + 1) high bs (omega (arith, le)))
+tokens_below m at high (b ∷ bs) le = below_byte m (class_of b) at high (b ∷ bs) (tokens (next m (class_of b)) (at + 1) bs) (omega (arith, le))
+    (tokens_below (next m (class_of b)) (at + 1) high bs (omega (arith, le)))
 
 -- ---- trees
 
@@ -144,13 +149,15 @@ mutual
   heft_tree (atom p w) rest = refl
   heft_tree (list p ts) rest =
       let all = heft_trees ts (closes_at 0 ∷ rest) in
-      let same : heft ((tokens_of_all ts ++ closes_at 0 ∷ []) ++ rest) ≡ heft (tokens_of_all ts ++ (closes_at 0 ∷ rest)) = ap heft (append_assoc (tokens_of_all ts) (closes_at 0 ∷ []) rest) in
+      let same : heft ((tokens_of_all ts ++ closes_at 0 ∷ []) ++ rest) ≡ heft (tokens_of_all ts ++ (closes_at 0 ∷ rest)) =
+      ap heft (append_assoc (tokens_of_all ts) (closes_at 0 ∷ []) rest) in
       omega (arith, all, same)
 
   heft_trees : (ts : Nodes) (rest : List Token) → heft (tokens_of_all ts ++ rest) ≡ weights ts + heft rest
   heft_trees none rest = omega arith
   heft_trees (more t ts) rest =
-      let same : heft ((tokens_of t ++ tokens_of_all ts) ++ rest) ≡ heft (tokens_of t ++ (tokens_of_all ts ++ rest)) = ap heft (append_assoc (tokens_of t) (tokens_of_all ts) rest) in
+      let same : heft ((tokens_of t ++ tokens_of_all ts) ++ rest) ≡ heft (tokens_of t ++ (tokens_of_all ts ++ rest)) =
+      ap heft (append_assoc (tokens_of t) (tokens_of_all ts) rest) in
       let one = heft_tree t (tokens_of_all ts ++ rest) in
       let others = heft_trees ts rest in
       omega (arith, same, one, others)
@@ -251,29 +258,39 @@ module _ (high : ℕ) where
     light_statement (list p (more (atom q w) ts)) h = light_form (keyword_named w) p q w ts h.0 h.1.1
     light_statement t h = record { of_value = tt }
 
-    light_form : (k : Option Keyword) (p q : ℕ) (w : List ℕ) (ts : Nodes) → p < high → AllPlacedBelow high ts → Holds (Light high (list p (more (atom q w) ts))) (form_in k p ts)
+    light_form : (k : Option Keyword) (p q : ℕ) (w : List ℕ) (ts : Nodes) → p < high → AllPlacedBelow high ts
+        → Holds (Light high (list p (more (atom q w) ts))) (form_in k p ts)
     light_form None p q w ts lt h = record { of_value = tt }
     light_form (Some word.NoOp) p q w none lt h = record { of_value = record { places = lt; few = omega arith } }
     light_form (Some word.Signal) p q w (more c none) lt h =
-        holds_one Any (Light high (list p (more (atom q w) (more c none)))) (signal p) (named_in c) (λ n g. record { places = lt; few = omega arith }) (holds_any (named_in c))
+        holds_one Any (Light high (list p (more (atom q w) (more c none)))) (signal p) (named_in c) (λ n g. record { places = lt; few = omega arith })
+        (holds_any (named_in c))
     light_form (Some word.Seq) p q w (more s ss) lt h =
-        holds_one (AllLight high (more s ss)) (Light high (list p (more (atom q w) (more s ss)))) (new_seq p) (Ok front ⊛ statement_in s ⊛ statements_in ss) (λ xs g. record { places = g.places; few = omega (arith, g.few) })
+        holds_one (AllLight high (more s ss)) (Light high (list p (more (atom q w) (more s ss)))) (new_seq p)
+        (Ok front ⊛ statement_in s ⊛ statements_in ss) (λ xs g. record { places = g.places; few = omega (arith, g.few) })
         (holds_two (Light high s) (AllLight high ss) (AllLight high (more s ss)) front (statement_in s) (statements_in ss)
         (λ x g xs k. record { places = (g.places, k.places); few = omega (arith, g.few, k.few) }) (light_statement s h.0) (light_statements ss h.1))
     light_form (Some word.Loop) p q w (more s none) lt h =
-        holds_one (Light high s) (Light high (list p (more (atom q w) (more s none)))) (loop p) (statement_in s) (λ x g. record { places = (lt, g.places); few = omega (arith, g.few) }) (light_statement s h.0)
+        holds_one (Light high s) (Light high (list p (more (atom q w) (more s none)))) (loop p) (statement_in s)
+        (λ x g. record { places = (lt, g.places); few = omega (arith, g.few) }) (light_statement s h.0)
     light_form (Some word.If) p q w (more b (more s (more t none))) lt h =
-        holds_three (LightName b) (Light high s) (Light high t) (Light high (list p (more (atom q w) (more b (more s (more t none)))))) (new_branch p) (named_in b) (statement_in s) (statement_in t)
-        (λ n g x k y l. record { places = (lt, k.places, l.places); few = omega (arith, g.some, g.few, k.few, l.few) }) (light_name b) (light_statement s h.1.0) (light_statement t h.1.1.0)
+        holds_three (LightName b) (Light high s) (Light high t) (Light high (list p (more (atom q w) (more b (more s (more t none)))))) (new_branch p)
+        (named_in b) (statement_in s) (statement_in t)
+        (λ n g x k y l. record { places = (lt, k.places, l.places); few = omega (arith, g.some, g.few, k.few, l.few) }) (light_name b)
+        (light_statement s h.1.0) (light_statement t h.1.1.0)
     light_form (Some word.Begin) p q w (more s (more cs (more t none))) lt h =
         by_empty (Light high (list p (more (atom q w) (more s (more cs (more t none)))))) p (is_empty_list cs) _
-        (λ some_. holds_three (Light high s) Any (Light high t) (Light high (list p (more (atom q w) (more s (more cs (more t none)))))) (new_begin p) (statement_in s) (names_in cs) (statement_in t)
-        (λ x g ns k y l. record { places = (lt, g.places, l.places); few = omega (arith, g.few, l.few) }) (light_statement s h.0) (holds_any (names_in cs)) (light_statement t h.1.1.0))
+        (λ some_. holds_three (Light high s) Any (Light high t) (Light high (list p (more (atom q w) (more s (more cs (more t none)))))) (new_begin p)
+        (statement_in s) (names_in cs) (statement_in t)
+        (λ x g ns k y l. record { places = (lt, g.places, l.places); few = omega (arith, g.few, l.few) }) (light_statement s h.0)
+        (holds_any (names_in cs)) (light_statement t h.1.1.0))
     light_form (Some word.Call) p q w (more f (more vs (more cs none))) lt h =
-        holds_three Any Any Any (Light high (list p (more (atom q w) (more f (more vs (more cs none)))))) (new_call p (place_of vs) (place_of cs)) (named_in f) (names_in vs) (names_in cs)
+        holds_three Any Any Any (Light high (list p (more (atom q w) (more f (more vs (more cs none)))))) (new_call p (place_of vs) (place_of cs))
+        (named_in f) (names_in vs) (names_in cs)
         (λ n g xs k ys l. record { places = lt; few = omega arith }) (holds_any (named_in f)) (holds_any (names_in vs)) (holds_any (names_in cs))
     light_form (Some (word.Predef which)) p q w ts lt h =
-        holds_one Any (Light high (list p (more (atom q w) ts))) (new_predef p which) (each_of arg_in ts) (λ xs g. record { places = lt; few = omega arith }) (holds_any (each_of arg_in ts))
+        holds_one Any (Light high (list p (more (atom q w) ts))) (new_predef p which) (each_of arg_in ts)
+        (λ xs g. record { places = lt; few = omega arith }) (holds_any (each_of arg_in ts))
     light_form (Some k) p q w ts lt h = record { of_value = tt }
 
     light_statements : (ts : Nodes) → AllPlacedBelow high ts → Holds (AllLight high ts) (statements_in ts)
@@ -299,7 +316,8 @@ locals_cost (l ∷ ls) = 16 + length l.decl.name.name + locals_cost ls
 
 -- and for a procedure with its marks
 abbrev pub procedure_cost : ProcOf → ℕ
-procedure_cost c = 26 + length c.name.name + conditions_cost c.conds + conditions_cost c.local_conds + formals_cost c.formals + locals_cost c.locals + 12 * (marks_in c.body + 3)
+procedure_cost c = 26 + length c.name.name + conditions_cost c.conds + conditions_cost c.local_conds + formals_cost c.formals + locals_cost c.locals
+    + 12 * (marks_in c.body + 3)
 
 unfoldable pub procedures_cost : List ProcOf → ℕ
 procedures_cost [] = 0
@@ -307,12 +325,14 @@ procedures_cost (c ∷ cs) = procedure_cost c + procedures_cost cs
 
 light_decl : (t : Node) → Holds (λ (d : Decl). 16 + length d.name.name ≤ 12 * weight t) (decl_in t)
 light_decl (list p (more v (more t none))) =
-    holds_two (LightName v) Any (λ (d : Decl). 16 + length d.name.name ≤ 12 * weight (list p (more v (more t none)))) new_decl (named_in v) (type_in t) (λ n g x k. omega (arith, g.some, g.few)) (light_name v) (holds_any (type_in t))
+    holds_two (LightName v) Any (λ (d : Decl). 16 + length d.name.name ≤ 12 * weight (list p (more v (more t none)))) new_decl (named_in v) (type_in t)
+    (λ n g x k. omega (arith, g.some, g.few)) (light_name v) (holds_any (type_in t))
 light_decl t = record { of_value = tt }
 
 light_local : (t : Node) → Holds (λ (l : LocalOf). 16 + length l.decl.name.name ≤ 12 * weight t) (local_in t)
 light_local (list p (more v (more t (more value none)))) =
-    holds_three (LightName v) Any Any (λ (l : LocalOf). 16 + length l.decl.name.name ≤ 12 * weight (list p (more v (more t (more value none))))) new_local (named_in v) (type_in t) (literal_in value)
+    holds_three (LightName v) Any Any (λ (l : LocalOf). 16 + length l.decl.name.name ≤ 12 * weight (list p (more v (more t (more value none)))))
+    new_local (named_in v) (type_in t) (literal_in value)
     (λ n g x k y l. omega (arith, g.some, g.few)) (light_name v) (holds_any (type_in t)) (holds_any (literal_in value))
 light_local t = record { of_value = tt }
 
@@ -320,25 +340,30 @@ light_conditions : (ts : Nodes) → Holds (λ (ns : List Named). conditions_cost
 unfolding conditions_cost
 light_conditions none = record { of_value = omega arith }
 light_conditions (more t ts) =
-    holds_two (LightName t) (λ (ns : List Named). conditions_cost ns ≤ 12 * weights ts) (λ (ns : List Named). conditions_cost ns ≤ 12 * weights (more t ts)) front (named_in t) (each_of named_in ts)
+    holds_two (LightName t) (λ (ns : List Named). conditions_cost ns ≤ 12 * weights ts)
+    (λ (ns : List Named). conditions_cost ns ≤ 12 * weights (more t ts)) front (named_in t) (each_of named_in ts)
     (λ n g ns k. omega (arith, g.some, g.few, k)) (light_name t) (light_conditions ts)
 
 light_formals : (ts : Nodes) → Holds (λ (ds : List Decl). formals_cost ds ≤ 12 * weights ts) (each_of decl_in ts)
 unfolding formals_cost
 light_formals none = record { of_value = omega arith }
 light_formals (more t ts) =
-    holds_two (λ (d : Decl). 16 + length d.name.name ≤ 12 * weight t) (λ (ds : List Decl). formals_cost ds ≤ 12 * weights ts) (λ (ds : List Decl). formals_cost ds ≤ 12 * weights (more t ts)) front (decl_in t) (each_of decl_in ts)
+    holds_two (λ (d : Decl). 16 + length d.name.name ≤ 12 * weight t) (λ (ds : List Decl). formals_cost ds ≤ 12 * weights ts)
+    (λ (ds : List Decl). formals_cost ds ≤ 12 * weights (more t ts)) front (decl_in t) (each_of decl_in ts)
     (λ d g ds k. omega (arith, g, k)) (light_decl t) (light_formals ts)
 
 light_locals : (ts : Nodes) → Holds (λ (ls : List LocalOf). locals_cost ls ≤ 12 * weights ts) (each_of local_in ts)
 unfolding locals_cost
 light_locals none = record { of_value = omega arith }
 light_locals (more t ts) =
-    holds_two (λ (l : LocalOf). 16 + length l.decl.name.name ≤ 12 * weight t) (λ (ls : List LocalOf). locals_cost ls ≤ 12 * weights ts) (λ (ls : List LocalOf). locals_cost ls ≤ 12 * weights (more t ts)) front (local_in t) (each_of local_in ts)
+    holds_two (λ (l : LocalOf). 16 + length l.decl.name.name ≤ 12 * weight t) (λ (ls : List LocalOf). locals_cost ls ≤ 12 * weights ts)
+    (λ (ls : List LocalOf). locals_cost ls ≤ 12 * weights (more t ts)) front (local_in t) (each_of local_in ts)
     (λ l g ls k. omega (arith, g, k)) (light_local t) (light_locals ts)
 
 -- where a list is wanted
-light_list : {X : Type 0} (rule : ℕ) (judge : Node → Judged X) (cost : List X → ℕ) → ((ts : Nodes) → Holds (λ (xs : List X). cost xs ≤ 12 * weights ts) (each_of judge ts)) → (t : Node) → Holds (λ (xs : List X). cost xs + 24 ≤ 12 * weight t) (list_or rule judge t)
+light_list : {X : Type 0} (rule : ℕ) (judge : Node → Judged X) (cost : List X → ℕ)
+    → ((ts : Nodes) → Holds (λ (xs : List X). cost xs ≤ 12 * weights ts) (each_of judge ts)) → (t : Node)
+    → Holds (λ (xs : List X). cost xs + 24 ≤ 12 * weight t) (list_or rule judge t)
 light_list rule judge cost each (atom p w) = record { of_value = tt }
 light_list rule judge cost each (list p ts) =
     holds_more (λ xs. cost xs ≤ 12 * weights ts) (λ xs. cost xs + 24 ≤ 12 * weight (list p ts)) (each_of judge ts) (λ xs h. omega (arith, h)) (each ts)
@@ -353,10 +378,13 @@ light_procedure high (list p (more w (more name (more formals (more conds (more 
     let whole : Node = list p (more w (more name (more formals (more conds (more locals (more local_conds (more body none))))))) in
     holds_judged (LightProc high whole) p 2 (is_word (codes "proc") w) _
     (λ pass. holds_judged (LightProc high whole) p 12 (are_few formals locals && are_few conds local_conds) _
-    (λ few. holds_six (LightName name) (λ (ds : List Decl). formals_cost ds + 24 ≤ 12 * weight formals) (λ (ns : List Named). conditions_cost ns + 24 ≤ 12 * weight conds) (λ (ls : List LocalOf). locals_cost ls + 24 ≤ 12 * weight locals) (λ (ns : List Named). conditions_cost ns + 24 ≤ 12 * weight local_conds) (Light high body) (LightProc high whole)
+    (λ few. holds_six (LightName name) (λ (ds : List Decl). formals_cost ds + 24 ≤ 12 * weight formals)
+    (λ (ns : List Named). conditions_cost ns + 24 ≤ 12 * weight conds) (λ (ls : List LocalOf). locals_cost ls + 24 ≤ 12 * weight locals)
+    (λ (ns : List Named). conditions_cost ns + 24 ≤ 12 * weight local_conds) (Light high body) (LightProc high whole)
     (new_proc p) (named_in name) (list_or 4 decl_in formals) (names_in conds) (list_or 6 local_in locals) (names_in local_conds) (statement_in body)
     (λ n hn fs hf cs hc ls hl ds hd s hs. record { place = h.0; body = hs.places; few = omega (arith, hn.some, hn.few, hf, hc, hl, hd, hs.few) })
-    (light_name name) (light_list 4 decl_in formals_cost light_formals formals) (light_list 5 named_in conditions_cost light_conditions conds) (light_list 6 local_in locals_cost light_locals locals)
+    (light_name name) (light_list 4 decl_in formals_cost light_formals formals) (light_list 5 named_in conditions_cost light_conditions conds)
+    (light_list 6 local_in locals_cost light_locals locals)
     (light_list 5 named_in conditions_cost light_conditions local_conds) (light_statement high body h.1.1.1.1.1.1.1.0)))
 light_procedure high t h = record { of_value = tt }
 
@@ -383,7 +411,8 @@ light_source high (list p (more w (more main (more r rs)))) h =
     let whole : Node = list p (more w (more main (more r rs))) in
     holds_judged (LightSource high (weight whole)) p 1 (is_word (codes "program") w) _
     (λ pass. holds_judged (LightSource high (weight whole)) p 12 (nat_le (count_of (more r rs)) 1000) _
-    (λ few. holds_two Any (LightProcs high (weights (more r rs))) (LightSource high (weight whole)) (new_source p) (named_in main) (each_of procedure_in (more r rs))
+    (λ few. holds_two Any (LightProcs high (weights (more r rs))) (LightSource high (weight whole)) (new_source p) (named_in main)
+    (each_of procedure_in (more r rs))
     (λ n g cs k. record { each = k.each; few = let le = k.few in omega (arith, le) }) (holds_any (named_in main)) (light_procedures high (more r rs) h.1.1.1)))
 light_source high t h = record { of_value = tt }
 

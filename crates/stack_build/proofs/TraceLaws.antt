@@ -42,21 +42,27 @@ use Rattle.stack_build.specs.Traces.{HoldsIn, HoldsAll, HoldsTrace, TracesAt, Ge
 use Rattle.stack_build.proofs.MomentLaws.{Holds-behind, element_held, local_held, pointer_held, item_in_range, stands_for, loaded_is, last_is}
 use Rattle.stack_build.proofs.Numbers.{item_number}
 
-module _ (q : Program) (s : SystemView) (m : Fm) (a : PitonState) (stands : Stands s m a) (image : ImageOf) (base : image.base ≡ s.base) (last : image.base + image.size ≡ end_of s) where
+module _ (q : Program) (s : SystemView) (m : Fm) (a : PitonState) (stands : Stands s m a) (image : ImageOf) (base : image.base ≡ s.base)
+    (last : image.base + image.size ≡ end_of s) where
   -- a variable of the activation whose frame is the first of these
-  variable_held : (c p b : ℕ) (v : ValueOf) (f : piton.Frame) (fs : List piton.Frame) → ValueFits v → Holds m.base m.memory c (frame_words (addresses_of s) (f ∷ fs)) → StandsIn q a.stack f p b v
+  variable_held : (c p b : ℕ) (v : ValueOf) (f : piton.Frame) (fs : List piton.Frame) → ValueFits v
+      → Holds m.base m.memory c (frame_words (addresses_of s) (f ∷ fs)) → StandsIn q a.stack f p b v
       → HoldsIn q image m c p b v
   variable_held c p b v f fs fits held var =
-      let temp : Holds m.base m.memory (slice_index m.registers 2) (numbers (addresses_of s) a.stack) = subst (λ (i : ℕ). Holds i m.memory (slice_index m.registers 2) (numbers (addresses_of s) a.stack)) (sym stands.is.base_is) stands.is.laid.temp_at in
+      let temp : Holds m.base m.memory (slice_index m.registers 2) (numbers (addresses_of s) a.stack) =
+      subst (λ (i : ℕ). Holds i m.memory (slice_index m.registers 2) (numbers (addresses_of s) a.stack)) (sym stands.is.base_is)
+      stands.is.laid.temp_at in
       record {
         index = var.index;
         local = local_held (addresses_of s) m.base m.memory c (offset q p b) var.index (f ∷ fs) held var.local;
         items = λ h z e.
-            let there = element_there a.stack (var.index + h) (word_of_item v.shape.kind z) (var.words h (word_of_item v.shape.kind z) (get_map (word_of_item v.shape.kind) v.items h z e)) in
+            let there = element_there a.stack (var.index + h) (word_of_item v.shape.kind z)
+            (var.words h (word_of_item v.shape.kind z) (get_map (word_of_item v.shape.kind) v.items h z e)) in
             let size : image.size ≡ end_of s - s.base = omega (arith, last, base) in
             let count : length (numbers (addresses_of s) a.stack) ≡ length a.stack = length-map a.stack (word_number (addresses_of s)) in
             let below : var.index + h < image.size = omega (arith, there, count, size, stands.is.laid.temp_end, stands.is.laid.temp_fits) in
-            let one = element_held (addresses_of s) m.base m.memory (slice_index m.registers 2) (var.index + h) a.stack (word_of_item v.shape.kind z) temp stands.is.laid.temp_end
+            let one = element_held (addresses_of s) m.base m.memory (slice_index m.registers 2) (var.index + h) a.stack (word_of_item v.shape.kind z)
+            temp stands.is.laid.temp_end
             (var.words h (word_of_item v.shape.kind z) (get_map (word_of_item v.shape.kind) v.items h z e)) in
             let at : end_of s - 1 - (var.index + h) ≡ image.base + image.size - 1 - (var.index + h) = omega (arith, last) in
             ap (λ (b : Bool). if b then word_in m (image.base + image.size - 1 - (var.index + h)) else None) (lt-ltb (var.index + h) image.size below)
@@ -64,7 +70,8 @@ module _ (q : Program) (s : SystemView) (m : Fm) (a : PitonState) (stands : Stan
             (one ∙ ap (λ (n : ℕ). Some n) (item_number (addresses_of s) v.shape.kind z (item_in_range v.shape.kind v.items h z fits.items e)));
       }
 
-  all_held : (c p : ℕ) (y : List ValueOf) (f : piton.Frame) (fs : List piton.Frame) → Holds m.base m.memory c (frame_words (addresses_of s) (f ∷ fs)) → FrameStands q a.stack f p y → HoldsAll q image m c p y
+  all_held : (c p : ℕ) (y : List ValueOf) (f : piton.Frame) (fs : List piton.Frame) → Holds m.base m.memory c (frame_words (addresses_of s) (f ∷ fs))
+      → FrameStands q a.stack f p y → HoldsAll q image m c p y
   all_held c p y f fs held frame b shape e =
       variable_held c p b (value_at y b) f fs (value_fits (shapes_of (proc_at q p)) y b shape frame.fits e).1 held (frame.variables b shape e)
 
@@ -72,7 +79,8 @@ module _ (q : Program) (s : SystemView) (m : Fm) (a : PitonState) (stands : Stan
   no_frames p y [] h = h
   no_frames p y (Held c x w xs cs ∷ fs) h = h
 
-  trace_held : (fs : List Frame) (p c : ℕ) (y : List ValueOf) (frames : List piton.Frame) → FramesStand q a.stack p y fs frames → Holds m.base m.memory c (frame_words (addresses_of s) frames) →
+  trace_held : (fs : List Frame) (p c : ℕ) (y : List ValueOf) (frames : List piton.Frame) → FramesStand q a.stack p y fs frames
+      → Holds m.base m.memory c (frame_words (addresses_of s) frames) →
       c + length (frame_words (addresses_of s) frames) ≡ (addresses_of s).temp_at → HoldsTrace q image m c p y fs
   trace_held [] p c y [] h held long = absurd h
   trace_held [] p c y (f ∷ []) h held long = (all_held c p y f [] held h, pointer_held q (addresses_of s) m c (vars_of (proc_at q p)) f [] h.number held)
@@ -88,7 +96,8 @@ module _ (q : Program) (s : SystemView) (m : Fm) (a : PitonState) (stands : Stan
       let all : length (words ++ (head ++ older)) ≡ length words + length (head ++ older) = length-append words (head ++ older) in
       let two : length (head ++ older) ≡ 2 + length older = omega (arith, length-append head older) in
       let at : c + length words + 2 ≡ next = omega (arith, long, all, two) in
-      let behind : Holds m.base m.memory (c + length words + 2) older = Holds-behind m.base m.memory (c + length words) head older (Holds-behind m.base m.memory c words (head ++ older) held) in
+      let behind : Holds m.base m.memory (c + length words + 2) older =
+      Holds-behind m.base m.memory (c + length words) head older (Holds-behind m.base m.memory c words (head ++ older) held) in
       let some : next ≢ 0 = not_none next (c + length words) at in
       let ends : next + length older ≡ A.temp_at = omega (arith, long, all, two, at) in (
         all_held c p y f (g ∷ frames) held h.0,
@@ -104,18 +113,22 @@ module _ (q : Program) (s : SystemView) (m : Fm) (a : PitonState) (stands : Stan
       not_none n k e z = omega (arith, e, z)
 
   -- the newest frame's address
-  frame_is : (fs : List Frame) (p : ℕ) (y : List ValueOf) (frames : List piton.Frame) → FramesStand q a.stack p y fs frames → a.frames ≡ frames → slice_index m.registers 0 ≡ slice_index m.registers 1
+  frame_is : (fs : List Frame) (p : ℕ) (y : List ValueOf) (frames : List piton.Frame) → FramesStand q a.stack p y fs frames → a.frames ≡ frames
+      → slice_index m.registers 0 ≡ slice_index m.registers 1
   frame_is fs p y [] h e = absurd (no_frames p y fs h)
   frame_is fs p y (f ∷ frames) h e =
       let words = frame_words (addresses_of s) a.frames in
-      let r0 : slice_index m.registers 0 ≡ (addresses_of s).temp_at - length words = stands.is.r0_is ∙ ap (λ (l : List piton.Frame). pointer_to (addresses_of s) l words) e in
+      let r0 : slice_index m.registers 0 ≡ (addresses_of s).temp_at - length words =
+      stands.is.r0_is ∙ ap (λ (l : List piton.Frame). pointer_to (addresses_of s) l words) e in
       omega (arith, r0, stands.is.laid.ctrl_end)
 
   trace_here : (fs : List Frame) (p : ℕ) (y : List ValueOf) → FramesStand q a.stack p y fs a.frames → HoldsTrace q image m (slice_index m.registers 0) p y fs
   trace_here fs p y h =
       let words = frame_words (addresses_of s) a.frames in
-      let held : Holds m.base m.memory (slice_index m.registers 1) words = subst (λ (i : ℕ). Holds i m.memory (slice_index m.registers 1) words) (sym stands.is.base_is) stands.is.laid.ctrl_at in
-      subst (λ (c : ℕ). HoldsTrace q image m c p y fs) (sym (frame_is fs p y a.frames h refl)) (trace_held fs p (slice_index m.registers 1) y a.frames h held stands.is.laid.ctrl_end)
+      let held : Holds m.base m.memory (slice_index m.registers 1) words =
+      subst (λ (i : ℕ). Holds i m.memory (slice_index m.registers 1) words) (sym stands.is.base_is) stands.is.laid.ctrl_at in
+      subst (λ (c : ℕ). HoldsTrace q image m c p y fs) (sym (frame_is fs p y a.frames h refl))
+      (trace_held fs p (slice_index m.registers 1) y a.frames h held stands.is.laid.ctrl_end)
 
 -- from the moments of the system
 pub images_keep_traces : EachMomentHasFrames → GeneratedIsAcceptable → PitonRunsOnProcessor → GeneratedImageKeepsTraces
@@ -123,7 +136,8 @@ unfolding image_of
 images_keep_traces moments acceptable piton_runs s sizes base accepted limits small v j fits =
     by_moment (moment_from (program_of s) sizes v j) (moments (program_of s) sizes base v j accepted.fits limits.sizes_fit fits)
   where
-    by_moment : (g : Move) → HasFrames (program_of s) (generated_view (program_of s) sizes base) (opened (program_of s) sizes base v) g → TracesAt (program_of s) (image_of s sizes base) v g
+    by_moment : (g : Move) → HasFrames (program_of s) (generated_view (program_of s) sizes base) (opened (program_of s) sizes base v) g
+        → TracesAt (program_of s) (image_of s sizes base) v g
     by_moment (Next (At p x w fs t)) h =
         let q : Program = program_of s in
         let S : SystemView = generated_view q sizes base in
@@ -131,10 +145,12 @@ images_keep_traces moments acceptable piton_runs s sizes base accepted limits sm
         let theorem = piton_runs S sound small in
         let low = end_fits S sound.low_base small in
         let on = stands_for s sizes base accepted sound theorem low v fits t.steps t.count h.to h.runs in
-        let same : loader.loaded (image_of s sizes base) v ≡ loaded S (words_of_values (main_start q v)) = loaded_is s sizes base accepted sound theorem low v fits in
+        let same : loader.loaded (image_of s sizes base) v ≡ loaded S (words_of_values (main_start q v)) =
+        loaded_is s sizes base accepted sound theorem low v fits in
         record {
           state = on.state;
           reached = ap (fm_run t.count) same ∙ on.runs;
-          trace = trace_here q S on.state h.to on.stands (image_of s sizes base) refl (last_is s sizes base accepted sound theorem low) (handed_back x fs) p x h.frames;
+          trace = trace_here q S on.state h.to on.stands (image_of s sizes base) refl (last_is s sizes base accepted sound theorem low)
+              (handed_back x fs) p x h.frames;
         }
     by_moment (Ended x c t) h = tt

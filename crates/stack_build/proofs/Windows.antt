@@ -19,11 +19,13 @@ at_seam base n front r w rest is =
     ap (λ (i : ℕ). slice_set (front ++ r ∷ rest) i w) at ∙ set-append_seam front r rest w
 
 -- words stored behind others
-words_over : (base k : ℕ) (ws front rest : List ℕ) → k ≡ length front → length ws ≤ length rest → with_words base (base + k) ws (front ++ rest) ≡ front ++ (ws ++ drop (length ws) rest)
+words_over : (base k : ℕ) (ws front rest : List ℕ) → k ≡ length front → length ws ≤ length rest
+    → with_words base (base + k) ws (front ++ rest) ≡ front ++ (ws ++ drop (length ws) rest)
 words_over base k [] front rest at fits = refl
 words_over base k (w ∷ ws) front [] at fits = absurd (omega arith)
 words_over base k (w ∷ ws) front (r ∷ rest) at fits =
-    let first : with_word base (front ++ r ∷ rest) (base + k) w ≡ (front ++ w ∷ []) ++ rest = at_seam base k front r w rest at ∙ sym (append_assoc front (w ∷ []) rest) in
+    let first : with_word base (front ++ r ∷ rest) (base + k) w ≡ (front ++ w ∷ []) ++ rest =
+    at_seam base k front r w rest at ∙ sym (append_assoc front (w ∷ []) rest) in
     let next : base + k + 1 ≡ base + (k + 1) = omega arith in
     ap (λ (m : List ℕ). with_words base (base + k + 1) ws m) first
     ∙ ap (λ (n : ℕ). with_words base n ws ((front ++ w ∷ []) ++ rest)) next
@@ -43,5 +45,6 @@ all_stand base size ws long =
     let count : length zeros ≡ size = length-replicate size 0 in
     ap (λ (a : ℕ). with_words base a (trimmed ws) zeros) start
     ∙ words_over base 0 (trimmed ws) [] zeros refl (omega (arith, shorter ws))
-    ∙ ap (λ (rest : List ℕ). trimmed ws ++ rest) (drop-replicate (length (trimmed ws)) size ∙ ap (λ (m : ℕ). replicate {A = ℕ} (m - length (trimmed ws)) 0) (sym long))
+    ∙ ap (λ (rest : List ℕ). trimmed ws ++ rest)
+    (drop-replicate (length (trimmed ws)) size ∙ ap (λ (m : ℕ). replicate {A = ℕ} (m - length (trimmed ws)) 0) (sym long))
     ∙ sym (trimmed-rest ws)

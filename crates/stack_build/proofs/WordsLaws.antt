@@ -24,8 +24,10 @@ use Rattle.piton_check.specs.Sound.{IsPlaced, IsSoundProgram, IsSound, local_cou
 use Rattle.piton_semantics.specs.State.{program_of}
 use Rattle.piton_semantics.specs.Fits.{Each, IsWordOf}
 use Rattle.piton_semantics.specs.Addresses.{word_number, numbers}
-use Rattle.piton_semantics.specs.Templates.{operation_code, condition_of, words_of, prelude_words, template, instructions_words, program_words, programs_words, test_pieces}
-use Rattle.piton_semantics.specs.Placed.{program_size, programs_size, entry_of, address_of_place, final_pc_of, address_of_area, ctrl_start, temp_start, end_of, addresses_of, code_of, first_frame, first_frame_at, first_top, placed}
+use Rattle.piton_semantics.specs.Templates.{operation_code, condition_of, words_of, prelude_words, template, instructions_words, program_words, programs_words}
+use Rattle.piton_semantics.specs.Templates.{test_pieces}
+use Rattle.piton_semantics.specs.Placed.{program_size, programs_size, entry_of, address_of_place, final_pc_of, address_of_area, ctrl_start, temp_start, end_of}
+use Rattle.piton_semantics.specs.Placed.{addresses_of, code_of, first_frame, first_frame_at, first_top, placed}
 use Rattle.piton_semantics.proofs.PieceLaws.{codes_are, jump_case_is, prelude_is}
 use Rattle.piton_semantics.proofs.ReadyLaws.{area_end}
 use Rattle.piton_semantics.proofs.SoundLaws.{all_each, word_known, words_known, known}
@@ -60,7 +62,8 @@ words-trimmed ws h = words-front (trimmed ws) (replicate (length ws - length (tr
 
 -- ---- addresses
 
-program_within : (ps : List ProgramView) (k : ℕ) → programs_size (take k ps) + program_size (slice_index_or ps k record { formals = 0; temporaries = []; instructions = [] }) ≤ programs_size ps + 2
+program_within : (ps : List ProgramView) (k : ℕ) → programs_size (take k ps) + program_size
+    (slice_index_or ps k record { formals = 0; temporaries = []; instructions = [] }) ≤ programs_size ps + 2
 program_within [] zero = omega arith
 program_within [] (suc k) = omega arith
 program_within (p ∷ ps) zero = omega arith
@@ -102,13 +105,15 @@ module _ (s : SystemView) (fits : end_of s + 8 < 2 ^ 32) where
 
   words-areas : (areas : List (List Word)) → Each (Each (IsWordOf s)) areas → are_words (joined (map (numbers (addresses_of s)) areas)) ≡ true
   words-areas [] h = refl
-  words-areas (area ∷ areas) h = words-append (numbers (addresses_of s) area) (joined (map (numbers (addresses_of s)) areas)) (words-numbers area h.0) (words-areas areas h.1)
+  words-areas (area ∷ areas) h =
+      words-append (numbers (addresses_of s) area) (joined (map (numbers (addresses_of s)) areas)) (words-numbers area h.0) (words-areas areas h.1)
 
   -- ---- code
 
   words-places : (program : ℕ) (places : List ℕ) → are_words (map (address_of_place s program) places) ≡ true
   words-places program [] = refl
-  words-places program (to ∷ places) = one_word (address_of_place s program to) (map (address_of_place s program) places) (place_below program to) (words-places program places)
+  words-places program (to ∷ places) =
+      one_word (address_of_place s program to) (map (address_of_place s program) places) (place_below program to) (words-places program places)
 
   -- the numbers that an instruction has
   abbrev HasWords : ℕ → Instruction → Type 0
@@ -173,7 +178,8 @@ module _ (s : SystemView) (fits : end_of s + 8 < 2 ^ 32) where
   words-operation op.LshBitv = refl
   words-operation op.NotBool = refl
 
-  words-constant : (program place locals : ℕ) (w : Word) → word_number (addresses_of s) w < 2 ^ 32 → are_words (template (addresses_of s) program place locals (i.PushConstant w)) ≡ true
+  words-constant : (program place locals : ℕ) (w : Word) → word_number (addresses_of s) w < 2 ^ 32
+      → are_words (template (addresses_of s) program place locals (i.PushConstant w)) ≡ true
   words-constant program place locals (Int z) lt = one (word_of_int z) lt
   words-constant program place locals (Nat n) lt = one n lt
   words-constant program place locals (Bitv n) lt = one n lt
@@ -182,7 +188,8 @@ module _ (s : SystemView) (fits : end_of s + 8 < 2 ^ 32) where
   words-constant program place locals (Pc k l) lt = one (address_of_place s k l) lt
   words-constant program place locals (Subr k) lt = one (entry_of s k) lt
 
-  words-template : (program place locals : ℕ) (instruction : Instruction) → HasWords locals instruction → are_words (template (addresses_of s) program place locals instruction) ≡ true
+  words-template : (program place locals : ℕ) (instruction : Instruction) → HasWords locals instruction
+      → are_words (template (addresses_of s) program place locals instruction) ≡ true
   words-template program place locals (i.PushConstant word) h = words-constant program place locals word (number_below word h)
   words-template program place locals (i.PushLocal offset) h = one offset h
   words-template program place locals (i.PopLocal offset) h = one offset h
@@ -203,14 +210,17 @@ module _ (s : SystemView) (fits : end_of s + 8 < 2 ^ 32) where
   words-template program place locals i.NoOp h = refl
   words-template program place locals (i.Jump to) h = one (address_of_place s program to) (place_below program to)
   words-template program place locals (i.JumpIfTempStkFull to) h = two (temp_start s) (address_of_place s program to) (omega arith) (place_below program to)
-  words-template program place locals (i.JumpIfTempStkEmpty to) h = two (below_end (end_of s) 0) (address_of_place s program to) (omega arith) (place_below program to)
+  words-template program place locals (i.JumpIfTempStkEmpty to) h =
+      two (below_end (end_of s) 0) (address_of_place s program to) (omega arith) (place_below program to)
   words-template program place locals (i.JumpCase places) h =
       subst (λ (ws : List ℕ). are_words ws ≡ true) (sym (jump_case_is (addresses_of s) (address_of_place s program place) program places))
       (one_word (address_of_place s program place + 4) (map (address_of_place s program) places) (table_below program place) (words-places program places))
-  words-template program place locals (i.Pushj to) h = two (address_of_place s program (place + 1)) (address_of_place s program to) (place_below program (place + 1)) (place_below program to)
+  words-template program place locals (i.Pushj to) h =
+      two (address_of_place s program (place + 1)) (address_of_place s program to) (place_below program (place + 1)) (place_below program to)
   words-template program place locals i.Popj h = refl
   words-template program place locals (i.TestAndJump family kind to) h = words-test kind program (address_of_place s program place) to
-  words-template program place locals (i.Call callee) h = two (address_of_place s program (place + 1)) (entry_of s callee) (place_below program (place + 1)) (entry_below callee)
+  words-template program place locals (i.Call callee) h =
+      two (address_of_place s program (place + 1)) (entry_of s callee) (place_below program (place + 1)) (entry_below callee)
   words-template program place locals i.PopCall h = one (address_of_place s program (place + 1)) (place_below program (place + 1))
   words-template program place locals i.Ret h = one locals h
   words-template program place locals (i.Apply o) h =
@@ -248,7 +258,8 @@ module _ (s : SystemView) (fits : end_of s + 8 < 2 ^ 32) where
   has_words p i.PopCall few h = tt
   has_words p (i.Apply o) few h = tt
 
-  words-instructions : (program locals place : ℕ) (instructions : List Instruction) → Each (HasWords locals) instructions → are_words (instructions_words (addresses_of s) program locals place instructions) ≡ true
+  words-instructions : (program locals place : ℕ) (instructions : List Instruction) → Each (HasWords locals) instructions
+      → are_words (instructions_words (addresses_of s) program locals place instructions) ≡ true
   words-instructions program locals place [] h = refl
   words-instructions program locals place (x ∷ instructions) h =
       words-append (template (addresses_of s) program place locals x) (instructions_words (addresses_of s) program locals (place + 1) instructions)
@@ -267,16 +278,19 @@ module _ (s : SystemView) (fits : end_of s + 8 < 2 ^ 32) where
       let frame : List ℕ = mov (reg 0) (reg 1) ∷ [] in
       let entered = words-append moves frame (words-replicate p.formals (mov (push 1) (pop 2)) refl) refl in
       subst (λ (ws : List ℕ). are_words ws ≡ true) (sym (prelude_is A (entry_of s program) p))
-      (words-append (temporaries_code (numbers A p.temporaries)) (moves ++ frame) (words-temporaries (numbers A p.temporaries) (words-numbers p.temporaries h)) entered)
+      (words-append (temporaries_code (numbers A p.temporaries)) (moves ++ frame)
+      (words-temporaries (numbers A p.temporaries) (words-numbers p.temporaries h)) entered)
 
   words-programs : (program : ℕ) (ps : List ProgramView) → Each (IsSoundProgram s) ps → are_words (programs_words (addresses_of s) program ps) ≡ true
   words-programs program [] h = refl
   words-programs program (p ∷ ps) h =
       let A = addresses_of s in
       let few = h.0.few_locals in
-      let code = words-instructions program (local_count p) 0 p.instructions (all_each (IsPlaced s p) (HasWords (local_count p)) (λ x k. has_words p x few k) p.instructions h.0.instructions) in
+      let code = words-instructions program (local_count p) 0 p.instructions
+      (all_each (IsPlaced s p) (HasWords (local_count p)) (λ x k. has_words p x few k) p.instructions h.0.instructions) in
       words-append (program_words A program p) (programs_words A (program + 1) ps)
-      (words-append (prelude_words A program p) (instructions_words A program (local_count p) 0 p.instructions) (words-prelude program p (words_known s p.temporaries h.0.temporaries)) code)
+      (words-append (prelude_words A program p) (instructions_words A program (local_count p) 0 p.instructions)
+      (words-prelude program p (words_known s p.temporaries h.0.temporaries)) code)
       (words-programs (program + 1) ps h.1)
 
 module _ (s : SystemView) (sound : IsSound s) (small : (placed s).size ≤ 2 ^ 20) where
@@ -294,9 +308,11 @@ module _ (s : SystemView) (sound : IsSound s) (small : (placed s).size ≤ 2 ^ 2
       let stack : List ℕ = numbers A (reverse s.stack) in
       let fits = below in
       let stack_are : are_words stack ≡ true =
-      subst (λ (ws : List ℕ). are_words ws ≡ true) (sym (map-reversed (word_number A) s.stack [])) (words-reversed (numbers A s.stack) [] (words-numbers s fits s.stack facts.stack) refl) in
+      subst (λ (ws : List ℕ). are_words ws ≡ true) (sym (map-reversed (word_number A) s.stack []))
+      (words-reversed (numbers A s.stack) [] (words-numbers s fits s.stack facts.stack) refl) in
       let last : are_words (0 ∷ final_pc_of s ∷ []) ≡ true = and_from _ _ refl (one_word (final_pc_of s) [] (omega arith) refl) in
-      let frame_are : are_words (first_frame s) ≡ true = words-append locals (0 ∷ final_pc_of s ∷ []) (words-numbers s fits (program_of s s.main).temporaries (facts.temporaries s.main)) last in
+      let frame_are : are_words (first_frame s) ≡ true =
+      words-append locals (0 ∷ final_pc_of s ∷ []) (words-numbers s fits (program_of s s.main).temporaries (facts.temporaries s.main)) last in
       let code = words-programs s fits 0 s.programs (all_each (IsSoundProgram s) (IsSoundProgram s) (λ p h. h) s.programs sound.programs) in
       words-append (code_of s) (halt_word ∷ (areas ++ (unused ++ (first_frame s ++ (free ++ stack))))) code
       (and_from _ _ refl (words-append areas (unused ++ (first_frame s ++ (free ++ stack))) (words-areas s fits s.areas facts.areas)

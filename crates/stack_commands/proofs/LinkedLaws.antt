@@ -46,7 +46,8 @@ pub image_short : (c : CheckedOf) → IsChecked c → (placed (system_in c)).siz
 image_short c is small = let all = file_few (linked_image (system_in c)) (image_fits c is small) in omega (arith, all)
 
 -- and is the one spelling of it
-pub image_spelled : PlacedAreWords → (c : CheckedOf) → IsChecked c → (placed (system_in c)).size ≤ 2 ^ 20 → Spelled (spelling (linked_image (system_in c))) (linked_image (system_in c))
+pub image_spelled : PlacedAreWords → (c : CheckedOf) → IsChecked c → (placed (system_in c)).size ≤ 2 ^ 20
+    → Spelled (spelling (linked_image (system_in c))) (linked_image (system_in c))
 image_spelled placed_are_words c is small =
     let words = placed_are_words (system_in c) is.sound small in
     record { limits = image_fits c is small; registers = words.0; words = words.1; fields = refl }

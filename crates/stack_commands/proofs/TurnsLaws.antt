@@ -1,5 +1,6 @@
 -- The tasks of `turns` can take turns, and what is told of them then is what each of them comes to alone.
-use Rattle.std.proofs.Common.{◌≡◌, ◌≤◌, ◌+◌, ◌*◌, ◌++◌, ℕ, suc, List, [], ◌∷◌, length, map, append-nil, Bool, true, false, ◌&&◌, ◌||◌, if◌then◌else◌, eqb, leb, ltb, None, Result, Ok, Err, IfOk, refl, sym, ap, subst, ◌∙◌, arith}
+use Rattle.std.proofs.Common.{◌≡◌, ◌≤◌, ◌+◌, ◌*◌, ◌++◌, ℕ, suc, List, [], ◌∷◌, length, map, append-nil, Bool, true, false, ◌&&◌, ◌||◌, if◌then◌else◌, eqb, leb}
+use Rattle.std.proofs.Common.{ltb, None, Result, Ok, Err, IfOk, refl, sym, ap, subst, ◌∙◌, arith}
 use Rattle.std.specs.Prelude.{◌^◌, All, slice_index_or}
 use Rattle.std.specs.Int.{div_ceil}
 use Rattle.std.specs.List.{list_all}
@@ -38,7 +39,8 @@ use Rattle.command_replies.specs.Replies.{reply_text, verdict_line}
 use Rattle.command_replies.specs.Commands.Run.{end_reply, run_reply}
 use Rattle.stack_commands.specs.Internal.Tasks.{fault_of, AreShort, AreReady}
 use Rattle.stack_commands.specs.Internal.Told.{told, told_of, told_from, has_ended, told_reply}
-use Rattle.stack_commands.specs.Commands.Turns.{few_enough, image_or_fault, images_from, word_count, small_enough, values_or_fault, tasks_from, tasks_of, last_round, round_line, task_text, tasks_text, is_end, tasks_verdict, tasks_reply}
+use Rattle.stack_commands.specs.Commands.Turns.{few_enough, image_or_fault, images_from, word_count, small_enough, values_or_fault, tasks_from, tasks_of}
+use Rattle.stack_commands.specs.Commands.Turns.{last_round, round_line, task_text, tasks_text, is_end, tasks_verdict, tasks_reply}
 
 -- 1. The images are built side by side.
 
@@ -80,19 +82,23 @@ module _ (implement : BuiltImplements) (take : BuiltTakesValues) (at_base : Buil
   -- the sources that follow are built behind an image
   abbrev LaterBuilt : ℕ → ℕ → List (List ℕ) → Type 0
   LaterBuilt i base sources =
-      (image : ImageOf) (rest : List ImageOf) → base + image.size + length sources * 2 ^ 20 ≤ 2 ^ 31 → images_from sizes (i + 1) (base + image.size) sources ≡ Ok rest
+      (image : ImageOf) (rest : List ImageOf) → base + image.size + length sources * 2 ^ 20 ≤ 2 ^ 31
+      → images_from sizes (i + 1) (base + image.size) sources ≡ Ok rest
       → AreBuilt sizes (base + image.size) sources rest
 
-  images_built : (i base : ℕ) (sources : List (List ℕ)) (images : List ImageOf) → AreShort sources → images_from sizes i base sources ≡ Ok images → base + length sources * 2 ^ 20 ≤ 2 ^ 31
+  images_built : (i base : ℕ) (sources : List (List ℕ)) (images : List ImageOf) → AreShort sources → images_from sizes i base sources ≡ Ok images
+      → base + length sources * 2 ^ 20 ≤ 2 ^ 31
       → AreBuilt sizes base sources images
   images_built i base [] images short made low =
       let none : [] ≡ images = cc in
       subst (λ (xs : List ImageOf). AreBuilt sizes base [] xs) none (record { built_from = tt; count = refl })
   images_built i base (source ∷ sources) images short made low =
-      by_built (λ image rest few is. images_built (i + 1) (base + image.size) sources rest (All-tail (λ text. length text ≤ 2 ^ 31) source sources short) is few)
+      by_built (λ image rest few is. images_built (i + 1) (base + image.size) sources rest
+      (All-tail (λ text. length text ≤ 2 ^ 31) source sources short) is few)
       (built source sizes.ctrl sizes.temp base) refl made
     where
-      by_rest : LaterBuilt i base sources → (image : ImageOf) → IsBuiltAt sizes base image → (r : Result (List ImageOf) TasksFault) → images_from sizes (i + 1) (base + image.size) sources ≡ r
+      by_rest : LaterBuilt i base sources → (image : ImageOf) → IsBuiltAt sizes base image → (r : Result (List ImageOf) TasksFault)
+          → images_from sizes (i + 1) (base + image.size) sources ≡ r
           → (r >>= λ others. Ok (image ∷ others)) ≡ Ok images → AreBuilt sizes base (source ∷ sources) images
       by_rest later image b (Ok rest) is h =
           let few = window_few base image b in
@@ -103,7 +109,8 @@ module _ (implement : BuiltImplements) (take : BuiltTakesValues) (at_base : Buil
       by_rest later image b (Err fault) is h = absurd cc
 
       by_built : LaterBuilt i base sources → (r : Result BuiltOf BuildFault) → built source sizes.ctrl sizes.temp base ≡ r
-          → (image_or_fault i r >>= λ image. images_from sizes (i + 1) (base + image.size) sources >>= λ others. Ok (image ∷ others)) ≡ Ok images → AreBuilt sizes base (source ∷ sources) images
+          → (image_or_fault i r >>= λ image. images_from sizes (i + 1) (base + image.size) sources >>= λ others. Ok (image ∷ others)) ≡ Ok images
+          → AreBuilt sizes base (source ∷ sources) images
       by_built later (Ok b) is h =
           let here : IsBuiltAt sizes base b.image = record {
             text = source;
@@ -118,7 +125,8 @@ module _ (implement : BuiltImplements) (take : BuiltTakesValues) (at_base : Buil
 
   -- 2. The tasks follow.
 
-  stays : (base : ℕ) (image : ImageOf) → IsBuiltAt sizes base image → (text : List ℕ) (values : List ValueOf) → values_in image.slots text ≡ Ok values → StaysInside (new_task image values)
+  stays : (base : ℕ) (image : ImageOf) → IsBuiltAt sizes base image → (text : List ℕ) (values : List ValueOf) → values_in image.slots text ≡ Ok values
+      → StaysInside (new_task image values)
   stays base image b text values gives =
       let made = builds base image b in
       let found : values_in b.found.image.slots text ≡ Ok values = ap (λ (i : ImageOf). values_in i.slots text) b.same ∙ gives in
@@ -130,14 +138,16 @@ module _ (implement : BuiltImplements) (take : BuiltTakesValues) (at_base : Buil
   abbrev LaterTasks : List (List ℕ) → ℕ → ℕ → ImageOf → List ImageOf → Type 0
   LaterTasks texts i base image images = (rest : List NewTask) → tasks_from texts (i + 1) images ≡ Ok rest → Follow (base + image.size) images rest
 
-  tasks_follow : (texts : List (List ℕ)) (i base : ℕ) (images : List ImageOf) (tasks : List NewTask) → AreBuiltFrom sizes base images → tasks_from texts i images ≡ Ok tasks → Follow base images tasks
+  tasks_follow : (texts : List (List ℕ)) (i base : ℕ) (images : List ImageOf) (tasks : List NewTask) → AreBuiltFrom sizes base images
+      → tasks_from texts i images ≡ Ok tasks → Follow base images tasks
   tasks_follow texts i base [] tasks b made =
       let none : [] ≡ tasks = cc in
       subst (λ (ts : List NewTask). Follow base [] ts) none (record { stay = λ k d lt. absurd (omega arith); side = refl; size = refl; count = refl })
   tasks_follow texts i base (image ∷ images) tasks b made =
       by_values (λ rest is. tasks_follow texts (i + 1) (base + image.size) images rest b.1 is) (values_in image.slots (slice_index_or texts i [])) refl made
     where
-      by_rest : LaterTasks texts i base image images → (values : List ValueOf) → StaysInside (new_task image values) → (r : Result (List NewTask) TasksFault) → tasks_from texts (i + 1) images ≡ r
+      by_rest : LaterTasks texts i base image images → (values : List ValueOf) → StaysInside (new_task image values)
+          → (r : Result (List NewTask) TasksFault) → tasks_from texts (i + 1) images ≡ r
           → (r >>= λ others. Ok (new_task image values ∷ others)) ≡ Ok tasks → Follow base (image ∷ images) tasks
       by_rest later values here (Ok rest) is h =
           let more = later rest is in
@@ -147,20 +157,23 @@ module _ (implement : BuiltImplements) (take : BuiltTakesValues) (at_base : Buil
           record {
             stay = All-cons StaysInside (new_task image values) rest here more.stay;
             side = and_from (eqb image.base base) (adjoin_from (base + image.size) rest) (eq-eqb image.base base own) more.side;
-            size = sum_by-cons (λ task. task.image.size) (new_task image values) rest ∙ ap (λ n. image.size + n) more.size ∙ sym (sum_by-cons (λ i. i.size) image images);
+            size = sum_by-cons (λ task. task.image.size) (new_task image values) rest ∙ ap (λ n. image.size + n) more.size
+                ∙ sym (sum_by-cons (λ i. i.size) image images);
             count = ap suc more.count;
           }
       by_rest later values here (Err fault) is h = absurd cc
 
       by_values : LaterTasks texts i base image images → (r : Result (List ValueOf) (ℕ × ℕ)) → values_in image.slots (slice_index_or texts i []) ≡ r
-          → (values_or_fault i r >>= λ values. tasks_from texts (i + 1) images >>= λ others. Ok (new_task image values ∷ others)) ≡ Ok tasks → Follow base (image ∷ images) tasks
+          → (values_or_fault i r >>= λ values. tasks_from texts (i + 1) images >>= λ others. Ok (new_task image values ∷ others)) ≡ Ok tasks
+          → Follow base (image ∷ images) tasks
       by_values later (Ok values) is h =
           by_rest later values (stays base image b.0 (slice_index_or texts i []) values is) (tasks_from texts (i + 1) images) refl h
       by_values later (Err fault) is h = absurd cc
 
   -- 3. They can take turns.
 
-  starting : (tasks : List NewTask) → 1 ≤ length tasks → length tasks ≤ 8 → adjoin_from 0 tasks ≡ true → total_size tasks ≤ 2 ^ 20 → started tasks ≡ Ok (side_by_side tasks)
+  starting : (tasks : List NewTask) → 1 ≤ length tasks → length tasks ≤ 8 → adjoin_from 0 tasks ≡ true → total_size tasks ≤ 2 ^ 20
+      → started tasks ≡ Ok (side_by_side tasks)
   unfolding window_size
   starting [] some few side small = absurd (omega arith)
   starting (task ∷ others) some few side small =
@@ -177,7 +190,8 @@ module _ (implement : BuiltImplements) (take : BuiltTakesValues) (at_base : Buil
   unfolding tasks_of
   are_ready sources texts tasks short made = by_count (eqb (length sources) 0 || ltb 8 (length sources)) refl made
     where
-      by_size : 1 ≤ length sources → length sources ≤ 8 → (images : List ImageOf) → AreBuilt sizes 0 sources images → (large : Bool) → ltb (2 ^ 20) (word_count images) ≡ large
+      by_size : 1 ≤ length sources → length sources ≤ 8 → (images : List ImageOf) → AreBuilt sizes 0 sources images → (large : Bool)
+          → ltb (2 ^ 20) (word_count images) ≡ large
           → ((if large then Err (Large (word_count images)) else Ok images) >>= λ small. tasks_from texts 0 small) ≡ Ok tasks → AreReady tasks
       by_size some few images b true e h = absurd cc
       by_size some few images b false e h =
@@ -199,7 +213,8 @@ module _ (implement : BuiltImplements) (take : BuiltTakesValues) (at_base : Buil
       by_images some few (Err fault) is h = absurd cc
 
       by_count : (wrong : Bool) → (eqb (length sources) 0 || ltb 8 (length sources)) ≡ wrong
-          → ((if wrong then Err Count else Ok sources) >>= λ few. images_from sizes 0 0 few >>= λ images. small_enough images >>= λ small. tasks_from texts 0 small) ≡ Ok tasks → AreReady tasks
+          → ((if wrong then Err Count else Ok sources) >>= λ few. images_from sizes 0 0 few >>= λ images. small_enough images
+          >>= λ small. tasks_from texts 0 small) ≡ Ok tasks → AreReady tasks
       by_count true e h = absurd cc
       by_count false e h =
           let p = or_parts (eqb (length sources) 0) (ltb 8 (length sources)) e in
@@ -208,8 +223,10 @@ module _ (implement : BuiltImplements) (take : BuiltTakesValues) (at_base : Buil
           by_images (omega arith) few (images_from sizes 0 0 sources) refl h
 
   -- so they are where a call made them
-  pub ready_from : {X : Type 0} (view : X → List NewTask) (sources texts : List (List ℕ)) (images small : List ImageOf) (result : Result X TasksFault) → AreShort sources
-      → 1 ≤ length sources → length sources ≤ 8 → images_from sizes 0 0 sources ≡ Ok images → small_enough images ≡ Ok small → Gives fault_of view result (tasks_from texts 0 small)
+  pub ready_from : {X : Type 0} (view : X → List NewTask) (sources texts : List (List ℕ)) (images small : List ImageOf) (result : Result X TasksFault)
+      → AreShort sources
+      → 1 ≤ length sources → length sources ≤ 8 → images_from sizes 0 0 sources ≡ Ok images → small_enough images ≡ Ok small
+      → Gives fault_of view result (tasks_from texts 0 small)
       → IfOk result (λ x. AreReady (view x))
   unfolding tasks_of
   ready_from view sources texts images small (Err fault) short some few built fits made = tt
@@ -218,7 +235,8 @@ module _ (implement : BuiltImplements) (take : BuiltTakesValues) (at_base : Buil
       let many : ltb 8 (length sources) ≡ false = le-ltb 8 (length sources) few in
       let enough : few_enough sources ≡ Ok sources = rw (none, many) refl in
       are_ready sources texts (view x) short
-      (ap (λ (r : Result (List (List ℕ)) TasksFault). r >>= λ few. images_from sizes 0 0 few >>= λ images. small_enough images >>= λ small. tasks_from texts 0 small) enough
+      (ap (λ (r : Result (List (List ℕ)) TasksFault). r >>= λ few. images_from sizes 0 0 few >>= λ images. small_enough images
+      >>= λ small. tasks_from texts 0 small) enough
       ∙ ap (λ (r : Result (List ImageOf) TasksFault). r >>= λ images. small_enough images >>= λ small. tasks_from texts 0 small) built
       ∙ ap (λ (r : Result (List ImageOf) TasksFault). r >>= λ small. tasks_from texts 0 small) fits ∙ made)
 
@@ -235,19 +253,23 @@ module _ (quotient : RoundIsQuotient) (turn budget : ℕ) (some : 1 ≤ turn) wh
       let within : 0 ≤ 0 * turn = omega arith in
       quotient turn 0 0 some within ∙ ap (λ n. div_ceil n turn) (sym none)
 
-  told_alone : (i : ℕ) (task : NewTask) → told budget i (state_at_end turn budget (whole_run budget task).run) task.image (reading task.image (whole_run budget task).state) ≡ task_text turn budget i task
+  told_alone : (i : ℕ) (task : NewTask) → told budget i (state_at_end turn budget (whole_run budget task).run) task.image
+      (reading task.image (whole_run budget task).state) ≡ task_text turn budget i task
   unfolding run_reply
   told_alone i task = by (whole_run budget task).run
     where
       spent : (none : Bool) → eqb budget 0 ≡ none
           → let state : Task = if none then state.Running 0 else state.Spent budget (div_ceil budget turn) in
-          told budget i state task.image (reading task.image (whole_run budget task).state) ≡ round_line i (div_ceil budget turn) ++ reply_text (end_reply task.image budget run.Spent (whole_run budget task).state)
+          told budget i state task.image (reading task.image (whole_run budget task).state) ≡ round_line i (div_ceil budget turn)
+          ++ reply_text (end_reply task.image budget run.Spent (whole_run budget task).state)
       spent true e = ap (λ n. round_line i n ++ verdict_line (verdict.Unfinished budget)) (no_round (eqb-true budget 0 e))
       spent false e = refl
 
-      by : (r : Run) → told budget i (state_at_end turn budget r) task.image (reading task.image (whole_run budget task).state) ≡ round_line i (last_round turn budget r) ++ reply_text (end_reply task.image budget r (whole_run budget task).state)
+      by : (r : Run) → told budget i (state_at_end turn budget r) task.image (reading task.image (whole_run budget task).state)
+          ≡ round_line i (last_round turn budget r) ++ reply_text (end_reply task.image budget r (whole_run budget task).state)
       by (run.Ended count) =
-          ap (λ (text : List ℕ). round_line i (div_ceil count turn) ++ text) (sym (append-nil (report_text task.image (reading task.image (whole_run budget task).state) count)))
+          ap (λ (text : List ℕ). round_line i (div_ceil count turn) ++ text)
+          (sym (append-nil (report_text task.image (reading task.image (whole_run budget task).state) count)))
       by run.Spent = spent (eqb budget 0) refl
       by (run.Outside address count) = refl
 
@@ -266,27 +288,33 @@ module _ (quotient : RoundIsQuotient) (turn budget : ℕ) (some : 1 ≤ turn) wh
   told_lists i states images reads = []
 
   by_lists : (turns : TurnsOf) (i : ℕ) (contexts : List TaskContext) → told_from budget turns i contexts
-      ≡ told_lists i (map (λ context. context.state) contexts) (map (λ context. context.image) contexts) (map (λ context. reading context.image (own_machine turns context)) contexts)
+      ≡ told_lists i (map (λ context. context.state) contexts) (map (λ context. context.image) contexts)
+      (map (λ context. reading context.image (own_machine turns context)) contexts)
   unfolding told_lists
   by_lists turns i [] = refl
   by_lists turns i (context ∷ contexts) = ap (λ (text : List ℕ). told_of budget turns i context ++ text) (by_lists turns (i + 1) contexts)
 
-  lists_alone : (i : ℕ) (tasks : List NewTask) → told_lists i (map (λ task. state_at_end turn budget (whole_run budget task).run) tasks) (map (λ task. task.image) tasks) (map (λ task. reading task.image (whole_run budget task).state) tasks)
+  lists_alone : (i : ℕ) (tasks : List NewTask) → told_lists i (map (λ task. state_at_end turn budget (whole_run budget task).run) tasks)
+      (map (λ task. task.image) tasks) (map (λ task. reading task.image (whole_run budget task).state) tasks)
       ≡ tasks_text turn budget i tasks
   unfolding told_lists
   lists_alone i [] = refl
   lists_alone i (task ∷ tasks) =
-      ap (λ (text : List ℕ). text ++ told_lists (i + 1) (map (λ task. state_at_end turn budget (whole_run budget task).run) tasks) (map (λ task. task.image) tasks) (map (λ task. reading task.image (whole_run budget task).state) tasks)) (told_alone i task)
+      ap (λ (text : List ℕ). text ++ told_lists (i + 1) (map (λ task. state_at_end turn budget (whole_run budget task).run) tasks)
+      (map (λ task. task.image) tasks) (map (λ task. reading task.image (whole_run budget task).state) tasks)) (told_alone i task)
       ∙ ap (λ (text : List ℕ). task_text turn budget i task ++ text) (lists_alone (i + 1) tasks)
 
-  all_ended : (tasks : List NewTask) → list_all has_ended (map (λ task. state_at_end turn budget (whole_run budget task).run) tasks) ≡ list_all (λ task. is_end (whole_run budget task).run) tasks
+  all_ended : (tasks : List NewTask) → list_all has_ended (map (λ task. state_at_end turn budget (whole_run budget task).run) tasks)
+      ≡ list_all (λ task. is_end (whole_run budget task).run) tasks
   all_ended [] = refl
   all_ended (task ∷ tasks) =
-      ap (λ (b : Bool). b && list_all has_ended (map (λ task. state_at_end turn budget (whole_run budget task).run) tasks)) (ended_alone (whole_run budget task).run)
+      ap (λ (b : Bool). b && list_all has_ended (map (λ task. state_at_end turn budget (whole_run budget task).run) tasks))
+      (ended_alone (whole_run budget task).run)
       ∙ ap (λ (b : Bool). is_end (whole_run budget task).run && b) (all_ended tasks)
 
   -- the reply is that of the tasks alone
-  pub tells_alone : (tasks : List NewTask) (turns : TurnsOf) → images_of turns ≡ map (λ task. task.image) tasks → EndAsAlone turn budget tasks turns → told_reply budget turns ≡ tasks_reply turn budget tasks
+  pub tells_alone : (tasks : List NewTask) (turns : TurnsOf) → images_of turns ≡ map (λ task. task.image) tasks → EndAsAlone turn budget tasks turns
+      → told_reply budget turns ≡ tasks_reply turn budget tasks
   unfolding tasks_reply
   tells_alone tasks turns images ends =
       let states : List Task = map (λ task. state_at_end turn budget (whole_run budget task).run) tasks in

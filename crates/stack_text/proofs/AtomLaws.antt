@@ -1,5 +1,6 @@
 -- Names and numerals are runs of atom bytes, so that they may be atoms; and a number's decimal digits are a numeral of it.
-use Rattle.std.proofs.Common.{◌≡◌, ◌≢◌, ℕ, zero, suc, ◌<◌, ◌≤◌, ◌^◌, Bool, true, false, not, ◌&&◌, ◌||◌, cond, eqb, leb, ltb, List, [], ◌∷◌, length, Some, refl, ap, subst, ◌∙◌, arith}
+use Rattle.std.proofs.Common.{◌≡◌, ◌≢◌, ℕ, zero, suc, ◌<◌, ◌≤◌, ◌^◌, Bool, true, false, not, ◌&&◌, ◌||◌, cond, eqb, leb, ltb, List, [], ◌∷◌, length, Some, refl}
+use Rattle.std.proofs.Common.{ap, subst, ◌∙◌, arith}
 use Rattle.std.specs.Prelude.{ℤ, pos, negsuc, neg_ℤ}
 use Rattle.std.specs.List.{list_all}
 use Rattle.std.specs.Char.{is_ascii_digit, is_ascii_alphanumeric}
@@ -20,7 +21,17 @@ use Rattle.stack_text.proofs.NumeralLaws.{digit_in_range, no_plus}
 
 atom_byte : (b : ℕ) → 33 ≤ b → b ≤ 126 → b ≢ 40 → b ≢ 41 → b ≢ 59 → class_of b ≡ AtomByte
 atom_byte b low high no_open no_close no_comment =
-    rw (ne_eqb b 10 (λ e. omega arith), ne_eqb b 32 (λ e. omega arith), ne_eqb b 9 (λ e. omega arith), ne_eqb b 13 (λ e. omega arith), ne_eqb b 59 no_comment, ne_eqb b 40 no_open, ne_eqb b 41 no_close, le-leb 33 b low, le-leb b 126 high)
+    rw (
+      ne_eqb b 10 (λ e. omega arith),
+      ne_eqb b 32 (λ e. omega arith),
+      ne_eqb b 9 (λ e. omega arith),
+      ne_eqb b 13 (λ e. omega arith),
+      ne_eqb b 59 no_comment,
+      ne_eqb b 40 no_open,
+      ne_eqb b 41 no_close,
+      le-leb 33 b low,
+      le-leb b 126 high,
+    )
     refl
 
 -- a test is true of a byte where one of two is
@@ -32,13 +43,16 @@ in_range : (low high b : ℕ) → (leb low b && leb b high) ≡ true → (low �
 in_range low high b h = let p = and_parts (leb low b) (leb b high) h in (leb-true low b p.0, leb-true b high p.1)
 
 digit_is_atom_byte : (b : ℕ) → is_ascii_digit b ≡ true → class_of b ≡ AtomByte
-digit_is_atom_byte b h = let r = digit_in_range b h in atom_byte b (omega (arith, r.0)) (omega (arith, r.1)) (λ e. omega (arith, r.0)) (λ e. omega (arith, r.0)) (λ e. omega (arith, r.1))
+digit_is_atom_byte b h = let r = digit_in_range b h in atom_byte b (omega (arith, r.0)) (omega (arith, r.1)) (λ e. omega (arith, r.0))
+    (λ e. omega (arith, r.0)) (λ e. omega (arith, r.1))
 
 upper_is_atom_byte : (b : ℕ) → (leb 65 b && leb b 90) ≡ true → class_of b ≡ AtomByte
-upper_is_atom_byte b h = let r = in_range 65 90 b h in atom_byte b (omega (arith, r.0)) (omega (arith, r.1)) (λ e. omega (arith, r.0)) (λ e. omega (arith, r.0)) (λ e. omega (arith, r.0))
+upper_is_atom_byte b h = let r = in_range 65 90 b h in atom_byte b (omega (arith, r.0)) (omega (arith, r.1)) (λ e. omega (arith, r.0))
+    (λ e. omega (arith, r.0)) (λ e. omega (arith, r.0))
 
 lower_is_atom_byte : (b : ℕ) → (leb 97 b && leb b 122) ≡ true → class_of b ≡ AtomByte
-lower_is_atom_byte b h = let r = in_range 97 122 b h in atom_byte b (omega (arith, r.0)) (omega (arith, r.1)) (λ e. omega (arith, r.0)) (λ e. omega (arith, r.0)) (λ e. omega (arith, r.0))
+lower_is_atom_byte b h = let r = in_range 97 122 b h in atom_byte b (omega (arith, r.0)) (omega (arith, r.1)) (λ e. omega (arith, r.0))
+    (λ e. omega (arith, r.0)) (λ e. omega (arith, r.0))
 
 mark_is : (b n : ℕ) → class_of n ≡ AtomByte → eqb b n ≡ true → class_of b ≡ AtomByte
 mark_is b n is e = ap class_of (eqb-true b n e) ∙ is
@@ -46,7 +60,8 @@ mark_is b n is e = ap class_of (eqb-true b n e) ∙ is
 mark_is_atom_byte : (b : ℕ) → is_mark b ≡ true → class_of b ≡ AtomByte
 mark_is_atom_byte b h =
     either (class_of b ≡ AtomByte) ((eqb b 45 || eqb b 95) || eqb b 42) (eqb b 36) h
-    (λ u. either (class_of b ≡ AtomByte) (eqb b 45 || eqb b 95) (eqb b 42) u (λ v. either (class_of b ≡ AtomByte) (eqb b 45) (eqb b 95) v (mark_is b 45 refl) (mark_is b 95 refl)) (mark_is b 42 refl))
+    (λ u. either (class_of b ≡ AtomByte) (eqb b 45 || eqb b 95) (eqb b 42) u
+    (λ v. either (class_of b ≡ AtomByte) (eqb b 45) (eqb b 95) v (mark_is b 45 refl) (mark_is b 95 refl)) (mark_is b 42 refl))
     (mark_is b 36 refl)
 
 name_byte_is_atom_byte : (b : ℕ) → is_name_byte b ≡ true → class_of b ≡ AtomByte
@@ -116,8 +131,11 @@ numeral_is_run (b ∷ bs) h = by_sign (eqb b 45) refl
 
     by_sign : (s : Bool) → eqb b 45 ≡ s → (0 < length (b ∷ bs)) × (atom_run (b ∷ bs) ≡ b ∷ bs)
     by_sign false e = digits_are_run (b ∷ bs) (digits false e)
-    by_sign true e =
-        (omega arith, ap (λ (k : Class). if_atom_byte k (b ∷ atom_run bs)) (mark_is b 45 refl e) ∙ ap (λ (rest : List ℕ). b ∷ rest) (digits_are_run bs (digits true e)).1)
+    by_sign true e = (
+      omega arith,
+      ap (λ (k : Class). if_atom_byte k (b ∷ atom_run bs)) (mark_is b 45 refl e)
+          ∙ ap (λ (rest : List ℕ). b ∷ rest) (digits_are_run bs (digits true e)).1,
+    )
 
 pub all_digits_pass : (ds : List ℕ) → AllDigits 10 ds → list_all is_ascii_digit ds ≡ true
 all_digits_pass [] h = refl

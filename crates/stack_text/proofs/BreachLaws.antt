@@ -38,7 +38,8 @@ pub notes_next : {X : Type 0} (f : X → List Breach) (xs : List X) (i : ℕ) (i
     Notes x (flat_map f (take i xs)) y → Notes y (f item) z → Notes x (flat_map f (take (i + 1) xs)) z
 notes_next {X} f xs i item x y z lt is h k =
     notes_more x y z (flat_map f (take i xs)) (f item) h k
-    ∙ ap (λ (bs : List Breach). lesser_of x (least bs)) (sym (ap (flat_map f) (take_more xs i item lt ∙ ap (λ (u : X). take i xs ++ u ∷ []) (sym is)) ∙ flat_map-push f (take i xs) item))
+    ∙ ap (λ (bs : List Breach). lesser_of x (least bs))
+    (sym (ap (flat_map f) (take_more xs i item lt ∙ ap (λ (u : X). take i xs ++ u ∷ []) (sym is)) ∙ flat_map-push f (take i xs) item))
 
 -- where there is no least breach, there is none
 pub none_least : (bs : List Breach) → least bs ≡ None → bs ≡ []

@@ -18,7 +18,8 @@ Completes before ts = (t : Node) × (ts ≡ tokens_of t)
 Completes (within p s) ts = Closes (within p s) ts
 Completes after ts = ts ≡ []
 
-nested : (q : ℕ) (us vs : Nodes) (ts rest later : List Token) → ts ≡ tokens_of_all us ++ (closes_at 0 ∷ rest) → rest ≡ tokens_of_all vs ++ (closes_at 0 ∷ later) →
+nested : (q : ℕ) (us vs : Nodes) (ts rest later : List Token) → ts ≡ tokens_of_all us ++ (closes_at 0 ∷ rest)
+    → rest ≡ tokens_of_all vs ++ (closes_at 0 ∷ later) →
     opens_at q ∷ ts ≡ tokens_of_all (more (list q us) vs) ++ (closes_at 0 ∷ later)
 nested q us vs ts rest later e f =
     ap (λ (xs : List Token). opens_at q ∷ xs) (e ∙ ap (λ (xs : List Token). tokens_of_all us ++ (closes_at 0 ∷ xs)) f)

@@ -20,9 +20,11 @@ pub record Fitting {X : Type 0} (P : X → Type 0) (ts : Nodes) (xs : List X) : 
 pub fits_front : {X : Type 0} (P : X → Type 0) (t : Node) (ts : Nodes) (x : X) → P x → (xs : List X) → Fitting P ts xs → Fitting P (more t ts) (front x xs)
 fits_front P t ts x h xs hs = record { all = All-cons P x xs h hs.all; count = let n : length xs ≡ count_of ts = hs.count in omega (arith, n) }
 
-pub fits_each : {X : Type 0} (P : X → Type 0) (judge : Node → Judged X) → ((t : Node) → Holds P (judge t)) → (ts : Nodes) → Holds (Fitting P ts) (each_of judge ts)
+pub fits_each : {X : Type 0} (P : X → Type 0) (judge : Node → Judged X) → ((t : Node) → Holds P (judge t)) → (ts : Nodes)
+    → Holds (Fitting P ts) (each_of judge ts)
 fits_each P judge fits none = record { of_value = record { all = All-nil P; count = refl } }
-fits_each P judge fits (more t ts) = holds_two P (Fitting P ts) (Fitting P (more t ts)) front (judge t) (each_of judge ts) (fits_front P t ts) (fits t) (fits_each P judge fits ts)
+fits_each P judge fits (more t ts) =
+    holds_two P (Fitting P ts) (Fitting P (more t ts)) front (judge t) (each_of judge ts) (fits_front P t ts) (fits t) (fits_each P judge fits ts)
 
 -- the items of a tree that is a list
 pub record FittingList {X : Type 0} (P : X → Type 0) (t : Node) (xs : List X) : Type 0 where
@@ -30,10 +32,12 @@ pub record FittingList {X : Type 0} (P : X → Type 0) (t : Node) (xs : List X) 
   pub count : length xs ≡ list_length t
   pub deep : 0 < depth t
 
-pub fits_list : (rule : ℕ) → {X : Type 0} (P : X → Type 0) (judge : Node → Judged X) → ((t : Node) → Holds P (judge t)) → (t : Node) → Holds (FittingList P t) (list_or rule judge t)
+pub fits_list : (rule : ℕ) → {X : Type 0} (P : X → Type 0) (judge : Node → Judged X) → ((t : Node) → Holds P (judge t)) → (t : Node)
+    → Holds (FittingList P t) (list_or rule judge t)
 fits_list rule P judge fits (atom p w) = record { of_value = tt }
 fits_list rule P judge fits (list p ts) =
-    holds_more (Fitting P ts) (FittingList P (list p ts)) (each_of judge ts) (λ xs h. record { all = h.all; count = h.count; deep = omega arith }) (fits_each P judge fits ts)
+    holds_more (Fitting P ts) (FittingList P (list p ts)) (each_of judge ts) (λ xs h. record { all = h.all; count = h.count; deep = omega arith })
+    (fits_each P judge fits ts)
 
 -- ---- names
 

@@ -28,7 +28,8 @@ Rises-append low mid high [] gs h k = Rises-lower mid low gs high h k
 Rises-append low mid high (f ∷ fs) gs h k = (h.0, Rises-append (f.place + 1) mid high fs gs h.1 k)
 
 -- the parts of a value, one after the other
-pub JudgedRises-apply : {X Y : Type 0} → (low mid high : ℕ) (r : Judged (X → Y)) (s : Judged X) → low ≤ mid → mid ≤ high → JudgedRises low r mid → JudgedRises mid s high → JudgedRises low (r ⊛ s) high
+pub JudgedRises-apply : {X Y : Type 0} → (low mid high : ℕ) (r : Judged (X → Y)) (s : Judged X) → low ≤ mid → mid ≤ high → JudgedRises low r mid
+    → JudgedRises mid s high → JudgedRises low (r ⊛ s) high
 JudgedRises-apply low mid high (Ok f) (Ok x) le up h k = omega arith
 JudgedRises-apply low mid high (Ok f) (Err gs) le up h k = Rises-lower mid low (gs.0 ∷ gs.1) high le k
 JudgedRises-apply low mid high (Err fs) (Ok x) le up h k = Rises-higher low mid high (fs.0 ∷ fs.1) up h

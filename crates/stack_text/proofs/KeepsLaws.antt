@@ -1,5 +1,6 @@
 -- What is read keeps the form: its tree has the form of the tree that was read, and is the same value but for places.
-use Rattle.std.proofs.Common.{◌≡◌, ℕ, suc, ◌+◌, ◌<◌, ◌≤◌, ◌^◌, max, Bool, true, false, cond, List, [], ◌∷◌, length, map, Option, Some, Ok, Err, refl, sym, ap, subst, ◌∙◌, arith}
+use Rattle.std.proofs.Common.{◌≡◌, ℕ, suc, ◌+◌, ◌<◌, ◌≤◌, ◌^◌, max, Bool, true, false, cond, List, [], ◌∷◌, length, map, Option, Some, Ok, Err, refl, sym, ap}
+use Rattle.std.proofs.Common.{subst, ◌∙◌, arith}
 use Rattle.std.specs.Prelude.{◌&&◌}
 use Rattle.std.specs.List.{find, list_all}
 use Rattle.stack_text.specs.declared.name.Named.{Named}
@@ -67,7 +68,8 @@ mutual
 
   pub all_alike_count : (ts us : Nodes) → AllAlike ts us → node_counts us ≡ node_counts ts
   all_alike_count none none h = refl
-  all_alike_count (more t ts) (more u us) h = ap (λ (n : ℕ). n + node_counts us) (alike_count t u h.0) ∙ ap (λ (n : ℕ). node_count t + n) (all_alike_count ts us h.1)
+  all_alike_count (more t ts) (more u us) h =
+      ap (λ (n : ℕ). n + node_counts us) (alike_count t u h.0) ∙ ap (λ (n : ℕ). node_count t + n) (all_alike_count ts us h.1)
   all_alike_count none (more u us) h = absurd h
   all_alike_count (more t ts) none h = absurd h
 
@@ -98,7 +100,8 @@ HoldsBy P (Err fs) = Unit {0}
 pub record Holds {X : Type 0} (P : X → Type 0) (r : Judged X) : Type 0 where
   pub of_value : HoldsBy P r
 
-pub holds_apply : {X Y : Type 0} (P : X → Type 0) (Q : Y → Type 0) (rf : Judged (X → Y)) (rx : Judged X) → Holds (λ f. (x : X) → P x → Q (f x)) rf → Holds P rx → Holds Q (rf ⊛ rx)
+pub holds_apply : {X Y : Type 0} (P : X → Type 0) (Q : Y → Type 0) (rf : Judged (X → Y)) (rx : Judged X) → Holds (λ f. (x : X) → P x → Q (f x)) rf
+    → Holds P rx → Holds Q (rf ⊛ rx)
 holds_apply P Q (Ok f) (Ok x) h k = record { of_value = h.of_value x k.of_value }
 holds_apply P Q (Ok f) (Err gs) h k = record { of_value = tt }
 holds_apply P Q (Err fs) (Ok x) h k = record { of_value = tt }
@@ -113,28 +116,42 @@ holds_judged P p rule false r h = record { of_value = tt }
 pub holds_one : {X Y : Type 0} (P : X → Type 0) (Q : Y → Type 0) (f : X → Y) (r : Judged X) → ((x : X) → P x → Q (f x)) → Holds P r → Holds Q (Ok f ⊛ r)
 holds_one P Q f r base h = holds_apply P Q (Ok f) r (record { of_value = base }) h
 
-pub holds_two : {X Y Z : Type 0} (P : X → Type 0) (R : Y → Type 0) (Q : Z → Type 0) (f : X → Y → Z) (r : Judged X) (s : Judged Y) → ((x : X) → P x → (y : Y) → R y → Q (f x y)) → Holds P r → Holds R s → Holds Q (Ok f ⊛ r ⊛ s)
+pub holds_two : {X Y Z : Type 0} (P : X → Type 0) (R : Y → Type 0) (Q : Z → Type 0) (f : X → Y → Z) (r : Judged X) (s : Judged Y)
+    → ((x : X) → P x → (y : Y) → R y → Q (f x y)) → Holds P r → Holds R s → Holds Q (Ok f ⊛ r ⊛ s)
 holds_two {X} {Y} P R Q f r s base h k = holds_apply R Q (Ok f ⊛ r) s (holds_apply P (λ g. (y : Y) → R y → Q (g y)) (Ok f) r (record { of_value = base }) h) k
 
-pub holds_three : {A B C Z : Type 0} (PA : A → Type 0) (PB : B → Type 0) (PC : C → Type 0) (Q : Z → Type 0) (f : A → B → C → Z) (ra : Judged A) (rb : Judged B) (rc : Judged C) →
+pub holds_three : {A B C Z : Type 0} (PA : A → Type 0) (PB : B → Type 0) (PC : C → Type 0) (Q : Z → Type 0) (f : A → B → C → Z) (ra : Judged A)
+    (rb : Judged B) (rc : Judged C) →
     ((a : A) → PA a → (b : B) → PB b → (c : C) → PC c → Q (f a b c)) → Holds PA ra → Holds PB rb → Holds PC rc → Holds Q (Ok f ⊛ ra ⊛ rb ⊛ rc)
 holds_three {A} {B} {C} PA PB PC Q f ra rb rc base ha hb hc =
-    holds_apply PC Q (Ok f ⊛ ra ⊛ rb) rc (holds_apply PB (λ g. (c : C) → PC c → Q (g c)) (Ok f ⊛ ra) rb (holds_apply PA (λ g. (b : B) → PB b → (c : C) → PC c → Q (g b c)) (Ok f) ra (record { of_value = base }) ha) hb) hc
+    holds_apply PC Q (Ok f ⊛ ra ⊛ rb) rc (holds_apply PB (λ g. (c : C) → PC c → Q (g c)) (Ok f ⊛ ra) rb
+    (holds_apply PA (λ g. (b : B) → PB b → (c : C) → PC c → Q (g b c)) (Ok f) ra (record { of_value = base }) ha) hb) hc
 
-pub holds_four : {A B C D Z : Type 0} (PA : A → Type 0) (PB : B → Type 0) (PC : C → Type 0) (PD : D → Type 0) (Q : Z → Type 0) (f : A → B → C → D → Z) (ra : Judged A) (rb : Judged B) (rc : Judged C) (rd : Judged D) →
-    ((a : A) → PA a → (b : B) → PB b → (c : C) → PC c → (d : D) → PD d → Q (f a b c d)) → Holds PA ra → Holds PB rb → Holds PC rc → Holds PD rd → Holds Q (Ok f ⊛ ra ⊛ rb ⊛ rc ⊛ rd)
+pub holds_four : {A B C D Z : Type 0} (PA : A → Type 0) (PB : B → Type 0) (PC : C → Type 0) (PD : D → Type 0) (Q : Z → Type 0) (f : A → B → C → D → Z)
+    (ra : Judged A) (rb : Judged B) (rc : Judged C) (rd : Judged D) →
+    ((a : A) → PA a → (b : B) → PB b → (c : C) → PC c → (d : D) → PD d → Q (f a b c d)) → Holds PA ra → Holds PB rb → Holds PC rc → Holds PD rd
+    → Holds Q (Ok f ⊛ ra ⊛ rb ⊛ rc ⊛ rd)
 holds_four {A} {B} {C} {D} PA PB PC PD Q f ra rb rc rd base ha hb hc hd =
     holds_apply PD Q (Ok f ⊛ ra ⊛ rb ⊛ rc) rd
     (holds_apply PC (λ g. (d : D) → PD d → Q (g d)) (Ok f ⊛ ra ⊛ rb) rc
     (holds_apply PB (λ g. (c : C) → PC c → (d : D) → PD d → Q (g c d)) (Ok f ⊛ ra) rb
     (holds_apply PA (λ g. (b : B) → PB b → (c : C) → PC c → (d : D) → PD d → Q (g b c d)) (Ok f) ra (record { of_value = base }) ha) hb) hc) hd
 
-pub holds_six : {A B C D E F Z : Type 0} (PA : A → Type 0) (PB : B → Type 0) (PC : C → Type 0) (PD : D → Type 0) (PE : E → Type 0) (PF : F → Type 0) (Q : Z → Type 0) (f : A → B → C → D → E → F → Z) (ra : Judged A) (rb : Judged B) (rc : Judged C) (rd : Judged D) (re : Judged E) (ri : Judged F) →
-    ((a : A) → PA a → (b : B) → PB b → (c : C) → PC c → (d : D) → PD d → (e : E) → PE e → (i : F) → PF i → Q (f a b c d e i)) → Holds PA ra → Holds PB rb → Holds PC rc → Holds PD rd → Holds PE re → Holds PF ri → Holds Q (Ok f ⊛ ra ⊛ rb ⊛ rc ⊛ rd ⊛ re ⊛ ri)
+pub holds_six : {A B C D E F Z : Type 0} (PA : A → Type 0) (PB : B → Type 0) (PC : C → Type 0) (PD : D → Type 0) (PE : E → Type 0) (PF : F → Type 0)
+    (Q : Z → Type 0) (f : A → B → C → D → E → F → Z) (ra : Judged A) (rb : Judged B) (rc : Judged C) (rd : Judged D) (re : Judged E) (ri : Judged F) →
+    ((a : A) → PA a → (b : B) → PB b → (c : C) → PC c → (d : D) → PD d → (e : E) → PE e → (i : F) → PF i → Q (f a b c d e i)) → Holds PA ra
+    → Holds PB rb → Holds PC rc → Holds PD rd → Holds PE re → Holds PF ri → Holds Q (Ok f ⊛ ra ⊛ rb ⊛ rc ⊛ rd ⊛ re ⊛ ri)
 holds_six {A} {B} {C} {D} {E} {F} PA PB PC PD PE PF Q f ra rb rc rd re ri base ha hb hc hd he hi =
-    holds_apply PF Q (Ok f ⊛ ra ⊛ rb ⊛ rc ⊛ rd ⊛ re) ri (holds_apply PE (λ g. (i : F) → PF i → Q (g i)) (Ok f ⊛ ra ⊛ rb ⊛ rc ⊛ rd) re (holds_apply PD (λ g. (e : E) → PE e → (i : F) → PF i → Q (g e i)) (Ok f ⊛ ra ⊛ rb ⊛ rc) rd (holds_apply PC (λ g. (d : D) → PD d → (e : E) → PE e → (i : F) → PF i → Q (g d e i)) (Ok f ⊛ ra ⊛ rb) rc (holds_apply PB (λ g. (c : C) → PC c → (d : D) → PD d → (e : E) → PE e → (i : F) → PF i → Q (g c d e i)) (Ok f ⊛ ra) rb (holds_apply PA (λ g. (b : B) → PB b → (c : C) → PC c → (d : D) → PD d → (e : E) → PE e → (i : F) → PF i → Q (g b c d e i)) (Ok f) ra (record { of_value = base }) ha) hb) hc) hd) he) hi
+    holds_apply PF Q (Ok f ⊛ ra ⊛ rb ⊛ rc ⊛ rd ⊛ re) ri
+    (holds_apply PE (λ g. (i : F) → PF i → Q (g i)) (Ok f ⊛ ra ⊛ rb ⊛ rc ⊛ rd) re
+    (holds_apply PD (λ g. (e : E) → PE e → (i : F) → PF i → Q (g e i)) (Ok f ⊛ ra ⊛ rb ⊛ rc) rd
+    (holds_apply PC (λ g. (d : D) → PD d → (e : E) → PE e → (i : F) → PF i → Q (g d e i)) (Ok f ⊛ ra ⊛ rb) rc
+    (holds_apply PB (λ g. (c : C) → PC c → (d : D) → PD d → (e : E) → PE e → (i : F) → PF i → Q (g c d e i)) (Ok f ⊛ ra) rb
+    (holds_apply PA (λ g. (b : B) → PB b → (c : C) → PC c → (d : D) → PD d → (e : E) → PE e → (i : F) → PF i → Q (g b c d e i)) (Ok f) ra
+    (record { of_value = base }) ha) hb) hc) hd) he) hi
 
-pub holds_seven : {A B C D E F G Z : Type 0} (PA : A → Type 0) (PB : B → Type 0) (PC : C → Type 0) (PD : D → Type 0) (PE : E → Type 0) (PF : F → Type 0) (PG : G → Type 0) (Q : Z → Type 0)
+pub holds_seven : {A B C D E F G Z : Type 0} (PA : A → Type 0) (PB : B → Type 0) (PC : C → Type 0) (PD : D → Type 0) (PE : E → Type 0) (PF : F → Type 0)
+    (PG : G → Type 0) (Q : Z → Type 0)
     (f : A → B → C → D → E → F → G → Z) (ra : Judged A) (rb : Judged B) (rc : Judged C) (rd : Judged D) (re : Judged E) (rf : Judged F) (rg : Judged G) →
     ((a : A) → PA a → (b : B) → PB b → (c : C) → PC c → (d : D) → PD d → (e : E) → PE e → (i : F) → PF i → (j : G) → PG j → Q (f a b c d e i j)) →
     Holds PA ra → Holds PB rb → Holds PC rc → Holds PD rd → Holds PE re → Holds PF rf → Holds PG rg → Holds Q (Ok f ⊛ ra ⊛ rb ⊛ rc ⊛ rd ⊛ re ⊛ rf ⊛ rg)
@@ -145,7 +162,8 @@ holds_seven {A} {B} {C} {D} {E} {F} {G} PA PB PC PD PE PF PG Q f ra rb rc rd re 
     (holds_apply PD (λ g. (e : E) → PE e → (i : F) → PF i → (j : G) → PG j → Q (g e i j)) (Ok f ⊛ ra ⊛ rb ⊛ rc) rd
     (holds_apply PC (λ g. (d : D) → PD d → (e : E) → PE e → (i : F) → PF i → (j : G) → PG j → Q (g d e i j)) (Ok f ⊛ ra ⊛ rb) rc
     (holds_apply PB (λ g. (c : C) → PC c → (d : D) → PD d → (e : E) → PE e → (i : F) → PF i → (j : G) → PG j → Q (g c d e i j)) (Ok f ⊛ ra) rb
-    (holds_apply PA (λ g. (b : B) → PB b → (c : C) → PC c → (d : D) → PD d → (e : E) → PE e → (i : F) → PF i → (j : G) → PG j → Q (g b c d e i j)) (Ok f) ra (record { of_value = base }) ha) hb) hc) hd) he) hf) hg
+    (holds_apply PA (λ g. (b : B) → PB b → (c : C) → PC c → (d : D) → PD d → (e : E) → PE e → (i : F) → PF i → (j : G) → PG j → Q (g b c d e i j))
+    (Ok f) ra (record { of_value = base }) ha) hb) hc) hd) he) hf) hg
 
 pub holds_at : {X : Type 0} (P : X → Type 0) (r : Judged X) (x : X) → Holds P r → r ≡ Ok x → P x
 holds_at {X} P r x h e = let k : Holds P (Ok x) = subst (λ (s : Judged X). Holds P s) e h in k.of_value
@@ -174,7 +192,8 @@ ok_four {A} {B} {C} {D} f ra rb rc rd a b c d ha hb hc hd =
     ap (λ (u : Judged A). Ok f ⊛ u ⊛ rb ⊛ rc ⊛ rd) ha ∙ ap (λ (u : Judged B). Ok f ⊛ Ok a ⊛ u ⊛ rc ⊛ rd) hb
     ∙ ok_two (f a b) rc rd c d hc hd
 
-pub ok_six : {A B C D E F Z : Type 0} (f : A → B → C → D → E → F → Z) (ra : Judged A) (rb : Judged B) (rc : Judged C) (rd : Judged D) (re : Judged E) (ri : Judged F) (a : A) (b : B) (c : C) (d : D) (e : E) (i : F) →
+pub ok_six : {A B C D E F Z : Type 0} (f : A → B → C → D → E → F → Z) (ra : Judged A) (rb : Judged B) (rc : Judged C) (rd : Judged D) (re : Judged E)
+    (ri : Judged F) (a : A) (b : B) (c : C) (d : D) (e : E) (i : F) →
     ra ≡ Ok a → rb ≡ Ok b → rc ≡ Ok c → rd ≡ Ok d → re ≡ Ok e → ri ≡ Ok i → (Ok f ⊛ ra ⊛ rb ⊛ rc ⊛ rd ⊛ re ⊛ ri) ≡ Ok (f a b c d e i)
 ok_six {A} {B} {C} {D} {E} {F} f ra rb rc rd re ri a b c d e i ha hb hc hd he hi =
     ap (λ (u : Judged A). Ok f ⊛ u ⊛ rb ⊛ rc ⊛ rd ⊛ re ⊛ ri) ha
@@ -184,7 +203,8 @@ ok_six {A} {B} {C} {D} {E} {F} f ra rb rc rd re ri a b c d e i ha hb hc hd he hi
     ∙ ap (λ (u : Judged E). Ok f ⊛ Ok a ⊛ Ok b ⊛ Ok c ⊛ Ok d ⊛ u ⊛ ri) he
     ∙ ap (λ (u : Judged F). Ok f ⊛ Ok a ⊛ Ok b ⊛ Ok c ⊛ Ok d ⊛ Ok e ⊛ u) hi
 
-pub ok_seven : {A B C D E F G Z : Type 0} (f : A → B → C → D → E → F → G → Z) (ra : Judged A) (rb : Judged B) (rc : Judged C) (rd : Judged D) (re : Judged E) (rf : Judged F) (rg : Judged G)
+pub ok_seven : {A B C D E F G Z : Type 0} (f : A → B → C → D → E → F → G → Z) (ra : Judged A) (rb : Judged B) (rc : Judged C) (rd : Judged D)
+    (re : Judged E) (rf : Judged F) (rg : Judged G)
     (a : A) (b : B) (c : C) (d : D) (e : E) (i : F) (j : G) → ra ≡ Ok a → rb ≡ Ok b → rc ≡ Ok c → rd ≡ Ok d → re ≡ Ok e → rf ≡ Ok i → rg ≡ Ok j →
     (Ok f ⊛ ra ⊛ rb ⊛ rc ⊛ rd ⊛ re ⊛ rf ⊛ rg) ≡ Ok (f a b c d e i j)
 ok_seven {A} {B} {C} {D} {E} {F} {G} f ra rb rc rd re rf rg a b c d e i j ha hb hc hd he hf hg =
@@ -203,14 +223,16 @@ pub record KeepsEach {X : Type 0} (judge : Node → Judged X) (tree : X → Node
   pub alike : AllAlike ts (nodes (map tree xs))
   pub reads : each_of judge (nodes (map tree xs)) ≡ Ok (map view xs)
 
-pub keeps_each : {X : Type 0} (judge : Node → Judged X) (tree : X → Node) (view : X → X) → ((t : Node) → Holds (Keeps judge tree view t) (judge t)) → (ts : Nodes) → Holds (KeepsEach judge tree view ts) (each_of judge ts)
+pub keeps_each : {X : Type 0} (judge : Node → Judged X) (tree : X → Node) (view : X → X) → ((t : Node) → Holds (Keeps judge tree view t) (judge t))
+    → (ts : Nodes) → Holds (KeepsEach judge tree view ts) (each_of judge ts)
 keeps_each judge tree view keeps none = record { of_value = record { alike = tt; reads = refl } }
 keeps_each judge tree view keeps (more t ts) =
     holds_two (Keeps judge tree view t) (KeepsEach judge tree view ts) (KeepsEach judge tree view (more t ts)) front (judge t) (each_of judge ts)
     (λ x g xs h. record { alike = (g.alike, h.alike); reads = ok_two front _ _ (view x) (map view xs) g.reads h.reads })
     (keeps t) (keeps_each judge tree view keeps ts)
 
-pub keeps_list : (rule : ℕ) → {X : Type 0} (judge : Node → Judged X) (tree : X → Node) (view : X → X) → ((t : Node) → Holds (Keeps judge tree view t) (judge t)) → (t : Node) →
+pub keeps_list : (rule : ℕ) → {X : Type 0} (judge : Node → Judged X) (tree : X → Node) (view : X → X)
+    → ((t : Node) → Holds (Keeps judge tree view t) (judge t)) → (t : Node) →
     Holds (Keeps (list_or rule judge) (list_tree tree) (map view) t) (list_or rule judge t)
 keeps_list rule judge tree view keeps (atom p w) = record { of_value = tt }
 keeps_list rule {X} judge tree view keeps (list p ts) = as_list (each_of judge ts) (keeps_each judge tree view keeps ts)
@@ -220,7 +242,8 @@ keeps_list rule {X} judge tree view keeps (list p ts) = as_list (each_of judge t
     as_list (Err fs) h = record { of_value = tt }
 
 -- what is found is among what was searched
-found_first : {X : Type 0} (P : X → Bool) (y x : X) (b : Bool) (last : Option X) → P y ≡ true → (last ≡ Some x → P x ≡ true) → cond b (Some y) last ≡ Some x → P x ≡ true
+found_first : {X : Type 0} (P : X → Bool) (y x : X) (b : Bool) (last : Option X) → P y ≡ true → (last ≡ Some x → P x ≡ true)
+    → cond b (Some y) last ≡ Some x → P x ≡ true
 found_first {X} P y x true last first others h = let k : y ≡ x = cc in subst (λ (z : X). P z ≡ true) k first
 found_first P y x false last first others h = others h
 
@@ -231,7 +254,8 @@ found_passes P test (y ∷ ys) x all h =
     found_first P y x (test y) (find test ys) p.0 (found_passes P test ys x p.1) h
 
 -- what is found passes the test
-found_tests_first : {X : Type 0} (test : X → Bool) (y x : X) (b : Bool) (last : Option X) → test y ≡ b → (last ≡ Some x → test x ≡ true) → cond b (Some y) last ≡ Some x → test x ≡ true
+found_tests_first : {X : Type 0} (test : X → Bool) (y x : X) (b : Bool) (last : Option X) → test y ≡ b → (last ≡ Some x → test x ≡ true)
+    → cond b (Some y) last ≡ Some x → test x ≡ true
 found_tests_first {X} test y x true last t others h = let k : y ≡ x = cc in subst (λ (z : X). test z ≡ true) k t
 found_tests_first test y x false last t others h = others h
 
@@ -259,9 +283,11 @@ pub named_again : (rule : ℕ) (n : Named) → is_name n.name ≡ true → name_
 named_again rule n h = passes 0 rule (is_name n.name) _ _ h refl
 
 pub keeps_name : (rule : ℕ) (t : Node) → Holds (KeepsName t) (name_or rule t)
-keeps_name rule (atom p w) = holds_judged (KeepsName (atom p w)) p rule (is_name w) _ (λ h. record { of_value = record { alike = name_is_run w h; is_named = h } })
+keeps_name rule (atom p w) =
+    holds_judged (KeepsName (atom p w)) p rule (is_name w) _ (λ h. record { of_value = record { alike = name_is_run w h; is_named = h } })
 keeps_name rule (list p ts) = record { of_value = tt }
 
 -- a name as a part
 pub keeps_named : (rule : ℕ) (t : Node) → Holds (Keeps (name_or rule) name_tree unplaced_name t) (name_or rule t)
-keeps_named rule t = holds_more (KeepsName t) (Keeps (name_or rule) name_tree unplaced_name t) (name_or rule t) (λ n h. record { alike = h.alike; reads = named_again rule n h.is_named }) (keeps_name rule t)
+keeps_named rule t = holds_more (KeepsName t) (Keeps (name_or rule) name_tree unplaced_name t) (name_or rule t)
+    (λ n h. record { alike = h.alike; reads = named_again rule n h.is_named }) (keeps_name rule t)

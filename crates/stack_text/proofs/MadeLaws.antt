@@ -24,7 +24,8 @@ pub record MadeEach {X : Type 0} (judge : Node → Judged X) (tree : X → Node)
   pub low : depths (nodes (map tree xs)) ≤ n
   pub count : count_of (nodes (map tree xs)) ≡ length xs
 
-pub made_each : {X : Type 0} (P : X → Type 0) (judge : Node → Judged X) (tree : X → Node) (view : X → X) (n : ℕ) → ((x : X) → P x → Made judge tree view n x) → (xs : List X) → All P xs → MadeEach judge tree view n xs
+pub made_each : {X : Type 0} (P : X → Type 0) (judge : Node → Judged X) (tree : X → Node) (view : X → X) (n : ℕ)
+    → ((x : X) → P x → Made judge tree view n x) → (xs : List X) → All P xs → MadeEach judge tree view n xs
 made_each P judge tree view n made [] h = record { reads = refl; runs = tt; low = omega arith; count = refl }
 made_each P judge tree view n made (x ∷ xs) h =
     let one_ = made x (All-head P x xs h) in

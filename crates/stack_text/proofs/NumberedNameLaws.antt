@@ -27,7 +27,8 @@ letter_passes false false false mark e = absurd cc
 pub numbered_named : (letter n : ℕ) → is_ascii_alphabetic letter ≡ true → ((bytes : List ℕ) → is_truth_word (letter ∷ bytes) ≡ false) →
     n < 2 ^ 32 → IsTrue (is_name (letter ∷ decimal n))
 numbered_named letter n alphabetic differs lt =
-    let first : is_name_byte letter ≡ true = letter_passes (is_ascii_digit letter) (is_ascii_uppercase letter) (is_ascii_lowercase letter) (is_mark letter) alphabetic in
+    let first : is_name_byte letter ≡ true =
+    letter_passes (is_ascii_digit letter) (is_ascii_uppercase letter) (is_ascii_lowercase letter) (is_mark letter) alphabetic in
     let digits = digits_pass (decimal n) (decimal_is_IsNumeral_wide n (omega (arith, lt))).0.1 in
     let short : length (decimal n) ≤ 10 = length-decimal-le 10 n (omega (arith, lt)) (omega (arith, lt)) (omega arith) in
     let not_truth = differs (decimal n) in

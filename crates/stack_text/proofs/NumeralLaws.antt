@@ -1,5 +1,6 @@
 -- A numeral's bytes, as std's `parse` speaks of them.
-use Rattle.std.proofs.Common.{◌≡◌, ℕ, zero, suc, ◌^◌, Bool, true, false, cond, leb, ltb, List, [], ◌∷◌, length, drop, Result, Ok, Err, refl, sym, ap, subst, arith}
+use Rattle.std.proofs.Common.{◌≡◌, ℕ, zero, suc, ◌^◌, Bool, true, false, cond, leb, ltb, List, [], ◌∷◌, length, drop, Result, Ok, Err, refl, sym, ap, subst}
+use Rattle.std.proofs.Common.{arith}
 use Rattle.std.specs.Prelude.{ℤ, pos, negsuc, FitsSigned}
 use Rattle.std.specs.List.{list_all}
 use Rattle.std.specs.Char.{is_ascii_digit}
@@ -43,10 +44,12 @@ pub numeral_is_numeral : (bytes : List ℕ) → is_numeral bytes ≡ true → Is
 numeral_is_numeral bytes h = by_sign (starts_with_minus bytes) refl
   where
     by_sign : (b : Bool) → starts_with_minus bytes ≡ b → IsNumeral 10 (without_leading_sign bytes)
-    by_sign true e = subst (λ (b : Bool). IsNumeral 10 (cond b (drop 1 bytes) (without_leading_plus bytes))) (sym e) (digits_are_numeral (drop 1 bytes) (subst (λ (b : Bool). is_digits (cond b (drop 1 bytes) bytes) ≡ true) e h))
+    by_sign true e = subst (λ (b : Bool). IsNumeral 10 (cond b (drop 1 bytes) (without_leading_plus bytes))) (sym e)
+        (digits_are_numeral (drop 1 bytes) (subst (λ (b : Bool). is_digits (cond b (drop 1 bytes) bytes) ≡ true) e h))
     by_sign false e =
         let digits : is_digits bytes ≡ true = subst (λ (b : Bool). is_digits (cond b (drop 1 bytes) bytes) ≡ true) e h in
-        subst (λ (b : Bool). IsNumeral 10 (cond b (drop 1 bytes) (without_leading_plus bytes))) (sym e) (subst (IsNumeral 10) (sym (no_plus bytes digits)) (digits_are_numeral bytes digits))
+        subst (λ (b : Bool). IsNumeral 10 (cond b (drop 1 bytes) (without_leading_plus bytes))) (sym e)
+        (subst (IsNumeral 10) (sym (no_plus bytes digits)) (digits_are_numeral bytes digits))
 
 pub numeral_ascii : (bytes : List ℕ) → is_numeral bytes ≡ true → IsAscii bytes
 numeral_ascii bytes h = by_sign (starts_with_minus bytes) refl

@@ -16,7 +16,8 @@ numeral_found false fits v z h = absurd cc
 -- the digits of a number that fits 128 bits are read as that number
 pub value-signed_decimal : (z : ℤ) → fits_128_bits z ≡ true → numeral_value (signed_decimal z) ≡ z
 value-signed_decimal z fits =
-    numeral_found (is_numeral (signed_decimal z)) (fits_128_bits (numeral_value (signed_decimal z))) (numeral_value (signed_decimal z)) z (numeral_of-signed_decimal z fits).1
+    numeral_found (is_numeral (signed_decimal z)) (fits_128_bits (numeral_value (signed_decimal z))) (numeral_value (signed_decimal z)) z
+    (numeral_of-signed_decimal z fits).1
 
 pub numeral-signed_decimal : (z : ℤ) → fits_128_bits z ≡ true → is_numeral (signed_decimal z) ≡ true
 numeral-signed_decimal z fits = (numeral_of-signed_decimal z fits).0

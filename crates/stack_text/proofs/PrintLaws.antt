@@ -1,5 +1,6 @@
 -- What is printed spells the tree, so that it is read again.
-use Rattle.std.proofs.Common.{◌≡◌, Vec, Global, ℕ, suc, ◌+◌, ◌<◌, ◌≤◌, List, [], ◌∷◌, ◌++◌, map, length, get_or, take, cond, eqb, refl, sym, ap, subst, ◌∙◌, append_assoc, arith}
+use Rattle.std.proofs.Common.{◌≡◌, Vec, Global, ℕ, suc, ◌+◌, ◌<◌, ◌≤◌, List, [], ◌∷◌, ◌++◌, map, length, get_or, take, cond, eqb, refl, sym, ap, subst, ◌∙◌}
+use Rattle.std.proofs.Common.{append_assoc, arith}
 use Rattle.std.specs.Prelude.{Bool, true, false, if◌then◌else◌}
 use Rattle.std.proofs.lemmas.List.{append-nil, map_push, take_more, length-take, length-map, take_all}
 use Rattle.std.proofs.lemmas.Bool.{ne_eqb}
@@ -16,13 +17,18 @@ use Rattle.stack_text.proofs.SpellingLaws.{spelled_is_read}
 
 spaced_text-push : (ts : List Node) (t : Node) → spaced_text (nodes (ts ++ t ∷ [])) ≡ spaced_text (nodes ts) ++ 32 ∷ tree_text t
 spaced_text-push [] t = ap (λ (w : List ℕ). 32 ∷ w) (append-nil (tree_text t))
-spaced_text-push (x ∷ ts) t = ap (λ (w : List ℕ). 32 ∷ (tree_text x ++ w)) (spaced_text-push ts t) ∙ ap (λ (w : List ℕ). 32 ∷ w) (sym (append_assoc (tree_text x) (spaced_text (nodes ts)) (32 ∷ tree_text t)))
+spaced_text-push (x ∷ ts) t = ap (λ (w : List ℕ). 32 ∷ (tree_text x ++ w)) (spaced_text-push ts t)
+    ∙ ap (λ (w : List ℕ). 32 ∷ w) (sym (append_assoc (tree_text x) (spaced_text (nodes ts)) (32 ∷ tree_text t)))
 
-items_text-push : (ts : List Node) (t : Node) → items_text (nodes (ts ++ t ∷ [])) ≡ (items_text (nodes ts) ++ cond (eqb (length ts) 0) [] (32 ∷ [])) ++ tree_text t
+items_text-push : (ts : List Node) (t : Node) → items_text (nodes (ts ++ t ∷ [])) ≡ (items_text (nodes ts) ++ cond (eqb (length ts) 0) [] (32 ∷ []))
+    ++ tree_text t
 items_text-push [] t = append-nil (tree_text t)
-items_text-push (x ∷ ts) t = rw (ne_eqb (suc (length ts)) 0 (λ e. omega arith)) (ap (λ (w : List ℕ). tree_text x ++ w) (spaced_text-push ts t) ∙ sym (append_assoc (tree_text x) (spaced_text (nodes ts)) (32 ∷ tree_text t)) ∙ sym (append_assoc (tree_text x ++ spaced_text (nodes ts)) (32 ∷ []) (tree_text t)))
+items_text-push (x ∷ ts) t = rw (ne_eqb (suc (length ts)) 0 (λ e. omega arith))
+    (ap (λ (w : List ℕ). tree_text x ++ w) (spaced_text-push ts t) ∙ sym (append_assoc (tree_text x) (spaced_text (nodes ts)) (32 ∷ tree_text t))
+    ∙ sym (append_assoc (tree_text x ++ spaced_text (nodes ts)) (32 ∷ []) (tree_text t)))
 
-pub items_text-owned_nodes-more : (ts : List Tree) (i : ℕ) (t : Tree) → i < length ts → t ≡ get_or ts i t → items_text (owned_nodes (take (i + 1) ts)) ≡ (items_text (owned_nodes (take i ts)) ++ cond (eqb i 0) [] (32 ∷ [])) ++ tree_text (owned_node t)
+pub items_text-owned_nodes-more : (ts : List Tree) (i : ℕ) (t : Tree) → i < length ts → t ≡ get_or ts i t
+    → items_text (owned_nodes (take (i + 1) ts)) ≡ (items_text (owned_nodes (take i ts)) ++ cond (eqb i 0) [] (32 ∷ [])) ++ tree_text (owned_node t)
 items_text-owned_nodes-more ts i t lt is =
     let long : length (map owned_node (take i ts)) ≡ i = omega (arith, length-map (take i ts) owned_node, length-take i ts) in
     ap (λ (us : List Tree). items_text (owned_nodes us)) (take_more ts i t lt ∙ ap (λ (u : Tree). take i ts ++ u ∷ []) (sym is))
@@ -31,7 +37,8 @@ items_text-owned_nodes-more ts i t lt is =
     ∙ ap (λ (n : ℕ). (items_text (owned_nodes (take i ts)) ++ cond (eqb n 0) [] (32 ∷ [])) ++ tree_text (owned_node t)) long
 
 pub printed_more : (old out apart new : List ℕ) (ts : List Tree) (i : ℕ) (t : Tree) → i < length ts → t ≡ get_or ts i t →
-    out ≡ old ++ 40 ∷ items_text (owned_nodes (take i ts)) → apart ≡ out ++ cond (eqb i 0) [] (32 ∷ []) → new ≡ apart ++ tree_text (owned_node t) → new ≡ old ++ 40 ∷ items_text (owned_nodes (take (i + 1) ts))
+    out ≡ old ++ 40 ∷ items_text (owned_nodes (take i ts)) → apart ≡ out ++ cond (eqb i 0) [] (32 ∷ []) → new ≡ apart ++ tree_text (owned_node t)
+    → new ≡ old ++ 40 ∷ items_text (owned_nodes (take (i + 1) ts))
 printed_more old out apart new ts i t lt is out_is apart_is new_is =
     new_is ∙ ap (λ (w : List ℕ). w ++ tree_text (owned_node t)) (apart_is ∙ ap (λ (w : List ℕ). w ++ cond (eqb i 0) [] (32 ∷ [])) out_is)
     ∙ ap (λ (w : List ℕ). w ++ tree_text (owned_node t)) (append_assoc old (40 ∷ items_text (owned_nodes (take i ts))) (cond (eqb i 0) [] (32 ∷ [])))
@@ -65,6 +72,7 @@ pub tree_text_reads : (t : Node) → IsWellFormed t → ReadsAs (tree_text t) t
 tree_text_reads t form = subst (λ (text : List ℕ). ReadsAs text t) (append-nil (tree_text t)) (spelled_is_read t (tree_text t) [] form (Spells-tree_text t) tt)
 
 -- a text behind a space where it isn't the first, and what follows it
-pub apart_by : (b : Bool) (out text others : List ℕ) → ((out ++ (if b then [] else 32 ∷ [])) ++ text) ++ others ≡ out ++ (if b then text ++ others else 32 ∷ (text ++ others))
+pub apart_by : (b : Bool) (out text others : List ℕ) → ((out ++ (if b then [] else 32 ∷ [])) ++ text) ++ others ≡ out
+    ++ (if b then text ++ others else 32 ∷ (text ++ others))
 apart_by true out text others = rw (append-nil out) (append_assoc out text others)
 apart_by false out text others = append_assoc (out ++ 32 ∷ []) text others ∙ append_assoc out (32 ∷ []) (text ++ others)

@@ -3,8 +3,10 @@ use Rattle.std.proofs.Common.{◌≡◌, ℕ, ◌+◌, ◌<◌, ◌≤◌, ◌^�
 use Rattle.std.proofs.lemmas.List.{append-nil, length-append, length-map}
 use Rattle.stack_text.specs.declared.class.Class.{Class}
 use Rattle.stack_text.specs.declared.class.Class.TheVariants.{LineEnd, Space, Semicolon, Opening, Closing, AtomByte, Invalid}
-use Rattle.stack_text.specs.Tokens.{class_of, Token, opens_at, closes_at, atom_at, invalid_at, Mode, between, in_atom, in_comment, next, if_atom_byte, atom_run, begins, tokens}
-use Rattle.stack_text.specs.Trees.{Node, Nodes, atom, list, none, more, tokens_of, tokens_of_all, as_kept, TreeOf, AtomsAreRuns, AllAtomsAreRuns, node_count, node_counts, IsWellFormed}
+use Rattle.stack_text.specs.Tokens.{class_of, Token, opens_at, closes_at, atom_at, invalid_at, Mode, between, in_atom, in_comment, next, if_atom_byte, atom_run}
+use Rattle.stack_text.specs.Tokens.{begins, tokens}
+use Rattle.stack_text.specs.Trees.{Node, Nodes, atom, list, none, more, tokens_of, tokens_of_all, as_kept, TreeOf, AtomsAreRuns, AllAtomsAreRuns, node_count}
+use Rattle.stack_text.specs.Trees.{node_counts, IsWellFormed}
 use Rattle.stack_text.specs.PlaceOrder.{InOrder, AllInOrder, IsInOrder}
 
 -- the places of the tokens go up from lo on, and their atoms are runs
@@ -67,13 +69,15 @@ tokens_sound m at [] = tt
 tokens_sound m at (b ∷ bs) = sound_byte m (class_of b) at b bs (tokens (next m (class_of b)) (at + 1) bs) refl (tokens_sound (next m (class_of b)) (at + 1) bs)
 
 mutual
-  sound_tree : (t : Node) (lo : ℕ) (ts : List Token) → Sound lo (tokens_of t ++ ts) → AtomsAreRuns t × ((mid : ℕ) × InOrder lo t mid × (lo ≤ mid) × Sound mid ts)
+  sound_tree : (t : Node) (lo : ℕ) (ts : List Token) → Sound lo (tokens_of t ++ ts) → AtomsAreRuns t
+      × ((mid : ℕ) × InOrder lo t mid × (lo ≤ mid) × Sound mid ts)
   sound_tree (atom p w) lo ts h = (h.1, (p + 1, (h.0, omega arith), omega (arith, h.0), h.2))
   sound_tree (list p us) lo ts h =
       let k = sound_trees us (p + 1) (closes_at 0 ∷ ts) (subst (Sound (p + 1)) (append_assoc (tokens_of_all us) (closes_at 0 ∷ []) ts) h.1) in
       (k.0, (k.1.0, (h.0, omega (arith, k.1.2), k.1.1), omega (arith, k.1.2, h.0), k.1.3))
 
-  sound_trees : (us : Nodes) (lo : ℕ) (ts : List Token) → Sound lo (tokens_of_all us ++ ts) → AllAtomsAreRuns us × ((mid : ℕ) × AllInOrder lo us mid × (lo ≤ mid) × Sound mid ts)
+  sound_trees : (us : Nodes) (lo : ℕ) (ts : List Token) → Sound lo (tokens_of_all us ++ ts) → AllAtomsAreRuns us
+      × ((mid : ℕ) × AllInOrder lo us mid × (lo ≤ mid) × Sound mid ts)
   sound_trees none lo ts h = (tt, (lo, omega arith, omega arith, h))
   sound_trees (more u us) lo ts h =
       let k = sound_tree u lo (tokens_of_all us ++ ts) (subst (Sound lo) (append_assoc (tokens_of u) (tokens_of_all us) ts) h) in
@@ -109,7 +113,12 @@ pub few_tokens : (m : Mode) (at : ℕ) (bs : List ℕ) → length (tokens m at b
 unfolding tokens
 few_tokens m at [] = omega arith
 few_tokens m at (b ∷ bs) =
-    omega (arith, few_tokens (next m (class_of b)) (at + 1) bs, short_begins m (class_of b) at (b ∷ bs), length-append (begins m (class_of b) at (b ∷ bs)) (tokens (next m (class_of b)) (at + 1) bs))
+    omega (
+      arith,
+      few_tokens (next m (class_of b)) (at + 1) bs,
+      short_begins m (class_of b) at (b ∷ bs),
+      length-append (begins m (class_of b) at (b ∷ bs)) (tokens (next m (class_of b)) (at + 1) bs),
+    )
 
 mutual
   few_trees : (t : Node) → node_count t ≤ length (tokens_of t)

@@ -1,5 +1,6 @@
 -- Trees that are read one after the other, each of which has a value or a fault.
-use Rattle.std.proofs.Common.{◌≡◌, ◌<◌, ◌≤◌, ◌+◌, ℕ, List, [], ◌∷◌, ◌++◌, length, drop, get_or, Option, Some, None, Result, Ok, Err, refl, sym, ap, ◌∙◌, append_assoc, append-nil}
+use Rattle.std.proofs.Common.{◌≡◌, ◌<◌, ◌≤◌, ◌+◌, ℕ, List, [], ◌∷◌, ◌++◌, length, drop, get_or, Option, Some, None, Result, Ok, Err, refl, sym, ap, ◌∙◌}
+use Rattle.std.proofs.Common.{append_assoc, append-nil}
 use Rattle.std.proofs.lemmas.List.{drop_all}
 use Rattle.stack_text.specs.Gives.{Fails}
 use Rattle.stack_text.specs.Results.{◌>>=◌}
@@ -24,7 +25,8 @@ with_front-none {X} {F} xs = let ok : List X → Result (List X) F = λ ws. Ok w
 module _ {X F : Type 0} (read : Node → Result X F) (all : Nodes → Result (List X) F) (empty : all none ≡ Ok [])
     (step : (t : Node) (ts : Nodes) → all (more t ts) ≡ (read t >>= λ x. all ts >>= λ xs. Ok (x ∷ xs)))
     (xs : List X) (n : ℕ) (trees : List TextTree) (so_far : with_front xs (all (nodes_of (drop n trees))) ≡ all (nodes_of trees)) where
-  split : (t : TextTree) → n < length trees → t ≡ get_or trees n t → all (nodes_of (drop n trees)) ≡ (read (node_of t) >>= λ x. all (nodes_of (drop (n + 1) trees)) >>= λ xs. Ok (x ∷ xs))
+  split : (t : TextTree) → n < length trees → t ≡ get_or trees n t → all (nodes_of (drop n trees))
+      ≡ (read (node_of t) >>= λ x. all (nodes_of (drop (n + 1) trees)) >>= λ xs. Ok (x ∷ xs))
   split t lt is = ap (λ (ts : List TextTree). all (nodes_of ts)) (drop-item trees n t lt is) ∙ step (node_of t) (nodes_of (drop (n + 1) trees))
 
   -- the next tree has a value
@@ -41,7 +43,8 @@ module _ {X F : Type 0} (read : Node → Result X F) (all : Nodes → Result (Li
       cases (Err fault) = refl
 
   -- the next tree has a fault, where `None` is out of memory
-  pub next_fails : (fault : Option F) (t : TextTree) → n < length trees → t ≡ get_or trees n t → Fails fault (read (node_of t)) → Fails fault (all (nodes_of trees))
+  pub next_fails : (fault : Option F) (t : TextTree) → n < length trees → t ≡ get_or trees n t → Fails fault (read (node_of t))
+      → Fails fault (all (nodes_of trees))
   next_fails None t lt is e = tt
   next_fails (Some fault) t lt is e =
       let rest = all (nodes_of (drop (n + 1) trees)) in
@@ -50,4 +53,5 @@ module _ {X F : Type 0} (read : Node → Result X F) (all : Nodes → Result (Li
 
   -- there is no further tree
   pub all_read : length trees ≤ n → all (nodes_of trees) ≡ Ok xs
-  all_read past = sym so_far ∙ ap (λ (ts : List TextTree). with_front xs (all (nodes_of ts))) (drop_all n trees past) ∙ ap (with_front xs) empty ∙ with_front-none xs
+  all_read past = sym so_far ∙ ap (λ (ts : List TextTree). with_front xs (all (nodes_of ts))) (drop_all n trees past) ∙ ap (with_front xs) empty
+      ∙ with_front-none xs

@@ -50,14 +50,17 @@ pub apply_up : {X Y : Type 0} → {low mid high : ℕ} {r : Judged (X → Y)} {s
 apply_up {low = low} {mid = mid} {high = high} {r = r} {s = s} h k = record { rises = JudgedRises-apply low mid high r s (up_le h) (up_le k) h.rises k.rises }
 
 -- a part more
-pub goes_on : {X Y : Type 0} → {low mid : ℕ} {r : Judged (X → Y)} {judge : Node → Judged X} → Up low r mid → Rising judge → (t : Node) (high : ℕ) → InOrder mid t high → Up low (r ⊛ judge t) high
+pub goes_on : {X Y : Type 0} → {low mid : ℕ} {r : Judged (X → Y)} {judge : Node → Judged X} → Up low r mid → Rising judge → (t : Node) (high : ℕ)
+    → InOrder mid t high → Up low (r ⊛ judge t) high
 goes_on {mid = mid} h rising t high o = apply_up h (rising.up mid t high o)
 
-pub each_up : {X : Type 0} → {judge : Node → Judged X} → Rising judge → (low : ℕ) (ts : Nodes) (high : ℕ) → AllInOrder low ts high → Up low (each_of judge ts) high
+pub each_up : {X : Type 0} → {judge : Node → Judged X} → Rising judge → (low : ℕ) (ts : Nodes) (high : ℕ) → AllInOrder low ts high
+    → Up low (each_of judge ts) high
 each_up rising low none high h = record { rises = h }
 each_up rising low (more t ts) high h = apply_up (goes_on (starts front low low (omega arith)) rising t h.0 h.1) (each_up rising h.0 ts high h.2)
 
-pub goes_on_with_each : {X Y : Type 0} → {low mid : ℕ} {r : Judged (List X → Y)} {judge : Node → Judged X} → Up low r mid → Rising judge → (ts : Nodes) (high : ℕ) → AllInOrder mid ts high
+pub goes_on_with_each : {X Y : Type 0} → {low mid : ℕ} {r : Judged (List X → Y)} {judge : Node → Judged X} → Up low r mid → Rising judge
+    → (ts : Nodes) (high : ℕ) → AllInOrder mid ts high
     → Up low (r ⊛ each_of judge ts) high
 goes_on_with_each {mid = mid} h rising ts high o = apply_up h (each_up rising mid ts high o)
 
@@ -83,11 +86,13 @@ named_up rule = record { up = up }
     up low (list p ts) high h = at_fault low p rule high h.0 h.1
 
 -- one part alone, which ends within
-pub only : {X Y : Type 0} → {judge : Node → Judged X} → (f : X → Y) → Rising judge → (low mid : ℕ) (n : Node) (high : ℕ) → low ≤ mid → AllInOrder mid (more n none) high → Up low (Ok f ⊛ judge n) high
+pub only : {X Y : Type 0} → {judge : Node → Judged X} → (f : X → Y) → Rising judge → (low mid : ℕ) (n : Node) (high : ℕ) → low ≤ mid
+    → AllInOrder mid (more n none) high → Up low (Ok f ⊛ judge n) high
 only f rising low mid n high le o = higher (goes_on (starts f low mid le) rising n o.0 o.1) high o.2
 
 -- two parts
-pub both : {X Y Z : Type 0} → {judge : Node → Judged X} {other : Node → Judged Y} → (f : X → Y → Z) → Rising judge → Rising other → (low mid : ℕ) (t u : Node) (high : ℕ) → low ≤ mid → AllInOrder mid (more t (more u none)) high
+pub both : {X Y Z : Type 0} → {judge : Node → Judged X} {other : Node → Judged Y} → (f : X → Y → Z) → Rising judge → Rising other
+    → (low mid : ℕ) (t u : Node) (high : ℕ) → low ≤ mid → AllInOrder mid (more t (more u none)) high
     → Up low (Ok f ⊛ judge t ⊛ other u) high
 both f rising rising_too low mid t u high le o = higher (goes_on (goes_on (starts f low mid le) rising t o.0 o.1) rising_too u o.2.0 o.2.1) high o.2.2
 
@@ -102,6 +107,7 @@ list_up rule {judge = judge} rising = record { up = up }
     up low (atom p bytes) high h = at_fault low p rule high h.0 h.1
 
 -- in a tree whose places go up, the first fault in reading order is the least of all
-pub first_is_judged : {X : Type 0} → {judge : Node → Judged X} → Rising judge → (t : Node) → IsInOrder t → (first : Breach) (others : List Breach) → judge t ≡ Err (first, others) → least_of first others ≡ first
+pub first_is_judged : {X : Type 0} → {judge : Node → Judged X} → Rising judge → (t : Node) → IsInOrder t → (first : Breach) (others : List Breach)
+    → judge t ≡ Err (first, others) → least_of first others ≡ first
 first_is_judged rising t order first others e =
     first_is_least 0 order.0 first others (subst (λ r. JudgedRises 0 r order.0) e (rising.up 0 t order.0 order.1).rises)

@@ -21,7 +21,8 @@ atom_run-append (b ∷ bs) rest all stop =
     let h = atom_front (class_of b) b (atom_run bs) bs all in
     rw h.0 (ap (λ (r : List ℕ). b ∷ r) (atom_run-append bs rest h.1 stop))
 
-stops_at : (k : Class) (b at : ℕ) (bs r : List ℕ) → if_atom_byte k (b ∷ r) ≡ [] → begins in_atom k at (b ∷ bs) ++ tokens (next in_atom k) (at + 1) bs ≡ begins between k at (b ∷ bs) ++ tokens (next between k) (at + 1) bs
+stops_at : (k : Class) (b at : ℕ) (bs r : List ℕ) → if_atom_byte k (b ∷ r) ≡ [] → begins in_atom k at (b ∷ bs) ++ tokens (next in_atom k) (at + 1) bs
+    ≡ begins between k at (b ∷ bs) ++ tokens (next between k) (at + 1) bs
 stops_at LineEnd b at bs r e = refl
 stops_at Space b at bs r e = refl
 stops_at Semicolon b at bs r e = refl
@@ -42,11 +43,13 @@ tokens-in_atom (b ∷ bs) rest at all stop =
     let h = atom_front (class_of b) b (atom_run bs) bs all in
     rw h.0 (tokens-in_atom bs rest (at + 1) h.1 stop ∙ ap (λ (n : ℕ). tokens between n rest) (omega arith))
 
-pub tokens-byte : (b : ℕ) (rest : List ℕ) (at : ℕ) (k : Class) → class_of b ≡ k → tokens between at (b ∷ rest) ≡ begins between k at (b ∷ rest) ++ tokens (next between k) (at + 1) rest
+pub tokens-byte : (b : ℕ) (rest : List ℕ) (at : ℕ) (k : Class) → class_of b ≡ k → tokens between at (b ∷ rest) ≡ begins between k at (b ∷ rest)
+    ++ tokens (next between k) (at + 1) rest
 unfolding tokens
 tokens-byte b rest at k is = rw is refl
 
-pub tokens-atom_at : (w rest : List ℕ) (at : ℕ) → 0 < length w → atom_run w ≡ w → atom_run rest ≡ [] → tokens between at (w ++ rest) ≡ atom_at at w ∷ tokens between (at + length w) rest
+pub tokens-atom_at : (w rest : List ℕ) (at : ℕ) → 0 < length w → atom_run w ≡ w → atom_run rest ≡ []
+    → tokens between at (w ++ rest) ≡ atom_at at w ∷ tokens between (at + length w) rest
 tokens-atom_at [] rest at long all stop = absurd (omega arith)
 tokens-atom_at (b ∷ bs) rest at long all stop =
     let h = atom_front (class_of b) b (atom_run bs) bs all in

@@ -1,5 +1,6 @@
 -- Lemmas on truth values, options, lists, names and kinds that several crates need.
-use Rattle.std.proofs.Common.{◌≡◌, Bool, true, false, refl, ◌&&◌, not, ℕ, [], Option, Some, None, is_none, List, ◌∷◌, ◌++◌, ◌+◌, ap, ◌∙◌, zero, suc, ◌<◌, length, arith, slice_get, map, get_or, take, reverse, ℤ, pos, append_assoc, sym, Bor, ◌||◌, ◌≤◌, find, cond, option_map}
+use Rattle.std.proofs.Common.{◌≡◌, Bool, true, false, refl, ◌&&◌, not, ℕ, [], Option, Some, None, is_none, List, ◌∷◌, ◌++◌, ◌+◌, ap, ◌∙◌, zero, suc, ◌<◌}
+use Rattle.std.proofs.Common.{length, arith, slice_get, map, get_or, take, reverse, ℤ, pos, append_assoc, sym, Bor, ◌||◌, ◌≤◌, find, cond, option_map}
 use Rattle.std.specs.Prelude.{nat_le}
 use Rattle.std.proofs.lemmas.List.{reverse-append, map-append}
 use Rattle.std.specs.Str.{bytes_eq}
@@ -129,7 +130,8 @@ find_map g p last (x ∷ xs) = pick (p (g x)) (find_map g p last xs)
     pick false e = e
 
 -- a name among names that differ stands for the first time
-pub no_earlier : (names : List (List ℕ)) (i : ℕ) (name : List ℕ) → i < length names → name ≡ get_or names i name → IsDistinct bytes_eq names → list_any (bytes_eq name) (take i names) ≡ false
+pub no_earlier : (names : List (List ℕ)) (i : ℕ) (name : List ℕ) → i < length names → name ≡ get_or names i name → IsDistinct bytes_eq names
+    → list_any (bytes_eq name) (take i names) ≡ false
 no_earlier [] i name lt is own = absurd (omega arith)
 no_earlier (x ∷ xs) zero name lt is own = refl
 no_earlier (x ∷ xs) (suc i) name lt is own =

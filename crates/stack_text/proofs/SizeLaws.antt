@@ -8,7 +8,8 @@ use Rattle.stack_text.specs.Views.TreeView.{nodes}
 use Rattle.stack_text.specs.Grammar.Printed.{name_tree}
 
 -- by a bound for each
-pub sum_over : {X : Type 0} (f : X → ℕ) (tree : X → Node) → ((x : X) → node_count (tree x) ≤ f x) → (xs : List X) → node_counts (nodes (map tree xs)) ≤ sum_by f xs
+pub sum_over : {X : Type 0} (f : X → ℕ) (tree : X → Node) → ((x : X) → node_count (tree x) ≤ f x) → (xs : List X)
+    → node_counts (nodes (map tree xs)) ≤ sum_by f xs
 sum_over f tree over [] = omega arith
 sum_over f tree over (x ∷ xs) = let one = over x in let others = sum_over f tree over xs in omega (arith, sum_by-cons f x xs, one, others)
 

@@ -4,7 +4,8 @@ use Rattle.std.proofs.lemmas.List.{append-nil, length-append}
 use Rattle.stack_text.specs.declared.class.Class.{Class}
 use Rattle.stack_text.specs.declared.class.Class.TheVariants.{LineEnd, Space, Semicolon, Opening, Closing, AtomByte, Invalid}
 use Rattle.stack_text.specs.Tokens.{class_of, Token, opens_at, closes_at, atom_at, between, if_atom_byte, atom_run, tokens}
-use Rattle.stack_text.specs.Trees.{Node, Nodes, atom, list, none, more, tokens_of, tokens_of_all, depth, depths, as_kept, AtomsAreRuns, AllAtomsAreRuns, IsWellFormed, without_places, all_without_places, ReadsAs}
+use Rattle.stack_text.specs.Trees.{Node, Nodes, atom, list, none, more, tokens_of, tokens_of_all, depth, depths, as_kept, AtomsAreRuns, AllAtomsAreRuns}
+use Rattle.stack_text.specs.Trees.{IsWellFormed, without_places, all_without_places, ReadsAs}
 use Rattle.stack_text.specs.Internal.Spellings.{IsSeparator, IsWhitespace, Spells, SpellsAll, SpellsRest}
 use Rattle.stack_text.proofs.RunLaws.{kept_from, tokens-atom_at, tokens-byte, tokens-nil}
 
@@ -57,20 +58,23 @@ mutual
   lies : (t : Node) (at : ℕ) (text rest : List ℕ) → AtomsAreRuns t → Spells t text → atom_run rest ≡ [] → Lies t at text rest
   lies (atom q w) at text rest fine h stop = record {
     as_read = atom at w;
-    tokens_are = ap (λ (x : List ℕ). kept_from at (x ++ rest)) h ∙ ap (map as_kept) (tokens-atom_at w rest at fine.0 fine.1 stop) ∙ ap (λ (x : List ℕ). atom_at at w ∷ kept_from (at + length x) rest) (sym h);
+    tokens_are = ap (λ (x : List ℕ). kept_from at (x ++ rest)) h ∙ ap (map as_kept) (tokens-atom_at w rest at fine.0 fine.1 stop)
+        ∙ ap (λ (x : List ℕ). atom_at at w ∷ kept_from (at + length x) rest) (sym h);
     same = refl;
     as_deep = refl;
   }
   lies (list q ts) at text rest fine h stop =
       let inner = h.0 in
       let all = all_lie ts (at + 1) inner (41 ∷ rest) fine h.1 refl in
-      let whole : text ++ rest ≡ 40 ∷ (inner ++ 41 ∷ rest) = ap (λ (w : List ℕ). w ++ rest) h.2 ∙ ap (λ (w : List ℕ). 40 ∷ w) (append_assoc inner (41 ∷ []) rest) in
+      let whole : text ++ rest ≡ 40 ∷ (inner ++ 41 ∷ rest) =
+      ap (λ (w : List ℕ). w ++ rest) h.2 ∙ ap (λ (w : List ℕ). 40 ∷ w) (append_assoc inner (41 ∷ []) rest) in
       let place : at + 1 + length inner + 1 ≡ at + length text = omega (arith, ap length h.2, length-append inner (41 ∷ [])) in
       record {
         as_read = list at all.as_read;
         tokens_are = ap (kept_from at) whole ∙ ap (map as_kept) (tokens-byte 40 (inner ++ 41 ∷ rest) at Opening refl)
             ∙ ap (λ (us : List Token). opens_at at ∷ us) (all.tokens_are
-            ∙ ap (λ (us : List Token). tokens_of_all all.as_read ++ us) (ap (map as_kept) (tokens-byte 41 rest (at + 1 + length inner) Closing refl) ∙ ap (λ (n : ℕ). closes_at 0 ∷ kept_from n rest) place)
+            ∙ ap (λ (us : List Token). tokens_of_all all.as_read ++ us)
+            (ap (map as_kept) (tokens-byte 41 rest (at + 1 + length inner) Closing refl) ∙ ap (λ (n : ℕ). closes_at 0 ∷ kept_from n rest) place)
             ∙ sym (append_assoc (tokens_of_all all.as_read) (closes_at 0 ∷ []) (kept_from (at + length text) rest)));
         same = ap (list 0) all.same;
         as_deep = ap suc all.as_deep;
@@ -108,11 +112,13 @@ mutual
       let others = rest_lies ts (at + length h.0 + length h.1) h.2 rest fine.1 h.6 stop in
       record {
         as_read = more first.as_read others.as_read;
-        tokens_are = ap (λ (w : List ℕ). kept_from at (w ++ rest)) h.7 ∙ ap (kept_from at) (append_assoc h.0 (h.1 ++ h.2) rest ∙ ap (λ (w : List ℕ). h.0 ++ w) (append_assoc h.1 h.2 rest))
+        tokens_are = ap (λ (w : List ℕ). kept_from at (w ++ rest)) h.7 ∙ ap (kept_from at)
+            (append_assoc h.0 (h.1 ++ h.2) rest ∙ ap (λ (w : List ℕ). h.0 ++ w) (append_assoc h.1 h.2 rest))
             ∙ ap (map as_kept) (tokens-blank h.0 (h.1 ++ (h.2 ++ rest)) at h.4) ∙ first.tokens_are
             ∙ ap (λ (us : List Token). tokens_of first.as_read ++ us) others.tokens_are
             ∙ sym (append_assoc (tokens_of first.as_read) (tokens_of_all others.as_read) (kept_from (at + length h.0 + length h.1 + length h.2) rest))
-            ∙ ap (λ (n : ℕ). tokens_of_all (more first.as_read others.as_read) ++ kept_from n rest) (omega (arith, ap length h.7, length-append h.0 (h.1 ++ h.2), length-append h.1 h.2));
+            ∙ ap (λ (n : ℕ). tokens_of_all (more first.as_read others.as_read) ++ kept_from n rest)
+            (omega (arith, ap length h.7, length-append h.0 (h.1 ++ h.2), length-append h.1 h.2));
         same = ap (λ (x : Node). more x (all_without_places others.as_read)) first.same ∙ ap (more (without_places t)) others.same;
         as_deep = ap (λ (n : ℕ). max n (depths others.as_read)) first.as_deep ∙ ap (max (depth t)) others.as_deep;
       }
@@ -122,9 +128,13 @@ pub spelled_is_read : (t : Node) (text gap : List ℕ) → IsWellFormed t → Sp
 spelled_is_read t text gap form h blank =
     let l = lies t 0 text gap form.atoms h (gap_stops gap blank) in
     let nothing : kept_from (0 + length text) gap ≡ [] =
-    ap (kept_from (0 + length text)) (sym (append-nil gap)) ∙ ap (map as_kept) (tokens-blank gap [] (0 + length text) blank ∙ tokens-nil (0 + length text + length gap)) in (
+    ap (kept_from (0 + length text)) (sym (append-nil gap)) ∙ ap (map as_kept)
+    (tokens-blank gap [] (0 + length text) blank ∙ tokens-nil (0 + length text + length gap)) in (
       l.as_read,
-      record { tokens_are = l.tokens_are ∙ ap (λ (us : List Token). tokens_of l.as_read ++ us) nothing ∙ append-nil (tokens_of l.as_read); shallow = omega (arith, l.as_deep, form.shallow) },
+      record {
+        tokens_are = l.tokens_are ∙ ap (λ (us : List Token). tokens_of l.as_read ++ us) nothing ∙ append-nil (tokens_of l.as_read);
+        shallow = omega (arith, l.as_deep, form.shallow);
+      },
       l.same,
     )
   where

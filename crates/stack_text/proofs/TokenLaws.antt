@@ -1,5 +1,6 @@
 -- One byte of a text after the other.
-use Rattle.std.proofs.Common.{◌≡◌, ◌≢◌, ◌⊎◌, inl, inr, ℕ, ◌+◌, ◌-◌, ◌<◌, ◌≤◌, List, [], ◌∷◌, ◌++◌, length, get_or, take, drop, refl, sym, ap, ◌∙◌, append_assoc, arith}
+use Rattle.std.proofs.Common.{◌≡◌, ◌≢◌, ◌⊎◌, inl, inr, ℕ, ◌+◌, ◌-◌, ◌<◌, ◌≤◌, List, [], ◌∷◌, ◌++◌, length, get_or, take, drop, refl, sym, ap, ◌∙◌, append_assoc}
+use Rattle.std.proofs.Common.{arith}
 use Rattle.std.specs.List.{slice_range}
 use Rattle.std.proofs.lemmas.List.{drop_more, drop_all, take_more, get_or-drop, length-drop, length-take, append-nil}
 use Rattle.stack_text.specs.declared.class.Class.{Class}
@@ -24,7 +25,8 @@ pub run_past : (text : List ℕ) (at : ℕ) → length text ≤ at → atom_run 
 run_past text at le = rw (drop_all at text le) refl
 
 -- one more byte of a slice
-pub slice_range-more : (text : List ℕ) (from at : ℕ) → from ≤ at → at < length text → slice_range text from (at + 1) ≡ slice_range text from at ++ get_or text at 0 ∷ []
+pub slice_range-more : (text : List ℕ) (from at : ℕ) → from ≤ at → at < length text
+    → slice_range text from (at + 1) ≡ slice_range text from at ++ get_or text at 0 ∷ []
 slice_range-more text from at le lt =
     let one : (at + 1) - from ≡ (at - from) + 1 = omega arith in
     let there : from + (at - from) ≡ at = omega arith in
@@ -42,10 +44,12 @@ if_atom_byte-other Invalid w ne = refl
 
 -- ---- as the loops of the lexer use them
 
-pub comment_ends : (text : List ℕ) (at : ℕ) → at < length text → LineEnd ≡ class_of (get_or text at 0) → tokens in_comment at (drop at text) ≡ tokens between (at + 1) (drop (at + 1) text)
+pub comment_ends : (text : List ℕ) (at : ℕ) → at < length text → LineEnd ≡ class_of (get_or text at 0)
+    → tokens in_comment at (drop at text) ≡ tokens between (at + 1) (drop (at + 1) text)
 comment_ends text at lt is = tokens_step in_comment text at LineEnd lt (sym is)
 
-pub comment_goes_on : (text : List ℕ) (at : ℕ) (k : Class) → at < length text → k ≡ class_of (get_or text at 0) → k ≢ LineEnd → tokens in_comment at (drop at text) ≡ tokens in_comment (at + 1) (drop (at + 1) text)
+pub comment_goes_on : (text : List ℕ) (at : ℕ) (k : Class) → at < length text → k ≡ class_of (get_or text at 0) → k ≢ LineEnd
+    → tokens in_comment at (drop at text) ≡ tokens in_comment (at + 1) (drop (at + 1) text)
 comment_goes_on text at LineEnd lt is ne = absurd (ne refl)
 comment_goes_on text at Space lt is ne = tokens_step in_comment text at Space lt (sym is)
 comment_goes_on text at Semicolon lt is ne = tokens_step in_comment text at Semicolon lt (sym is)
@@ -54,7 +58,8 @@ comment_goes_on text at Closing lt is ne = tokens_step in_comment text at Closin
 comment_goes_on text at AtomByte lt is ne = tokens_step in_comment text at AtomByte lt (sym is)
 comment_goes_on text at Invalid lt is ne = tokens_step in_comment text at Invalid lt (sym is)
 
-pub atom_goes_on : (text : List ℕ) (at : ℕ) → at < length text → AtomByte ≡ class_of (get_or text at 0) → tokens in_atom at (drop at text) ≡ tokens in_atom (at + 1) (drop (at + 1) text)
+pub atom_goes_on : (text : List ℕ) (at : ℕ) → at < length text → AtomByte ≡ class_of (get_or text at 0)
+    → tokens in_atom at (drop at text) ≡ tokens in_atom (at + 1) (drop (at + 1) text)
 atom_goes_on text at lt is = tokens_step in_atom text at AtomByte lt (sym is)
 
 pub run_goes_on : (text : List ℕ) (from at : ℕ) → from ≤ at → at < length text → AtomByte ≡ class_of (get_or text at 0) →
@@ -65,13 +70,15 @@ run_goes_on text from at le lt is =
     ∙ ap (λ (r : List ℕ). r ++ atom_run (drop (at + 1) text)) (sym (slice_range-more text from at le lt))
 
 -- where a run ends
-pub run_ends : (text : List ℕ) (from at : ℕ) → atom_run (drop from text) ≡ slice_range text from at ++ atom_run (drop at text) → atom_run (drop at text) ≡ [] → slice_range text from at ≡ atom_run (drop from text)
+pub run_ends : (text : List ℕ) (from at : ℕ) → atom_run (drop from text) ≡ slice_range text from at ++ atom_run (drop at text)
+    → atom_run (drop at text) ≡ [] → slice_range text from at ≡ atom_run (drop from text)
 run_ends text from at is over = sym (is ∙ ap (λ (r : List ℕ). slice_range text from at ++ r) over ∙ append-nil (slice_range text from at))
 
 pub run_over_at : (text : List ℕ) (at : ℕ) (k : Class) → at < length text → k ≡ class_of (get_or text at 0) → k ≢ AtomByte → atom_run (drop at text) ≡ []
 run_over_at text at k lt is ne = run_step text at k lt (sym is) ∙ if_atom_byte-other k (get_or text at 0 ∷ atom_run (drop (at + 1) text)) ne
 
-pub atom_over_at : (text : List ℕ) (at : ℕ) (k : Class) → at < length text → k ≡ class_of (get_or text at 0) → k ≢ AtomByte → tokens in_atom at (drop at text) ≡ tokens between at (drop at text)
+pub atom_over_at : (text : List ℕ) (at : ℕ) (k : Class) → at < length text → k ≡ class_of (get_or text at 0) → k ≢ AtomByte
+    → tokens in_atom at (drop at text) ≡ tokens between at (drop at text)
 atom_over_at text at LineEnd lt is ne = tokens_step in_atom text at LineEnd lt (sym is) ∙ sym (tokens_step between text at LineEnd lt (sym is))
 atom_over_at text at Space lt is ne = tokens_step in_atom text at Space lt (sym is) ∙ sym (tokens_step between text at Space lt (sym is))
 atom_over_at text at Semicolon lt is ne = tokens_step in_atom text at Semicolon lt (sym is) ∙ sym (tokens_step between text at Semicolon lt (sym is))
@@ -80,25 +87,30 @@ atom_over_at text at Closing lt is ne = tokens_step in_atom text at Closing lt (
 atom_over_at text at AtomByte lt is ne = absurd (ne refl)
 atom_over_at text at Invalid lt is ne = tokens_step in_atom text at Invalid lt (sym is) ∙ sym (tokens_step between text at Invalid lt (sym is))
 
-pub blank : (text : List ℕ) (at : ℕ) (k : Class) → at < length text → k ≡ class_of (get_or text at 0) → (k ≡ LineEnd) ⊎ (k ≡ Space) → tokens between at (drop at text) ≡ tokens between (at + 1) (drop (at + 1) text)
+pub blank : (text : List ℕ) (at : ℕ) (k : Class) → at < length text → k ≡ class_of (get_or text at 0) → (k ≡ LineEnd) ⊎ (k ≡ Space)
+    → tokens between at (drop at text) ≡ tokens between (at + 1) (drop (at + 1) text)
 blank text at k lt is (inl e) = tokens_step between text at LineEnd lt (sym is ∙ e)
 blank text at k lt is (inr e) = tokens_step between text at Space lt (sym is ∙ e)
 
-pub comment_begins : (text : List ℕ) (at : ℕ) → at < length text → Semicolon ≡ class_of (get_or text at 0) → tokens between at (drop at text) ≡ tokens in_comment (at + 1) (drop (at + 1) text)
+pub comment_begins : (text : List ℕ) (at : ℕ) → at < length text → Semicolon ≡ class_of (get_or text at 0)
+    → tokens between at (drop at text) ≡ tokens in_comment (at + 1) (drop (at + 1) text)
 comment_begins text at lt is = tokens_step between text at Semicolon lt (sym is)
 
-pub one_byte_token : (text : List ℕ) (at : ℕ) (k : Class) → at < length text → k ≡ class_of (get_or text at 0) → tokens between at (drop at text) ≡ begins between k at (drop at text) ++ tokens (next between k) (at + 1) (drop (at + 1) text)
+pub one_byte_token : (text : List ℕ) (at : ℕ) (k : Class) → at < length text → k ≡ class_of (get_or text at 0)
+    → tokens between at (drop at text) ≡ begins between k at (drop at text) ++ tokens (next between k) (at + 1) (drop (at + 1) text)
 one_byte_token text at k lt is = tokens_step between text at k lt (sym is)
 
 -- an atom that ends at a place
-pub atom_token : (text : List ℕ) (at to : ℕ) → at < length text → AtomByte ≡ class_of (get_or text at 0) → slice_range text at to ≡ atom_run (drop at text) → tokens in_atom at (drop at text) ≡ tokens between to (drop to text) →
+pub atom_token : (text : List ℕ) (at to : ℕ) → at < length text → AtomByte ≡ class_of (get_or text at 0)
+    → slice_range text at to ≡ atom_run (drop at text) → tokens in_atom at (drop at text) ≡ tokens between to (drop to text) →
     tokens between at (drop at text) ≡ atom_at at (slice_range text at to) ∷ tokens between to (drop to text)
 atom_token text at to lt is run_is rest =
     tokens_step between text at AtomByte lt (sym is)
     ∙ ap (λ (w : List ℕ). atom_at at w ∷ tokens in_atom (at + 1) (drop (at + 1) text)) (sym run_is)
     ∙ ap (λ (ts : List Token). atom_at at (slice_range text at to) ∷ ts) (sym (atom_goes_on text at lt is) ∙ rest)
 
-pub atom_is_long : (text : List ℕ) (at to : ℕ) → at < length text → AtomByte ≡ class_of (get_or text at 0) → slice_range text at to ≡ atom_run (drop at text) → at < to
+pub atom_is_long : (text : List ℕ) (at to : ℕ) → at < length text → AtomByte ≡ class_of (get_or text at 0)
+    → slice_range text at to ≡ atom_run (drop at text) → at < to
 atom_is_long text at to lt is run_is =
     let long = ap length (run_is ∙ run_step text at AtomByte lt (sym is)) in
     omega (arith, long, length-take (to - at) (drop at text))

@@ -13,7 +13,8 @@ not_one P zero_ two_ (t ∷ []) ne = absurd (ne refl)
 not_one P zero_ two_ (t ∷ u ∷ ts) ne = two_ _ _ _
 
 -- likewise for all but two
-pub not_two : (P : Nodes → Type 0) → P none → ((t : Node) → P (more t none)) → ((t u v : Node) (ts : Nodes) → P (more t (more u (more v ts)))) → (ts : List TextTree) → length ts ≢ 2 → P (nodes_of ts)
+pub not_two : (P : Nodes → Type 0) → P none → ((t : Node) → P (more t none)) → ((t u v : Node) (ts : Nodes) → P (more t (more u (more v ts))))
+    → (ts : List TextTree) → length ts ≢ 2 → P (nodes_of ts)
 not_two P zero_ one_ three_ [] ne = zero_
 not_two P zero_ one_ three_ (t ∷ []) ne = one_ _
 not_two P zero_ one_ three_ (t ∷ u ∷ []) ne = absurd (ne refl)
@@ -29,13 +30,15 @@ no_parts [] e = refl
 no_parts (t ∷ ts) e = absurd (omega (arith, e))
 
 -- two trees, and three, by their numbers
-pub two_parts : (ts : List TextTree) (t u : TextTree) → length ts ≡ 2 → t ≡ get_or ts 0 t → u ≡ get_or ts 1 u → nodes_of ts ≡ more (node_of t) (more (node_of u) none)
+pub two_parts : (ts : List TextTree) (t u : TextTree) → length ts ≡ 2 → t ≡ get_or ts 0 t → u ≡ get_or ts 1 u
+    → nodes_of ts ≡ more (node_of t) (more (node_of u) none)
 two_parts [] t u e t_is u_is = absurd (omega (arith, e))
 two_parts (x ∷ []) t u e t_is u_is = absurd (omega (arith, e))
 two_parts (x ∷ y ∷ []) t u e t_is u_is = rw (t_is, u_is) refl
 two_parts (x ∷ y ∷ z ∷ ts) t u e t_is u_is = absurd (omega (arith, e))
 
-pub three_parts : (ts : List TextTree) (t u v : TextTree) → length ts ≡ 3 → t ≡ get_or ts 0 t → u ≡ get_or ts 1 u → v ≡ get_or ts 2 v → nodes_of ts ≡ more (node_of t) (more (node_of u) (more (node_of v) none))
+pub three_parts : (ts : List TextTree) (t u v : TextTree) → length ts ≡ 3 → t ≡ get_or ts 0 t → u ≡ get_or ts 1 u → v ≡ get_or ts 2 v
+    → nodes_of ts ≡ more (node_of t) (more (node_of u) (more (node_of v) none))
 three_parts [] t u v e t_is u_is v_is = absurd (omega (arith, e))
 three_parts (x ∷ []) t u v e t_is u_is v_is = absurd (omega (arith, e))
 three_parts (x ∷ y ∷ []) t u v e t_is u_is v_is = absurd (omega (arith, e))

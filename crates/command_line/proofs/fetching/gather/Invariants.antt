@@ -11,8 +11,10 @@ invariant-loop-input g l =
     let shelf = g.S.Shelf in
     record {
       texts : IfSome (shelf.files l.initial.shelf) (λ files.
-          with_texts l.texts (gathered files (map (λ input. (input.role, input.name.now)) (drop l.input-index l.inputs))) ≡ gathered files (map (λ input. (input.role, input.name.now)) l.inputs));
-      roles : roles_of l.texts ++ roles_of (map (λ input. (input.role, input.name.now)) (drop l.input-index l.inputs)) ≡ roles_of (map (λ input. (input.role, input.name.now)) l.inputs);
+          with_texts l.texts (gathered files (map (λ input. (input.role, input.name.now)) (drop l.input-index l.inputs)))
+          ≡ gathered files (map (λ input. (input.role, input.name.now)) l.inputs));
+      roles : roles_of l.texts ++ roles_of (map (λ input. (input.role, input.name.now)) (drop l.input-index l.inputs))
+          ≡ roles_of (map (λ input. (input.role, input.name.now)) l.inputs);
       short : AreShort l.texts;
       gave : (more : Texts) → gave_each shelf.gave l.initial.shelf (map (λ input. (input.role, input.name.now)) l.inputs) (l.texts ++ more)
           ≡ gave_each shelf.gave l.shelf (map (λ input. (input.role, input.name.now)) (drop l.input-index l.inputs)) more;

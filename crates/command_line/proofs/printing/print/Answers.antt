@@ -15,7 +15,8 @@ loop-rest-preserved g c =
     let printed = c.loop-rest.invariant.printed in
     let whole : printed.0 ++ (c.first_line.result.0.now ++ c.first_line.result.1.now) ≡ c.args.text.now = rw (c.first_line.ensures.whole, printed.1) in
     record {
-      lines = line_taken g.K.Sink.took _ c.loop-rest.out _ _ _ c.loop-rest.rest.now c.args.text.now c.loop-rest.invariant.lines c.first_line.ensures.whole c.first_line.ensures.some c.first_line.ensures.line c.in_ok-put.ensures.took;
+      lines = line_taken g.K.Sink.took _ c.loop-rest.out _ _ _ c.loop-rest.rest.now c.args.text.now c.loop-rest.invariant.lines
+          c.first_line.ensures.whole c.first_line.ensures.some c.first_line.ensures.line c.in_ok-put.ensures.took;
       printed = line_printed _ _ _ printed.0 c.first_line.result.0.now _ _ whole printed.2 c.in_ok-put.ensures.ok;
       faults = search rules;
     }

@@ -12,13 +12,15 @@ returns-in_err-read c =
 
 pub loop-line-preserved-in-Continue-branch-3 : goal.loop-line-preserved-in-Continue-branch-3
 loop-line-preserved-in-Continue-branch-3 c = record {
-  so_far = rw c.in_ok-push.ensures.items (next_read _ _ _ _ _ _ c.in-Some.ensures.steps c.loop-line.invariant.so_far (Some c.in-Some-2.read) (cc c.in_ok-read.ensures));
+  so_far = rw c.in_ok-push.ensures.items (next_read _ _ _ _ _ _ c.in-Some.ensures.steps c.loop-line.invariant.so_far (Some c.in-Some-2.read)
+      (cc c.in_ok-read.ensures));
   few = omega (arith, c.loop-line.invariant.few, ap length c.in-Some.ensures.steps);
 }
 
 pub loop-line-preserved : goal.loop-line-preserved
 loop-line-preserved c = record {
-  so_far = rw (sym (append-nil c.loop-line.lines.items)) (next_read _ _ _ _ _ _ c.in-Some.ensures.steps c.loop-line.invariant.so_far None (cc c.in_ok-read.ensures));
+  so_far = rw (sym (append-nil c.loop-line.lines.items))
+      (next_read _ _ _ _ _ _ c.in-Some.ensures.steps c.loop-line.invariant.so_far None (cc c.in_ok-read.ensures));
   few = omega (arith, c.loop-line.invariant.few, ap length c.in-Some.ensures.steps);
 }
 

@@ -5,4 +5,5 @@ use Rattle.display_maps.proofs.reading.variables.Given as goal
 -- the variables so far and those of what is left are all
 abbrev pub invariant-loop-slot : goal.invariant-loop-slot
 invariant-loop-slot l =
-    map (λ item. (item.0, item.1.items)) l.variables.items ++ map (variable_of l.machine.state) (drop l.slot-index l.slots) ≡ map (variable_of l.machine.state) l.slots
+    map (λ item. (item.0, item.1.items)) l.variables.items ++ map (variable_of l.machine.state) (drop l.slot-index l.slots)
+    ≡ map (variable_of l.machine.state) l.slots

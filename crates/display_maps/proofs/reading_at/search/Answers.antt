@@ -9,5 +9,6 @@ pub returns : goal.returns
 returns c =
     let facts = c.binary_search_by_key.ensures in
     let by_address = facts.position (λ mark. mark.address) (answers_always _ _ _ (λ f a r g called. search rules)) in
-    let both = searched c.deref.result.now (rw c.deref.ensures.value (marks_ascend _ c.image.invariant)) c.args.address c.binary_search_by_key.result facts.bound by_address in
+    let both = searched c.deref.result.now (rw c.deref.ensures.value (marks_ascend _ c.image.invariant)) c.args.address c.binary_search_by_key.result
+    facts.bound by_address in
     rw (← c.image.view_is, ← c.deref.ensures.value) (record { found = both.0; absent = both.1 })

@@ -13,7 +13,8 @@ loop-at-preserved c = record {
   so_far =
       elim c.if-byte-ne32.branch [
         | then-byte-ne32 w ↦ ap (λ n. take n c.args.bytes.now) w.used-is ∙ other_next 32 c.args.bytes.now c.loop-at.at 0 w.if-byte-ne32.true c.loop-at-test.true
-        | else-byte-ne32 w ↦ ap (λ n. take n c.args.bytes.now) w.used-is ∙ same_next 32 c.args.bytes.now c.loop-at.used c.loop-at.at 0 c.loop-at.invariant.so_far w.if-byte-ne32.false c.loop-at-test.true
+        | else-byte-ne32 w ↦ ap (λ n. take n c.args.bytes.now) w.used-is ∙ same_next 32 c.args.bytes.now c.loop-at.used c.loop-at.at 0
+            c.loop-at.invariant.so_far w.if-byte-ne32.false c.loop-at-test.true
       ];
   within = elim c.if-byte-ne32.branch [ then-byte-ne32 w ↦ omega arith | else-byte-ne32 w ↦ omega arith ];
 }

@@ -8,7 +8,8 @@ loop-word-init c = record { so_far = refl; fit = refl }
 
 pub loop-word-preserved : goal.loop-word-preserved
 loop-word-preserved c = record {
-  so_far = pieces_at word_line c.args.words.now c.loop-word.word-index _ _ _ _ c.loop-word-test.true c.in_ok-push_word.ensures.line c.loop-word.invariant.so_far;
+  so_far = pieces_at word_line c.args.words.now c.loop-word.word-index _ _ _ _ c.loop-word-test.true c.in_ok-push_word.ensures.line
+      c.loop-word.invariant.so_far;
   fit = fit_next c.args.words.now c.loop-word.word-index _ c.loop-word-test.true c.push_word.ensures.fits c.loop-word.invariant.fit;
 }
 

@@ -16,7 +16,9 @@ invariant_of-result c =
       condition_count = ap (λ (ns : List (List ℕ)). is_count 201 (length ns)) c.new.ensures.items;
       conditions = ap (λ (ns : List (List ℕ)). all_after is_condition [] ns) c.new.ensures.items;
       slot_count = ap (λ (ss : List Slot). is_count 200 (length ss)) c.new-2.ensures.items;
-      slots = ap (λ (ss : List Slot). all_after (is_slot (record { base = c.args.base; size = c.args.size; final_pc = c.args.final_pc })) [] ss) c.new-2.ensures.items;
+      slots = ap (λ (ss : List Slot). all_after (is_slot (record { base = c.args.base; size = c.args.size; final_pc = c.args.final_pc })) [] ss)
+          c.new-2.ensures.items;
       words = le-leb _ _ c.requires.few;
-      tables = λ i. are_tables (record { base = c.args.base; size = c.args.size; final_pc = c.args.final_pc }) (record { procedures = c.new-3.ensures.items i; marks = c.new-4.ensures.items i });
+      tables = λ i. are_tables (record { base = c.args.base; size = c.args.size; final_pc = c.args.final_pc })
+          (record { procedures = c.new-3.ensures.items i; marks = c.new-4.ensures.items i });
     })

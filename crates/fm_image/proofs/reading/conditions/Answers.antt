@@ -10,20 +10,29 @@ pub returns-in_err-next : goal.returns-in_err-next
 unfolding conditions_at
 returns-in_err-next g c =
     let p = err_from_is_err_and c.from_residual-in_err-next.result c.from_residual-in_err-next.ensures.1 in
-    let whole : conditions_at c.args.most c.args.end c.args.left.now ≡ items_at (new_name_at c.args.end) c.in_ok-count.count [] c.in_ok-count.rest.now = rw c.in_ok-count.ensures refl in
-    let failed = subst (λ (ns : List (List ℕ)). FailsUnless (g.H.Heap.may_refuse c.args.heap) c.in_err-next.field-0.0 (new_name_at c.args.end ns c.loop.rest.now)) c.loop.invariant.known c.in_err-next.ensures.name in
-    rw (p.1, p.2) (ends (g.H.Heap.may_refuse c.args.heap) c.in_err-next.field-0.0 (new_name_at c.args.end) c.loop.conditions.items c.in_ok-count.count c.loop.counter c.loop.rest.now (conditions_at c.args.most c.args.end c.args.left.now) c.loop-test.true failed (c.loop.invariant.read ∙ sym whole))
+    let whole : conditions_at c.args.most c.args.end c.args.left.now ≡ items_at (new_name_at c.args.end) c.in_ok-count.count [] c.in_ok-count.rest.now =
+    rw c.in_ok-count.ensures refl in
+    let failed = subst (λ (ns : List (List ℕ)). FailsUnless (g.H.Heap.may_refuse c.args.heap) c.in_err-next.field-0.0
+    (new_name_at c.args.end ns c.loop.rest.now)) c.loop.invariant.known c.in_err-next.ensures.name in
+    rw (p.1, p.2) (ends (g.H.Heap.may_refuse c.args.heap) c.in_err-next.field-0.0 (new_name_at c.args.end) c.loop.conditions.items c.in_ok-count.count
+    c.loop.counter c.loop.rest.now (conditions_at c.args.most c.args.end c.args.left.now) c.loop-test.true failed
+    (c.loop.invariant.read ∙ sym whole))
 
 pub loop-preserved : goal.loop-preserved
 loop-preserved g c =
-    let done = subst (λ (ns : List (List ℕ)). new_name_at c.args.end ns c.loop.rest.now ≡ Ok (c.in_ok-next.next, c.in_ok-next.after.now)) c.loop.invariant.known c.in_ok-next.ensures.name in
+    let done = subst (λ (ns : List (List ℕ)). new_name_at c.args.end ns c.loop.rest.now ≡ Ok (c.in_ok-next.next, c.in_ok-next.after.now))
+    c.loop.invariant.known c.in_ok-next.ensures.name in
     record {
-      read = rw c.in_ok-push.ensures.items (goes_on (new_name_at c.args.end) c.loop.conditions.items c.in_ok-count.count c.loop.counter c.loop.rest.now c.in_ok-next.next c.in_ok-next.after.now (items_at (new_name_at c.args.end) c.in_ok-count.count [] c.in_ok-count.rest.now) c.loop-test.true done c.loop.invariant.read);
+      read = rw c.in_ok-push.ensures.items (goes_on (new_name_at c.args.end) c.loop.conditions.items c.in_ok-count.count c.loop.counter c.loop.rest.now
+          c.in_ok-next.next c.in_ok-next.after.now (items_at (new_name_at c.args.end) c.in_ok-count.count [] c.in_ok-count.rest.now) c.loop-test.true
+          done c.loop.invariant.read);
       known = rw c.in_ok-push.ensures.items (c.in_ok-next.ensures.entered ∙ ap (λ (ns : List (List ℕ)). ns ++ c.in_ok-next.next ∷ []) c.loop.invariant.known);
     }
 
 pub returns : goal.returns
 unfolding conditions_at
 returns g c =
-    let whole : conditions_at c.args.most c.args.end c.args.left.now ≡ items_at (new_name_at c.args.end) c.in_ok-count.count [] c.in_ok-count.rest.now = rw c.in_ok-count.ensures refl in
-    is_done (new_name_at c.args.end) c.loop.conditions.items c.in_ok-count.count c.loop.counter c.loop.rest.now (conditions_at c.args.most c.args.end c.args.left.now) c.loop-test.false (c.loop.invariant.read ∙ sym whole)
+    let whole : conditions_at c.args.most c.args.end c.args.left.now ≡ items_at (new_name_at c.args.end) c.in_ok-count.count [] c.in_ok-count.rest.now =
+    rw c.in_ok-count.ensures refl in
+    is_done (new_name_at c.args.end) c.loop.conditions.items c.in_ok-count.count c.loop.counter c.loop.rest.now
+    (conditions_at c.args.most c.args.end c.args.left.now) c.loop-test.false (c.loop.invariant.read ∙ sym whole)

@@ -11,20 +11,31 @@ pub returns-in_err-next : goal.returns-in_err-next
 unfolding variables_at
 returns-in_err-next g c =
     let p = err_from_is_err_and c.from_residual-in_err-next.result c.from_residual-in_err-next.ensures.1 in
-    let whole : variables_at c.args.end c.args.left.now ≡ items_at (λ earlier. variable_at c.args.end (map (λ x. x.name) earlier)) c.in_ok-count.count [] c.in_ok-count.rest.now = rw c.in_ok-count.ensures refl in
-    let failed = subst (λ (ns : List (List ℕ)). FailsUnless (g.H.Heap.may_refuse c.args.heap) c.in_err-next.field-0.0 (variable_at c.args.end ns c.loop.rest.now)) c.loop.invariant.known c.in_err-next.ensures.variable in
-    rw (p.1, p.2) (ends (g.H.Heap.may_refuse c.args.heap) c.in_err-next.field-0.0 (λ earlier. variable_at c.args.end (map (λ x. x.name) earlier)) c.loop.variables.items c.in_ok-count.count c.loop.counter c.loop.rest.now (variables_at c.args.end c.args.left.now) c.loop-test.true failed (c.loop.invariant.read ∙ sym whole))
+    let whole : variables_at c.args.end c.args.left.now ≡ items_at (λ earlier. variable_at c.args.end (map (λ x. x.name) earlier)) c.in_ok-count.count
+    [] c.in_ok-count.rest.now = rw c.in_ok-count.ensures refl in
+    let failed = subst (λ (ns : List (List ℕ)). FailsUnless (g.H.Heap.may_refuse c.args.heap) c.in_err-next.field-0.0
+    (variable_at c.args.end ns c.loop.rest.now)) c.loop.invariant.known c.in_err-next.ensures.variable in
+    rw (p.1, p.2) (ends (g.H.Heap.may_refuse c.args.heap) c.in_err-next.field-0.0 (λ earlier. variable_at c.args.end (map (λ x. x.name) earlier))
+    c.loop.variables.items c.in_ok-count.count c.loop.counter c.loop.rest.now (variables_at c.args.end c.args.left.now) c.loop-test.true failed
+    (c.loop.invariant.read ∙ sym whole))
 
 pub loop-preserved : goal.loop-preserved
 loop-preserved g c =
-    let done = subst (λ (ns : List (List ℕ)). variable_at c.args.end ns c.loop.rest.now ≡ Ok (c.in_ok-next.next, c.in_ok-next.after.now)) c.loop.invariant.known c.in_ok-next.ensures.variable in
+    let done = subst (λ (ns : List (List ℕ)). variable_at c.args.end ns c.loop.rest.now ≡ Ok (c.in_ok-next.next, c.in_ok-next.after.now))
+    c.loop.invariant.known c.in_ok-next.ensures.variable in
     record {
-      read = rw c.in_ok-push.ensures.items (goes_on (λ earlier. variable_at c.args.end (map (λ x. x.name) earlier)) c.loop.variables.items c.in_ok-count.count c.loop.counter c.loop.rest.now c.in_ok-next.next c.in_ok-next.after.now (items_at (λ earlier. variable_at c.args.end (map (λ x. x.name) earlier)) c.in_ok-count.count [] c.in_ok-count.rest.now) c.loop-test.true done c.loop.invariant.read);
-      known = named_more (λ x. x.name) c.loop.variables.items c.push.new.items.items c.in_ok-next.next _ _ c.in_ok-push.ensures.items c.in_ok-next.ensures.entered c.loop.invariant.known;
+      read = rw c.in_ok-push.ensures.items (goes_on (λ earlier. variable_at c.args.end (map (λ x. x.name) earlier)) c.loop.variables.items
+          c.in_ok-count.count c.loop.counter c.loop.rest.now c.in_ok-next.next c.in_ok-next.after.now
+          (items_at (λ earlier. variable_at c.args.end (map (λ x. x.name) earlier)) c.in_ok-count.count [] c.in_ok-count.rest.now) c.loop-test.true done
+          c.loop.invariant.read);
+      known = named_more (λ x. x.name) c.loop.variables.items c.push.new.items.items c.in_ok-next.next _ _ c.in_ok-push.ensures.items
+          c.in_ok-next.ensures.entered c.loop.invariant.known;
     }
 
 pub returns : goal.returns
 unfolding variables_at
 returns g c =
-    let whole : variables_at c.args.end c.args.left.now ≡ items_at (λ earlier. variable_at c.args.end (map (λ x. x.name) earlier)) c.in_ok-count.count [] c.in_ok-count.rest.now = rw c.in_ok-count.ensures refl in
-    is_done (λ earlier. variable_at c.args.end (map (λ x. x.name) earlier)) c.loop.variables.items c.in_ok-count.count c.loop.counter c.loop.rest.now (variables_at c.args.end c.args.left.now) c.loop-test.false (c.loop.invariant.read ∙ sym whole)
+    let whole : variables_at c.args.end c.args.left.now ≡ items_at (λ earlier. variable_at c.args.end (map (λ x. x.name) earlier)) c.in_ok-count.count
+    [] c.in_ok-count.rest.now = rw c.in_ok-count.ensures refl in
+    is_done (λ earlier. variable_at c.args.end (map (λ x. x.name) earlier)) c.loop.variables.items c.in_ok-count.count c.loop.counter c.loop.rest.now
+    (variables_at c.args.end c.args.left.now) c.loop-test.false (c.loop.invariant.read ∙ sym whole)

@@ -5,4 +5,5 @@ use Rattle.fm_image.proofs.writing.push_marks.Goals as goal
 
 pub loop-mark-preserved : goal.loop-mark-preserved
 loop-mark-preserved g c =
-    pieces_next mark_bytes c.args.marks.now c.loop-mark.mark-index _ _ _ _ c.loop-mark-test.true (get_or_default c.args.marks.now c.loop-mark.mark-index _ _ c.loop-mark-test.true) c.in_ok-push_mark.ensures c.loop-mark.invariant
+    pieces_next mark_bytes c.args.marks.now c.loop-mark.mark-index _ _ _ _ c.loop-mark-test.true
+    (get_or_default c.args.marks.now c.loop-mark.mark-index _ _ c.loop-mark-test.true) c.in_ok-push_mark.ensures c.loop-mark.invariant

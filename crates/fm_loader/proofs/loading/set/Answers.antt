@@ -5,4 +5,5 @@ use Rattle.fm_loader.proofs.loading.set.Goals as goal
 
 pub returns : goal.returns
 returns c =
-    is_set c.args.machine.now.state c.poke.new.self.state c.args.base c.args.address c.args.word c.poke.result c.requires.base c.requires.above c.poke.ensures.ok (on_err c.poke.result c.poke.ensures.unchanged (ap (λ (m : MachineOf). m.state))) c.poke.ensures.err
+    is_set c.args.machine.now.state c.poke.new.self.state c.args.base c.args.address c.args.word c.poke.result c.requires.base c.requires.above
+    c.poke.ensures.ok (on_err c.poke.result c.poke.ensures.unchanged (ap (λ (m : MachineOf). m.state))) c.poke.ensures.err

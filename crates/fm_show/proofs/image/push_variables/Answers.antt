@@ -4,4 +4,5 @@ use Rattle.fm_show.proofs.image.push_variables.Goals as goal
 
 pub loop-variable-preserved : goal.loop-variable-preserved
 loop-variable-preserved c =
-    pieces_next variable_line c.args.variables.now c.loop-variable.variable-index c.variable-item.result _ _ _ c.loop-variable-test.true c.variable-item.is c.in_ok-push_variable.ensures c.loop-variable.invariant
+    pieces_next variable_line c.args.variables.now c.loop-variable.variable-index c.variable-item.result _ _ _ c.loop-variable-test.true
+    c.variable-item.is c.in_ok-push_variable.ensures c.loop-variable.invariant

@@ -24,4 +24,5 @@ pub returns-clause-memory : goal.returns-clause-memory
 returns-clause-memory c =
     let task : NewTask = new_task c.args.task.0 c.args.task.1.items in
     let own : c.in_ok-own.own.state ≡ machine_of task = c.in_ok-own.ensures ∙ ap (loaded c.args.task.0) c.as_slice.ensures.value in
-    context_copied task c.image.inside.base c.image.inside.size c.in_ok-own.own.state c.args.machine.now.state c.copy_window.new.to.state (ap (λ (i : ImageOf). i.base) c.image.view_is) (ap (λ (i : ImageOf). i.size) c.image.view_is) own c.copy_window.ensures
+    context_copied task c.image.inside.base c.image.inside.size c.in_ok-own.own.state c.args.machine.now.state c.copy_window.new.to.state
+    (ap (λ (i : ImageOf). i.base) c.image.view_is) (ap (λ (i : ImageOf). i.size) c.image.view_is) own c.copy_window.ensures

@@ -9,6 +9,7 @@ invariant-loop-context l = record {
   left : drop l.context-index l.contexts ≡ drop l.context-index l.initial.contexts;
   memory : (after_turns l.round l.initial.machine.state.base l.machine.state.memory (drop l.context-index l.contexts)).memory
       ≡ (after_turns l.round l.initial.machine.state.base l.initial.machine.state.memory l.initial.contexts).memory;
-  contexts : take l.context-index l.contexts ++ (after_turns l.round l.initial.machine.state.base l.machine.state.memory (drop l.context-index l.contexts)).contexts
+  contexts : take l.context-index l.contexts
+      ++ (after_turns l.round l.initial.machine.state.base l.machine.state.memory (drop l.context-index l.contexts)).contexts
       ≡ (after_turns l.round l.initial.machine.state.base l.initial.machine.state.memory l.initial.contexts).contexts;
 }

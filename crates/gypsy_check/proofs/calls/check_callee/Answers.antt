@@ -14,6 +14,8 @@ returns c =
     let call = c.args.call in
     let f1 = c.check_data.new.best in
     let number : Notes f1 (when (not (length call.conds.now == length callee.conds.items)) call.conds_place 19) c.note_if.new.best =
-    c.note_if.ensures ∙ ap (λ (ns : List Named). noted f1 (when (not (length call.conds.now == length ns)) call.conds_place 19)) c.as_slice-formal.ensures.value in
-    notes_more c.args.best.now f1 c.note_if.new.best (data_breaches p (proc_of callee) call.actuals_place call.actuals.now) (when (not (length call.conds.now == length callee.conds.items)) call.conds_place 19)
+    c.note_if.ensures ∙ ap (λ (ns : List Named). noted f1 (when (not (length call.conds.now == length ns)) call.conds_place 19))
+    c.as_slice-formal.ensures.value in
+    notes_more c.args.best.now f1 c.note_if.new.best (data_breaches p (proc_of callee) call.actuals_place call.actuals.now)
+    (when (not (length call.conds.now == length callee.conds.items)) call.conds_place 19)
     c.check_data.ensures number

@@ -9,5 +9,6 @@ pub returns : goal.returns
 returns c =
     let p = c.args.proc.now in
     is_over p c.with_local_words-words.result c.formal_words-formals.result
-    (c.with_local_words-words.ensures ∙ ap (λ ls. min (c.formal_words-formals.result + words_of_types (map (λ (x : Local). x.decl.shape) ls)) 65537) c.as_slice-2.ensures.value)
+    (c.with_local_words-words.ensures ∙ ap (λ ls. min (c.formal_words-formals.result + words_of_types (map (λ (x : Local). x.decl.shape) ls)) 65537)
+    c.as_slice-2.ensures.value)
     (c.formal_words-formals.ensures.words ∙ ap (λ ds. min (words_of_types (map (λ (d : Decl). d.shape) ds)) 65537) c.as_slice.ensures.value)

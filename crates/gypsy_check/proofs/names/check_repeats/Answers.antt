@@ -8,6 +8,9 @@ loop-name-preserved c =
     let one = c.name-item.result in
     let more = list_more [] c.args.names.now c.loop-name.name-index one c.loop-name-test.true c.name-item.is in
     record {
-      known = known_more (take c.loop-name.name-index c.args.names.now) (take (c.loop-name.name-index + 1) c.args.names.now) one (has c.loop-name.earlier) (has c.enter.new.names) more c.loop-name.invariant.known c.in_ok-enter.ensures.entered;
-      noted = noted_more c.args.rule (take c.loop-name.name-index c.args.names.now) (take (c.loop-name.name-index + 1) c.args.names.now) one c.args.best.now c.loop-name.best c.enter.new.best (has c.loop-name.earlier) more c.loop-name.invariant.known c.loop-name.invariant.noted c.in_ok-enter.ensures.noted;
+      known = known_more (take c.loop-name.name-index c.args.names.now) (take (c.loop-name.name-index + 1) c.args.names.now) one
+          (has c.loop-name.earlier) (has c.enter.new.names) more c.loop-name.invariant.known c.in_ok-enter.ensures.entered;
+      noted = noted_more c.args.rule (take c.loop-name.name-index c.args.names.now) (take (c.loop-name.name-index + 1) c.args.names.now) one
+          c.args.best.now c.loop-name.best c.enter.new.best (has c.loop-name.earlier) more c.loop-name.invariant.known c.loop-name.invariant.noted
+          c.in_ok-enter.ensures.noted;
     }

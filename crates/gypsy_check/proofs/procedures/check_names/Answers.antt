@@ -6,5 +6,6 @@ use Rattle.gypsy_check.proofs.procedures.check_names.Goals as goal
 
 pub loop-proc-preserved : goal.loop-proc-preserved
 loop-proc-preserved c =
-    notes_next (λ (p : Proc). name_breaches (proc_of p)) c.args.procs.now c.loop-proc.proc-index c.proc-item.result c.args.best.now c.loop-proc.best c.check_name.new.best
+    notes_next (λ (p : Proc). name_breaches (proc_of p)) c.args.procs.now c.loop-proc.proc-index c.proc-item.result c.args.best.now c.loop-proc.best
+    c.check_name.new.best
     c.loop-proc-test.true c.proc-item.is c.loop-proc.invariant c.check_name.ensures

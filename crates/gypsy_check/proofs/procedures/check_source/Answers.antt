@@ -24,12 +24,15 @@ returns c =
     let one = c.in_ok-callees.callees in
     let of : one.source.now ≡ raw = c.in_ok-callees.ensures.of in
     let procs = raw.procs.items in
-    let names : Notes f0 (repeats 1 [] (map (λ (p : ProcOf). p.name) s.procs)) f1 = c.in_ok-callees.ensures.noted ∙ ap (λ ns. noted f0 (repeats 1 [] ns)) (names_over procs) in
+    let names : Notes f0 (repeats 1 [] (map (λ (p : ProcOf). p.name) s.procs)) f1 =
+    c.in_ok-callees.ensures.noted ∙ ap (λ ns. noted f0 (repeats 1 [] ns)) (names_over procs) in
     let main : Notes f1 (main_breaches s) f2 = c.check_main.ensures ∙ ap (λ (r : Source). noted f1 (main_breaches (source_of r))) of in
     let own : Notes f2 (flat_map name_breaches s.procs) f3 =
-    c.check_names.ensures ∙ ap (λ ps. noted f2 (flat_map (λ (p : Proc). name_breaches (proc_of p)) ps)) c.as_slice.ensures.value ∙ ap (noted f2) (sym (flat_over proc_of name_breaches procs)) in
+    c.check_names.ensures ∙ ap (λ ps. noted f2 (flat_map (λ (p : Proc). name_breaches (proc_of p)) ps)) c.as_slice.ensures.value
+    ∙ ap (noted f2) (sym (flat_over proc_of name_breaches procs)) in
     let each : Notes f3 (flat_map (procedure_breaches s) s.procs) f4 =
-    c.in_ok-check_procedures.ensures ∙ ap₂ (λ (r : Source) ps. noted f3 (flat_map (λ (p : Proc). procedure_breaches (source_of r) (proc_of p)) ps)) of c.as_slice-2.ensures.value
+    c.in_ok-check_procedures.ensures ∙ ap₂ (λ (r : Source) ps. noted f3 (flat_map (λ (p : Proc). procedure_breaches (source_of r) (proc_of p)) ps)) of
+    c.as_slice-2.ensures.value
     ∙ ap (noted f3) (sym (flat_over proc_of (procedure_breaches s) procs)) in
     let v1 = repeats 1 [] (map (λ (p : ProcOf). p.name) s.procs) in
     let two = notes_more f0 f1 f2 v1 (main_breaches s) names main in

@@ -11,7 +11,8 @@ use Rattle.gypsy_check.proofs.statements.+statements.Goals as goal
 
 pub check_parts-loop-part-preserved : goal.check_parts-loop-part-preserved
 check_parts-loop-part-preserved t c =
-    notes_next (statement_breaks (source_of c.args.callees.now.source.now) (proc_of c.args.scope.now) c.args.in_loop) c.args.parts.now c.loop-part.part-index c.part-item.result c.args.best.now c.loop-part.best c.check_statement.new.best
+    notes_next (statement_breaks (source_of c.args.callees.now.source.now) (proc_of c.args.scope.now) c.args.in_loop) c.args.parts.now
+    c.loop-part.part-index c.part-item.result c.args.best.now c.loop-part.best c.check_statement.new.best
     c.loop-part-test.true c.part-item.is c.loop-part.invariant c.in_ok-check_statement.ensures
 
 pub check_statement-returns-in_ok-check_parts-in-Seq : goal.check_statement-returns-in_ok-check_parts-in-Seq

@@ -27,6 +27,7 @@ loop-arg-preserved c =
     let P : List Argument → Type 0 = λ ys. Each (ArgHasWord q p) (map seen_arg ys) in
     record {
       words = (subst P (drop-item xs k x lt c.arg-item.is) c.loop-arg.invariant.words).1;
-      lines = more_next (λ (ys : List Argument). code_in context (push_args q p (map seen_arg ys))) xs k x (code_in context (push_args q p (seen_arg x ∷ []))) _ _ _ lt c.arg-item.is
+      lines = more_next (λ (ys : List Argument). code_in context (push_args q p (map seen_arg ys))) xs k x
+          (code_in context (push_args q p (seen_arg x ∷ []))) _ _ _ lt c.arg-item.is
           (one_more context q p (seen_arg x) _) c.in_ok-push_arg.ensures c.loop-arg.invariant.lines;
     }

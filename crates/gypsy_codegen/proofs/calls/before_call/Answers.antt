@@ -9,7 +9,8 @@ use Rattle.gypsy_codegen.proofs.calls.before_call.Goals as goal
 
 pub push_locals-requires : goal.push_locals-requires
 push_locals-requires c =
-    subst (λ (p : Proc). local_words p ≤ 65536) (sym c.procedure_at.ensures) (locals_few (seen_program c.args.context.now.program.now) c.requires.ready.fits c.args.site.now.callee)
+    subst (λ (p : Proc). local_words p ≤ 65536) (sym c.procedure_at.ensures)
+    (locals_few (seen_program c.args.context.now.program.now) c.requires.ready.fits c.args.site.now.callee)
 
 pub returns : goal.returns
 returns c =

@@ -8,7 +8,8 @@ use Rattle.gypsy_codegen.proofs.calls.callee_words.Goals as goal
 pub local_count-requires : goal.local_count-requires
 local_count-requires c =
     rw c.as_slice.ensures.value
-    (subst (λ (p : Proc). local_words p ≤ 65536) (sym c.procedure_at-callee.ensures) (locals_few (seen_program c.args.context.now.program.now) c.requires.ready.fits c.args.callee))
+    (subst (λ (p : Proc). local_words p ≤ 65536) (sym c.procedure_at-callee.ensures)
+    (locals_few (seen_program c.args.context.now.program.now) c.requires.ready.fits c.args.callee))
 
 pub returns : goal.returns
 returns c = (rw c.as_slice.ensures.value at c.local_count.ensures) ∙ ap local_words c.procedure_at-callee.ensures

@@ -22,5 +22,6 @@ loop-actual-preserved c =
     let P : List ℕ → Type 0 = Each (HasWord q p) in
     record {
       words = (subst P (drop-item xs k x lt here) c.loop-actual.invariant.words).1;
-      lines = more_next (λ (ys : List ℕ). code_in context (push_actuals q p ys)) xs k x (code_in context (i.PushLocal (offset q p x) ∷ [])) _ _ _ lt here refl c.in_ok-push_local.ensures c.loop-actual.invariant.lines;
+      lines = more_next (λ (ys : List ℕ). code_in context (push_actuals q p ys)) xs k x (code_in context (i.PushLocal (offset q p x) ∷ [])) _ _ _ lt
+          here refl c.in_ok-push_local.ensures c.loop-actual.invariant.lines;
     }

@@ -13,5 +13,6 @@ loop-number-preserved c =
     let k = c.loop-number.number in
     numbered_next (λ (n : ℕ) (ds : List Condition). map label_arg (raise_labels (first + n) (map seen_cond ds))) c.args.conds.now k Leave
     (label_arg (first + k) ∷ []) c.loop-number.args.items c.push_label.new.args.items _ c.loop-number-test.true
-    (λ x rest. let next : first + k + 1 ≡ first + (k + 1) = omega arith in ap (λ (l : ℕ). label_arg (first + k) ∷ map label_arg (raise_labels l (map seen_cond rest))) next)
+    (λ x rest. let next : first + k + 1 ≡ first + (k + 1) = omega arith in ap
+    (λ (l : ℕ). label_arg (first + k) ∷ map label_arg (raise_labels l (map seen_cond rest))) next)
     c.in_ok-push_label.ensures c.loop-number.invariant

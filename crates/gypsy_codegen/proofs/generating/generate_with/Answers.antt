@@ -21,7 +21,8 @@ pub system-requires-clause-few : goal.system-requires-clause-few
 system-requires-clause-few c =
     let s = source_of c.args.accepted.now in
     let sizes = stack_sizes c.args.ctrl c.args.temp in
-    let none = none_of (seen_program c.args.program.now) (program_of s) sizes c.size_fault.result c.requires.program c.size_fault.ensures c.in_default.not-Some in
+    let none = none_of (seen_program c.args.program.now) (program_of s) sizes c.size_fault.result c.requires.program c.size_fault.ensures
+    c.in_default.not-Some in
     let limits = limits_fit (program_of s) sizes c.args.base c.requires.base none in
     subst (λ (t : Source). total_words (program_of (source_of t)) ≤ 2 ^ 20) (sym c.source.ensures.value) limits.few_words
 
@@ -29,7 +30,8 @@ pub checked-requires-clause-form : goal.checked-requires-clause-form
 checked-requires-clause-form c =
     let s = source_of c.args.accepted.now in
     let sizes = stack_sizes c.args.ctrl c.args.temp in
-    let none = none_of (seen_program c.args.program.now) (program_of s) sizes c.size_fault.result c.requires.program c.size_fault.ensures c.in_default.not-Some in
+    let none = none_of (seen_program c.args.program.now) (program_of s) sizes c.size_fault.result c.requires.program c.size_fault.ensures
+    c.in_default.not-Some in
     let limits = limits_fit (program_of s) sizes c.args.base c.requires.base none in
     let made : c.in_ok-system.system ≡ generated s sizes c.args.base =
     c.in_ok-system.ensures ∙ ap (λ (t : Source). generated (source_of t) sizes c.args.base) c.source.ensures.value in
@@ -39,7 +41,8 @@ pub checked-requires-clause-rules : goal.checked-requires-clause-rules
 checked-requires-clause-rules c =
     let s = source_of c.args.accepted.now in
     let sizes = stack_sizes c.args.ctrl c.args.temp in
-    let none = none_of (seen_program c.args.program.now) (program_of s) sizes c.size_fault.result c.requires.program c.size_fault.ensures c.in_default.not-Some in
+    let none = none_of (seen_program c.args.program.now) (program_of s) sizes c.size_fault.result c.requires.program c.size_fault.ensures
+    c.in_default.not-Some in
     let limits = limits_fit (program_of s) sizes c.args.base c.requires.base none in
     let made : c.in_ok-system.system ≡ generated s sizes c.args.base =
     c.in_ok-system.ensures ∙ ap (λ (t : Source). generated (source_of t) sizes c.args.base) c.source.ensures.value in
@@ -49,7 +52,8 @@ pub returns-clause-value : goal.returns-clause-value
 returns-clause-value c =
     let s = source_of c.args.accepted.now in
     let sizes = stack_sizes c.args.ctrl c.args.temp in
-    let none = none_of (seen_program c.args.program.now) (program_of s) sizes c.size_fault.result c.requires.program c.size_fault.ensures c.in_default.not-Some in
+    let none = none_of (seen_program c.args.program.now) (program_of s) sizes c.size_fault.result c.requires.program c.size_fault.ensures
+    c.in_default.not-Some in
     let made : c.in_ok-system.system ≡ generated s sizes c.args.base =
     c.in_ok-system.ensures ∙ ap (λ (t : Source). generated (source_of t) sizes c.args.base) c.source.ensures.value in
     generation_is s sizes c.args.base c.in_ok-made.made c.in_ok-system.system none made c.in_ok-made.ensures.kept
@@ -58,21 +62,25 @@ pub returns-clause-runs : goal.returns-clause-runs
 returns-clause-runs c =
     let s = source_of c.args.accepted.now in
     let sizes = stack_sizes c.args.ctrl c.args.temp in
-    let none = none_of (seen_program c.args.program.now) (program_of s) sizes c.size_fault.result c.requires.program c.size_fault.ensures c.in_default.not-Some in
+    let none = none_of (seen_program c.args.program.now) (program_of s) sizes c.size_fault.result c.requires.program c.size_fault.ensures
+    c.in_default.not-Some in
     let limits = limits_fit (program_of s) sizes c.args.base c.requires.base none in
     let made : c.in_ok-system.system ≡ generated s sizes c.args.base =
     c.in_ok-system.ensures ∙ ap (λ (t : Source). generated (source_of t) sizes c.args.base) c.source.ensures.value in
-    implements c.generated_is_acceptable.ensures c.source_runs.ensures c.moments_are_reached.ensures s sizes c.args.base c.in_ok-made.made c.requires.accepted limits
+    implements c.generated_is_acceptable.ensures c.source_runs.ensures c.moments_are_reached.ensures s sizes c.args.base c.in_ok-made.made
+    c.requires.accepted limits
     c.in_ok-made.ensures.known (c.in_ok-made.ensures.kept ∙ made)
 
 pub returns-clause-words : goal.returns-clause-words
 returns-clause-words c =
     let s = source_of c.args.accepted.now in
     let sizes = stack_sizes c.args.ctrl c.args.temp in
-    let none = none_of (seen_program c.args.program.now) (program_of s) sizes c.size_fault.result c.requires.program c.size_fault.ensures c.in_default.not-Some in
+    let none = none_of (seen_program c.args.program.now) (program_of s) sizes c.size_fault.result c.requires.program c.size_fault.ensures
+    c.in_default.not-Some in
     let limits = limits_fit (program_of s) sizes c.args.base c.requires.base none in
     let made : c.in_ok-system.system ≡ generated s sizes c.args.base =
     c.in_ok-system.ensures ∙ ap (λ (t : Source). generated (source_of t) sizes c.args.base) c.source.ensures.value in
-    let meant = implements c.generated_is_acceptable.ensures c.source_runs.ensures c.moments_are_reached.ensures s sizes c.args.base c.in_ok-made.made c.requires.accepted limits
+    let meant = implements c.generated_is_acceptable.ensures c.source_runs.ensures c.moments_are_reached.ensures s sizes c.args.base c.in_ok-made.made
+    c.requires.accepted limits
     c.in_ok-made.ensures.known (c.in_ok-made.ensures.kept ∙ made) in
     takes_code_words c.procedures_take_words.ensures s sizes c.args.base c.in_ok-made.made c.requires.accepted meant.view

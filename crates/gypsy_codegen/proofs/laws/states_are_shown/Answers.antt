@@ -5,4 +5,5 @@ pub returns-clause-start : goal.returns-clause-start
 returns-clause-start c = start_shows
 
 pub returns-clause-each : goal.returns-clause-each
-returns-clause-each c = each_is_shown record { calls = c.predefs_run.ensures.calls; arguments = c.predefs_run.ensures.arguments; values = c.predefs_run.ensures.values }
+returns-clause-each c =
+    each_is_shown record { calls = c.predefs_run.ensures.calls; arguments = c.predefs_run.ensures.arguments; values = c.predefs_run.ensures.values }

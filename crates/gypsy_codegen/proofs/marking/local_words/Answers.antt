@@ -7,4 +7,5 @@ use Rattle.gypsy_codegen.proofs.marking.local_words.Goals as goal
 pub returns : goal.returns
 returns c =
     ap (λ (n : Need). n.locals_words) c.need_of.ensures
-    ∙ callee_words (marked_program c.args.marking.now) c.args.marking.now.needs.now.procedures.items c.args.procedure c.requires.known.fits c.requires.known.needs c.requires.there
+    ∙ callee_words (marked_program c.args.marking.now) c.args.marking.now.needs.now.procedures.items c.args.procedure c.requires.known.fits
+    c.requires.known.needs c.requires.there

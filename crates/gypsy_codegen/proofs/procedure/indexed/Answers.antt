@@ -14,15 +14,18 @@ use Rattle.gypsy_codegen.specs.WordsOf.{starts}
 use Rattle.gypsy_codegen.specs.Written.{written_word}
 use Rattle.gypsy_codegen.proofs.procedure.indexed.Goals as goal
 
-next_one : (names : List (List ℕ)) (shapes : List Shape) (k at size : ℕ) (d : Shape) → k < length names → k < length shapes → size ≡ item_count (get_or shapes k d) →
+next_one : (names : List (List ℕ)) (shapes : List Shape) (k at size : ℕ) (d : Shape) → k < length names → k < length shapes
+    → size ≡ item_count (get_or shapes k d) →
     temporaries_of nameless (drop k names) (map (λ i. Nat i) (starts at (drop k shapes)))
-    ≡ (unplaced (get_or names k []), written_word nameless (Nat at)) ∷ temporaries_of nameless (drop (k + 1) names) (map (λ i. Nat i) (starts (at + size) (drop (k + 1) shapes)))
+    ≡ (unplaced (get_or names k []), written_word nameless (Nat at)) ∷ temporaries_of nameless (drop (k + 1) names)
+    (map (λ i. Nat i) (starts (at + size) (drop (k + 1) shapes)))
 next_one names shapes k at size d lt there is =
     let n : List ℕ = get_or names k [] in
     let s : Shape = get_or shapes k d in
     let left : List (List ℕ) = drop (k + 1) names in
     let rest : List Shape = drop (k + 1) shapes in
-    ap₂ (λ (ns : List (List ℕ)) (ss : List Shape). temporaries_of nameless ns (map (λ i. Nat i) (starts at ss))) (drop-item names k n lt (same_item names k [] n lt)) (drop-item shapes k s there (same_item shapes k d s there))
+    ap₂ (λ (ns : List (List ℕ)) (ss : List Shape). temporaries_of nameless ns (map (λ i. Nat i) (starts at ss)))
+    (drop-item names k n lt (same_item names k [] n lt)) (drop-item shapes k s there (same_item shapes k d s there))
     ∙ ap (λ (m : ℕ). (unplaced n, written_word nameless (Nat at)) ∷ temporaries_of nameless left (map (λ i. Nat i) (starts (at + m) rest))) (sym is)
 
 fewer_words : (shapes : List Shape) (k size : ℕ) (d : Shape) → k < length shapes → size ≡ item_count (get_or shapes k d) →

@@ -17,17 +17,20 @@ use Rattle.gypsy_codegen.proofs.statement.+statements.Goals as goal
 
 pub statement-parts-requires : goal.statement-parts-requires
 statement-parts-requires t c =
-    let k : seen_statement c.args.node.now.value ≡ seen_statements c.in-Seq.nodes.value.items = ap seen_statement (sym c.deref.ensures ∙ c.in-Seq.is) ∙ seen_statement-seq c.in-Seq.nodes in
+    let k : seen_statement c.args.node.now.value ≡ seen_statements c.in-Seq.nodes.value.items =
+    ap seen_statement (sym c.deref.ensures ∙ c.in-Seq.is) ∙ seen_statement-seq c.in-Seq.nodes in
     (search (rules, the_lemmas), (c.requires.ready, (rw k at c.requires.names, rw k at c.requires.labels)))
 
 pub statement-returns-in_ok-next-in-Seq-clause-lines : goal.statement-returns-in_ok-next-in-Seq-clause-lines
 statement-returns-in_ok-next-in-Seq-clause-lines t c =
-    let k : seen_statement c.args.node.now.value ≡ seen_statements c.in-Seq.nodes.value.items = ap seen_statement (sym c.deref.ensures ∙ c.in-Seq.is) ∙ seen_statement-seq c.in-Seq.nodes in
+    let k : seen_statement c.args.node.now.value ≡ seen_statements c.in-Seq.nodes.value.items =
+    ap seen_statement (sym c.deref.ensures ∙ c.in-Seq.is) ∙ seen_statement-seq c.in-Seq.nodes in
     rw k c.in_ok-next-in-Seq.ensures.lines
 
 pub statement-returns-in_ok-next-in-Seq-clause-next : goal.statement-returns-in_ok-next-in-Seq-clause-next
 statement-returns-in_ok-next-in-Seq-clause-next t c =
-    let k : seen_statement c.args.node.now.value ≡ seen_statements c.in-Seq.nodes.value.items = ap seen_statement (sym c.deref.ensures ∙ c.in-Seq.is) ∙ seen_statement-seq c.in-Seq.nodes in
+    let k : seen_statement c.args.node.now.value ≡ seen_statements c.in-Seq.nodes.value.items =
+    ap seen_statement (sym c.deref.ensures ∙ c.in-Seq.is) ∙ seen_statement-seq c.in-Seq.nodes in
     rw k c.in_ok-next-in-Seq.ensures.next
 
 pub statement-returns-in_ok-next-in-If-clause-lines : goal.statement-returns-in_ok-next-in-If-clause-lines
@@ -82,7 +85,8 @@ statement-returns-in_ok-next-in-Begin-clause-lines t c =
     let body = seen_statement c.in-Begin.body.value in
     let arm = seen_statement c.in-Begin.arm.value in
     let conds = c.in-Begin.conds.value.items in
-    let k : seen_statement c.args.node.now.value ≡ Begin c.in-Begin.field-0 body (map seen_cond conds) arm = ap seen_statement (sym c.deref.ensures ∙ c.in-Begin.is) in
+    let k : seen_statement c.args.node.now.value ≡ Begin c.in-Begin.field-0 body (map seen_cond conds) arm =
+    ap seen_statement (sym c.deref.ensures ∙ c.in-Begin.is) in
     let first_part = c.in_ok-behind-in-Begin.ensures.lines in
     let second_part = rw c.in_ok-behind-in-Begin.ensures.next at c.in_ok-next-in-Begin.ensures.lines in
     let inside : List Line = lines q p (InBegin (map seen_cond conds) l ∷ scopes) (l + 2) body in

@@ -26,6 +26,7 @@ returns c =
     let q = seen_program c.args.program.now in
     let areas : c.in_ok-vec.field-0.items ≡ area_text ∷ [] = c.in_ok-vec.ensures.items ∙ ap (λ (a : AreaOf). a ∷ []) c.in_ok-area.ensures in
     system_is s (stack_sizes c.args.ctrl c.args.temp) c.args.base q c.in_ok-unplaced.field-0 (seen_proc c.procedure_at.result.now)
-    c.unplaced_size.result c.unplaced_size-2.result c.unplaced_size-3.result c.in_ok-vec.field-0.items c.in_ok-opening.field-0.items c.in_ok-programs.field-0.items
+    c.unplaced_size.result c.unplaced_size-2.result c.unplaced_size-3.result c.in_ok-vec.field-0.items c.in_ok-opening.field-0.items
+    c.in_ok-programs.field-0.items
     c.requires.program c.procedure_at.ensures c.in_ok-unplaced.ensures c.unplaced_size.ensures c.unplaced_size-2.ensures c.unplaced_size-3.ensures areas
     c.in_ok-opening.ensures c.in_ok-programs.ensures

@@ -11,4 +11,5 @@ unreachable-requires c =
     wrote ∙ ap (λ (items : List ℤ). slice_set items c.args.place c.args.item) (c.in_ok-items.ensures.items ∙ c.as_slice.ensures.value) in
     let kind_is : is_item shape.kind c.args.item ≡ true = ap (λ v. is_item v.shape.kind c.args.item) c.array.view_is ∙ c.requires.item in
     let P : List ℤ → Type 0 = λ items. is_value shape items ≡ true in
-    true≢false (sym (c.in-None.ensures.when.1 (subst P (sym set) (set_is_value shape c.array.inside.items.items c.args.place c.args.item c.array.invariant kind_is))))
+    true≢false (sym (c.in-None.ensures.when.1
+    (subst P (sym set) (set_is_value shape c.array.inside.items.items c.args.place c.args.item c.array.invariant kind_is))))

@@ -7,7 +7,8 @@ use Rattle.gypsy_space.proofs.counting.+statements.Goals as goal
 
 pub statement_need-returns-in-Seq : goal.statement_need-returns-in-Seq
 statement_need-returns-in-Seq t c =
-    let k : seen_statement c.args.node.now.value ≡ seen_statements c.in-Seq.parts.value.items = ap seen_statement (sym c.deref.ensures ∙ c.in-Seq.is) ∙ seen_statement-seq c.in-Seq.parts in
+    let k : seen_statement c.args.node.now.value ≡ seen_statements c.in-Seq.parts.value.items =
+    ap seen_statement (sym c.deref.ensures ∙ c.in-Seq.is) ∙ seen_statement-seq c.in-Seq.parts in
     rw k c.parts_need.ensures
 
 pub parts_need-returns : goal.parts_need-returns

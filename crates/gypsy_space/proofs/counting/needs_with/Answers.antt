@@ -13,4 +13,5 @@ needs_of-requires c =
 pub returns-clause-exact : goal.returns-clause-exact
 returns-clause-exact c =
     let accepted = c.requires.accepted in
-    counted_needs (source_of c.args._accepted.now) accepted.form accepted.fits (seen_program c.args.program.now) c.requires.program c.in_ok-needs.needs.procedures.items c.in_ok-needs.ensures.exact
+    counted_needs (source_of c.args._accepted.now) accepted.form accepted.fits (seen_program c.args.program.now) c.requires.program
+    c.in_ok-needs.needs.procedures.items c.in_ok-needs.ensures.exact

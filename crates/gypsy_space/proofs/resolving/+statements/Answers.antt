@@ -21,15 +21,25 @@ pub statement-statements-requires : goal.statement-statements-requires
 statement-statements-requires t c =
     let parts = c.in-Seq.parts.items in
     let k : stmt_of c.args.stmt.now ≡ seq c.in-Seq.place (parts_of_list parts) = ap stmt_of c.in-Seq.is ∙ stmt_of-seq c.in-Seq.place c.in-Seq.parts in
-    let constants = subst (λ (b : StmtOf). ConstantsFit b) k c.requires.constants in
-    (search (rules, the_lemmas), (c.requires.callees, (c.requires.form, All-same (λ (s : Text). ConstantsFit (stmt_of s)) c.as_slice.result.now parts c.as_slice.ensures.value (parts_fit parts constants))))
+    let constants = subst (λ (b : StmtOf). ConstantsFit b) k c.requires.constants in (
+      search (rules, the_lemmas),
+      (
+        c.requires.callees,
+        (
+          c.requires.form,
+          All-same (λ (s : Text). ConstantsFit (stmt_of s)) c.as_slice.result.now parts c.as_slice.ensures.value
+              (parts_fit parts constants),
+        ),
+      ),
+    )
 
 pub statement-application-requires-clause-constants : goal.statement-application-requires-clause-constants
 statement-application-requires-clause-constants t c =
     let args = c.in-Predef.args.items in
     let k : stmt_of c.args.stmt.now ≡ predef c.in-Predef.place c.in-Predef.which (map arg_of args) = ap stmt_of c.in-Predef.is in
     let constants = subst (λ (b : StmtOf). ConstantsFit b) k c.requires.constants in
-    All-same (λ (a : Arg). ConstantFits (arg_of a)) c.as_slice-in-Predef.result.now args c.as_slice-in-Predef.ensures.value (each_before ConstantFits arg_of args constants)
+    All-same (λ (a : Arg). ConstantFits (arg_of a)) c.as_slice-in-Predef.result.now args c.as_slice-in-Predef.ensures.value
+    (each_before ConstantFits arg_of args constants)
 
 pub statement-returns-in_ok-new-in-Seq : goal.statement-returns-in_ok-new-in-Seq
 statement-returns-in_ok-new-in-Seq t c =
@@ -47,11 +57,14 @@ statements-loop-part-preserved t c =
     let p = proc_of c.args.proc.now in
     let pushed : c.push.new.self.items ≡ c.loop-part.nodes.items ++ c.in_ok-node.node ∷ [] = search rules in
     let whole = statement_of_all s p (parts_of_list c.args.parts.now) in
-    subst (λ (ns : List (Rc Node Global)). followed ns (statement_of_all s p (parts_of_list (drop (c.loop-part.part-index + 1) c.args.parts.now))) ≡ whole) (sym pushed)
-    (next_part s p c.loop-part.nodes.items c.args.parts.now c.loop-part.part-index whole c.loop-part.invariant c.in_ok-node.node c.part-item.result c.loop-part-test.true c.part-item.is c.in_ok-node.ensures)
+    subst (λ (ns : List (Rc Node Global)). followed ns (statement_of_all s p (parts_of_list (drop (c.loop-part.part-index + 1) c.args.parts.now)))
+    ≡ whole) (sym pushed)
+    (next_part s p c.loop-part.nodes.items c.args.parts.now c.loop-part.part-index whole c.loop-part.invariant c.in_ok-node.node c.part-item.result
+    c.loop-part-test.true c.part-item.is c.in_ok-node.ensures)
 
 pub statements-returns : goal.statements-returns
 statements-returns t c =
     let s = source_of c.args.callees.now.source.now in
     let p = proc_of c.args.proc.now in
-    all_parts s p c.loop-part.nodes.items c.args.parts.now c.loop-part.part-index (statement_of_all s p (parts_of_list c.args.parts.now)) c.loop-part.invariant (omega (arith, c.loop-part-test.false))
+    all_parts s p c.loop-part.nodes.items c.args.parts.now c.loop-part.part-index (statement_of_all s p (parts_of_list c.args.parts.now))
+    c.loop-part.invariant (omega (arith, c.loop-part-test.false))

@@ -13,12 +13,14 @@ use Rattle.gypsy_space.proofs.resolving.items.Goals as goal
 pub list_items-requires : goal.list_items-requires
 list_items-requires c =
     let items = c.in-List.items.items in
-    let k : literal_of c.args.literal.now ≡ array c.in-List.place (items_of_list items) = ap literal_of c.in-List.is ∙ literal_of-list c.in-List.place c.in-List.items in
+    let k : literal_of c.args.literal.now ≡ array c.in-List.place (items_of_list items) =
+    ap literal_of c.in-List.is ∙ literal_of-list c.in-List.place c.in-List.items in
     let range : list_all (is_in_range Integer) (items_of_all (items_of_list items)) ≡ true =
     subst (λ (l : LiteralOf). list_all (is_in_range Integer) (value_items l) ≡ true) k c.requires in
     All-same InRange c.deref.result.now items c.deref.ensures.value (items_in items range)
 
 pub returns-in-List : goal.returns-in-List
 returns-in-List c =
-    let k : literal_of c.args.literal.now ≡ array c.in-List.place (items_of_list c.in-List.items.items) = ap literal_of c.in-List.is ∙ literal_of-list c.in-List.place c.in-List.items in
+    let k : literal_of c.args.literal.now ≡ array c.in-List.place (items_of_list c.in-List.items.items) =
+    ap literal_of c.in-List.is ∙ literal_of-list c.in-List.place c.in-List.items in
     rw k (rw c.deref.ensures.value at c.list_items.ensures)

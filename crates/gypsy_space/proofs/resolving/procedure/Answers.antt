@@ -8,4 +8,5 @@ use Rattle.gypsy_space.proofs.resolving.procedure.Goals as goal
 pub locals-requires : goal.locals-requires
 locals-requires c =
     let locals = c.args.proc.now.locals.items in
-    All-same (λ (l : Local). LocalFits (local_of l)) c.as_slice-2.result.now locals c.as_slice-2.ensures.value (each_before LocalFits local_of locals c.requires.resolvable.locals)
+    All-same (λ (l : Local). LocalFits (local_of l)) c.as_slice-2.result.now locals c.as_slice-2.ensures.value
+    (each_before LocalFits local_of locals c.requires.resolvable.locals)

@@ -18,4 +18,5 @@ returns-in_ok-run-in-Step-clause-memory g c =
     let new = session_of (λ w. (goal.Watch-dyn g (w.vtable, w.value)).watching w.value) c.step.new.self in
     on_any c.push_run.result
     (subst (λ (command : Command). IsLeftBy c.args.line.now.line command old new) (sym c.in-Step.is)
-    (subst (λ (left : SessionOf). HasMadeSome c.in-Step.count old left) (ap (λ (made : Stepped). made.session) c.in_ok-run-in-Step.ensures.ran) (stepped_some c.in-Step.count old)))
+    (subst (λ (left : SessionOf). HasMadeSome c.in-Step.count old left) (ap (λ (made : Stepped). made.session) c.in_ok-run-in-Step.ensures.ran)
+    (stepped_some c.in-Step.count old)))

@@ -5,4 +5,5 @@ pub lower_program-requires : goal.lower_program-requires
 lower_program-requires c = record { lawful = lawful_read c.args.text.now c.in_ok-program.program c.in_ok-program.ensures.read }
 
 pub returns-clause-lowers : goal.returns-clause-lowers
-returns-clause-lowers c = text_lowers c.args.text.now c.in_ok-program.program _ c.in_ok-program.ensures.read c.in_ok-accepted.ensures.accepted.form c.in_ok-accepted.ensures.lowered
+returns-clause-lowers c = text_lowers c.args.text.now c.in_ok-program.program _ c.in_ok-program.ensures.read c.in_ok-accepted.ensures.accepted.form
+    c.in_ok-accepted.ensures.lowered

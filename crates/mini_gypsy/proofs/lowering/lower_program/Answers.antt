@@ -15,7 +15,8 @@ pub check-requires : goal.check-requires
 check-requires c =
     let ds = c.args.program.now.declared.items in
     let s = block_in c.args.program.now.body.items in
-    let small : node_count (tree_of (lowered ds s)) ≤ 2 ^ 31 = omega (arith, c.plain_form.ensures.counted (lowered ds s), lowered_small ds s c.requires.lawful) in
+    let small : node_count (tree_of (lowered ds s)) ≤ 2 ^ 31 =
+    omega (arith, c.plain_form.ensures.counted (lowered ds s), lowered_small ds s c.requires.lawful) in
     subst KeepsForm (sym c.in_ok-source.ensures) (c.plain_form.ensures.keeps (lowered ds s) (lowered_fits ds s c.requires.lawful) small)
 
 pub unreachable-requires : goal.unreachable-requires

@@ -24,20 +24,26 @@ between-requires t c =
 pub returns-in_ok-push-in-Variable : goal.returns-in_ok-push-in-Variable
 unfolding value_parts
 returns-in_ok-push-in-Variable t c =
-    leaf_pushed (map (λ d. d.name) c.args.declared.now) c.args.depth (exp_of c.args.value.now) _ c.args.parts.now.items c.push.new.self.items c.in_ok-made-in-Variable.made
-    (ap (value_parts (map (λ d. d.name) c.args.declared.now) c.args.depth) (ap exp_of c.in-Variable.is)) c.in_ok-push-in-Variable.ensures.items c.in_ok-made-in-Variable.ensures
+    leaf_pushed (map (λ d. d.name) c.args.declared.now) c.args.depth (exp_of c.args.value.now) _ c.args.parts.now.items c.push.new.self.items
+    c.in_ok-made-in-Variable.made
+    (ap (value_parts (map (λ d. d.name) c.args.declared.now) c.args.depth) (ap exp_of c.in-Variable.is)) c.in_ok-push-in-Variable.ensures.items
+    c.in_ok-made-in-Variable.ensures
 
 pub returns-in_ok-push-in-Number : goal.returns-in_ok-push-in-Number
 unfolding value_parts
 returns-in_ok-push-in-Number t c =
-    leaf_pushed (map (λ d. d.name) c.args.declared.now) c.args.depth (exp_of c.args.value.now) _ c.args.parts.now.items c.push-in-Number.new.self.items c.in_ok-made-in-Number.made
-    (ap (value_parts (map (λ d. d.name) c.args.declared.now) c.args.depth) (ap exp_of c.in-Number.is)) c.in_ok-push-in-Number.ensures.items c.in_ok-made-in-Number.ensures
+    leaf_pushed (map (λ d. d.name) c.args.declared.now) c.args.depth (exp_of c.args.value.now) _ c.args.parts.now.items c.push-in-Number.new.self.items
+    c.in_ok-made-in-Number.made
+    (ap (value_parts (map (λ d. d.name) c.args.declared.now) c.args.depth) (ap exp_of c.in-Number.is)) c.in_ok-push-in-Number.ensures.items
+    c.in_ok-made-in-Number.ensures
 
 pub returns-in_ok-push-in-Truth : goal.returns-in_ok-push-in-Truth
 unfolding value_parts
 returns-in_ok-push-in-Truth t c =
-    leaf_pushed (map (λ d. d.name) c.args.declared.now) c.args.depth (exp_of c.args.value.now) _ c.args.parts.now.items c.push-in-Truth.new.self.items c.in_ok-made-in-Truth.made
-    (ap (value_parts (map (λ d. d.name) c.args.declared.now) c.args.depth) (ap exp_of c.in-Truth.is)) c.in_ok-push-in-Truth.ensures.items c.in_ok-made-in-Truth.ensures
+    leaf_pushed (map (λ d. d.name) c.args.declared.now) c.args.depth (exp_of c.args.value.now) _ c.args.parts.now.items c.push-in-Truth.new.self.items
+    c.in_ok-made-in-Truth.made
+    (ap (value_parts (map (λ d. d.name) c.args.declared.now) c.args.depth) (ap exp_of c.in-Truth.is)) c.in_ok-push-in-Truth.ensures.items
+    c.in_ok-made-in-Truth.ensures
 
 pub returns-in_ok-push-in-Before : goal.returns-in_ok-push-in-Before
 returns-in_ok-push-in-Before t c =
@@ -58,11 +64,13 @@ returns-in_ok-push-in-Between t c =
     let b = exp_of c.in-Between.right.value in
     let next : c.args.depth + 1 ≡ suc c.args.depth = omega arith in
     between_pushed names c.args.depth c.in-Between.op (exp_of c.args.value.now) a b c.sort-in-Between.result c.sort-in-Between-2.result
-    c.args.parts.now.items c.append_value-in-Between.new.parts.items c.append_value-in-Between-2.new.parts.items c.push-in-Between.new.self.items c.in_ok-made-in-Between.made
+    c.args.parts.now.items c.append_value-in-Between.new.parts.items c.append_value-in-Between-2.new.parts.items c.push-in-Between.new.self.items
+    c.in_ok-made-in-Between.made
     (ap exp_of c.in-Between.is)
     (c.sort-in-Between.ensures ∙ ap (λ e. sort_of (exp_of e)) c.deref-in-Between-3.ensures)
     (c.sort-in-Between-2.ensures ∙ ap (λ e. sort_of (exp_of e)) c.deref-in-Between-4.ensures)
-    (c.in_ok-append_value-in-Between.ensures ∙ ap (λ e. map stmt_of c.args.parts.now.items ++ value_parts names c.args.depth (exp_of e)) c.deref-in-Between.ensures)
+    (c.in_ok-append_value-in-Between.ensures ∙ ap (λ e. map stmt_of c.args.parts.now.items ++ value_parts names c.args.depth (exp_of e))
+    c.deref-in-Between.ensures)
     (c.in_ok-append_value-in-Between-2.ensures
     ∙ ap (λ k. map stmt_of c.append_value-in-Between.new.parts.items ++ value_parts names k (exp_of c.deref-in-Between-2.result.now)) next
     ∙ ap (λ e. map stmt_of c.append_value-in-Between.new.parts.items ++ value_parts names (suc c.args.depth) (exp_of e)) c.deref-in-Between-2.ensures)

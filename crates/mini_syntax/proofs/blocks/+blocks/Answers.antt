@@ -10,8 +10,10 @@ use Rattle.mini_syntax.specs.Internal.Phrases.{statement_kind}
 use Rattle.mini_syntax.specs.Tokens.{mark_at}
 use Rattle.mini_syntax.proofs.AwaitLaws.{begins_with_if, begins_with_while, no_statement}
 use Rattle.mini_syntax.proofs.LevelLaws.{read_shrinks}
-use Rattle.mini_syntax.proofs.ReadingLaws.{all_read, block_read, block_shrinks, form_shrinks, if_read, none_yet, one_less, one_more, shrinks, so_far_shrinks, while_read}
-use Rattle.mini_syntax.proofs.StepLaws.{after_kind, block_first, block_passed, else_is, else_passed, expression_first, expression_passed, first_awaited, form_passed, forms_passed, kind_next, mark_passed, token_left}
+use Rattle.mini_syntax.proofs.ReadingLaws.{all_read, block_read, block_shrinks, form_shrinks, if_read, none_yet, one_less, one_more, shrinks, so_far_shrinks}
+use Rattle.mini_syntax.proofs.ReadingLaws.{while_read}
+use Rattle.mini_syntax.proofs.StepLaws.{after_kind, block_first, block_passed, else_is, else_passed, expression_first, expression_passed, first_awaited}
+use Rattle.mini_syntax.proofs.StepLaws.{form_passed, forms_passed, kind_next, mark_passed, token_left}
 use Rattle.mini_syntax.proofs.ViewLaws.{statement_in-if, statement_in-while}
 use Rattle.mini_syntax.proofs.blocks.+blocks.Goals as goal
 
@@ -24,7 +26,8 @@ pub while_statement-expression-requires-clause-awaits : goal.while_statement-exp
 while_statement-expression-requires-clause-awaits t c =
     let l = c.next-place.result in
     let k = kind_next l (kind.Word word.While) c.next-place.ensures (begins_with_while (next_kind (left_of c.args.cursor.now)) c.requires.begun) in
-    expression_first (a_block more) (after_kind more (expression (a_block more)) l (kind.Word word.While) c.requires.awaits c.next-place.ensures k (λ rest. refl))
+    expression_first (a_block more) (after_kind more (expression (a_block more)) l (kind.Word word.While) c.requires.awaits c.next-place.ensures k
+    (λ rest. refl))
 
 pub while_statement-block-requires : goal.while_statement-block-requires
 while_statement-block-requires t c =
@@ -39,7 +42,8 @@ pub while_statement-returns : goal.while_statement-returns
 while_statement-returns t c =
     let l = c.next-place.result in
     let k = kind_next l (kind.Word word.While) c.next-place.ensures (begins_with_while (next_kind (left_of c.args.cursor.now)) c.requires.begun) in
-    while_read c.args.scope.now.declared.items l (left_of c.args.cursor.now) (left_of c.next-place.new.self) (left_of c.expression.new.cursor) (left_of c.block.new.cursor)
+    while_read c.args.scope.now.declared.items l (left_of c.args.cursor.now) (left_of c.next-place.new.self) (left_of c.expression.new.cursor)
+    (left_of c.block.new.cursor)
     c.args.best.now c.expression.new.best c.note_test.new.best c.block.new.best c.in_ok-test.test c.in_ok-body.body.items _
     c.next-place.ensures k c.in_ok-test.ensures c.note_test.ensures c.in_ok-body.ensures (statement_in-while c.in_ok-test.test.exp c.in_ok-body.body)
 
@@ -90,8 +94,10 @@ if_statement-returns t c =
     let rest = wants.Else ∷ a_block more in
     let begun = after_kind more (expression (a_block rest)) l (kind.Word word.If) c.requires.awaits c.next-place.ensures k (λ st. refl) in
     let other = block_passed rest (expression_passed (a_block rest) begun c.in_ok-test.ensures) c.in_ok-then.ensures in
-    if_read c.args.scope.now.declared.items l _ (left_of c.args.cursor.now) (left_of c.next-place.new.self) (left_of c.expression.new.cursor) (left_of c.block.new.cursor) (left_of c.next.new.self)
-    (left_of c.block-2.new.cursor) c.args.best.now c.expression.new.best c.note_test.new.best c.block.new.best c.block-2.new.best c.in_ok-test.test c.in_ok-then.then.items c.in_ok-otherwise.otherwise.items _
+    if_read c.args.scope.now.declared.items l _ (left_of c.args.cursor.now) (left_of c.next-place.new.self) (left_of c.expression.new.cursor)
+    (left_of c.block.new.cursor) (left_of c.next.new.self)
+    (left_of c.block-2.new.cursor) c.args.best.now c.expression.new.best c.note_test.new.best c.block.new.best c.block-2.new.best c.in_ok-test.test
+    c.in_ok-then.then.items c.in_ok-otherwise.otherwise.items _
     c.next-place.ensures k c.in_ok-test.ensures c.note_test.ensures c.in_ok-then.ensures (else_is c.next.result other c.next.ensures) c.in_ok-otherwise.ensures
     (statement_in-if c.in_ok-test.test.exp c.in_ok-then.then c.in_ok-otherwise.otherwise)
 
@@ -127,7 +133,8 @@ block-mark-requires-2 t c =
 
 pub block-returns : goal.block-returns
 block-returns t c =
-    block_read c.args.scope.now.declared.items c.mark.result c.mark-2.result (left_of c.args.cursor.now) (left_of c.mark.new.self) (left_of c.statements.new.cursor) (left_of c.mark-2.new.self)
+    block_read c.args.scope.now.declared.items c.mark.result c.mark-2.result (left_of c.args.cursor.now) (left_of c.mark.new.self)
+    (left_of c.statements.new.cursor) (left_of c.mark-2.new.self)
     c.args.best.now c.statements.new.best c.in_ok-body.body.items c.mark.ensures c.in_ok-body.ensures c.mark-2.ensures
 
 -- ---- statements in turn
@@ -146,7 +153,8 @@ statements-statement-requires t c =
 pub statements-loop-kind-preserved : goal.statements-loop-kind-preserved
 statements-loop-kind-preserved t c = record {
   awaits = form_passed c.loop-kind.invariant.awaits c.in_ok-made.ensures;
-  read = one_more c.args.scope.now.declared.items (left_of c.args.cursor.now) (left_of c.loop-kind.cursor) (left_of c.statement.new.cursor) c.args.best.now c.loop-kind.best c.statement.new.best
+  read = one_more c.args.scope.now.declared.items (left_of c.args.cursor.now) (left_of c.loop-kind.cursor) (left_of c.statement.new.cursor)
+      c.args.best.now c.loop-kind.best c.statement.new.best
       c.loop-kind.statements.items c.push.new.self.items c.in_ok-made.made c.loop-kind.invariant.read c.in_ok-made.ensures c.in_ok-push.ensures.items;
 }
 
@@ -155,5 +163,6 @@ statements-loop-kind-smaller t c = form_shrinks c.in_ok-made.ensures
 
 pub statements-returns : goal.statements-returns
 statements-returns t c =
-    all_read c.args.scope.now.declared.items (left_of c.args.cursor.now) (left_of c.loop-kind.cursor) c.args.best.now c.loop-kind.best c.loop-kind.statements.items c.loop-kind.invariant.read
+    all_read c.args.scope.now.declared.items (left_of c.args.cursor.now) (left_of c.loop-kind.cursor) c.args.best.now c.loop-kind.best
+    c.loop-kind.statements.items c.loop-kind.invariant.read
     (λ st k. no_statement st (left_of c.loop-kind.cursor) (c.in_default.ensures ∙ ap statement_kind c.kind.ensures) k)

@@ -26,14 +26,16 @@ pub expression-requires-clause-awaits : goal.expression-requires-clause-awaits
 expression-requires-clause-awaits c =
     let l = c.next-name.result in
     let k = kind_next l kind.Name c.next-name.ensures (begins_with_name (next_kind (left_of c.args.cursor.now)) c.requires.begun) in
-    let named = after_kind (wants.MoreStatements ∷ []) (wants.Mark mark.Becomes ∷ expression ending) l kind.Name c.requires.awaits c.next-name.ensures k (λ rest. refl) in
+    let named = after_kind (wants.MoreStatements ∷ []) (wants.Mark mark.Becomes ∷ expression ending) l kind.Name c.requires.awaits c.next-name.ensures k
+    (λ rest. refl) in
     expression_first ending (mark_passed mark.Becomes c.mark-becomes.result (expression ending) named c.mark-becomes.ensures)
 
 pub mark-requires : goal.mark-requires
 mark-requires c =
     let l = c.next-name.result in
     let k = kind_next l kind.Name c.next-name.ensures (begins_with_name (next_kind (left_of c.args.cursor.now)) c.requires.begun) in
-    let named = after_kind (wants.MoreStatements ∷ []) (wants.Mark mark.Becomes ∷ expression ending) l kind.Name c.requires.awaits c.next-name.ensures k (λ rest. refl) in
+    let named = after_kind (wants.MoreStatements ∷ []) (wants.Mark mark.Becomes ∷ expression ending) l kind.Name c.requires.awaits c.next-name.ensures k
+    (λ rest. refl) in
     first_awaited (wants.Mark mark.Semicolon) (wants.MoreStatements ∷ [])
     (expression_passed ending (mark_passed mark.Becomes c.mark-becomes.result (expression ending) named c.mark-becomes.ensures) c.in_ok-value.ensures)
 
@@ -43,6 +45,8 @@ returns c =
     let k = kind_next l kind.Name c.next-name.ensures (begins_with_name (next_kind (left_of c.args.cursor.now)) c.requires.begun) in
     assignment_read c.args.scope.now.declared.items l c.mark-becomes.result c.mark.result
     (left_of c.args.cursor.now) (left_of c.next-name.new.self) (left_of c.mark-becomes.new.self) (left_of c.expression.new.cursor) (left_of c.mark.new.self)
-    c.args.best.now c.note_if.new.best c.expression.new.best c.note_assignment.new.best c.named-found.result c.index_of.result c.sort_of.result c.in_ok-value.value _
+    c.args.best.now c.note_if.new.best c.expression.new.best c.note_assignment.new.best c.named-found.result c.index_of.result c.sort_of.result
+    c.in_ok-value.value _
     c.next-name.ensures k c.mark-becomes.ensures c.in_ok-value.ensures c.mark.ensures
-    c.named-found.ensures (c.note_if.ensures ∙ ap (λ (b : Bool). lesser_of c.args.best.now (least (when b l.place 6))) (none_told c.named-found.result c.is_none.result c.is_none.ensures)) c.sort_of.ensures c.index_of.ensures c.note_assignment.ensures refl
+    c.named-found.ensures (c.note_if.ensures ∙ ap (λ (b : Bool). lesser_of c.args.best.now (least (when b l.place 6)))
+    (none_told c.named-found.result c.is_none.result c.is_none.ensures)) c.sort_of.ensures c.index_of.ensures c.note_assignment.ensures refl

@@ -5,7 +5,8 @@ use Rattle.mini_syntax.proofs.MachineLaws.{stack_more}
 use Rattle.mini_syntax.proofs.expected.expect.Goals as goal
 
 pub returns-in_ok-extend_from_slice-in-Operand : goal.returns-in_ok-extend_from_slice-in-Operand
-returns-in_ok-extend_from_slice-in-Operand c = rw c.in-Operand.is (stack_more c.args.stack.now.items c.extend_from_slice.new.self.items (wants.Operand ∷ []) c.in_ok-extend_from_slice-in-Operand.ensures.items)
+returns-in_ok-extend_from_slice-in-Operand c = rw c.in-Operand.is
+    (stack_more c.args.stack.now.items c.extend_from_slice.new.self.items (wants.Operand ∷ []) c.in_ok-extend_from_slice-in-Operand.ensures.items)
 
 pub returns-in_ok-extend_from_slice-in-Bracket : goal.returns-in_ok-extend_from_slice-in-Bracket
 returns-in_ok-extend_from_slice-in-Bracket c = rw c.in-Bracket.is (stack_more c.args.stack.now.items c.extend_from_slice-in-Bracket.new.self.items
@@ -17,7 +18,9 @@ returns-in_ok-extend_from_slice-in-OperandAndMore c = rw c.in-OperandAndMore.is
     (wants.MoreExpression c.in-OperandAndMore.compared ∷ wants.Operand ∷ []) c.in_ok-extend_from_slice-in-OperandAndMore.ensures.items)
 
 pub returns-in_ok-extend_from_slice-in-Declaration : goal.returns-in_ok-extend_from_slice-in-Declaration
-returns-in_ok-extend_from_slice-in-Declaration c = rw c.in-Declaration.is (stack_more c.args.stack.now.items c.extend_from_slice-in-Declaration.new.self.items (wants.MoreDeclarations ∷ wants.Mark mark.Semicolon ∷ wants.Name ∷ []) c.in_ok-extend_from_slice-in-Declaration.ensures.items)
+returns-in_ok-extend_from_slice-in-Declaration c = rw c.in-Declaration.is
+    (stack_more c.args.stack.now.items c.extend_from_slice-in-Declaration.new.self.items
+    (wants.MoreDeclarations ∷ wants.Mark mark.Semicolon ∷ wants.Name ∷ []) c.in_ok-extend_from_slice-in-Declaration.ensures.items)
 
 pub returns-in_ok-extend_from_slice-in-Assignment : goal.returns-in_ok-extend_from_slice-in-Assignment
 returns-in_ok-extend_from_slice-in-Assignment c = rw c.in-Assignment.is

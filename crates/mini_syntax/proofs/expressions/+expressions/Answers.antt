@@ -21,14 +21,16 @@ pub factor-returns-in-Some-Variable : goal.factor-returns-in-Some-Variable
 factor-returns-in-Some-Variable t c =
     let l = c.next-token.result in
     let k = opens_name l.kind (rw c.in-Some-Variable.field-0-is at c.in-Some-Variable.ensures) in
-    leaf c.args.scope.now.declared.items l kind.Name (grammar.variable l.place l.bytes.now) (left_of c.args.cursor.now) (left_of c.next-token.new.self) c.args.best.now c.variable.new.best c.variable.result
+    leaf c.args.scope.now.declared.items l kind.Name (grammar.variable l.place l.bytes.now) (left_of c.args.cursor.now) (left_of c.next-token.new.self)
+    c.args.best.now c.variable.new.best c.variable.result
     c.next-token.ensures k (omega arith) refl refl c.variable.ensures
 
 pub factor-returns-in-Some-Number : goal.factor-returns-in-Some-Number
 factor-returns-in-Some-Number t c =
     let l = c.next-token.result in
     let k = opens_number l.kind (rw c.in-Some-Number.field-0-is at c.in-Some-Number.ensures) in
-    leaf c.args.scope.now.declared.items l kind.Number (grammar.number l.place l.bytes.now) (left_of c.args.cursor.now) (left_of c.next-token.new.self) c.args.best.now c.number.new.best c.number.result
+    leaf c.args.scope.now.declared.items l kind.Number (grammar.number l.place l.bytes.now) (left_of c.args.cursor.now) (left_of c.next-token.new.self)
+    c.args.best.now c.number.new.best c.number.result
     c.next-token.ensures k (omega arith) refl refl (c.number.ensures c.args.scope.now.declared.items)
 
 pub factor-returns-in-Some-Truth : goal.factor-returns-in-Some-Truth
@@ -45,8 +47,14 @@ factor-factor-requires t c =
     let l = c.next-token.result in
     let op = c.in-Some-Operator.op in
     let k = opens_prefix op l.kind (rw c.in-Some-Operator.field-0-is at c.in-Some-Operator.ensures) in
-    let less = one_less (token_seen l) (left_of c.args.cursor.now) (left_of c.next-token.new.self) c.next-token.ensures in
-    (omega (arith, less), (c.requires.scope, after_kind (wants.Operand ∷ []) (wants.Operand ∷ []) l (prefix_kind op) c.requires.awaits c.next-token.ensures k (λ rest. prefix_goes_on op rest)))
+    let less = one_less (token_seen l) (left_of c.args.cursor.now) (left_of c.next-token.new.self) c.next-token.ensures in (
+      omega (arith, less),
+      (
+        c.requires.scope,
+        after_kind (wants.Operand ∷ []) (wants.Operand ∷ []) l (prefix_kind op) c.requires.awaits
+            c.next-token.ensures k (λ rest. prefix_goes_on op rest),
+      ),
+    )
 
 pub factor-returns-in_ok-operand-in-Some-Operator : goal.factor-returns-in_ok-operand-in-Some-Operator
 factor-returns-in_ok-operand-in-Some-Operator t c =
@@ -62,14 +70,16 @@ factor-expression-requires t c =
     let l = c.next-token.result in
     let k = opens_bracket l.kind (rw c.in-Some-Bracket.field-0-is at c.in-Some-Bracket.ensures) in
     let less = one_less (token_seen l) (left_of c.args.cursor.now) (left_of c.next-token.new.self) c.next-token.ensures in
-    let opened = after_kind (wants.Operand ∷ []) (expression (wants.Mark mark.Close ∷ [])) l (kind.Mark mark.Open) c.requires.awaits c.next-token.ensures k (λ rest. refl) in
+    let opened = after_kind (wants.Operand ∷ []) (expression (wants.Mark mark.Close ∷ [])) l (kind.Mark mark.Open) c.requires.awaits
+    c.next-token.ensures k (λ rest. refl) in
     (omega (arith, less), (c.requires.scope, expression_first (wants.Mark mark.Close ∷ []) opened))
 
 pub factor-mark-requires : goal.factor-mark-requires
 factor-mark-requires t c =
     let l = c.next-token.result in
     let k = opens_bracket l.kind (rw c.in-Some-Bracket.field-0-is at c.in-Some-Bracket.ensures) in
-    let opened = after_kind (wants.Operand ∷ []) (expression (wants.Mark mark.Close ∷ [])) l (kind.Mark mark.Open) c.requires.awaits c.next-token.ensures k (λ rest. refl) in
+    let opened = after_kind (wants.Operand ∷ []) (expression (wants.Mark mark.Close ∷ [])) l (kind.Mark mark.Open) c.requires.awaits
+    c.next-token.ensures k (λ rest. refl) in
     expression_passed (wants.Mark mark.Close ∷ []) opened c.in_ok-inner-in-Some-Bracket.ensures
 
 pub factor-returns-in_ok-inner-in-Some-Bracket : goal.factor-returns-in_ok-inner-in-Some-Bracket

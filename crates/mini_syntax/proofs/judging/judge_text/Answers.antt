@@ -8,7 +8,8 @@ use Rattle.mini_syntax.proofs.judging.judge_text.Goals as goal
 pub returns-in-Some-2-clause-fault : goal.returns-in-Some-2-clause-fault
 returns-in-Some-2-clause-fault c =
     let j = rw c.in-Some-2.is at c.in_ok-rule.ensures in
-    rw c.refused.ensures (inl (breaks_first c.args.text.now c.loop-found.at c.loop-found.lexemes.items c.loop-found.stack.items c.judge_token.new.stack.items c.loop-found.counts c.in-Some.found c.loop-found.invariant.stands
+    rw c.refused.ensures (inl (breaks_first c.args.text.now c.loop-found.at c.loop-found.lexemes.items c.loop-found.stack.items
+    c.judge_token.new.stack.items c.loop-found.counts c.in-Some.found c.loop-found.invariant.stands
     c.in-Some.ensures.some c.in-Some-2.rule j))
 
 pub loop-found-preserved : goal.loop-found-preserved
@@ -20,17 +21,21 @@ loop-found-preserved c =
     let later : c.loop-found.at + 1 < c.in-Some.found.«end» + 1 = omega (arith, low, high) in
     record {
       within = finds.in_order.2;
-      below = rw c.count_more-counts.ensures (below_further c.loop-found.counts c.in-Some.found.kind (c.loop-found.at + 1) (c.in-Some.found.«end» + 1) c.loop-found.invariant.below later);
-      stands = rw c.count_more-counts.ensures (goes_further c.args.text.now c.loop-found.at c.loop-found.lexemes.items c.loop-found.stack.items c.judge_token.new.stack.items c.loop-found.counts c.in-Some.found
+      below = rw c.count_more-counts.ensures (below_further c.loop-found.counts c.in-Some.found.kind (c.loop-found.at + 1) (c.in-Some.found.«end» + 1)
+          c.loop-found.invariant.below later);
+      stands = rw c.count_more-counts.ensures (goes_further c.args.text.now c.loop-found.at c.loop-found.lexemes.items c.loop-found.stack.items
+          c.judge_token.new.stack.items c.loop-found.counts c.in-Some.found
           c.loop-found.invariant.stands finds c.lexeme.result c.keep.new.lexemes.items c.lexeme.ensures c.in_ok-keep.ensures j);
     }
 
 pub returns-then-is_over-clause-program : goal.returns-then-is_over-clause-program
 returns-then-is_over-clause-program c =
-    has_program c.args.text.now c.loop-found.at c.loop-found.lexemes.items c.loop-found.stack.items c.loop-found.counts c.loop-found.invariant.stands c.in_default.ensures.none
+    has_program c.args.text.now c.loop-found.at c.loop-found.lexemes.items c.loop-found.stack.items c.loop-found.counts c.loop-found.invariant.stands
+    c.in_default.ensures.none
     (ap (λ (items : List Expected). is_over (reverse items)) (sym c.as_slice.ensures.value) ∙ sym c.if-is_over.ensures)
 
 pub returns-clause-fault : goal.returns-clause-fault
 returns-clause-fault c =
-    rw c.refused-else-is_over.ensures (inr (ends_early c.args.text.now c.loop-found.at c.loop-found.lexemes.items c.loop-found.stack.items c.loop-found.counts c.loop-found.invariant.stands c.in_default.ensures.none
+    rw c.refused-else-is_over.ensures (inr (ends_early c.args.text.now c.loop-found.at c.loop-found.lexemes.items c.loop-found.stack.items
+    c.loop-found.counts c.loop-found.invariant.stands c.in_default.ensures.none
     (ap (λ (items : List Expected). is_over (reverse items)) (sym c.as_slice.ensures.value) ∙ sym c.if-is_over.ensures)))

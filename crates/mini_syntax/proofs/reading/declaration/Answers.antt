@@ -21,28 +21,35 @@ after_name = wants.Mark mark.Semicolon ∷ more
 
 pub next-variable-requires : goal.next-variable-requires
 next-variable-requires c =
-    let k = kind_next c.next.result (kind.Word (word.Sort c.args.sort)) c.next.ensures (sort_is c.args.sort (next_kind (left_of c.args.cursor.now)) c.requires.begun) in
-    token_left (after_kind more (wants.Name ∷ after_name) c.next.result (kind.Word (word.Sort c.args.sort)) c.requires.awaits c.next.ensures k (λ rest. refl)) refl
+    let k = kind_next c.next.result (kind.Word (word.Sort c.args.sort)) c.next.ensures
+    (sort_is c.args.sort (next_kind (left_of c.args.cursor.now)) c.requires.begun) in
+    token_left (after_kind more (wants.Name ∷ after_name) c.next.result (kind.Word (word.Sort c.args.sort)) c.requires.awaits c.next.ensures k
+    (λ rest. refl)) refl
 
 pub mark-requires : goal.mark-requires
 mark-requires c =
-    let k = kind_next c.next.result (kind.Word (word.Sort c.args.sort)) c.next.ensures (sort_is c.args.sort (next_kind (left_of c.args.cursor.now)) c.requires.begun) in
+    let k = kind_next c.next.result (kind.Word (word.Sort c.args.sort)) c.next.ensures
+    (sort_is c.args.sort (next_kind (left_of c.args.cursor.now)) c.requires.begun) in
     let named = after_kind more (wants.Name ∷ after_name) c.next.result (kind.Word (word.Sort c.args.sort)) c.requires.awaits c.next.ensures k (λ rest. refl) in
     first_awaited (wants.Mark mark.Semicolon) more
-    (after_kind (wants.Name ∷ after_name) after_name c.next-variable.result kind.Name named c.next-variable.ensures (name_is c.next-variable.result named c.next-variable.ensures) (λ rest. refl))
+    (after_kind (wants.Name ∷ after_name) after_name c.next-variable.result kind.Name named c.next-variable.ensures
+    (name_is c.next-variable.result named c.next-variable.ensures) (λ rest. refl))
 
 pub unreachable-requires : goal.unreachable-requires
 unreachable-requires c =
-    let k = kind_next c.next.result (kind.Word (word.Sort c.args.sort)) c.next.ensures (sort_is c.args.sort (next_kind (left_of c.args.cursor.now)) c.requires.begun) in
+    let k = kind_next c.next.result (kind.Word (word.Sort c.args.sort)) c.next.ensures
+    (sort_is c.args.sort (next_kind (left_of c.args.cursor.now)) c.requires.begun) in
     let named = after_kind more (wants.Name ∷ after_name) c.next.result (kind.Word (word.Sort c.args.sort)) c.requires.awaits c.next.ensures k (λ rest. refl) in
     let rest = proper_rest (token_seen c.next.result ∷ []) (left_of c.args.cursor.now) (left_of c.next.new.self) c.requires.named c.next.ensures in
-    let proper = proper_name c.next-variable.result (left_of c.next.new.self) rest c.next-variable.ensures (name_is c.next-variable.result named c.next-variable.ensures) in
+    let proper = proper_name c.next-variable.result (left_of c.next.new.self) rest c.next-variable.ensures
+    (name_is c.next-variable.result named c.next-variable.ensures) in
     let both = sym (name_made c.next-variable.result.bytes.now proper) ∙ c.in_ok-name.ensures ∙ c.in-None.is in
     cc
 
 pub returns-clause-read : goal.returns-clause-read
 returns-clause-read c =
-    let k = kind_next c.next.result (kind.Word (word.Sort c.args.sort)) c.next.ensures (sort_is c.args.sort (next_kind (left_of c.args.cursor.now)) c.requires.begun) in
+    let k = kind_next c.next.result (kind.Word (word.Sort c.args.sort)) c.next.ensures
+    (sort_is c.args.sort (next_kind (left_of c.args.cursor.now)) c.requires.begun) in
     let named = after_kind more (wants.Name ∷ after_name) c.next.result (kind.Word (word.Sort c.args.sort)) c.requires.awaits c.next.ensures k (λ rest. refl) in
     let n = name_is c.next-variable.result named c.next-variable.ensures in
     let rest = proper_rest (token_seen c.next.result ∷ []) (left_of c.args.cursor.now) (left_of c.next.new.self) c.requires.named c.next.ensures in

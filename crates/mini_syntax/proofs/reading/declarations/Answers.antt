@@ -15,7 +15,8 @@ use Rattle.mini_syntax.proofs.reading.declarations.Goals as goal
 
 pub loop-sort-init : goal.loop-sort-init
 loop-sort-init c = record {
-  scope = λ name. ap (λ (es : List (Bor (List ℕ) × Variable)). lookup (λ key. bytes_eq name key.now) es) c.new-2.ensures.empty ∙ sym (ap (λ (ds : List Declared). variable_named ds name) c.new.ensures.items);
+  scope = λ name. ap (λ (es : List (Bor (List ℕ) × Variable)). lookup (λ key. bytes_eq name key.now) es) c.new-2.ensures.empty
+      ∙ sym (ap (λ (ds : List Declared). variable_named ds name) c.new.ensures.items);
   awaits = c.requires.awaits;
   named = c.requires.named;
   few = omega arith;
@@ -31,13 +32,23 @@ declaration-requires-clause-few c = omega (arith, c.loop-sort.invariant.few)
 pub loop-sort-preserved : goal.loop-sort-preserved
 loop-sort-preserved c =
     let three = decl_shrinks c.in_ok-declaration.ensures.read in
-    let pushed : length c.declaration.new.scope.declared.items ≡ length (c.loop-sort.scope.declared.items ++ declared_by c.in_ok-declaration.ensures.read.tree ∷ []) = ap length c.in_ok-declaration.ensures.read.declared in
+    let pushed : length c.declaration.new.scope.declared.items ≡ length
+    (c.loop-sort.scope.declared.items ++ declared_by c.in_ok-declaration.ensures.read.tree ∷ []) =
+    ap length c.in_ok-declaration.ensures.read.declared in
     record {
       scope = c.in_ok-declaration.ensures.scope;
       awaits = decl_passed c.loop-sort.invariant.awaits c.in_ok-declaration.ensures.read;
-      named = proper_rest (decl_tokens c.in_ok-declaration.ensures.read.tree) (left_of c.loop-sort.cursor) (left_of c.declaration.new.cursor) c.loop-sort.invariant.named c.in_ok-declaration.ensures.read.tokens_are;
-      few = omega (arith, three, pushed, length-append c.loop-sort.scope.declared.items (declared_by c.in_ok-declaration.ensures.read.tree ∷ []), c.loop-sort.invariant.few);
-      read = one_declared c.loop-sort.scope.declared.items c.declaration.new.scope.declared.items (left_of c.args.cursor.now) (left_of c.loop-sort.cursor) (left_of c.declaration.new.cursor)
+      named = proper_rest (decl_tokens c.in_ok-declaration.ensures.read.tree) (left_of c.loop-sort.cursor) (left_of c.declaration.new.cursor)
+          c.loop-sort.invariant.named c.in_ok-declaration.ensures.read.tokens_are;
+      few = omega (
+        arith,
+        three,
+        pushed,
+        length-append c.loop-sort.scope.declared.items (declared_by c.in_ok-declaration.ensures.read.tree ∷ []),
+        c.loop-sort.invariant.few,
+      );
+      read = one_declared c.loop-sort.scope.declared.items c.declaration.new.scope.declared.items (left_of c.args.cursor.now)
+          (left_of c.loop-sort.cursor) (left_of c.declaration.new.cursor)
           c.args.best.now c.loop-sort.best c.declaration.new.best c.loop-sort.invariant.read c.in_ok-declaration.ensures.read;
     }
 
@@ -46,5 +57,6 @@ loop-sort-smaller c = let three = decl_shrinks c.in_ok-declaration.ensures.read 
 
 pub returns-clause-read : goal.returns-clause-read
 returns-clause-read c =
-    all_declared c.loop-sort.scope.declared.items (left_of c.args.cursor.now) (left_of c.loop-sort.cursor) c.args.best.now c.loop-sort.best c.loop-sort.invariant.read
+    all_declared c.loop-sort.scope.declared.items (left_of c.args.cursor.now) (left_of c.loop-sort.cursor) c.args.best.now c.loop-sort.best
+    c.loop-sort.invariant.read
     (λ st k. no_declaration st (left_of c.loop-sort.cursor) (c.in_default.ensures ∙ ap sort_declared c.kind.ensures) k)

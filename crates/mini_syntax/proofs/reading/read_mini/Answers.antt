@@ -23,7 +23,8 @@ returns-in_err-lexemes-clause-fault c =
 pub returns-in-None-clause-read : goal.returns-in-None-clause-read
 returns-in-None-clause-read c =
     let same = ap (map token_seen) c.as_slice.ensures.value ∙ c.in_ok-lexemes.ensures.tokens in
-    text_read c.args.text.now (map token_seen c.as_slice.result.now) c.in_ok-read.read same c.in_ok-lexemes.ensures.free c.in_ok-read.ensures c.requires c.in-None.is
+    text_read c.args.text.now (map token_seen c.as_slice.result.now) c.in_ok-read.read same c.in_ok-lexemes.ensures.free c.in_ok-read.ensures c.requires
+    c.in-None.is
 
 pub returns-clause-fault : goal.returns-clause-fault
 returns-clause-fault c =

@@ -7,7 +7,10 @@ use Rattle.mini_syntax.proofs.scope.enter.Goals as goal
 
 pub returns-clause-scope : goal.returns-clause-scope
 returns-clause-scope c =
-    knows_more (look_up c.args.scope.now.variables) (look_up c.declare.new.variables) c.args.scope.now.declared.items c.push.new.self.items record { name = c.args.name; sort = c.args.sort } c.len-index.result
+    knows_more (look_up c.args.scope.now.variables) (look_up c.declare.new.variables) c.args.scope.now.declared.items c.push.new.self.items
+    record { name = c.args.name; sort = c.args.sort } c.len-index.result
     c.requires.scope (omega (arith, c.args.scope.now.declared.ok.0, c.len-index.ensures))
-    (λ other. c.in_ok-declare.ensures other ∙ ap (λ (name : List ℕ). first_or (look_up c.args.scope.now.variables other) (bytes_eq other name) record { index = c.len-index.result; sort = c.args.sort }) (sym c.requires.same))
+    (λ other. c.in_ok-declare.ensures other ∙ ap
+    (λ (name : List ℕ). first_or (look_up c.args.scope.now.variables other) (bytes_eq other name)
+    record { index = c.len-index.result; sort = c.args.sort }) (sym c.requires.same))
     c.in_ok-push.ensures.items

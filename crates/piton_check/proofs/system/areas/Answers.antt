@@ -12,8 +12,11 @@ loop-text-preserved c =
     let s = c.args.names.now.system.now in
     let words_are = c.deref.ensures.value ∙ ap (λ a. a.words) c.text.view_is in
     record {
-      value = seen_next (λ words. words.items) (resolved_area s) c.args.texts.now c.loop-text.text-index c.text-item.result c.in_ok-words.field-0 c.loop-text.areas.items c.push.new.self.items
-          c.loop-text-test.true c.text-item.is c.loop-text.invariant.value (c.in_ok-words.ensures.value ∙ ap (map (resolved_word s)) words_are) c.in_ok-push.ensures.items;
+      value = seen_next (λ words. words.items) (resolved_area s) c.args.texts.now c.loop-text.text-index c.text-item.result c.in_ok-words.field-0
+          c.loop-text.areas.items c.push.new.self.items
+          c.loop-text-test.true c.text-item.is c.loop-text.invariant.value (c.in_ok-words.ensures.value ∙ ap (map (resolved_word s)) words_are)
+          c.in_ok-push.ensures.items;
       noted = notes_next (area_breaches s) c.args.texts.now c.loop-text.text-index c.text-item.result c.args.best.now c.loop-text.best c.words.new.best
-          c.loop-text-test.true c.text-item.is c.loop-text.invariant.noted (c.in_ok-words.ensures.noted ∙ ap (λ ws. lesser_of c.loop-text.best (least (flat_map (word_breaches s) ws))) words_are);
+          c.loop-text-test.true c.text-item.is c.loop-text.invariant.noted
+          (c.in_ok-words.ensures.noted ∙ ap (λ ws. lesser_of c.loop-text.best (least (flat_map (word_breaches s) ws))) words_are);
     }

@@ -29,7 +29,8 @@ returns-in_ok-push_jump-in-Some-clause-pieces c =
     let instr = c.in-Some.instr.now in
     let decoded = decoded_view c.decode-decoded.result in
     let there : resolved_at r c.args.program c.args.place ≡ Some instr = sym c.instruction.ensures.resolved ∙ ap (option_map (λ i. i.now)) c.in-Some.is in
-    let locals : c.variables-locals.result ≡ variables_of (system_in checked) c.args.program = c.variables-locals.ensures.value ∙ ap (λ (u : ResolvedOf). variables_of (system_view u) c.args.program) c.resolved-resolved.ensures.value in
+    let locals : c.variables-locals.result ≡ variables_of (system_in checked) c.args.program =
+    c.variables-locals.ensures.value ∙ ap (λ (u : ResolvedOf). variables_of (system_view u) c.args.program) c.resolved-resolved.ensures.value in
     c.in_ok-push_jump-in-Some.ensures
     ∙ ap (λ ps. c.args.pieces.now.items ++ ps) (
     ap (λ n. only_of Jump decoded (pieces_of c.args.program c.args.place n decoded)) locals
@@ -37,7 +38,8 @@ returns-in_ok-push_jump-in-Some-clause-pieces c =
     )
 
 pub returns-in_ok-push_jump-in-Some-clause-steps : goal.returns-in_ok-push_jump-in-Some-clause-steps
-returns-in_ok-push_jump-in-Some-clause-steps c = λ small m p q at here. each_step_simulated (system_in c.args.checked.now) c.resolved-resolved.ensures.checked.sound small m p q
+returns-in_ok-push_jump-in-Some-clause-steps c =
+    λ small m p q at here. each_step_simulated (system_in c.args.checked.now) c.resolved-resolved.ensures.checked.sound small m p q
 
 pub returns-in-None-clause-steps : goal.returns-in-None-clause-steps
 returns-in-None-clause-steps c = λ small m p q at here. each_step_simulated (system_in c.args.checked.now) c.resolved-resolved.ensures.checked.sound small m p q

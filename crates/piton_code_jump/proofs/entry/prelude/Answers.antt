@@ -9,5 +9,6 @@ pub entered-requires : goal.entered-requires
 entered-requires c =
     let r = c.resolved-resolved.result.now in
     let same : c.called.inside.formals + length c.as_slice.result.now ≡ variables_of (system_view r) c.args.program = grind (arith, common_steps) in
-    let few : variables_of (system_view r) c.args.program ≤ 400 = checked_few c.args.checked.now r c.args.program c.resolved-resolved.ensures.value c.resolved-resolved.ensures.checked in
+    let few : variables_of (system_view r) c.args.program ≤ 400 =
+    checked_few c.args.checked.now r c.args.program c.resolved-resolved.ensures.value c.resolved-resolved.ensures.checked in
     omega (arith, same, few)

@@ -18,7 +18,10 @@ push_move-requires c =
     let instr = c.in-Some.instr.now in
     let there : resolved_at r c.args.program c.args.place ≡ Some instr = sym c.instruction.ensures.resolved ∙ ap (option_map (λ i. i.now)) c.in-Some.is in
     let here = instruction_here checked r c.args.program c.args.place instr c.resolved.ensures.value there in
-    record { counts = few_at (system_in checked) c.resolved.ensures.checked.sound c.args.program c.args.place (decoded_view c.decode.result) (here ∙ ap Some (sym c.decode.ensures)) }
+    record {
+      counts = few_at (system_in checked) c.resolved.ensures.checked.sound c.args.program c.args.place (decoded_view c.decode.result)
+          (here ∙ ap Some (sym c.decode.ensures));
+    }
 
 pub returns-in_ok-push_move-in-Some-clause-pieces : goal.returns-in_ok-push_move-in-Some-clause-pieces
 returns-in_ok-push_move-in-Some-clause-pieces c =
@@ -27,10 +30,13 @@ returns-in_ok-push_move-in-Some-clause-pieces c =
     let instr = c.in-Some.instr.now in
     let there : resolved_at r c.args.program c.args.place ≡ Some instr = sym c.instruction.ensures.resolved ∙ ap (option_map (λ i. i.now)) c.in-Some.is in
     c.in_ok-push_move-in-Some.ensures c.args.program c.args.place (local_count (program_of (system_in checked) c.args.program))
-    ∙ ap (λ ps. c.args.pieces.now.items ++ ps) (pieces_here checked r c.args.program c.args.place instr c.resolved.ensures.value there Move (decoded_view c.decode.result) c.decode.ensures c.requires)
+    ∙ ap (λ ps. c.args.pieces.now.items ++ ps)
+    (pieces_here checked r c.args.program c.args.place instr c.resolved.ensures.value there Move (decoded_view c.decode.result) c.decode.ensures
+    c.requires)
 
 pub returns-in_ok-push_move-in-Some-clause-steps : goal.returns-in_ok-push_move-in-Some-clause-steps
-returns-in_ok-push_move-in-Some-clause-steps c = λ small m p q at here. each_step_simulated (system_in c.args.checked.now) c.resolved.ensures.checked.sound small m p q
+returns-in_ok-push_move-in-Some-clause-steps c =
+    λ small m p q at here. each_step_simulated (system_in c.args.checked.now) c.resolved.ensures.checked.sound small m p q
 
 pub returns-in-None-clause-steps : goal.returns-in-None-clause-steps
 returns-in-None-clause-steps c = λ small m p q at here. each_step_simulated (system_in c.args.checked.now) c.resolved.ensures.checked.sound small m p q

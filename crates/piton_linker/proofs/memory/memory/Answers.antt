@@ -25,7 +25,8 @@ returns c =
     let two : c.append_data.new.words.items ≡ (code ++ halt_word ∷ []) ++ areas = c.in_ok-append_data.ensures ∙ ap (λ ws. ws ++ areas) one in
     let three : c.append_zeros.new.words.items ≡ ((code ++ halt_word ∷ []) ++ areas) ++ gap =
     c.in_ok-append_zeros.ensures ∙ (λ t. two t ++ replicate (below t) 0) in
-    let four : c.append_frame.new.words.items ≡ (((code ++ halt_word ∷ []) ++ areas) ++ gap) ++ frame = c.in_ok-append_frame.ensures ∙ ap (λ ws. ws ++ frame) three in
+    let four : c.append_frame.new.words.items ≡ (((code ++ halt_word ∷ []) ++ areas) ++ gap) ++ frame =
+    c.in_ok-append_frame.ensures ∙ ap (λ ws. ws ++ frame) three in
     let five : c.append_zeros-2.new.words.items ≡ ((((code ++ halt_word ∷ []) ++ areas) ++ gap) ++ frame) ++ free =
     c.in_ok-append_zeros-2.ensures ∙ (λ t. four t ++ replicate (empty t) 0) in
     c.in_ok-append_stack.ensures ∙ ap (λ ws. ws ++ stack) five ∙ assembled code areas gap frame free stack halt_word

@@ -16,4 +16,5 @@ overflow_add-result c =
 pub returns : goal.returns
 returns c =
     let s = system_view c.args._checked.now in
-    ap (λ n. n + c.args.offset) (c.unwrap_or.ensures ∙ ap (λ o. unwrap_or o 0) c.area.ensures ∙ area_word s c.args.table.now c.args.to c.args.offset c.requires.table c.requires.there)
+    ap (λ n. n + c.args.offset) (c.unwrap_or.ensures ∙ ap (λ o. unwrap_or o 0) c.area.ensures
+    ∙ area_word s c.args.table.now c.args.to c.args.offset c.requires.table c.requires.there)

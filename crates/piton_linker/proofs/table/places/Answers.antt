@@ -24,7 +24,8 @@ starts-requires c =
     let at = program_at c.args.programs.now c.loop-program.program-index c.program-item.result c.loop-program-test.true c.program-item.is in
     let same : map instruction_view c.as_slice.result.now ≡ (program_view c.program-item.result).instructions =
     ap (map instruction_view) (c.as_slice.ensures.value ∙ ap (λ (p : ResolvedProgramOf). p.instrs) c.program.view_is) in
-    let sums : instructions_size (map instruction_view c.as_slice.result.now) ≡ instructions_size (program_view c.program-item.result).instructions = ap instructions_size same in
+    let sums : instructions_size (map instruction_view c.as_slice.result.now) ≡ instructions_size (program_view c.program-item.result).instructions =
+    ap instructions_size same in
     let seen = instructions_seen c.as_slice.result.now in
     omega (arith, at.next, at.within, c.requires, c.loop-program.invariant.at, c.prelude_size.ensures, sums, seen)
 
@@ -46,7 +47,8 @@ loop-program-preserved c =
     let same : map instruction_view c.as_slice.result.now ≡ (program_view c.program-item.result).instructions =
     ap (map instruction_view) (c.as_slice.ensures.value ∙ ap (λ (p : ResolvedProgramOf). p.instrs) c.program.view_is) in
     let p = program_view c.program-item.result in
-    let first : c.loop-program.at + c.prelude_size.result ≡ c.args.base + programs_size (take k all) + prelude_size p = omega (arith, c.loop-program.invariant.at, c.prelude_size.ensures) in
+    let first : c.loop-program.at + c.prelude_size.result ≡ c.args.base + programs_size (take k all) + prelude_size p =
+    omega (arith, c.loop-program.invariant.at, c.prelude_size.ensures) in
     let sizes : map (λ (i : ResolvedInstrOf). instruction_size (instruction_view i)) c.as_slice.result.now ≡ map instruction_size p.instructions =
     sym (map-map instruction_size instruction_view c.as_slice.result.now) ∙ ap (map instruction_size) same in
     record {

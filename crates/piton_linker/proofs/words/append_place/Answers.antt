@@ -21,7 +21,8 @@ append-requires-clause-named c =
     let s = system_in c.args.checked.now in
     let value = c.resolved.ensures.value in
     let known = place_known s c.resolved.ensures.checked.sound c.args.program c.args.place c.requires.there in
-    let pieces : c.as_slice.result.now ≡ pieces_at s c.args.program c.args.place = c.as_slice.ensures.value ∙ c.in_ok-emit.ensures ∙ ap (λ ps. ps ++ pieces_at s c.args.program c.args.place) c.clear.ensures.items in
+    let pieces : c.as_slice.result.now ≡ pieces_at s c.args.program c.args.place =
+    c.as_slice.ensures.value ∙ c.in_ok-emit.ensures ∙ ap (λ ps. ps ++ pieces_at s c.args.program c.args.place) c.clear.ensures.items in
     subst (λ (u : ResolvedOf). Each (PieceExists (system_view u)) c.as_slice.result.now) (sym value) (subst (Each (PieceExists s)) (sym pieces) known.named)
 
 pub append-requires-clause-room : goal.append-requires-clause-room
@@ -29,7 +30,8 @@ append-requires-clause-room c =
     let s = system_in c.args.checked.now in
     let value = c.resolved.ensures.value in
     let known = place_known s c.resolved.ensures.checked.sound c.args.program c.args.place c.requires.there in
-    let pieces : c.as_slice.result.now ≡ pieces_at s c.args.program c.args.place = c.as_slice.ensures.value ∙ c.in_ok-emit.ensures ∙ ap (λ ps. ps ++ pieces_at s c.args.program c.args.place) c.clear.ensures.items in
+    let pieces : c.as_slice.result.now ≡ pieces_at s c.args.program c.args.place =
+    c.as_slice.ensures.value ∙ c.in_ok-emit.ensures ∙ ap (λ ps. ps ++ pieces_at s c.args.program c.args.place) c.clear.ensures.items in
     let base : c.resolved.result.now.base ≡ s.base = ap (λ (u : ResolvedOf). u.base) value in
     omega (arith, base, ap length pieces, known.room, c.requires.at, c.requires.fits)
 
@@ -41,7 +43,8 @@ returns-clause-words c =
     let s = system_in c.args.checked.now in
     let value = c.resolved.ensures.value in
     let known = place_known s c.resolved.ensures.checked.sound c.args.program c.args.place c.requires.there in
-    let pieces : c.as_slice.result.now ≡ pieces_at s c.args.program c.args.place = c.as_slice.ensures.value ∙ c.in_ok-emit.ensures ∙ ap (λ ps. ps ++ pieces_at s c.args.program c.args.place) c.clear.ensures.items in
+    let pieces : c.as_slice.result.now ≡ pieces_at s c.args.program c.args.place =
+    c.as_slice.ensures.value ∙ c.in_ok-emit.ensures ∙ ap (λ ps. ps ++ pieces_at s c.args.program c.args.place) c.clear.ensures.items in
     let old = drafted s c.args.draft.now in
     let n = length c.args.draft.now.words in
     ap (λ (u : ResolvedOf). drafted (system_view u) c.append.new.self) (sym value)

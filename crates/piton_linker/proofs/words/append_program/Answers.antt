@@ -53,7 +53,8 @@ append_place-requires-clause-row c =
     ap (λ n. s.base + n) (sym (length-drafted s new) ∙ ap length c.loop-place.invariant.words) ∙ place_here s program k (drafted s old) begin in
     let there : IsPlace s program k = omega (arith, c.loop-place-test.true, c.place_count-count.ensures) in
     let p = program_of s program in
-    let next : c.next.result ≡ address_of_place s program k = c.next.ensures ∙ ap (λ (u : ResolvedOf). u.base + length new.words) c.resolved.ensures.value ∙ at in
+    let next : c.next.result ≡ address_of_place s program k =
+    c.next.ensures ∙ ap (λ (u : ResolvedOf). u.base + length new.words) c.resolved.ensures.value ∙ at in
     let row : c.push.new.self.items ≡ take (k + 1) (row_at (entry_of s program) p) =
     c.in_ok-push.ensures.items
     ∙ ap (λ ns. ns ++ c.next.result ∷ []) c.loop-place.invariant.row
@@ -73,7 +74,8 @@ loop-place-preserved c =
     ap (λ n. s.base + n) (sym (length-drafted s new) ∙ ap length c.loop-place.invariant.words) ∙ place_here s program k (drafted s old) begin in
     let there : IsPlace s program k = omega (arith, c.loop-place-test.true, c.place_count-count.ensures) in
     let p = program_of s program in
-    let next : c.next.result ≡ address_of_place s program k = c.next.ensures ∙ ap (λ (u : ResolvedOf). u.base + length new.words) c.resolved.ensures.value ∙ at in
+    let next : c.next.result ≡ address_of_place s program k =
+    c.next.ensures ∙ ap (λ (u : ResolvedOf). u.base + length new.words) c.resolved.ensures.value ∙ at in
     let row : c.push.new.self.items ≡ take (k + 1) (row_at (entry_of s program) p) =
     c.in_ok-push.ensures.items
     ∙ ap (λ ns. ns ++ c.next.result ∷ []) c.loop-place.invariant.row
@@ -96,5 +98,6 @@ returns-clause-places c =
     let s = system_in c.args.checked.now in
     let k = c.loop-place.place in
     let p = program_of s c.args.program in
-    let size : length (map instruction_size p.instructions) ≤ k = omega (arith, length-map p.instructions instruction_size, c.place_count-count.ensures, c.loop-place-test.false) in
+    let size : length (map instruction_size p.instructions) ≤ k =
+    omega (arith, length-map p.instructions instruction_size, c.place_count-count.ensures, c.loop-place-test.false) in
     c.loop-place.invariant.row ∙ whole (entry_of s c.args.program + prelude_size p) k (map instruction_size p.instructions) size

@@ -12,6 +12,9 @@ use Rattle.piton_linker.proofs.words.append_program.Given as goal
 abbrev pub invariant-loop-place : goal.invariant-loop-place
 invariant-loop-place l = record {
   draft : IsDraft (system_in l.checked) l.draft;
-  words : drafted (system_in l.checked) l.draft ≡ drafted (system_in l.checked) l.fn.draft ++ (prelude_words (addresses_of (system_in l.checked)) l.program (program_of (system_in l.checked) l.program) ++ instructions_words (addresses_of (system_in l.checked)) l.program (local_count (program_of (system_in l.checked) l.program)) 0 (take l.place (program_of (system_in l.checked) l.program).instructions));
+  words : drafted (system_in l.checked) l.draft ≡ drafted (system_in l.checked) l.fn.draft
+      ++ (prelude_words (addresses_of (system_in l.checked)) l.program (program_of (system_in l.checked) l.program)
+      ++ instructions_words (addresses_of (system_in l.checked)) l.program (local_count (program_of (system_in l.checked) l.program)) 0
+      (take l.place (program_of (system_in l.checked) l.program).instructions));
   row : l.row.items ≡ take l.place (row_at (entry_of (system_in l.checked) l.program) (program_of (system_in l.checked) l.program));
 }

@@ -72,7 +72,8 @@ pub returns-clause-entries : goal.returns-clause-entries
 returns-clause-entries c =
     let s = system_in c.args.checked.now in
     let k = c.loop-program.program in
-    let done : length (map program_size s.programs) ≤ k = omega (arith, length-map s.programs program_size, c.program_count-count.ensures, c.loop-program-test.false) in
+    let done : length (map program_size s.programs) ≤ k =
+    omega (arith, length-map s.programs program_size, c.program_count-count.ensures, c.loop-program-test.false) in
     c.loop-program.invariant.entries ∙ whole s.base k (map program_size s.programs) done
 
 pub returns-clause-places : goal.returns-clause-places

@@ -18,7 +18,8 @@ returns-clause-covers c =
     let fits = c.source-source.ensures.accepted.fits in
     let e : c.covers.result ≡ covers ns bs (main_used q) sizes q.main (body_calls q) =
     c.covers.ensures
-    ∙ (ap (λ a. covers ns bs (main_used (program_of (source_of a))) sizes (program_of (source_of a)).main (source_calls (source_of a))) c.source-source.ensures.value
+    ∙ (ap (λ a. covers ns bs (main_used (program_of (source_of a))) sizes (program_of (source_of a)).main (source_calls (source_of a)))
+    c.source-source.ensures.value
     ∙ ap (covers ns bs (main_used q) sizes q.main) (source_calls_are s)) in
     (λ t. covers_true q ns c.requires.needs fits bs sizes (sym e ∙ t), λ h. e ∙ covers_is q ns c.requires.needs fits bs sizes h)
 
@@ -32,4 +33,5 @@ pub returns-clause-exact : goal.returns-clause-exact
 returns-clause-exact c =
     let s = source_of c.args.accepted.now in
     let sizes = stack_sizes c.args.ctrl c.args.temp in
-    is_covered_by (program_of s) c.source-source.ensures.accepted.fits c.args.cert.now.bounds.items sizes c.covers.result (returns-clause-covers c).0 (returns-clause-covers c).1
+    is_covered_by (program_of s) c.source-source.ensures.accepted.fits c.args.cert.now.bounds.items sizes c.covers.result (returns-clause-covers c).0
+    (returns-clause-covers c).1

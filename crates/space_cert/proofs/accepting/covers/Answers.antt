@@ -18,6 +18,8 @@ returns c =
     let each : (length bs == length (source_calls s)) ≡ true = sym c.has_each.ensures ∙ c.if-not-has_each.false in
     let bound = c.bound_in.ensures.bound ∙ ap (λ p. get_or bs p None) c.position_of-main.ensures in
     let main : covers_main (main_used q) (as_words c.args.sizes) (bound_at bs q.main) ≡ true =
-    sym (c.covers_main.ensures ∙ (λ i. covers_main (c.main_used.ensures.used i) (as_words c.args.sizes) (option_map as_words (bound i)))) ∙ c.if-not-covers_main.false in
+    sym (c.covers_main.ensures ∙ (λ i. covers_main (c.main_used.ensures.used i) (as_words c.args.sizes) (option_map as_words (bound i))))
+    ∙ c.if-not-covers_main.false in
     let all = c.covers_all.ensures ∙ ap (λ ps. covers_from ns bs 0 (map (λ (p : ProcOf). source_callees s p.body) (map proc_of ps))) c.as_slice.ensures.value in
-    all ∙ sym (third_is (length bs == length (source_calls s)) (covers_main (main_used q) (as_words c.args.sizes) (bound_at bs q.main)) (covers_from ns bs 0 (source_calls s)) each main)
+    all ∙ sym (third_is (length bs == length (source_calls s)) (covers_main (main_used q) (as_words c.args.sizes) (bound_at bs q.main))
+    (covers_from ns bs 0 (source_calls s)) each main)

@@ -19,11 +19,13 @@ least_certificate-requires-clause-few c =
 pub returns-clause-there : goal.returns-clause-there
 returns-clause-there c =
     let q = program_of (source_of c.args.accepted.now) in
-    let same = subst (λ p. MatchResult c.least_certificate.result (λ (cert : Certificate). IsLeast p cert.bounds.items) (IsCertFault p)) c.in_ok-program.ensures.program c.least_certificate.ensures in
+    let same = subst (λ p. MatchResult c.least_certificate.result (λ (cert : Certificate). IsLeast p cert.bounds.items) (IsCertFault p))
+    c.in_ok-program.ensures.program c.least_certificate.ensures in
     fault_there q c.in_ok-program.ensures.accepted.fits (λ (cert : Certificate). IsLeast q cert.bounds.items) c.least_certificate.result same
 
 pub returns-clause-exact : goal.returns-clause-exact
 returns-clause-exact c =
     let q = program_of (source_of c.args.accepted.now) in
-    let same = subst (λ p. MatchResult c.least_certificate.result (λ (cert : Certificate). IsLeast p cert.bounds.items) (IsCertFault p)) c.in_ok-program.ensures.program c.least_certificate.ensures in
+    let same = subst (λ p. MatchResult c.least_certificate.result (λ (cert : Certificate). IsLeast p cert.bounds.items) (IsCertFault p))
+    c.in_ok-program.ensures.program c.least_certificate.ensures in
     certified_gives q c.in_ok-program.ensures.accepted.fits c.least_certificate.result same

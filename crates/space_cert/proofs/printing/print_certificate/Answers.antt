@@ -28,10 +28,12 @@ returns-clause-again c =
     let names = procedure_names s in
     let form = c.source.ensures.accepted.form in
     ap (bounds_in names) (returns-clause-exact c)
-    ∙ printed_reads names c.args.cert.now.bounds.items (are_names s form) (few_names s form) c.args.cert.now.within (own_names s c.source.ensures.accepted.rules) (c.requires ∙ sym (length-map s.procs (λ (p : ProcOf). p.name.name)))
+    ∙ printed_reads names c.args.cert.now.bounds.items (are_names s form) (few_names s form) c.args.cert.now.within
+    (own_names s c.source.ensures.accepted.rules) (c.requires ∙ sym (length-map s.procs (λ (p : ProcOf). p.name.name)))
 
 pub returns-clause-short : goal.returns-clause-short
 returns-clause-short c =
     let s = source_of c.args.accepted.now in
     let form = c.source.ensures.accepted.form in
-    subst (λ t. length t ≤ 2 ^ 17) (sym (returns-clause-exact c)) (printed_short (procedure_names s) c.args.cert.now.bounds.items (are_names s form) (few_names s form) c.args.cert.now.within)
+    subst (λ t. length t ≤ 2 ^ 17) (sym (returns-clause-exact c))
+    (printed_short (procedure_names s) c.args.cert.now.bounds.items (are_names s form) (few_names s form) c.args.cert.now.within)

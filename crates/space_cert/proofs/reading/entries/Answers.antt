@@ -25,20 +25,26 @@ pub returns-in_err-entry-clause-exact : goal.returns-in_err-entry-clause-exact
 returns-in_err-entry-clause-exact c =
     let names = names_in c.args.names.now in
     let p = err_from_is_err_and c.from_residual-in_err-entry.result c.from_residual-in_err-entry.ensures.1 in
-    let told = subst (λ bs. Fails (fault_of c.in_err-entry.field-0.0) (entry_at names bs (node_of c.tree-item.result))) c.as_slice.ensures.value c.in_err-entry.ensures.exact in
-    rw (p.1, p.2) (entry_stops names c.args.trees.now c.loop-tree.tree-index c.tree-item.result c.loop-tree-test.true c.tree-item.is c.loop-tree.bounds.items (with_entries names (no_bounds (length names)) (nodes_of c.args.trees.now)) c.loop-tree.invariant.read (fault_of c.in_err-entry.field-0.0) told)
+    let told = subst (λ bs. Fails (fault_of c.in_err-entry.field-0.0) (entry_at names bs (node_of c.tree-item.result))) c.as_slice.ensures.value
+    c.in_err-entry.ensures.exact in
+    rw (p.1, p.2) (entry_stops names c.args.trees.now c.loop-tree.tree-index c.tree-item.result c.loop-tree-test.true c.tree-item.is
+    c.loop-tree.bounds.items (with_entries names (no_bounds (length names)) (nodes_of c.args.trees.now)) c.loop-tree.invariant.read
+    (fault_of c.in_err-entry.field-0.0) told)
 
 pub loop-tree-preserved : goal.loop-tree-preserved
 loop-tree-preserved c =
     let names = names_in c.args.names.now in
     let told = subst (λ bs. entry_at names bs (node_of c.tree-item.result) ≡ Ok c.in_ok-entry.entry) c.as_slice.ensures.value c.in_ok-entry.ensures.exact in
     record {
-      read = entry_next names c.args.trees.now c.loop-tree.tree-index c.tree-item.result c.loop-tree-test.true c.tree-item.is c.loop-tree.bounds.items (with_entries names (no_bounds (length names)) (nodes_of c.args.trees.now)) c.loop-tree.invariant.read c.in_ok-entry.entry told;
+      read = entry_next names c.args.trees.now c.loop-tree.tree-index c.tree-item.result c.loop-tree-test.true c.tree-item.is c.loop-tree.bounds.items
+          (with_entries names (no_bounds (length names)) (nodes_of c.args.trees.now)) c.loop-tree.invariant.read c.in_ok-entry.entry told;
       many = length-set c.loop-tree.bounds.items c.in_ok-entry.entry.0 _ ∙ c.loop-tree.invariant.many;
-      within = set_within c.loop-tree.bounds.items c.in_ok-entry.entry.0 c.in_ok-entry.entry.1 c.loop-tree.invariant.within c.in_ok-entry.ensures.small.0 c.in_ok-entry.ensures.small.1;
+      within = set_within c.loop-tree.bounds.items c.in_ok-entry.entry.0 c.in_ok-entry.entry.1 c.loop-tree.invariant.within
+          c.in_ok-entry.ensures.small.0 c.in_ok-entry.ensures.small.1;
     }
 
 pub returns-clause-exact : goal.returns-clause-exact
 returns-clause-exact c =
     let names = names_in c.args.names.now in
-    entries_end names c.args.trees.now c.loop-tree.tree-index c.loop-tree.bounds.items (with_entries names (no_bounds (length names)) (nodes_of c.args.trees.now)) c.loop-tree-test.false c.loop-tree.invariant.read
+    entries_end names c.args.trees.now c.loop-tree.tree-index c.loop-tree.bounds.items
+    (with_entries names (no_bounds (length names)) (nodes_of c.args.trees.now)) c.loop-tree-test.false c.loop-tree.invariant.read

@@ -14,18 +14,21 @@ use Rattle.space_cert.proofs.reading.read_certificate.Goals as goal
 
 pub names-requires : goal.names-requires
 names-requires c =
-    subst (IsDistinct bytes_eq) (sym (ap names_of (c.as_slice.ensures.value ∙ ap (λ s. s.procs.items) c.source.ensures.value) ∙ names_same c.args.accepted.now.procs.items)) (own_names (source_of c.args.accepted.now) c.source.ensures.accepted.rules)
+    subst (IsDistinct bytes_eq) (sym (ap names_of (c.as_slice.ensures.value ∙ ap (λ s. s.procs.items) c.source.ensures.value)
+    ∙ names_same c.args.accepted.now.procs.items)) (own_names (source_of c.args.accepted.now) c.source.ensures.accepted.rules)
 
 pub returns-clause-exact : goal.returns-clause-exact
 returns-clause-exact c =
     let named : names_in c.in_ok-names.names ≡ procedure_names (source_of c.args.accepted.now) =
-    c.in_ok-names.ensures ∙ (ap names_of (c.as_slice.ensures.value ∙ ap (λ s. s.procs.items) c.source.ensures.value) ∙ names_same c.args.accepted.now.procs.items) in
+    c.in_ok-names.ensures ∙ (ap names_of (c.as_slice.ensures.value ∙ ap (λ s. s.procs.items) c.source.ensures.value)
+    ∙ names_same c.args.accepted.now.procs.items) in
     subst (λ names. GivesCertificateText (λ c. c.bounds.items) c.certificate_in.result (bounds_in names c.args.text.now)) named c.certificate_in.ensures.exact
 
 pub returns-clause-number : goal.returns-clause-number
 returns-clause-number c =
     let s = source_of c.args.accepted.now in
     let named : names_in c.in_ok-names.names ≡ procedure_names s =
-    c.in_ok-names.ensures ∙ (ap names_of (c.as_slice.ensures.value ∙ ap (λ s. s.procs.items) c.source.ensures.value) ∙ names_same c.args.accepted.now.procs.items) in
+    c.in_ok-names.ensures ∙ (ap names_of (c.as_slice.ensures.value ∙ ap (λ s. s.procs.items) c.source.ensures.value)
+    ∙ names_same c.args.accepted.now.procs.items) in
     IfOk-weaker c.certificate_in.result (λ x. length x.bounds.items ≡ length (names_in c.in_ok-names.names)) (λ x. length x.bounds.items ≡ length s.procs)
     (λ x e. e ∙ (ap length named ∙ length-map s.procs (λ (p : ProcOf). p.name.name))) c.certificate_in.ensures.number

@@ -13,7 +13,8 @@ returns-in_err-source c =
 pub returns-in_err-check : goal.returns-in_err-check
 returns-in_err-check c =
     let p = err_from_is_err_and c.from_residual-in_err-check.result c.from_residual-in_err-check.ensures.1 in
-    rw (p.1, p.2) (checking_fails c.in_err-check.field-0.0 c.args.text.now (source_of c.in_ok-source.source) c.in_ok-source.ensures.value c.in_err-check.ensures.least)
+    rw (p.1, p.2) (checking_fails c.in_err-check.field-0.0 c.args.text.now (source_of c.in_ok-source.source) c.in_ok-source.ensures.value
+    c.in_err-check.ensures.least)
 
 pub returns : goal.returns
 returns c =

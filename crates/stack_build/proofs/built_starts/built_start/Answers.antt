@@ -15,7 +15,8 @@ returns-in_err-values-clause-start c =
     let p = err_from_is_err_and c.from_residual-in_err-values.result c.from_residual-in_err-values.ensures.1 in
     let slots : c.deref.result.now ≡ c.in_ok-piton.field-0.image.slots = search rules in
     rw (p.1, p.2)
-    (values_failed (source_of c.args.accepted.now) (stack_sizes c.args.control c.args.temporary) c.in_ok-piton.field-0 c.args.text.now c.in_err-values.field-0.0 c.in_ok-piton.ensures.value (rw (← slots) c.in_err-values.ensures.value))
+    (values_failed (source_of c.args.accepted.now) (stack_sizes c.args.control c.args.temporary) c.in_ok-piton.field-0 c.args.text.now
+    c.in_err-values.field-0.0 c.in_ok-piton.ensures.value (rw (← slots) c.in_err-values.ensures.value))
 
 pub returns-clause-runs : goal.returns-clause-runs
 returns-clause-runs c =
@@ -24,5 +25,6 @@ returns-clause-runs c =
     let piton : c.in_ok-piton.field-0.piton ≡ c.piton.inside.piton = search rules in
     let image : c.in_ok-piton.field-0.image ≡ c.piton.inside.image = search rules in
     subst (CanRun source) (λ i. record { checked = piton i; image = image i; values = c.in_ok-values.values.items })
-    (can_run c.generated_is_acceptable.ensures source (stack_sizes c.args.control c.args.temporary) c.in_ok-piton.field-0 c.args.text.now c.in_ok-values.values.items c.in_ok-piton.ensures.accepted c.in_ok-piton.ensures.value
+    (can_run c.generated_is_acceptable.ensures source (stack_sizes c.args.control c.args.temporary) c.in_ok-piton.field-0 c.args.text.now
+    c.in_ok-values.values.items c.in_ok-piton.ensures.accepted c.in_ok-piton.ensures.value
     c.in_ok-piton.ensures.implements.spells.limits (rw (← slots) c.in_ok-values.ensures.value))

@@ -29,4 +29,5 @@ returns-clause-fits c =
     c.shown_formals.ensures ∙ ap (λ (s : Source). shown_formals (source_of s)) c.source-source.ensures.value in
     let slots : c.deref.result.now ≡ formal_slots (source_of c.args.accepted.now) =
     c.deref.ensures.value ∙ c.in_ok-slots.ensures ∙ ap (λ (ds : List Decl). slots_from 0 ds) formals in
-    fits_from (source_of c.args.accepted.now) c.deref.result.now c.args.text.now (λ v. v.items) c.read_values.result c.source-source.ensures.accepted slots c.read_values.ensures.value
+    fits_from (source_of c.args.accepted.now) c.deref.result.now c.args.text.now (λ v. v.items) c.read_values.result c.source-source.ensures.accepted
+    slots c.read_values.ensures.value

@@ -19,10 +19,15 @@ use Rattle.stack_build.proofs.TakesLaws.{formals_short}
 use Rattle.stack_build.proofs.imaging.image.Goals as goal
 
 pub overflow_cast-result : goal.overflow_cast-result
-overflow_cast-result c = omega (arith, areas_below c.args.piton.now c.layout_behind-parts.result c.requires.checked c.in_ok-linked.ensures.small c.layout_behind-parts.ensures)
+overflow_cast-result c = omega (
+  arith,
+  areas_below c.args.piton.now c.layout_behind-parts.result c.requires.checked c.in_ok-linked.ensures.small
+      c.layout_behind-parts.ensures,
+)
 
 pub overflow_cast-bottom : goal.overflow_cast-bottom
-overflow_cast-bottom c = omega (arith, end_below c.args.piton.now c.layout_behind-parts.result c.requires.checked c.in_ok-linked.ensures.small c.layout_behind-parts.ensures)
+overflow_cast-bottom c =
+    omega (arith, end_below c.args.piton.now c.layout_behind-parts.result c.requires.checked c.in_ok-linked.ensures.small c.layout_behind-parts.ensures)
 
 pub slots_from-requires : goal.slots_from-requires
 slots_from-requires c =
@@ -41,14 +46,18 @@ invariant_of-result c =
     let shows = generated_shows s generated.sizes generated.base system accepted generated.view in
     let fit : are_tables (placed_window system) (source_tables s system) ≡ true =
     subst (λ (v : SystemView). are_tables (placed_window v) (source_tables s v) ≡ true) (sym generated.view)
-    (tables_fit s generated.sizes generated.base accepted (subst IsSound generated.view c.requires.checked.sound) (subst (λ (v : SystemView). (placed v).size ≤ 2 ^ 20) generated.view linked.small)) in
+    (tables_fit s generated.sizes generated.base accepted (subst IsSound generated.view c.requires.checked.sound)
+    (subst (λ (v : SystemView). (placed v).size ≤ 2 ^ 20) generated.view linked.small)) in
     let same : source_of c.source-source.result.now ≡ s = ap (λ (t : Source). source_of t) c.source-source.ensures.value in
-    let names : c.in_ok-names.field-0.items ≡ shown_conditions s = c.in_ok-names.ensures ∙ ap (λ (names : List (List ℕ)). space_name ∷ names) c.formal_conditions.ensures ∙ ap shown_conditions same in
+    let names : c.in_ok-names.field-0.items ≡ shown_conditions s =
+    c.in_ok-names.ensures ∙ ap (λ (names : List (List ℕ)). space_name ∷ names) c.formal_conditions.ensures ∙ ap shown_conditions same in
     let slots : c.in_ok-slots_from.field-0.items ≡ slots_from (c.layout_behind-parts.result.end - 1) (shown_formals s) =
-    c.in_ok-slots_from.ensures ∙ ap (λ (ds : List Decl). slots_from (c.layout_behind-parts.result.end - 1) ds) (c.shown_formals.ensures ∙ ap shown_formals same) in
+    c.in_ok-slots_from.ensures ∙ ap (λ (ds : List Decl). slots_from (c.layout_behind-parts.result.end - 1) ds)
+    (c.shown_formals.ensures ∙ ap shown_formals same) in
     let made = c.in_ok-procedures.ensures system generated (rw c.deref.ensures.value linked.places) in
     parts_fit c.args.piton.now (shown_formals s) (shown_conditions s) (source_tables s system) c.requires.checked linked.small shows fit _
-    (parts_are c.args.piton.now (shown_formals s) (shown_conditions s) (source_tables s system) c.layout_behind-parts.result _ _ _ _ c.layout_behind-parts.ensures (c.linked.view_is ∙ linked.image) names slots made)
+    (parts_are c.args.piton.now (shown_formals s) (shown_conditions s) (source_tables s system) c.layout_behind-parts.result
+    _ _ _ _ c.layout_behind-parts.ensures (c.linked.view_is ∙ linked.image) names slots made)
 
 pub returns-clause-image : goal.returns-clause-image
 returns-clause-image c =
@@ -56,8 +65,11 @@ returns-clause-image c =
     let s : SourceOf = source_of c.args.accepted.now in
     let system : SystemView = system_in c.args.piton.now in
     let same : source_of c.source-source.result.now ≡ s = ap (λ (t : Source). source_of t) c.source-source.ensures.value in
-    let names : c.in_ok-names.field-0.items ≡ shown_conditions s = c.in_ok-names.ensures ∙ ap (λ (names : List (List ℕ)). space_name ∷ names) c.formal_conditions.ensures ∙ ap shown_conditions same in
+    let names : c.in_ok-names.field-0.items ≡ shown_conditions s =
+    c.in_ok-names.ensures ∙ ap (λ (names : List (List ℕ)). space_name ∷ names) c.formal_conditions.ensures ∙ ap shown_conditions same in
     let slots : c.in_ok-slots_from.field-0.items ≡ slots_from (c.layout_behind-parts.result.end - 1) (shown_formals s) =
-    c.in_ok-slots_from.ensures ∙ ap (λ (ds : List Decl). slots_from (c.layout_behind-parts.result.end - 1) ds) (c.shown_formals.ensures ∙ ap shown_formals same) in
+    c.in_ok-slots_from.ensures ∙ ap (λ (ds : List Decl). slots_from (c.layout_behind-parts.result.end - 1) ds)
+    (c.shown_formals.ensures ∙ ap shown_formals same) in
     let made = c.in_ok-procedures.ensures system c.requires.generated (rw c.deref.ensures.value linked.places) in
-    parts_are c.args.piton.now (shown_formals s) (shown_conditions s) (source_tables s system) c.layout_behind-parts.result _ _ _ _ c.layout_behind-parts.ensures (c.linked.view_is ∙ linked.image) names slots made
+    parts_are c.args.piton.now (shown_formals s) (shown_conditions s) (source_tables s system) c.layout_behind-parts.result
+    _ _ _ _ c.layout_behind-parts.ensures (c.linked.view_is ∙ linked.image) names slots made

@@ -13,5 +13,6 @@ viewed (Some p) = refl
 pub returns : goal.returns
 returns c =
     viewed c.first_named.result
-    ∙ ap (option_map proc_of) (c.first_named.ensures ∙ ap (λ (procs : List Proc). find (λ (p : Proc). bytes_eq c.args.source.now.main.name p.name.name) procs) c.as_slice.ensures.value)
+    ∙ ap (option_map proc_of) (c.first_named.ensures ∙ ap
+    (λ (procs : List Proc). find (λ (p : Proc). bytes_eq c.args.source.now.main.name p.name.name) procs) c.as_slice.ensures.value)
     ∙ main_found c.args.source.now

@@ -17,8 +17,10 @@ procedure-requires c =
     let proc : ProcOf = proc_of c.index-procs-number.result in
     let found : Procedure = c.in-Some.found.now in
     let lt : k < length procs = omega (arith, length-map c.args.procs.now proc_of, c.loop-number-test.true) in
-    let is : proc ≡ get_or procs k proc = ap proc_of c.index-procs-number.is ∙ sym (get_or-map proc_of c.args.procs.now k c.index-procs-number.result proc c.loop-number-test.true) in
-    let there : slice_get c.args.program.now.procedures.items k ≡ Some found = ap (λ (ps : List Procedure). slice_get ps k) (sym c.deref.ensures.value) ∙ sym c.in-Some.ensures in
+    let is : proc ≡ get_or procs k proc =
+    ap proc_of c.index-procs-number.is ∙ sym (get_or-map proc_of c.args.procs.now k c.index-procs-number.result proc c.loop-number-test.true) in
+    let there : slice_get c.args.program.now.procedures.items k ≡ Some found =
+    ap (λ (ps : List Procedure). slice_get ps k) (sym c.deref.ensures.value) ∙ sym c.in-Some.ensures in
     let names = names_at c.args.program.now.procedures.items procs k found proc c.requires.declares.names there lt is in
     record { few = few_found found proc names (few_at procs k proc c.requires.declares.few lt is) }
 
@@ -27,7 +29,8 @@ unreachable-requires c =
     let k = c.loop-number.number in
     let procs : List ProcOf = map proc_of c.args.procs.now in
     let lt : k < length procs = omega (arith, length-map c.args.procs.now proc_of, c.loop-number-test.true) in
-    let none : slice_get c.args.program.now.procedures.items k ≡ None = ap (λ (ps : List Procedure). slice_get ps k) (sym c.deref.ensures.value) ∙ sym c.in-None.ensures in
+    let none : slice_get c.args.program.now.procedures.items k ≡ None =
+    ap (λ (ps : List Procedure). slice_get ps k) (sym c.deref.ensures.value) ∙ sym c.in-None.ensures in
     not_missing c.args.program.now.procedures.items procs k c.requires.declares.names lt none
 
 pub loop-number-preserved : goal.loop-number-preserved
@@ -38,8 +41,10 @@ loop-number-preserved c =
     let proc : ProcOf = proc_of c.index-procs-number.result in
     let found : Procedure = c.in-Some.found.now in
     let lt : k < length procs = omega (arith, length-map c.args.procs.now proc_of, c.loop-number-test.true) in
-    let is : proc ≡ get_or procs k proc = ap proc_of c.index-procs-number.is ∙ sym (get_or-map proc_of c.args.procs.now k c.index-procs-number.result proc c.loop-number-test.true) in
-    let there : slice_get c.args.program.now.procedures.items k ≡ Some found = ap (λ (ps : List Procedure). slice_get ps k) (sym c.deref.ensures.value) ∙ sym c.in-Some.ensures in
+    let is : proc ≡ get_or procs k proc =
+    ap proc_of c.index-procs-number.is ∙ sym (get_or-map proc_of c.args.procs.now k c.index-procs-number.result proc c.loop-number-test.true) in
+    let there : slice_get c.args.program.now.procedures.items k ≡ Some found =
+    ap (λ (ps : List Procedure). slice_get ps k) (sym c.deref.ensures.value) ∙ sym c.in-Some.ensures in
     let names = names_at c.args.program.now.procedures.items procs k found proc c.requires.declares.names there lt is in
     let info = c.in_ok-procedure-in-Some.ensures ∙ procedure_is c.args.program.now k proc found there names in
     let now : c.push.new.self.items ≡ c.loop-number.infos.items ++ procedure_info q k proc ∷ [] =

@@ -8,6 +8,7 @@ loop-formal-preserved c =
     let pushed = c.in_ok-push_variable.ensures in
     let number = one_more _ _ _ pushed in
     record {
-      listed = info_next (offset_in c.args.order) (λ x. x.0) (λ x. x.1) c.args.formals.now c.loop-formal.formal-index c.formal-item.result _ _ _ c.loop-formal-test.true c.formal-item.is pushed c.loop-formal.invariant.listed;
+      listed = info_next (offset_in c.args.order) (λ x. x.0) (λ x. x.1) c.args.formals.now c.loop-formal.formal-index c.formal-item.result
+          _ _ _ c.loop-formal-test.true c.formal-item.is pushed c.loop-formal.invariant.listed;
       there = omega (arith, number, c.loop-formal.invariant.there);
     }

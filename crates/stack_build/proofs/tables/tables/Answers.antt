@@ -13,14 +13,17 @@ use Rattle.stack_build.proofs.tables.tables.Goals as goal
 pub procedures-requires : goal.procedures-requires
 procedures-requires c =
     let s = source_of c.args.accepted.now in
-    let same : map proc_of c.as_slice.result.now ≡ s.procs = ap (λ (ps : List Proc). map proc_of ps) c.as_slice.ensures.value ∙ ap (λ (t : Source). (source_of t).procs) c.source-source.ensures.value in
+    let same : map proc_of c.as_slice.result.now ≡ s.procs =
+    ap (λ (ps : List Proc). map proc_of ps) c.as_slice.ensures.value ∙ ap (λ (t : Source). (source_of t).procs) c.source-source.ensures.value in
     record { declares = subst (Declares c.args.program.now) (sym same) (declares s c.args.program.now c.source-source.ensures.accepted c.requires.names) }
 
 pub returns : goal.returns
 returns c = λ system generated places.
     let s = source_of c.args.accepted.now in
-    let same : map proc_of c.as_slice.result.now ≡ s.procs = ap (λ (ps : List Proc). map proc_of ps) c.as_slice.ensures.value ∙ ap (λ (t : Source). (source_of t).procs) c.source-source.ensures.value in
+    let same : map proc_of c.as_slice.result.now ≡ s.procs =
+    ap (λ (ps : List Proc). map proc_of ps) c.as_slice.ensures.value ∙ ap (λ (t : Source). (source_of t).procs) c.source-source.ensures.value in
     let held : c.places_fit.result ≡ true = search rules in
     let fit : list_all (λ (m : MarkAt). is_place m.place) c.in_ok-listed.listed.items ≡ true = rw (← c.deref.ensures.value, ← c.places_fit.ensures) held in
     let procedures = c.in_ok-procedures.ensures ∙ (λ i. procedure_infos (c.requires.program i) 0 (same i)) in
-    tables_are s system generated c.in_ok-listed.listed.items c.in_ok-listed.ensures _ c.in_ok-procedures.procedures.items c.in_ok-marks.marks.items places fit procedures (rw c.deref-2.ensures.value at c.in_ok-marks.ensures)
+    tables_are s system generated c.in_ok-listed.listed.items c.in_ok-listed.ensures _ c.in_ok-procedures.procedures.items c.in_ok-marks.marks.items
+    places fit procedures (rw c.deref-2.ensures.value at c.in_ok-marks.ensures)

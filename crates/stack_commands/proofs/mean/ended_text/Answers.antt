@@ -10,4 +10,5 @@ returns c =
     let needs = c.args.needs.now.procedures.items in
     c.from_vec.ensures
     ∙ c.in_ok-text.ensures
-    ∙ said_is source (seen c.args.meaning.now) _ _ _ _ _ c.steps-steps.ensures c.counted-counted.ensures (c.condition.ensures source needs c.requires) (c.variables.ensures.names source needs c.requires) c.variables.ensures.values
+    ∙ said_is source (seen c.args.meaning.now) _ _ _ _ _ c.steps-steps.ensures c.counted-counted.ensures (c.condition.ensures source needs c.requires)
+    (c.variables.ensures.names source needs c.requires) c.variables.ensures.values

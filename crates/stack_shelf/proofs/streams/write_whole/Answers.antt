@@ -9,7 +9,8 @@ use Rattle.stack_shelf.proofs.streams.write_whole.Goals as goal
 -- what a write took of the rest was appended too
 moved : (all done rest : List ℕ) (n : ℕ) → all ≡ done ++ rest → all ≡ (done ++ take n rest) ++ take (length rest - n) (drop n rest)
 moved all done rest n e =
-    e ∙ ap (λ l. done ++ l) (sym (take-append-drop n rest)) ∙ sym (append_assoc done (take n rest) (drop n rest)) ∙ ap (λ l. (done ++ take n rest) ++ l) (sym (take_rest rest n))
+    e ∙ ap (λ l. done ++ l) (sym (take-append-drop n rest)) ∙ sym (append_assoc done (take n rest) (drop n rest))
+    ∙ ap (λ l. (done ++ take n rest) ++ l) (sym (take_rest rest n))
 
 -- what was appended is a prefix of all
 prefix : (a b : Option (List ℕ)) (all done rest : List ℕ) → all ≡ done ++ rest → Appends a b done → (n : ℕ) × Appends a b (take n all)
@@ -20,7 +21,8 @@ returns-in-Ok-eq0-clause-prefix g c =
     let (done, split, appended) = c.loop.invariant in
     let rest = c.loop.rest.now in
     let n = c.in-Ok-eq0.field-0 in
-    prefix _ _ c.args.bytes.now (done ++ take n rest) (take (length rest - n) (drop n rest)) (moved _ done rest n split) (Appends-trans _ _ _ _ _ appended (rw c.in-Ok-eq0.is at c.write.ensures.bytes))
+    prefix _ _ c.args.bytes.now (done ++ take n rest) (take (length rest - n) (drop n rest)) (moved _ done rest n split)
+    (Appends-trans _ _ _ _ _ appended (rw c.in-Ok-eq0.is at c.write.ensures.bytes))
 
 pub returns-in-Err-2-clause-prefix : goal.returns-in-Err-2-clause-prefix
 returns-in-Err-2-clause-prefix g c =
@@ -32,7 +34,11 @@ loop-preserved g c =
     let (done, split, appended) = c.loop.invariant in
     let rest = c.loop.rest.now in
     elim c.match-write.branch [
-      | in-Ok w ↦ (done ++ take w.in-Ok.count rest, rw w.rest-is (moved _ done rest w.in-Ok.count split), Appends-trans _ _ _ _ _ appended w.in-Ok.ensures.bytes)
+      | in-Ok w ↦ (
+        done ++ take w.in-Ok.count rest,
+        rw w.rest-is (moved _ done rest w.in-Ok.count split),
+        Appends-trans _ _ _ _ _ appended w.in-Ok.ensures.bytes,
+      )
       | in-Err w ↦ (done, rw w.rest-is split, Appends-kept _ _ _ done appended w.in-Err.ensures.bytes)
     ]
 

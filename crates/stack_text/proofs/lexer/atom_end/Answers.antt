@@ -7,15 +7,18 @@ pub returns-in_default : goal.returns-in_default
 returns-in_default c = record {
   later = c.loop-at.invariant.later;
   within = c.loop-at.invariant.within;
-  run = run_ends c.args.text.now c.args.from c.loop-at.at c.loop-at.invariant.run_is (run_over_at c.args.text.now c.loop-at.at c.class_of_byte.result c.loop-at-test.true c.class_of_byte.ensures c.in_default.not-AtomByte);
-  tokens = c.loop-at.invariant.tokens_are ∙ atom_over_at c.args.text.now c.loop-at.at c.class_of_byte.result c.loop-at-test.true c.class_of_byte.ensures c.in_default.not-AtomByte;
+  run = run_ends c.args.text.now c.args.from c.loop-at.at c.loop-at.invariant.run_is
+      (run_over_at c.args.text.now c.loop-at.at c.class_of_byte.result c.loop-at-test.true c.class_of_byte.ensures c.in_default.not-AtomByte);
+  tokens = c.loop-at.invariant.tokens_are ∙ atom_over_at c.args.text.now c.loop-at.at c.class_of_byte.result c.loop-at-test.true c.class_of_byte.ensures
+      c.in_default.not-AtomByte;
 }
 
 pub loop-at-preserved : goal.loop-at-preserved
 loop-at-preserved c = record {
   later = omega arith;
   within = omega arith;
-  run_is = c.loop-at.invariant.run_is ∙ run_goes_on c.args.text.now c.args.from c.loop-at.at c.loop-at.invariant.later c.loop-at-test.true c.in-AtomByte.ensures;
+  run_is = c.loop-at.invariant.run_is ∙ run_goes_on c.args.text.now c.args.from c.loop-at.at c.loop-at.invariant.later c.loop-at-test.true
+      c.in-AtomByte.ensures;
   tokens_are = c.loop-at.invariant.tokens_are ∙ atom_goes_on c.args.text.now c.loop-at.at c.loop-at-test.true c.in-AtomByte.ensures;
 }
 
@@ -24,5 +27,6 @@ returns c = record {
   later = c.loop-at.invariant.later;
   within = c.loop-at.invariant.within;
   run = run_ends c.args.text.now c.args.from c.loop-at.at c.loop-at.invariant.run_is (run_past c.args.text.now c.loop-at.at c.loop-at-test.false);
-  tokens = c.loop-at.invariant.tokens_are ∙ tokens_past in_atom c.args.text.now c.loop-at.at c.loop-at-test.false ∙ sym (tokens_past between c.args.text.now c.loop-at.at c.loop-at-test.false);
+  tokens = c.loop-at.invariant.tokens_are ∙ tokens_past in_atom c.args.text.now c.loop-at.at c.loop-at-test.false
+      ∙ sym (tokens_past between c.args.text.now c.loop-at.at c.loop-at-test.false);
 }

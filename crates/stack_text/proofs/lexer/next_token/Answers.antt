@@ -8,20 +8,28 @@ pub loop-at-preserved-in-LineEnd : goal.loop-at-preserved-in-LineEnd
 loop-at-preserved-in-LineEnd c = record {
   later = omega arith;
   within = omega arith;
-  tokens_are = c.loop-at.invariant.tokens_are ∙ blank c.args.text.now c.loop-at.at c.class_of_byte.result c.loop-at-test.true c.class_of_byte.ensures c.in-LineEnd.is;
+  tokens_are = c.loop-at.invariant.tokens_are ∙ blank c.args.text.now c.loop-at.at c.class_of_byte.result c.loop-at-test.true c.class_of_byte.ensures
+      c.in-LineEnd.is;
 }
 
 pub loop-at-preserved : goal.loop-at-preserved
 loop-at-preserved c = record {
   later = omega arith;
   within = omega arith;
-  tokens_are = c.loop-at.invariant.tokens_are ∙ comment_begins c.args.text.now c.loop-at.at c.loop-at-test.true c.in-Semicolon.ensures ∙ c.comment_end-at.ensures.tokens;
+  tokens_are = c.loop-at.invariant.tokens_are ∙ comment_begins c.args.text.now c.loop-at.at c.loop-at-test.true c.in-Semicolon.ensures
+      ∙ c.comment_end-at.ensures.tokens;
 }
 
 pub returns-in-AtomByte-clause-some : goal.returns-in-AtomByte-clause-some
 returns-in-AtomByte-clause-some c = record {
-  tokens_are = c.loop-at.invariant.tokens_are ∙ atom_token c.args.text.now c.loop-at.at c.atom_end-end.result c.loop-at-test.true c.in-AtomByte.ensures c.atom_end-end.ensures.run c.atom_end-end.ensures.tokens;
-  in_order = (c.loop-at.invariant.later, atom_is_long c.args.text.now c.loop-at.at c.atom_end-end.result c.loop-at-test.true c.in-AtomByte.ensures c.atom_end-end.ensures.run, c.atom_end-end.ensures.within);
+  tokens_are = c.loop-at.invariant.tokens_are ∙ atom_token c.args.text.now c.loop-at.at c.atom_end-end.result c.loop-at-test.true c.in-AtomByte.ensures
+      c.atom_end-end.ensures.run c.atom_end-end.ensures.tokens;
+  in_order = (
+    c.loop-at.invariant.later,
+    atom_is_long c.args.text.now c.loop-at.at c.atom_end-end.result c.loop-at-test.true c.in-AtomByte.ensures
+        c.atom_end-end.ensures.run,
+    c.atom_end-end.ensures.within,
+  );
 }
 
 pub returns-in-Opening-clause-some : goal.returns-in-Opening-clause-some

@@ -4,10 +4,12 @@ use Rattle.stack_text.proofs.printer.+print_into.Goals as goal
 
 pub loop-index-preserved : goal.loop-index-preserved
 loop-index-preserved g t c =
-    printed_more c.args.out.now.items c.loop-index.out.items c.separate.new.out.items c.print_into.new.out.items c.deref-item-items.result.now c.loop-index.index c.item-item.result
+    printed_more c.args.out.now.items c.loop-index.out.items c.separate.new.out.items c.print_into.new.out.items c.deref-item-items.result.now
+    c.loop-index.index c.item-item.result
     c.loop-index-test.true c.item-item.is c.loop-index.invariant c.in_ok-separate-in-List.ensures c.in_ok-print_into-in-List.ensures
 
 pub returns-in_ok-push-in-List-2 : goal.returns-in_ok-push-in-List-2
 returns-in_ok-push-in-List-2 g t c =
-    printed_all c.args.out.now.items c.loop-index.out.items c.push-in-List.new.items.items c.in-List.place c.in-List.items c.args.tree.now c.loop-index.index (omega (arith, ap length c.deref-item-items.ensures.value)) c.in-List.is
+    printed_all c.args.out.now.items c.loop-index.out.items c.push-in-List.new.items.items c.in-List.place c.in-List.items c.args.tree.now
+    c.loop-index.index (omega (arith, ap length c.deref-item-items.ensures.value)) c.in-List.is
     (rw c.deref-item-items.ensures.value at c.loop-index.invariant) c.in_ok-push-in-List-2.ensures.items

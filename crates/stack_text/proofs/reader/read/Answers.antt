@@ -14,14 +14,16 @@ returns-in_err-tree-clause-value g c =
     let toks = c.in-Some.ensures.some.tokens_are in
     let old = c.loop-found.stack.items in
     let p = err_from_is_err_and c.from_residual.result c.from_residual.ensures.1 in
-    rw (p.1, p.2) (text_ends (g.H.Heap.may_refuse c.args.heap) c.args.text.now old c.step.new.stack.items (token_in c.args.text.now c.in-Some.found) c.in_err-tree.field-0.0 (tokens between c.in-Some.found.end (drop c.in-Some.found.end c.args.text.now))
+    rw (p.1, p.2) (text_ends (g.H.Heap.may_refuse c.args.heap) c.args.text.now old c.step.new.stack.items (token_in c.args.text.now c.in-Some.found)
+    c.in_err-tree.field-0.0 (tokens between c.in-Some.found.end (drop c.in-Some.found.end c.args.text.now))
     c.in_err-tree.ensures.value (c.loop-found.invariant.fault_is ∙ ap (λ (ts : List Token). first_fault (length c.args.text.now) (context old) ts) toks))
 
 pub returns-in-Some-2-clause-value : goal.returns-in-Some-2-clause-value
 returns-in-Some-2-clause-value g c =
     let toks = c.in-Some.ensures.some.tokens_are in
     let old = c.loop-found.stack.items in
-    text_finishes (g.H.Heap.may_refuse c.args.heap) c.args.text.now old c.step.new.stack.items (token_in c.args.text.now c.in-Some.found) c.in-Some-2.tree (tokens between c.in-Some.found.end (drop c.in-Some.found.end c.args.text.now)) c.finish.result
+    text_finishes (g.H.Heap.may_refuse c.args.heap) c.args.text.now old c.step.new.stack.items (token_in c.args.text.now c.in-Some.found)
+    c.in-Some-2.tree (tokens between c.in-Some.found.end (drop c.in-Some.found.end c.args.text.now)) c.finish.result
     (rw c.in-Some-2.is at c.in_ok-tree.ensures.value) c.finish.ensures
     (c.loop-found.invariant.kept_is ∙ ap (λ (ts : List Token). opened old ++ map as_kept ts) toks)
     (c.loop-found.invariant.fault_is ∙ ap (λ (ts : List Token). first_fault (length c.args.text.now) (context old) ts) toks)
@@ -34,14 +36,18 @@ loop-found-preserved g c =
     let rest = tokens between c.in-Some.found.end (drop c.in-Some.found.end c.args.text.now) in
     record {
       within = c.in-Some.ensures.some.in_order.2;
-      kept_is = kept_goes_on (g.H.Heap.may_refuse c.args.heap) (map as_kept (tokens between 0 c.args.text.now)) old c.step.new.stack.items (token_in c.args.text.now c.in-Some.found) rest h
+      kept_is = kept_goes_on (g.H.Heap.may_refuse c.args.heap) (map as_kept (tokens between 0 c.args.text.now)) old c.step.new.stack.items
+          (token_in c.args.text.now c.in-Some.found) rest h
           (c.loop-found.invariant.kept_is ∙ ap (λ (ts : List Token). opened old ++ map as_kept ts) toks);
-      fault_is = c.loop-found.invariant.fault_is ∙ ap (λ (ts : List Token). first_fault (length c.args.text.now) (context old) ts) toks ∙ h.1 (length c.args.text.now) rest;
+      fault_is = c.loop-found.invariant.fault_is ∙ ap (λ (ts : List Token). first_fault (length c.args.text.now) (context old) ts) toks
+          ∙ h.1 (length c.args.text.now) rest;
     }
 
 pub returns-in-Some-pop-clause-value : goal.returns-in-Some-pop-clause-value
-returns-in-Some-pop-clause-value g c = unfinished c.args.text.now c.loop-found.stack.items c.pop.new.self.items c.in-Some-pop.innermost c.in-Some-pop.ensures.items
-    (c.loop-found.invariant.fault_is ∙ ap (λ (ts : List Token). first_fault (length c.args.text.now) (context c.loop-found.stack.items) ts) c.in_default.ensures.none)
+returns-in-Some-pop-clause-value g c =
+    unfinished c.args.text.now c.loop-found.stack.items c.pop.new.self.items c.in-Some-pop.innermost c.in-Some-pop.ensures.items
+    (c.loop-found.invariant.fault_is ∙ ap (λ (ts : List Token). first_fault (length c.args.text.now) (context c.loop-found.stack.items) ts)
+    c.in_default.ensures.none)
 
 pub returns-in_err-tree-clause-room : goal.returns-in_err-tree-clause-room
 returns-in_err-tree-clause-room g c =

@@ -13,10 +13,12 @@ pub returns-clause-only : goal.returns-clause-only
 returns-clause-only g c = is_only owned_node c.args.text.now (g.H.Heap.may_refuse c.args.heap) c.read_owned.result c.read_owned.ensures
 
 pub returns-clause-well_formed : goal.returns-clause-well_formed
-returns-clause-well_formed g c = is_kept owned_node c.args.text.now (g.H.Heap.may_refuse c.args.heap) IsWellFormed c.read_owned.result c.read_owned.ensures (text_is_well_formed c.args.text.now c.requires)
+returns-clause-well_formed g c = is_kept owned_node c.args.text.now (g.H.Heap.may_refuse c.args.heap) IsWellFormed c.read_owned.result
+    c.read_owned.ensures (text_is_well_formed c.args.text.now c.requires)
 
 pub returns-clause-order : goal.returns-clause-order
-returns-clause-order g c = is_kept owned_node c.args.text.now (g.H.Heap.may_refuse c.args.heap) IsInOrder c.read_owned.result c.read_owned.ensures (text_is_in_order c.args.text.now)
+returns-clause-order g c = is_kept owned_node c.args.text.now (g.H.Heap.may_refuse c.args.heap) IsInOrder c.read_owned.result c.read_owned.ensures
+    (text_is_in_order c.args.text.now)
 
 pub returns-clause-fault : goal.returns-clause-fault
 returns-clause-fault g c = reports_fault owned_node c.args.text.now (g.H.Heap.may_refuse c.args.heap) c.read_owned.result c.read_owned.ensures

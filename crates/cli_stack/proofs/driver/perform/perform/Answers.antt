@@ -16,14 +16,17 @@ returns-in_err-save-clause-leaves g c =
     let output : Role × List ℕ = (c.in-Some-Some.output.role, c.in-Some-Some.output.name.now) in
     let named : output_of c.args.command.now ≡ Some output = search rules in
     λ watches. rw (p.1, p.2)
-    (save_leaves watches _ _ _ _ _ (g.S.Shelf.counts c.save.new.shelf) c.args.command.now _ _ output _ c.in_err-save.field-0.0 c.gather.ensures.files (search rules) c.in_ok-texts.ensures.texts (search rules) named c.gather.ensures.counts (rw c.as_str.ensures at c.in_err-save.ensures.err) (rw c.as_str.ensures at c.in_err-save.ensures.cause))
+    (save_leaves watches _ _ _ _ _ (g.S.Shelf.counts c.save.new.shelf) c.args.command.now _ _ output _ c.in_err-save.field-0.0 c.gather.ensures.files
+    (search rules) c.in_ok-texts.ensures.texts (search rules) named c.gather.ensures.counts (rw c.as_str.ensures at c.in_err-save.ensures.err)
+    (rw c.as_str.ensures at c.in_err-save.ensures.cause))
 
 pub returns-in_err-save-clause-reason : goal.returns-in_err-save-clause-reason
 returns-in_err-save-clause-reason g c =
     let p = err_from_is_err_and c.from_residual-in_err-save.result c.from_residual-in_err-save.ensures.1 in
     let output : Role × List ℕ = (c.in-Some-Some.output.role, c.in-Some-Some.output.name.now) in
     let named : output_of c.args.command.now ≡ Some output = search rules in
-    rw (p.1, p.2) (fault_reason _ _ _ c.args.command.now output c.in_err-save.field-0.0 c.gather.ensures.counts named (rw c.as_str.ensures at c.in_err-save.ensures.cause))
+    rw (p.1, p.2) (fault_reason _ _ _ c.args.command.now output c.in_err-save.field-0.0 c.gather.ensures.counts named
+    (rw c.as_str.ensures at c.in_err-save.ensures.cause))
 
 pub returns-clause-leaves : goal.returns-clause-leaves
 returns-clause-leaves g c = λ watches. search (rules, c.in_ok-finish.ensures.reply watches, c.in_ok-stored.ensures.reply watches)

@@ -12,12 +12,17 @@ use Rattle.fm_turns.proofs.turns.Turns.read.Goals as goal
 
 pub read_window-requires : goal.read_window-requires
 read_window-requires c =
-    part_at _ _ c.args.i c.deref.result.now c.self.inside.contexts.items c.in-Some.context.now c.deref.ensures.value c.in-Some.ensures.lookup.3.0 c.in-Some.ensures.lookup.1 c.self.invariant
+    part_at _ _ c.args.i c.deref.result.now c.self.inside.contexts.items c.in-Some.context.now c.deref.ensures.value c.in-Some.ensures.lookup.3.0
+    c.in-Some.ensures.lookup.1 c.self.invariant
 
 pub returns : goal.returns
 returns c =
     let context : TaskContext = c.in-Some.context.now in
     let s : Fm = c.self.inside.machine.state in
-    IfOk-weaker c.read_window.result (λ read. read ≡ reading context.image (record (zeroed context.image.base context.image.size) { memory = words_in context.image.base context.image.size s })) (λ read. slice_get (readings_of c.args.self.now) c.args.i ≡ Some read)
-    (read_at c.args.self.now s c.deref.result.now c.args.i context (ap (λ (t : TurnsOf). t.base) c.self.view_is) (ap (λ (t : TurnsOf). t.memory) c.self.view_is) (c.deref.ensures.value ∙ ap (λ (t : TurnsOf). t.contexts) c.self.view_is) c.in-Some.ensures.lookup.3.0 c.in-Some.ensures.lookup.1)
+    IfOk-weaker c.read_window.result (λ read. read ≡ reading context.image
+    (record (zeroed context.image.base context.image.size) { memory = words_in context.image.base context.image.size s }))
+    (λ read. slice_get (readings_of c.args.self.now) c.args.i ≡ Some read)
+    (read_at c.args.self.now s c.deref.result.now c.args.i context (ap (λ (t : TurnsOf). t.base) c.self.view_is)
+    (ap (λ (t : TurnsOf). t.memory) c.self.view_is) (c.deref.ensures.value ∙ ap (λ (t : TurnsOf). t.contexts) c.self.view_is)
+    c.in-Some.ensures.lookup.3.0 c.in-Some.ensures.lookup.1)
     c.read_window.ensures

@@ -7,4 +7,5 @@ use Rattle.gypsy_meaning.proofs.running.Meaning.end_main.Goals as goal
 pub returns : goal.returns
 returns c =
     let P : ℕ → Type 0 = λ cost. IsFinished ending.Normal cost c.args.self.now c.finish.new.self in
-    end_finishes c.args.needs.now.procedures.items c.args.self.now c.finish.new.self c.requires.turn c.requires.alone (subst P c.cost.ensures.count c.finish.ensures)
+    end_finishes c.args.needs.now.procedures.items c.args.self.now c.finish.new.self c.requires.turn c.requires.alone
+    (subst P c.cost.ensures.count c.finish.ensures)

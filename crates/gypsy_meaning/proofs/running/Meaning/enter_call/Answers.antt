@@ -21,7 +21,8 @@ wait-requires-clause-few c =
     ∙ ap (λ (s : CallSite). variables_of c.as_slice.result.now s.callee) c.deref-2.ensures
     ∙ ap (λ (t : List Names). variables_of t site.callee) c.as_slice.ensures.value in
     let number : length callee_vars.items ≡ length (variables_of m.names.items site.callee) = sym (length-map callee_vars.items (λ v. v.0)) ∙ ap length named in
-    let sized : length (variables_of m.names.items site.callee) ≡ length site.actuals.items + length (proc_at (seen_program m.program) site.callee).locals = c.requires.sized in
+    let sized : length (variables_of m.names.items site.callee) ≡ length site.actuals.items
+    + length (proc_at (seen_program m.program) site.callee).locals = c.requires.sized in
     omega (arith, number, sized)
 
 pub returns-clause-done : goal.returns-clause-done
@@ -50,4 +51,5 @@ returns-clause-done c =
     let final : c.pay.new.self ≡ after_call ns site.callee a =
     c.pay.ensures ∙ ap₂ paid c.cost.ensures.count c.use_words.ensures
     ∙ ap (λ (k : ℕ). after_call ns k a) callee in
-    enters m a ns c.args.site top.0 w callee_vars c.requires.needs there top.1 c.requires.held c.requires.room locals named body waits c.pay.new.self final (omega arith) (omega arith)
+    enters m a ns c.args.site top.0 w callee_vars c.requires.needs there top.1 c.requires.held c.requires.room locals named body waits c.pay.new.self
+    final (omega arith) (omega arith)

@@ -8,4 +8,5 @@ pub returns : goal.returns
 returns c =
     let m = c.args.self.now in
     let P : Meaning → Type 0 = IsFinished c.args.ending c.args.cost m in
-    subst P (sym c.pay.ensures) (finished c.args.ending c.args.cost m c.truncate.new.self c.formal_count-count.result c.truncate.ensures.items c.formal_count-count.ensures)
+    subst P (sym c.pay.ensures) (finished c.args.ending c.args.cost m c.truncate.new.self c.formal_count-count.result c.truncate.ensures.items
+    c.formal_count-count.ensures)

@@ -9,4 +9,5 @@ returns c =
     let cond = c.main_condition-cond.result in
     let P : ℕ → Type 0 = λ cost. IsFinished (ending.Raised cond) cost c.args.self.now c.finish.new.self in
     let price = c.end_price.ensures ∙ ap end_price c.is_passed_on-passed.ensures in
-    leave_finishes c.args.self.now c.finish.new.self c.args.cond cond c.requires.turn.0 c.requires.turn.1 c.requires.alone c.main_condition-cond.ensures (subst P price c.finish.ensures)
+    leave_finishes c.args.self.now c.finish.new.self c.args.cond cond c.requires.turn.0 c.requires.turn.1 c.requires.alone c.main_condition-cond.ensures
+    (subst P price c.finish.ensures)

@@ -19,7 +19,8 @@ use Rattle.gypsy_meaning.proofs.running.Meaning.start.Goals as goal
 pub main_activation-requires-clause-there : goal.main_activation-requires-clause-there
 main_activation-requires-clause-there c =
     let s = source_of c.args.accepted.now in
-    let names : map seen_names c.in_ok-names.names.items ≡ map proc_names s.procs = c.in_ok-names.ensures ∙ ap (λ a. map proc_names (source_of a).procs) c.source.ensures.value in
+    let names : map seen_names c.in_ok-names.names.items ≡ map proc_names s.procs =
+    c.in_ok-names.ensures ∙ ap (λ a. map proc_names (source_of a).procs) c.source.ensures.value in
     let there = main_there s c.source.ensures.accepted c.in_ok-program.program c.in_ok-program.ensures.program c.in_ok-names.names.items names in
     let P : List Names → Type 0 = λ t. c.in_ok-program.program.main < length t in
     subst P (sym c.as_slice.ensures.value) there
@@ -28,8 +29,10 @@ pub main_activation-requires-clause-sized : goal.main_activation-requires-clause
 main_activation-requires-clause-sized c =
     let s = source_of c.args.accepted.now in
     let code = c.in_ok-program.program in
-    let names : map seen_names c.in_ok-names.names.items ≡ map proc_names s.procs = c.in_ok-names.ensures ∙ ap (λ a. map proc_names (source_of a).procs) c.source.ensures.value in
-    let sized = main_sized s c.source.ensures.accepted code c.in_ok-program.ensures.program c.in_ok-names.names.items c.args.values.now names c.requires.values in
+    let names : map seen_names c.in_ok-names.names.items ≡ map proc_names s.procs =
+    c.in_ok-names.ensures ∙ ap (λ a. map proc_names (source_of a).procs) c.source.ensures.value in
+    let sized =
+    main_sized s c.source.ensures.accepted code c.in_ok-program.ensures.program c.in_ok-names.names.items c.args.values.now names c.requires.values in
     let P : List Names → Type 0 = λ t. length (variables_of t code.main) ≡ length c.args.values.now + length (proc_at (seen_program code) code.main).locals in
     subst P (sym c.as_slice.ensures.value) sized
 
@@ -38,7 +41,8 @@ words-used_temp-requires c =
     let s = source_of c.args.accepted.now in
     let vars : map (λ v. v.1) c.as_slice-2.result.now ≡ main_start (seen_program c.in_ok-program.program) c.args.values.now =
     ap (λ (l : List (Name × Value)). map (λ v. v.1) l) c.as_slice-2.ensures.value ∙ c.in_ok-variables.ensures.variables in
-    main_words s c.source.ensures.accepted c.in_ok-program.program c.in_ok-program.ensures.program c.as_slice-2.result.now c.args.values.now c.requires.values vars
+    main_words s c.source.ensures.accepted c.in_ok-program.program c.in_ok-program.ensures.program c.as_slice-2.result.now c.args.values.now
+    c.requires.values vars
 
 pub returns-clause-opening : goal.returns-clause-opening
 returns-clause-opening c =
@@ -64,12 +68,14 @@ returns-clause-opening c =
     let q = program_of s in
     let P : List ValueOf → Type 0 = VarsFit (proc_at q q.main).formals in
     let fit : P m.values.items = subst P (sym c.in_ok-values.ensures) c.requires.values in
-    let names : map seen_names m.names.items ≡ map proc_names s.procs = c.in_ok-names.ensures ∙ ap (λ a. map proc_names (source_of a).procs) c.source.ensures.value in
+    let names : map seen_names m.names.items ≡ map proc_names s.procs =
+    c.in_ok-names.ensures ∙ ap (λ a. map proc_names (source_of a).procs) c.source.ensures.value in
     let vars : map (λ v. v.1) m.variables.items ≡ main_start (seen_program m.program) m.values.items =
     c.in_ok-variables.ensures.variables ∙ ap (main_start (seen_program m.program)) (sym c.in_ok-values.ensures) in
     let named : map (λ v. v.0) m.variables.items ≡ variables_of m.names.items m.program.main =
     c.in_ok-variables.ensures.names ∙ ap (λ (t : List Names). variables_of t m.program.main) c.as_slice.ensures.value in
-    opens s m c.source.ensures.accepted c.in_ok-program.ensures.program names fit refl vars named c.in_ok-variables.ensures.work c.new-2.ensures.items refl refl refl refl
+    opens s m c.source.ensures.accepted c.in_ok-program.ensures.program names fit refl vars named c.in_ok-variables.ensures.work c.new-2.ensures.items
+    refl refl refl refl
     ∙ ap (opening q (stack_sizes c.args.ctrl c.args.temp)) c.in_ok-values.ensures
 
 pub returns-clause-belongs : goal.returns-clause-belongs
@@ -96,7 +102,8 @@ returns-clause-belongs c =
     let q = program_of s in
     let P : List ValueOf → Type 0 = VarsFit (proc_at q q.main).formals in
     let fit : P m.values.items = subst P (sym c.in_ok-values.ensures) c.requires.values in
-    let names : map seen_names m.names.items ≡ map proc_names s.procs = c.in_ok-names.ensures ∙ ap (λ a. map proc_names (source_of a).procs) c.source.ensures.value in
+    let names : map seen_names m.names.items ≡ map proc_names s.procs =
+    c.in_ok-names.ensures ∙ ap (λ a. map proc_names (source_of a).procs) c.source.ensures.value in
     let vars : map (λ v. v.1) m.variables.items ≡ main_start (seen_program m.program) m.values.items =
     c.in_ok-variables.ensures.variables ∙ ap (main_start (seen_program m.program)) (sym c.in_ok-values.ensures) in
     let named : map (λ v. v.0) m.variables.items ≡ variables_of m.names.items m.program.main =

@@ -17,11 +17,13 @@ move_on-requires c =
 
 pub returns-in_err-moved-clause-unchanged : goal.returns-in_err-moved-clause-unchanged
 returns-in_err-moved-clause-unchanged c =
-    any_err c.from_residual.result (seen c.move_on.new.self ≡ seen c.args.self.now) (unchanged_seen c.args.self.now c.move_on.new.self c.in_err-moved.ensures.unchanged)
+    any_err c.from_residual.result (seen c.move_on.new.self ≡ seen c.args.self.now)
+    (unchanged_seen c.args.self.now c.move_on.new.self c.in_err-moved.ensures.unchanged)
 
 pub returns-in_err-moved-clause-belongs : goal.returns-in_err-moved-clause-belongs
 returns-in_err-moved-clause-belongs c =
-    unchanged_belongs (source_of c.args.accepted.now) c.args.needs.now.procedures.items c.args.self.now c.requires c.move_on.new.self c.in_err-moved.ensures.unchanged
+    unchanged_belongs (source_of c.args.accepted.now) c.args.needs.now.procedures.items c.args.self.now c.requires c.move_on.new.self
+    c.in_err-moved.ensures.unchanged
 
 pub returns-clause-answer : goal.returns-clause-answer
 returns-clause-answer c =

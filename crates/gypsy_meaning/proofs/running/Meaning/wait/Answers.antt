@@ -29,9 +29,11 @@ returns-clause-done c = λ below top.
       behind_is = ap work_of c.replace-2.ensures.value ∙ c.pop.ensures (call_top c.args.site.value) below (ap work_of c.hand_room.ensures.own ∙ top);
       caller = c.replace.result;
       waiting = c.in-Ok.ensures.items ∙ ap (λ (fs : List Frame). fs ++ f ∷ []) c.in_ok-reserve.ensures.items;
-      left = ap (λ (v : Vec (Name × Value)). map (λ w. w.1) v.items) c.replace.ensures.value ∙ c.lend.ensures.left ∙ ap (λ (xs : List ℕ). copied_out xs y x) actuals;
+      left = ap (λ (v : Vec (Name × Value)). map (λ w. w.1) v.items) c.replace.ensures.value ∙ c.lend.ensures.left
+          ∙ ap (λ (xs : List ℕ). copied_out xs y x) actuals;
       left_names = ap (λ (v : Vec (Name × Value)). map (λ w. w.0) v.items) c.replace.ensures.value ∙ c.lend.ensures.left_names;
-      lent = ap (λ (v : Vec (Name × Value)). map (λ w. w.1) v.items) c.replace.ensures.after ∙ c.lend.ensures.lent ∙ ap (λ (xs : List ℕ). map (value_at x) xs ++ drop (length xs) y) actuals;
+      lent = ap (λ (v : Vec (Name × Value)). map (λ w. w.1) v.items) c.replace.ensures.after ∙ c.lend.ensures.lent
+          ∙ ap (λ (xs : List ℕ). map (value_at x) xs ++ drop (length xs) y) actuals;
       lent_names = ap (λ (v : Vec (Name × Value)). map (λ w. w.0) v.items) c.replace.ensures.after ∙ c.lend.ensures.lent_names;
       work_is = c.replace-2.ensures.after ∙ c.hand_room.ensures.other;
       others = refl;

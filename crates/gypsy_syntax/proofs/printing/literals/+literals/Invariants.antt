@@ -7,4 +7,5 @@ use Rattle.gypsy_syntax.proofs.printing.literals.+literals.Given as goal
 
 abbrev pub invariant-print_values-loop-index : goal.invariant-print_values-loop-index
 invariant-print_values-loop-index g l =
-    l.out.items ++ items_after l.index (literal_trees (items_of_list (drop l.index l.items))) ≡ l.fn.out.items ++ items_text (literal_trees (items_of_list l.items))
+    l.out.items ++ items_after l.index (literal_trees (items_of_list (drop l.index l.items))) ≡ l.fn.out.items
+    ++ items_text (literal_trees (items_of_list l.items))

@@ -10,10 +10,12 @@ pub returns-in_err-name : goal.returns-in_err-name
 returns-in_err-name g c =
     let p = err_from_is_err_and c.from_residual.result c.from_residual.ensures.1 in
     rw (p.1, p.2)
-    (first_of_3 (g.H.Heap.may_refuse c.args.heap) c.in_err-name.field-0.0 new_local (named_in (node_of c.args.name.now)) (type_in (node_of c.args.shape.now)) (literal_in (node_of c.args.value.now)) c.in_err-name.ensures)
+    (first_of_3 (g.H.Heap.may_refuse c.args.heap) c.in_err-name.field-0.0 new_local (named_in (node_of c.args.name.now))
+    (type_in (node_of c.args.shape.now)) (literal_in (node_of c.args.value.now)) c.in_err-name.ensures)
 
 pub returns-in_err-shape : goal.returns-in_err-shape
 returns-in_err-shape g c =
     let p = err_from_is_err_and c.from_residual-in_err-shape.result c.from_residual-in_err-shape.ensures.1 in
     rw (p.1, p.2, c.in_ok-name.ensures)
-    (first_of_2 (g.H.Heap.may_refuse c.args.heap) (Form c.in_err-shape.field-0.0.rule c.in_err-shape.field-0.0.place) (new_local c.in_ok-name.name) (type_in (node_of c.args.shape.now)) (literal_in (node_of c.args.value.now)) c.in_err-shape.ensures)
+    (first_of_2 (g.H.Heap.may_refuse c.args.heap) (Form c.in_err-shape.field-0.0.rule c.in_err-shape.field-0.0.place) (new_local c.in_ok-name.name)
+    (type_in (node_of c.args.shape.now)) (literal_in (node_of c.args.value.now)) c.in_err-shape.ensures)

@@ -14,11 +14,23 @@ returns-then-is_numeral c = rw (sym c.is_numeral.ensures ∙ c.if-is_numeral.tru
 pub returns-in_err-code : goal.returns-in_err-code
 returns-in_err-code c =
     let p = err_from_is_err_and c.from_residual-in_err-code.result c.from_residual-in_err-code.ensures.1 in
-    rw (p.1, p.2, sym c.is_numeral.ensures ∙ c.if-is_numeral.false, sym c.is_character.ensures ∙ c.if-is_character.true, sym (rest_is_drop 1 c.args.text.now), c.in_err-code.ensures.1) (c.in_err-code.ensures.0, refl)
+    rw (
+      p.1,
+      p.2,
+      sym c.is_numeral.ensures ∙ c.if-is_numeral.false,
+      sym c.is_character.ensures ∙ c.if-is_character.true,
+      sym (rest_is_drop 1 c.args.text.now),
+      c.in_err-code.ensures.1,
+    ) (c.in_err-code.ensures.0, refl)
 
 pub returns-then-is_character : goal.returns-then-is_character
 returns-then-is_character c =
-    rw (sym c.is_numeral.ensures ∙ c.if-is_numeral.false, sym c.is_character.ensures ∙ c.if-is_character.true, sym (rest_is_drop 1 c.args.text.now), c.in_ok-code.ensures) (search rules)
+    rw (
+      sym c.is_numeral.ensures ∙ c.if-is_numeral.false,
+      sym c.is_character.ensures ∙ c.if-is_character.true,
+      sym (rest_is_drop 1 c.args.text.now),
+      c.in_ok-code.ensures,
+    ) (search rules)
 
 pub returns : goal.returns
 returns c = rw (sym c.is_numeral.ensures ∙ c.if-is_numeral.false, sym c.is_character.ensures ∙ c.if-is_character.false) c.truth_at.ensures

@@ -14,7 +14,8 @@ loop-made-preserved g c = record {
       step_made c.loop-made.made c.args.n
       (session_of (λ w. (goal.Watch-dyn g (w.vtable, w.value)).watching w.value) c.args.self.now)
       (session_of (λ w. (goal.Watch-dyn g (w.vtable, w.value)).watching w.value) c.loop-made.self)
-      (level_seen c.advance.new.self) c.in_ok-advance.field-0 c.loop-made.invariant.made c.in_ok-advance.ensures.step _ c.in-Makes.event c.in-Makes.is c.note.ensures.noted;
+      (level_seen c.advance.new.self) c.in_ok-advance.field-0 c.loop-made.invariant.made c.in_ok-advance.ensures.step _ c.in-Makes.event c.in-Makes.is
+      c.note.ensures.noted;
   is = c.note.ensures.is c.advance.ensures.is;
 }
 

@@ -9,5 +9,6 @@ use Rattle.piton_linker.proofs.draft.Draft.append.Given as goal
 abbrev pub invariant-loop-piece : goal.invariant-loop-piece
 invariant-loop-piece l = record {
   draft : IsDraft (system_view l.checked) l.self;
-  words : drafted (system_view l.checked) l.self ≡ drafted (system_view l.checked) l.fn.self ++ words_of (addresses_of (system_view l.checked)) ((system_view l.checked).base + length l.fn.self.words) (take l.piece-index l.pieces);
+  words : drafted (system_view l.checked) l.self ≡ drafted (system_view l.checked) l.fn.self
+      ++ words_of (addresses_of (system_view l.checked)) ((system_view l.checked).base + length l.fn.self.words) (take l.piece-index l.pieces);
 }

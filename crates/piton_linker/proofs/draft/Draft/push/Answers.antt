@@ -16,7 +16,8 @@ returns-in_ok-push-in-Some-clause-words c =
     let place : c.len-place.result ≡ length d.words = omega (arith, c.len-place.ensures, c.self.inside.words.ok.0, ap length words) in
     let at : c.checked.inside.base + c.len-place.result ≡ s.base + length d.words = omega (arith, base, place) in
     let w = c.in-Some.word in
-    more_known s c.args.program c.args.row.now d _ (c.checked.inside.base + c.len-place.result) w c.args.piece c.requires.row c.requires.draft (sym c.known.ensures ∙ c.in-Some.is) at
+    more_known s c.args.program c.args.row.now d _ (c.checked.inside.base + c.len-place.result) w c.args.piece c.requires.row c.requires.draft
+    (sym c.known.ensures ∙ c.in-Some.is) at
     (λ t. record { words = (c.in_ok-push-in-Some.ensures.items ∙ ap (λ ws. ws ++ w ∷ []) words) t; fixups = fixups t })
 
 pub returns-in_ok-push-in-None-2-clause-draft : goal.returns-in_ok-push-in-None-2-clause-draft
@@ -29,7 +30,10 @@ returns-in_ok-push-in-None-2-clause-draft c =
     let place : c.len-place.result ≡ length d.words = omega (arith, c.len-place.ensures, c.self.inside.words.ok.0, ap length words) in
     let f : FixUp = record { place = c.len-place.result; piece = c.args.piece } in
     still_draft s d _ c.len-place.result c.args.piece c.requires.draft c.requires.named place
-    (λ t. record { words = (c.in_ok-push-in-None-2.ensures.items ∙ ap (λ ws. ws ++ 0 ∷ []) words) t; fixups = (c.in_ok-push-in-None.ensures.items ∙ ap (λ fs. fs ++ f ∷ []) fixups) t })
+    (λ t. record {
+      words = (c.in_ok-push-in-None-2.ensures.items ∙ ap (λ ws. ws ++ 0 ∷ []) words) t;
+      fixups = (c.in_ok-push-in-None.ensures.items ∙ ap (λ fs. fs ++ f ∷ []) fixups) t;
+    })
 
 pub returns-in_ok-push-in-None-2-clause-words : goal.returns-in_ok-push-in-None-2-clause-words
 returns-in_ok-push-in-None-2-clause-words c =
@@ -41,4 +45,7 @@ returns-in_ok-push-in-None-2-clause-words c =
     let place : c.len-place.result ≡ length d.words = omega (arith, c.len-place.ensures, c.self.inside.words.ok.0, ap length words) in
     let f : FixUp = record { place = c.len-place.result; piece = c.args.piece } in
     more_open s d _ c.len-place.result c.args.piece c.requires.draft place
-    (λ t. record { words = (c.in_ok-push-in-None-2.ensures.items ∙ ap (λ ws. ws ++ 0 ∷ []) words) t; fixups = (c.in_ok-push-in-None.ensures.items ∙ ap (λ fs. fs ++ f ∷ []) fixups) t })
+    (λ t. record {
+      words = (c.in_ok-push-in-None-2.ensures.items ∙ ap (λ ws. ws ++ 0 ∷ []) words) t;
+      fixups = (c.in_ok-push-in-None.ensures.items ∙ ap (λ fs. fs ++ f ∷ []) fixups) t;
+    })

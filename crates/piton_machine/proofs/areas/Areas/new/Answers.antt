@@ -20,6 +20,9 @@ loop-area-preserved c =
     let same : words_in copy ≡ words_in area = c.in_ok-copy.ensures ∙ c.deref.ensures.value in
     let size : c.len.result ≡ length (words_in copy) = c.len.ensures ∙ area.ok.0 ∙ ap length (sym same) in
     record {
-      copied = rw c.in_ok-push-2.ensures.items (copied_more c.loop-area.copies.items c.args.areas.now c.loop-area.area-index area copy c.loop-area-test.true c.loop-area.invariant.copied c.area-item.is same);
-      sized = rw (c.in_ok-push-2.ensures.items, c.in_ok-push.ensures.items) (sized_more c.loop-area.copies.items c.loop-area.lengths.items copy c.len.result c.loop-area.invariant.sized size);
+      copied = rw c.in_ok-push-2.ensures.items
+          (copied_more c.loop-area.copies.items c.args.areas.now c.loop-area.area-index area copy c.loop-area-test.true c.loop-area.invariant.copied
+          c.area-item.is same);
+      sized = rw (c.in_ok-push-2.ensures.items, c.in_ok-push.ensures.items)
+          (sized_more c.loop-area.copies.items c.loop-area.lengths.items copy c.len.result c.loop-area.invariant.sized size);
     }

@@ -10,11 +10,13 @@ invariant_of-self c =
     let within : c.args.area < length areas = omega (arith, c.len.ensures, c.self.inside.areas.ok.0) in
     c.self.invariant
     ∙ sym
-    (ap (map length) (set_area areas c.args.area c.args.offset c.args.word c.index_mut.result.now c.set.new.words within c.index_mut.ensures.value c.set.ensures)
+    (ap (map length) (set_area areas c.args.area c.args.offset c.args.word c.index_mut.result.now c.set.new.words within c.index_mut.ensures.value
+    c.set.ensures)
     ∙ area_lengths (map words_in areas) c.args.area c.args.offset c.args.word)
 
 pub returns-then-at-len : goal.returns-then-at-len
 returns-then-at-len c =
     let areas = c.self.inside.areas.items in
     let within : c.args.area < length areas = omega (arith, c.len.ensures, c.self.inside.areas.ok.0) in
-    rw (← c.self.view_is) (set_area areas c.args.area c.args.offset c.args.word c.index_mut.result.now c.set.new.words within c.index_mut.ensures.value c.set.ensures)
+    rw (← c.self.view_is) (set_area areas c.args.area c.args.offset c.args.word c.index_mut.result.now c.set.new.words within c.index_mut.ensures.value
+    c.set.ensures)

@@ -26,7 +26,8 @@ invariant_of-self c =
     c.extend_from_slice-formals.ensures.items ∙ ap (λ b. if b then words ++ c.args.formals.now else words) first in
     let size' : length c.extend_from_slice-formals.new.self.items ≡ length words + length c.args.formals.now =
     ap length words' ∙ length-append words c.args.formals.now in
-    let second = c.extend_from_slice-temporaries.ensures.succeeds (omega (arith, size', c.extend_from_slice-formals.new.self.ok.0, c.extend_from_slice-formals.ensures.capacity, c.self.invariant.words_fit)) in
+    let second = c.extend_from_slice-temporaries.ensures.succeeds
+    (omega (arith, size', c.extend_from_slice-formals.new.self.ok.0, c.extend_from_slice-formals.ensures.capacity, c.self.invariant.words_fit)) in
     let words'' : c.extend_from_slice-temporaries.new.self.items ≡ words ++ c.args.formals.now ++ c.args.temporaries.now =
     c.extend_from_slice-temporaries.ensures.items
     ∙ ap (λ b. if b then c.extend_from_slice-formals.new.self.items ++ c.args.temporaries.now else c.extend_from_slice-formals.new.self.items) second
@@ -37,7 +38,16 @@ invariant_of-self c =
     let reversed : reverse c.push-linked.new.self.items ≡ link ∷ reverse links = ap reverse links' ∙ reverse_snoc links link in
     record {
       are = rw (reversed, words'') are;
-      fits = omega (arith, bound, ap length reversed, length-reverse c.push-linked.new.self.items, length-reverse links, ap length words'', length-append words c.args.formals.now, length-append (words ++ c.args.formals.now) c.args.temporaries.now);
+      fits = omega (
+        arith,
+        bound,
+        ap length reversed,
+        length-reverse c.push-linked.new.self.items,
+        length-reverse links,
+        ap length words'',
+        length-append words c.args.formals.now,
+        length-append (words ++ c.args.formals.now) c.args.temporaries.now,
+      );
       small = c.self.invariant.small;
       links_fit = omega (arith, c.push-linked.ensures.capacity, c.self.invariant.links_fit);
       words_fit = omega (arith, c.extend_from_slice-formals.ensures.capacity, c.extend_from_slice-temporaries.ensures.capacity, c.self.invariant.words_fit);
@@ -61,7 +71,8 @@ returns c =
     c.extend_from_slice-formals.ensures.items ∙ ap (λ b. if b then words ++ c.args.formals.now else words) first in
     let size' : length c.extend_from_slice-formals.new.self.items ≡ length words + length c.args.formals.now =
     ap length words' ∙ length-append words c.args.formals.now in
-    let second = c.extend_from_slice-temporaries.ensures.succeeds (omega (arith, size', c.extend_from_slice-formals.new.self.ok.0, c.extend_from_slice-formals.ensures.capacity, c.self.invariant.words_fit)) in
+    let second = c.extend_from_slice-temporaries.ensures.succeeds
+    (omega (arith, size', c.extend_from_slice-formals.new.self.ok.0, c.extend_from_slice-formals.ensures.capacity, c.self.invariant.words_fit)) in
     let words'' : c.extend_from_slice-temporaries.new.self.items ≡ words ++ c.args.formals.now ++ c.args.temporaries.now =
     c.extend_from_slice-temporaries.ensures.items
     ∙ ap (λ b. if b then c.extend_from_slice-formals.new.self.items ++ c.args.temporaries.now else c.extend_from_slice-formals.new.self.items) second

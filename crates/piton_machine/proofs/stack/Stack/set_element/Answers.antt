@@ -17,4 +17,5 @@ returns c =
     let cut : c.truncate.new.self.items ≡ ys = c.truncate.ensures.items ∙ ap (λ n. take (n - c.args.count) xs) size in
     let within : c.args.position < length ys = omega (arith, length-take-le m xs (omega arith)) in
     let made : List Word → Stacked = λ ws. record { words = ws; room = c.self.inside.room } in
-    rw (← c.self.view_is, cut) (ap made (reverse_put ys c.args.position c.args.word within ∙ ap (λ zs. with_element zs c.args.position c.args.word) (reverse_take xs c.args.count (omega arith))))
+    rw (← c.self.view_is, cut) (ap made (reverse_put ys c.args.position c.args.word within
+    ∙ ap (λ zs. with_element zs c.args.position c.args.word) (reverse_take xs c.args.count (omega arith))))

@@ -21,7 +21,8 @@ returns-clause-fits c =
     let row : row_of s v.state instr ≡ Ok c.act.new.self.state =
     subst (λ i. row_of s v.state i ≡ Ok c.act.new.self.state) c.decode-next.ensures c.in_default-act.ensures.ok in
     let kept : IsState s c.act.new.self.state =
-    row_kept s v.state c.act.new.self.state instr c.requires.sound c.requires.fits.state (c.requires.sound.instructions v.state.program v.state.place instr at) row in
+    row_kept s v.state c.act.new.self.state instr c.requires.sound c.requires.fits.state
+    (c.requires.sound.instructions v.state.program v.state.place instr at) row in
     record {
       state = subst (λ (w : Seen). IsState s w.state) (sym c.self-2.view_is) kept;
       ctrl = ap (λ (w : Seen). w.ctrl) c.self-2.view_is ∙ ap (λ (w : Seen). w.ctrl) c.in_default-act.ensures.rest ∙ c.requires.fits.ctrl;

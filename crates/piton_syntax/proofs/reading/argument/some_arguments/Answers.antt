@@ -12,14 +12,24 @@ each_argument-requires g c = sym (all_of_kind c.args.kind c.args.trees.now) ∙ 
 
 pub returns-then-is_empty : goal.returns-then-is_empty
 returns-then-is_empty g c =
-    rw (c.into.ensures, c.wrong_arguments.ensures, no_parts c.args.trees.now (eqb-true (length c.args.trees.now) 0 (sym c.is_empty.ensures ∙ c.if-is_empty.true))) ([], refl)
+    rw (
+      c.into.ensures,
+      c.wrong_arguments.ensures,
+      no_parts c.args.trees.now
+          (eqb-true (length c.args.trees.now) 0 (sym c.is_empty.ensures ∙ c.if-is_empty.true)),
+    ) ([], refl)
 
 pub returns-then-not-are_of_kind : goal.returns-then-not-are_of_kind
 returns-then-not-are_of_kind g c =
-    rw (c.into-then-not-are_of_kind.ensures, c.wrong_arguments-then-not-are_of_kind.ensures)
-    ([], other_kinds c.args.kind c.args.place c.args.trees.now (eqb-false (length c.args.trees.now) 0 (sym c.is_empty.ensures ∙ c.if-is_empty.false)) (sym (all_of_kind c.args.kind c.args.trees.now) ∙ sym c.are_of_kind.ensures ∙ c.if-not-are_of_kind.true))
+    rw (c.into-then-not-are_of_kind.ensures, c.wrong_arguments-then-not-are_of_kind.ensures) (
+      [],
+      other_kinds c.args.kind c.args.place c.args.trees.now (eqb-false (length c.args.trees.now) 0 (sym c.is_empty.ensures ∙ c.if-is_empty.false))
+          (sym (all_of_kind c.args.kind c.args.trees.now) ∙ sym c.are_of_kind.ensures ∙ c.if-not-are_of_kind.true),
+    )
 
 pub returns : goal.returns
 returns g c =
-    let kinds : are_of_kind c.args.kind (nodes_of c.args.trees.now) ≡ true = sym (all_of_kind c.args.kind c.args.trees.now) ∙ sym c.are_of_kind.ensures ∙ c.if-not-are_of_kind.false in
-    rw (some_kinds c.args.kind c.args.place c.args.trees.now (eqb-false (length c.args.trees.now) 0 (sym c.is_empty.ensures ∙ c.if-is_empty.false)) kinds) c.each_argument.ensures
+    let kinds : are_of_kind c.args.kind (nodes_of c.args.trees.now) ≡ true =
+    sym (all_of_kind c.args.kind c.args.trees.now) ∙ sym c.are_of_kind.ensures ∙ c.if-not-are_of_kind.false in
+    rw (some_kinds c.args.kind c.args.place c.args.trees.now (eqb-false (length c.args.trees.now) 0 (sym c.is_empty.ensures ∙ c.if-is_empty.false))
+    kinds) c.each_argument.ensures

@@ -14,13 +14,24 @@ pub returns-in_err-name : goal.returns-in_err-name
 returns-in_err-name g c =
     let p = err_from_is_err_and c.from_residual.result c.from_residual.ensures.1 in
     rw (p.1, p.2, two_parts c.args.items.now c.index-items-0.result c.index-items-1.result c.if-items-ne2.false c.index-items-0.is c.index-items-1.is)
-    (first_of_2 (g.H.Heap.may_refuse c.args.heap) c.in_err-name.field-0.0 pair (named_of (node_of c.index-items-0.result)) (word_of (node_of c.index-items-1.result)) c.in_err-name.ensures)
+    (first_of_2 (g.H.Heap.may_refuse c.args.heap) c.in_err-name.field-0.0 pair (named_of (node_of c.index-items-0.result))
+    (word_of (node_of c.index-items-1.result)) c.in_err-name.ensures)
 
 pub returns-in_err-word : goal.returns-in_err-word
 returns-in_err-word g c =
     let p = err_from_is_err_and c.from_residual-in_err-word.result c.from_residual-in_err-word.ensures.1 in
-    rw (p.1, p.2, two_parts c.args.items.now c.index-items-0.result c.index-items-1.result c.if-items-ne2.false c.index-items-0.is c.index-items-1.is, c.in_ok-name.ensures)
-    (first_of_value (g.H.Heap.may_refuse c.args.heap) c.in_err-word.field-0.0 (pair c.in_ok-name.name) (word_of (node_of c.index-items-1.result)) c.in_err-word.ensures)
+    rw (
+      p.1,
+      p.2,
+      two_parts c.args.items.now c.index-items-0.result c.index-items-1.result c.if-items-ne2.false c.index-items-0.is c.index-items-1.is,
+      c.in_ok-name.ensures,
+    )
+    (first_of_value (g.H.Heap.may_refuse c.args.heap) c.in_err-word.field-0.0 (pair c.in_ok-name.name) (word_of (node_of c.index-items-1.result))
+    c.in_err-word.ensures)
 
 pub returns : goal.returns
-returns g c = rw (two_parts c.args.items.now c.index-items-0.result c.index-items-1.result c.if-items-ne2.false c.index-items-0.is c.index-items-1.is, c.in_ok-name.ensures, c.in_ok-word.ensures) refl
+returns g c = rw (
+  two_parts c.args.items.now c.index-items-0.result c.index-items-1.result c.if-items-ne2.false c.index-items-0.is c.index-items-1.is,
+  c.in_ok-name.ensures,
+  c.in_ok-word.ensures,
+) refl

@@ -9,4 +9,5 @@ use Rattle.piton_syntax.proofs.reading.system.area_parts.Goals as goal
 pub returns-in_err-name : goal.returns-in_err-name
 returns-in_err-name g c =
     let p = err_from_is_err_and c.from_residual.result c.from_residual.ensures.1 in
-    rw (p.1, p.2) (first_of_2 (g.H.Heap.may_refuse c.args.heap) c.in_err-name.field-0.0 (new_area c.args.place) (named_of (node_of c.args.name.now)) (each_of word_of (nodes_of c.args.words.now)) c.in_err-name.ensures)
+    rw (p.1, p.2) (first_of_2 (g.H.Heap.may_refuse c.args.heap) c.in_err-name.field-0.0 (new_area c.args.place) (named_of (node_of c.args.name.now))
+    (each_of word_of (nodes_of c.args.words.now)) c.in_err-name.ensures)

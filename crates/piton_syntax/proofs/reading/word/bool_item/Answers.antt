@@ -6,4 +6,8 @@ use Rattle.piton_syntax.proofs.reading.word.bool_item.Goals as goal
 
 pub returns-then-parts-ne1 : goal.returns-then-parts-ne1
 returns-then-parts-ne1 c =
-    rw c.no_word.ensures ([], not_one (λ ts. item_of (Some tags.Bool) c.args.place ts ≡ Err (record { place = c.args.place; rule = 5 }, [])) refl (λ t u ts. refl) c.args.parts.now c.if-parts-ne1.true)
+    rw c.no_word.ensures (
+      [],
+      not_one (λ ts. item_of (Some tags.Bool) c.args.place ts ≡ Err (record { place = c.args.place; rule = 5 }, [])) refl
+          (λ t u ts. refl) c.args.parts.now c.if-parts-ne1.true,
+    )

@@ -12,11 +12,23 @@ use Rattle.piton_syntax.proofs.reading.word.word_at.Goals as goal
 
 pub returns-then-is_empty : goal.returns-then-is_empty
 returns-then-is_empty g c =
-    rw (c.into.ensures, c.no_word.ensures, no_parts c.args.items.now (eqb-true (length c.args.items.now) 0 (sym c.is_empty.ensures ∙ c.if-is_empty.true))) ([], refl)
+    rw (
+      c.into.ensures,
+      c.no_word.ensures,
+      no_parts c.args.items.now
+          (eqb-true (length c.args.items.now) 0 (sym c.is_empty.ensures ∙ c.if-is_empty.true)),
+    ) ([], refl)
 
 pub returns-in-List : goal.returns-in-List
 returns-in-List g c =
-    rw (c.into-in-List.ensures, c.no_word-in-List.ensures, first_and_rest c.args.items.now c.index-items-0.result (eqb-false (length c.args.items.now) 0 (sym c.is_empty.ensures ∙ c.if-is_empty.false)) c.index-items-0.is, c.in-List.is, node_of-list c.in-List.place c.in-List.items)
+    rw (
+      c.into-in-List.ensures,
+      c.no_word-in-List.ensures,
+      first_and_rest c.args.items.now c.index-items-0.result
+          (eqb-false (length c.args.items.now) 0 (sym c.is_empty.ensures ∙ c.if-is_empty.false)) c.index-items-0.is,
+      c.in-List.is,
+      node_of-list c.in-List.place c.in-List.items,
+    )
     ([], refl)
 
 pub returns-in_err-item-in-Atom : goal.returns-in_err-item-in-Atom
@@ -25,17 +37,20 @@ returns-in_err-item-in-Atom g c =
     rw (
       p.1,
       p.2,
-      first_and_rest c.args.items.now c.index-items-0.result (eqb-false (length c.args.items.now) 0 (sym c.is_empty.ensures ∙ c.if-is_empty.false)) c.index-items-0.is,
+      first_and_rest c.args.items.now c.index-items-0.result (eqb-false (length c.args.items.now) 0 (sym c.is_empty.ensures ∙ c.if-is_empty.false))
+          c.index-items-0.is,
       c.in-Atom.is,
       node_of-atom c.in-Atom.place c.in-Atom.text,
       sym c.tag_named.ensures,
     )
-    (first_of_value (g.H.Heap.may_refuse c.args.heap) c.in_err-item-in-Atom.field-0.0 (new_word c.args.place) (item_of c.tag_named.result c.args.place (nodes_of (rest 1 c.args.items.now))) c.in_err-item-in-Atom.ensures)
+    (first_of_value (g.H.Heap.may_refuse c.args.heap) c.in_err-item-in-Atom.field-0.0 (new_word c.args.place)
+    (item_of c.tag_named.result c.args.place (nodes_of (rest 1 c.args.items.now))) c.in_err-item-in-Atom.ensures)
 
 pub returns-in_ok-item-in-Atom : goal.returns-in_ok-item-in-Atom
 returns-in_ok-item-in-Atom g c =
     rw (
-      first_and_rest c.args.items.now c.index-items-0.result (eqb-false (length c.args.items.now) 0 (sym c.is_empty.ensures ∙ c.if-is_empty.false)) c.index-items-0.is,
+      first_and_rest c.args.items.now c.index-items-0.result (eqb-false (length c.args.items.now) 0 (sym c.is_empty.ensures ∙ c.if-is_empty.false))
+          c.index-items-0.is,
       c.in-Atom.is,
       node_of-atom c.in-Atom.place c.in-Atom.text,
       sym c.tag_named.ensures,

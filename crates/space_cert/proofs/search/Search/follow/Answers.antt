@@ -10,17 +10,20 @@ use Rattle.space_cert.proofs.search.Search.follow.Goals as goal
 
 pub index-requires : goal.index-requires
 index-requires c =
-    let lt = follow_below (seen_calls c.args.calls.now) c.args.self.now.main (search_of c.args.self.now) c.args.procedure c.requires.calls c.requires.search c.requires.of_top in
+    let lt = follow_below (seen_calls c.args.calls.now) c.args.self.now.main (search_of c.args.self.now) c.args.procedure c.requires.calls
+    c.requires.search c.requires.of_top in
     omega (arith, lt, c.requires.search.number, c.args.self.now.marks.ok)
 
 pub enter-requires-clause-there : goal.enter-requires-clause-there
 enter-requires-clause-there c =
-    let lt = follow_below (seen_calls c.args.calls.now) c.args.self.now.main (search_of c.args.self.now) c.args.procedure c.requires.calls c.requires.search c.requires.of_top in
+    let lt = follow_below (seen_calls c.args.calls.now) c.args.self.now.main (search_of c.args.self.now) c.args.procedure c.requires.calls
+    c.requires.search c.requires.of_top in
     omega (arith, lt, length-map c.args.calls.now (λ v. v.items))
 
 pub enter-requires-clause-marked : goal.enter-requires-clause-marked
 enter-requires-clause-marked c =
-    let lt = follow_below (seen_calls c.args.calls.now) c.args.self.now.main (search_of c.args.self.now) c.args.procedure c.requires.calls c.requires.search c.requires.of_top in
+    let lt = follow_below (seen_calls c.args.calls.now) c.args.self.now.main (search_of c.args.self.now) c.args.procedure c.requires.calls
+    c.requires.search c.requires.of_top in
     omega (arith, lt, c.requires.search.number)
 
 pub returns-in-New-clause-search : goal.returns-in-New-clause-search
@@ -32,7 +35,8 @@ returns-in-New-clause-search c =
     let there : w < length s.marks = omega (arith, lt, c.requires.search.number) in
     let mark = mark_read s.marks w c.index.result.now New there c.index.ensures c.in-New.is in
     on_ok_weaker c.enter.result (λ e. subst (λ m. IsSearch cs m (search_of c.enter.new.self)) (sym c.enter.ensures.main)
-    (subst (IsSearch cs c.args.self.now.main) (sym e) (enters_keeps cs c.args.self.now.main (with_call w s) c.requires.search s.todo w refl c.requires.of_top mark lt))) c.enter.ensures.entered
+    (subst (IsSearch cs c.args.self.now.main) (sym e)
+    (enters_keeps cs c.args.self.now.main (with_call w s) c.requires.search s.todo w refl c.requires.of_top mark lt))) c.enter.ensures.entered
 
 pub returns-in-New-clause-less : goal.returns-in-New-clause-less
 returns-in-New-clause-less c =
@@ -42,7 +46,8 @@ returns-in-New-clause-less c =
     let lt = follow_below cs c.args.self.now.main s w c.requires.calls c.requires.search c.requires.of_top in
     let there : w < length s.marks = omega (arith, lt, c.requires.search.number) in
     let mark = mark_read s.marks w c.index.result.now New there c.index.ensures c.in-New.is in
-    on_ok_weaker c.enter.result (λ e. subst (λ x. left_to_do cs x < left_to_do cs (with_call w s)) (sym e) (enters_less cs c.args.self.now.main (with_call w s) c.requires.search s.todo w refl c.requires.of_top mark lt)) c.enter.ensures.entered
+    on_ok_weaker c.enter.result (λ e. subst (λ x. left_to_do cs x < left_to_do cs (with_call w s)) (sym e)
+    (enters_less cs c.args.self.now.main (with_call w s) c.requires.search s.todo w refl c.requires.of_top mark lt)) c.enter.ensures.entered
 
 pub returns-in-Done-clause-search : goal.returns-in-Done-clause-search
 returns-in-Done-clause-search c =

@@ -19,5 +19,7 @@ returns c =
     let images : images_of after ≡ map (λ task. task.image) tasks = c.go_round.ensures.images ∙ ap images_of c.in_ok-turns.ensures.turns ∙ first_images tasks in
     let ends : EndAsAlone turn budget tasks after =
     subst (EndAsAlone turn budget tasks) (sym gone.made)
-    (c.each_ends_as_alone.ensures.ends tasks before turn budget gone.rounds start c.requires.ready.stay c.requires.some gone.few (subst (AreAll turn budget gone.rounds) gone.made gone.all)) in
-    subst (λ (reply : ReplyOf). IfOk c.told_reply.result (λ r. reply_of r ≡ reply)) (tells_alone c.each_ends_as_alone.ensures.round turn budget c.requires.some tasks after images ends) c.told_reply.ensures
+    (c.each_ends_as_alone.ensures.ends tasks before turn budget gone.rounds start c.requires.ready.stay c.requires.some gone.few
+    (subst (AreAll turn budget gone.rounds) gone.made gone.all)) in
+    subst (λ (reply : ReplyOf). IfOk c.told_reply.result (λ r. reply_of r ≡ reply))
+    (tells_alone c.each_ends_as_alone.ensures.round turn budget c.requires.some tasks after images ends) c.told_reply.ensures

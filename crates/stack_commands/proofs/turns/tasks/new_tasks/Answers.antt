@@ -17,7 +17,10 @@ pub returns-clause-ready : goal.returns-clause-ready
 returns-clause-ready c =
     let none = eqb-false (length c.args.sources.now) 0 (sym c.is_empty.ensures ∙ c.if-is_empty.false) in
     let count = length-map c.args.sources.now (λ text. text.now) in
-    ready_from c.builds_implement.ensures.implements c.builds_implement.ensures.values c.builds_stay_inside.ensures.base c.builds_stay_inside.ensures.inside (stack_sizes c.args.control c.args.temporary) (λ tasks. new_tasks tasks.items)
-    (map (λ text. text.now) c.args.sources.now) (map (λ text. text.now) c.args.texts.now) c.in_ok-images.images.items c.in_ok-small_enough.field-0.items c.read_tasks.result
-    (All-map (λ text. length text ≤ 2147483648) (λ text. text.now) c.args.sources.now c.requires.sources) (omega (arith, none, count)) (omega (arith, count, c.if-sources-gt-TASKS.false))
+    ready_from c.builds_implement.ensures.implements c.builds_implement.ensures.values c.builds_stay_inside.ensures.base
+    c.builds_stay_inside.ensures.inside (stack_sizes c.args.control c.args.temporary) (λ tasks. new_tasks tasks.items)
+    (map (λ text. text.now) c.args.sources.now) (map (λ text. text.now) c.args.texts.now) c.in_ok-images.images.items c.in_ok-small_enough.field-0.items
+    c.read_tasks.result
+    (All-map (λ text. length text ≤ 2147483648) (λ text. text.now) c.args.sources.now c.requires.sources) (omega (arith, none, count))
+    (omega (arith, count, c.if-sources-gt-TASKS.false))
     c.in_ok-images.ensures.images c.in_ok-small_enough.ensures.images c.read_tasks.ensures.tasks

@@ -8,12 +8,15 @@ pub returns-in_err-name : goal.returns-in_err-name
 returns-in_err-name g c =
     let p = err_from_is_err_and c.from_residual-in_err-name.result c.from_residual-in_err-name.ensures.1 in
     rw (p.1, p.2)
-    (part_fails (name_or c.args.rule) c.loop-tree.names.items c.loop-tree.tree-index c.args.trees.now c.loop-tree.invariant (g.H.Heap.may_refuse c.args.heap) c.in_err-name.field-0.0 c.tree-item.result c.loop-tree-test.true c.tree-item.is c.in_err-name.ensures)
+    (part_fails (name_or c.args.rule) c.loop-tree.names.items c.loop-tree.tree-index c.args.trees.now c.loop-tree.invariant
+    (g.H.Heap.may_refuse c.args.heap) c.in_err-name.field-0.0 c.tree-item.result c.loop-tree-test.true c.tree-item.is c.in_err-name.ensures)
 
 pub loop-tree-preserved : goal.loop-tree-preserved
 loop-tree-preserved g c =
     rw c.in_ok-push.ensures.items
-    (part_read (name_or c.args.rule) c.loop-tree.names.items c.loop-tree.tree-index c.args.trees.now c.loop-tree.invariant c.tree-item.result c.in_ok-name.name c.loop-tree-test.true c.tree-item.is c.in_ok-name.ensures)
+    (part_read (name_or c.args.rule) c.loop-tree.names.items c.loop-tree.tree-index c.args.trees.now c.loop-tree.invariant c.tree-item.result
+    c.in_ok-name.name c.loop-tree-test.true c.tree-item.is c.in_ok-name.ensures)
 
 pub returns : goal.returns
-returns g c = parts_end (name_or c.args.rule) c.loop-tree.names.items c.loop-tree.tree-index c.args.trees.now c.loop-tree.invariant (omega (arith, c.loop-tree-test.false))
+returns g c = parts_end (name_or c.args.rule) c.loop-tree.names.items c.loop-tree.tree-index c.args.trees.now c.loop-tree.invariant
+    (omega (arith, c.loop-tree-test.false))

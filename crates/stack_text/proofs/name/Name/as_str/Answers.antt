@@ -6,4 +6,5 @@ use Rattle.stack_text.proofs.name.Name.as_str.Goals as goal
 
 pub unreachable-requires : goal.unreachable-requires
 unreachable-requires c =
-    c.in-Err.ensures.cases.0 (IsUtf8-from_ascii c.bytes.result.now (subst IsAscii (sym c.bytes.ensures.bytes) (name_is_ascii c.args.self.now c.bytes.ensures.name)))
+    c.in-Err.ensures.cases.0 (IsUtf8-from_ascii c.bytes.result.now
+    (subst IsAscii (sym c.bytes.ensures.bytes) (name_is_ascii c.args.self.now c.bytes.ensures.name)))
