@@ -39,8 +39,8 @@ fn declare<'a>(
     proc: &'a Proc,
 ) -> Result<(), Memory>
     ensures entered { OnOk result
-        ((other : List ℕ) →
-        procedure_in table.new other ≡ first_or (procedure_in table.old other) (bytes_eq other proc.now.name.name) proc.now) }
+        ((other : List ℕ) → procedure_in table.new other
+        ≡ first_or (procedure_in table.old other) (bytes_eq other proc.now.name.name) proc.now) }
     ensures noted { let is_known = is_some (procedure_in table.old proc.now.name.name) in
         OnOk result (Notes best.old (when is_known proc.now.name.place 1) best.new) }
 {

@@ -48,8 +48,8 @@ procedure_text name formals conds local_conds body = record {
 }
 
 -- (proc main () () () () (loop (signal leave)))
-abbrev pub leaving : SourceOf
-leaving = record {
+abbrev pub leaving_source : SourceOf
+leaving_source = record {
   place = 0;
   main = unplaced (codes "main");
   procs = procedure_text (codes "main") [] [] [] (loop 0 (signal 0 (unplaced (codes "leave")))) ∷ [];
@@ -106,5 +106,5 @@ passing_on_lines =
     jump_to (codes "L1") ∷ natural_at (label (codes "L0")) 1 ∷ into_area ∷ instruction (label (codes "L1")) op.Ret [] ∷ []) ∷ []
 
 pub record TextsAre : Type 0 where
-  pub of_leaving : lines_of_text leaving ≡ leaving_lines ∷ []
+  pub of_leaving : lines_of_text leaving_source ≡ leaving_lines ∷ []
   pub of_passing_on : lines_of_text passing_on ≡ passing_on_lines

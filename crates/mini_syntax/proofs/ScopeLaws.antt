@@ -43,16 +43,6 @@ entered eq is (e ∷ es) key v absent other = by_test (bytes_eq key.now e.0.now)
         ap (λ (b : std.Bool). lookup (sought other) (cond b ((e.0, v) ∷ es) (e ∷ insert_entry eq es key v))) (is key e.0 ∙ h)
         ∙ by_other (bytes_eq other e.0.now) (lookup (sought other) (insert_entry eq es key v)) (later none)
 
--- a name that is known stays
-pub known_stays : (known : List ℕ → Option Variable) (name : List ℕ) (v : Variable) → is_some (known name) ≡ true → (other : List ℕ)
-    → known other ≡ first_or (known other) (bytes_eq other name) v
-known_stays known name v there other = by_test (bytes_eq other name) (bytes_eq-Decides other name).0 (known other) refl
-  where
-    by_test : (b : std.Bool) → (b ≡ true → other ≡ name) → (o : Option Variable) → known other ≡ o → o ≡ first_or o b v
-    by_test b same (Some w) e = refl
-    by_test false same None e = refl
-    by_test true same None e = absurd (true≢false (sym there ∙ ap (λ (o : Option Variable). is_some o) (ap known (sym (same refl)) ∙ e)))
-
 -- one declaration more
 named_from-push : (n : ℕ) (ds : List Declared) (d : Declared) (name : List ℕ) → named_from n (ds ++ d ∷ []) name
     ≡ first_or (named_from n ds name) (bytes_eq name d.name) record { index = n + length ds; sort = d.sort }
