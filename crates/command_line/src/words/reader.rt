@@ -173,7 +173,7 @@ fn tasks_within(alloc: Global, most: u32, words: &[String]) -> Result<Seq<TaskFi
     let mut rest = words;
     for _ in 0..most {
         let (read, after) = task(alloc, rest)?;
-        tasks.push(read)?;
+        tasks.push(alloc, read)?;
         if after.is_empty() {
             return Ok(tasks);
         }
