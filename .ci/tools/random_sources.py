@@ -2,7 +2,7 @@
 """Random sources of Micro-Gypsy: what the program says of them, beside what an evaluator of its own says.
 
 Each seed makes a source that breaks no static rule, values for main's formals, and sizes of the two stacks. The evaluator goes by
-the tables of docs/languages/gypsy.md and docs/proved/meaning.md, statement by statement, and makes no code. `check`, `mean`, `go`, `run`, `pit`, `prun` and `debug` have
+the pages docs/languages/gypsy.md and docs/proved/meaning.md, statement by statement, and makes no code. `check`, `mean`, `go`, `run`, `pit`, `prun` and `debug` have
 to print what follows from it; a seed where one of them doesn't is told in a line. Sources that run too long are thrown away.
 """
 import subprocess
