@@ -10,7 +10,7 @@ use Rattle.fm_turns.proofs.starting.load_task.Goals as goal
 pub copy_window-requires-clause-above : goal.copy_window-requires-clause-above
 copy_window-requires-clause-above c =
     let task : NewTask = new_task c.args.task.0 c.args.task.1.items in
-    let own : c.in_ok-own.own.state ≡ machine_of task = c.in_ok-own.ensures ∙ ap (loaded c.args.task.0) c.as_slice.ensures.value in
+    let own : c.in_ok-own.own.state ≡ machine_of task = c.in_ok-own.ensures.value ∙ ap (loaded c.args.task.0) c.as_slice.ensures.value in
     let base : c.in_ok-own.own.state.base ≡ task.image.base = ap (λ (s : Fm). s.base) own in
     let size : length c.in_ok-own.own.state.memory ≡ task.image.size = ap (λ (s : Fm). length s.memory) own ∙ loaded_size task in
     let base_is : c.image.inside.base ≡ task.image.base = ap (λ (i : ImageOf). i.base) c.image.view_is in
@@ -23,6 +23,6 @@ copy_window-requires-clause-few c = let below = (sized _ c.image.invariant).belo
 pub returns-clause-memory : goal.returns-clause-memory
 returns-clause-memory c =
     let task : NewTask = new_task c.args.task.0 c.args.task.1.items in
-    let own : c.in_ok-own.own.state ≡ machine_of task = c.in_ok-own.ensures ∙ ap (loaded c.args.task.0) c.as_slice.ensures.value in
+    let own : c.in_ok-own.own.state ≡ machine_of task = c.in_ok-own.ensures.value ∙ ap (loaded c.args.task.0) c.as_slice.ensures.value in
     context_copied task c.image.inside.base c.image.inside.size c.in_ok-own.own.state c.args.machine.now.state c.copy_window.new.to.state
     (ap (λ (i : ImageOf). i.base) c.image.view_is) (ap (λ (i : ImageOf). i.size) c.image.view_is) own c.copy_window.ensures
