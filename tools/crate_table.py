@@ -1,5 +1,5 @@
 #!/usr/bin/env python3
-"""Checks the table of the crates in docs/working/architecture.md against crates.txt. Prints a line for each finding, which says what to do.
+"""Checks the table of the crates in docs/ARCHITECTURE.md against crates.txt. Prints a line for each finding, which says what to do.
 
 The table has each crate of crates.txt in one row, in the order and under the headings of crates.txt, and its column "Stands on" names the nearest crates
 of this repository: those of a crate's own that no other of its own stands on. A row may have several crates, where they stand on the same ones.
@@ -12,7 +12,7 @@ from pathlib import Path
 from arguments import parser_of
 
 CRATES = Path("crates.txt")
-PAGE = Path("docs/working/architecture.md")
+PAGE = Path("docs/ARCHITECTURE.md")
 HEAD = "| Crate | What it does | Stands on | Page |"
 NAME = re.compile(r"`(\w+)`")
 HEADING = re.compile(r"\*\*(.+)\*\*")
