@@ -3,8 +3,6 @@ use Rattle.std.proofs.Common.{◌≡◌, ◌≤◌, ℕ, List, Option, Result, O
 use Rattle.std.specs.Prelude.{◌^◌}
 use Rattle.std.proofs.lemmas.Bool.{cases_lt}
 use Rattle.stack_text.specs.Values.{ValueOf}
-use Rattle.fm_machine.specs.State.{Fm}
-use Rattle.fm_machine.specs.Run.{IsFirst, fm_run}
 use Rattle.fm_loader.specs.Values.{values_in}
 use Rattle.gypsy_syntax.specs.Sources.{SourceOf}
 use Rattle.gypsy_space.specs.Needs.{StackSizes}
@@ -22,22 +20,6 @@ use Rattle.command_replies.specs.Commands.Run.{run_reply, values_reply}
 use Rattle.stack_commands.specs.Commands.SourceText.{build_verdict}
 use Rattle.stack_commands.specs.Commands.Go.{go_reply}
 use Rattle.cli_stack.specs.Answer.{Answer, answer_with}
-
--- a machine comes to a program counter first once
-pub first_once : (m : Fm) (pc k j : ℕ) (s t : Fm) → IsFirst m pc k s → IsFirst m pc j t → (k ≡ j) × (s ≡ t)
-first_once m pc k j s t f g =
-    elim (cases_lt k j) [
-      | inl lt ↦ absurd (g.before k s lt f.reached f.there)
-      | inr le ↦ elim (cases_lt j k) [
-        | inl lt ↦ absurd (f.before j t lt g.reached g.there)
-        | inr le' ↦
-            let same : k ≡ j = omega (arith, le, le') in
-            let first : fm_run j m ≡ Ok s = ap (λ n. fm_run n m) (sym same) ∙ f.reached in
-            let second : fm_run j m ≡ Ok t = g.reached in
-            let state : s ≡ t = cc in
-            (same, state)
-      ]
-    ]
 
 pub early_done : (e : EarlyEnd) → end_status e ≡ Done → ⊥
 early_done (early.Missing name) h = cc

@@ -57,7 +57,8 @@ use Rattle.cli_stack.specs.Tells.{TellsReport}
 use Rattle.cli_stack.specs.Lowers.{formal_type, declared_type, MeansProgram, TellsMini, RunEnds, CarriesRuns, HoldsRuns, StoresRuns, TellsFrom, TellsRuns}
 use Rattle.cli_stack.specs.Lowers.{TellsOwn, LowersPrograms}
 use Rattle.cli_stack.proofs.DecidesLaws.{decides, ready_runs}
-use Rattle.cli_stack.proofs.GoLaws.{first_once, early_done}
+use Rattle.stack_build.proofs.MeantLaws.{first_once}
+use Rattle.cli_stack.proofs.GoLaws.{early_done}
 use Rattle.cli_stack.proofs.ImplementsLaws.{stores}
 
 -- 1. The variables of what is stored.

@@ -60,7 +60,8 @@ use Rattle.cli_stack.specs.Answer.{Answer, answer_with, answer_on, answer_to}
 use Rattle.cli_stack.specs.FilesAndSizes.{IsReadable}
 use Rattle.cli_stack.specs.OneResult.{TellsAlso, GoAlike, LargerStacksTellTheSame}
 use Rattle.cli_stack.specs.Tells.{IsBuilt, TellsReport}
-use Rattle.cli_stack.proofs.GoLaws.{first_once, early_done, build_done, go_done}
+use Rattle.stack_build.proofs.MeantLaws.{first_once}
+use Rattle.cli_stack.proofs.GoLaws.{early_done, build_done, go_done}
 use Rattle.cli_stack.proofs.RoomLaws.{needs}
 use Rattle.stack_build.proofs.SlotLaws.{image_takes}
 use Rattle.cli_stack.proofs.TellsLaws.{is_there, go_tells}

@@ -65,7 +65,8 @@ use Rattle.stack_commands.specs.Prepared.{stored_by, reply_by}
 use Rattle.cli_stack.specs.Answer.{Answer, set_file, answer_with, answer_on, answer_to}
 use Rattle.cli_stack.specs.FilesAndSizes.{IsReadable}
 use Rattle.cli_stack.specs.Needs.{TellsOther, GoesOther, HasRoom, TellsNeed, Needs}
-use Rattle.cli_stack.proofs.GoLaws.{first_once, early_done, build_done, go_done}
+use Rattle.stack_build.proofs.MeantLaws.{first_once}
+use Rattle.cli_stack.proofs.GoLaws.{early_done, build_done, go_done}
 use Rattle.cli_stack.proofs.TellsLaws.{is_there}
 
 -- 1. A run that ended.

@@ -158,18 +158,25 @@ fn refused_line(
     Ok(format!(in alloc; "refused {letter}{number} at {place}\n")?.into_bytes())
 }
 
+/// The line of a rule, after this front, that is broken at a place.
+fn broken_line(alloc: Global, front: &str, rule: u8, place: u64) -> Result<Vec<u8>, Memory>
+    ensures { IfOk result (λ text. text.items ≡ line (front.now ++ decimal rule ++ codes " at " ++ decimal place)) }
+{
+    Ok(format!(in alloc; "{front}{rule} at {place}\n")?.into_bytes())
+}
+
 /// The line of values that break a rule.
 fn values_line(alloc: Global, rule: u8, place: u32) -> Result<Vec<u8>, Memory>
     ensures { IfOk result (λ line. line.items ≡ verdict_line (Verdict.Values rule place)) }
 {
-    Ok(format!(in alloc; "values V{rule} at {place}\n")?.into_bytes())
+    broken_line(alloc, "values V", rule, u64::from(place))
 }
 
 /// The line of an image that breaks a rule.
 fn image_line(alloc: Global, rule: u8, place: u64) -> Result<Vec<u8>, Memory>
     ensures { IfOk result (λ line. line.items ≡ verdict_line (Verdict.Image rule place)) }
 {
-    Ok(format!(in alloc; "image I{rule} at {place}\n")?.into_bytes())
+    broken_line(alloc, "image I", rule, place)
 }
 
 /// The line of a run that did not come to its end.
@@ -204,18 +211,11 @@ fn recursive_line(alloc: Global, procedure: &Name) -> Result<Vec<u8>, Memory>
     Ok(line)
 }
 
-/// The line of a rule, after this front, that is broken at a place.
-fn broken_line(alloc: Global, front: &str, rule: u8, place: u32) -> Result<Vec<u8>, Memory>
-    ensures { IfOk result (λ text. text.items ≡ line (front.now ++ decimal rule ++ codes " at " ++ decimal place)) }
-{
-    Ok(format!(in alloc; "{front}{rule} at {place}\n")?.into_bytes())
-}
-
 /// The line of a certificate that breaks a rule.
 fn certificate_line(alloc: Global, rule: u8, place: u32) -> Result<Vec<u8>, Memory>
     ensures { IfOk result (λ line. line.items ≡ verdict_line (Verdict.Certificate rule place)) }
 {
-    broken_line(alloc, "certificate Z", rule, place)
+    broken_line(alloc, "certificate Z", rule, u64::from(place))
 }
 
 /// The line of a size that is refused.

@@ -69,6 +69,7 @@ use Rattle.level_debuggers.specs.Texts.{mark_text, no_mark}
 use Rattle.level_debuggers.specs.Walks.{walk, walk_on}
 use Rattle.debug_moments.specs.SessionMoments.{BuiltSaysEnds, system_run}
 use Rattle.debug_moments.proofs.StandingLaws.{condition_at}
+use Rattle.stack_build.proofs.ImageLimits.{words_front}
 
 -- 1. A walk stays where a run is over.
 
@@ -211,10 +212,6 @@ more_room k n m le = omega (arith, le)
 
 some_room : (k c t : ℕ) → 2 ≤ c → 1 ≤ k + c + t
 some_room k c t le = omega (arith, le)
-
-words_front : (ss ts : List Shape) → words_of ss ≤ words_of (ss ++ ts)
-words_front [] ts = omega arith
-words_front (s ∷ ss) ts = let rest : words_of ss ≤ words_of (ss ++ ts) = words_front ss ts in omega (arith, rest)
 
 module _ (source : SourceOf) (sizes : StackSizes) (base : ℕ) (accepted : IsAccepted source) (suffice : SizesFit (program_of source) sizes)
     (finals : List ValueOf) (way : CurrentCondition)

@@ -5,9 +5,9 @@ use Rattle.std.specs.List.{flat_map}
 use Rattle.std.specs.Prelude.{slice_get, nat_lt, if◌then◌else◌}
 use Rattle.std.proofs.lemmas.Bool.{le-ltb, ltb-true}
 use Rattle.std.proofs.lemmas.List.{get_or-reverse, length-reverse}
-use Rattle.std.proofs.lemmas.Option.{get_or_from_slice_get, slice_get-get_or}
+use Rattle.std.proofs.lemmas.Option.{get_or_from_slice_get, slice_get-get_or, same_Some}
 use Rattle.stack_text.specs.Values.{ValueOf}
-use Rattle.stack_text.proofs.SharedLaws.{some_is, get_map}
+use Rattle.stack_text.proofs.SharedLaws.{get_map}
 use Rattle.fm_words.specs.Word.{word_of_int}
 use Rattle.fm_machine.specs.State.{word_at}
 use Rattle.piton_words.specs.declared.word.Word.{Word}
@@ -56,7 +56,7 @@ item_number : (A : Addresses) (v : ValueOf) (h : ℕ) (z : ℤ) → ValueFits v 
     → word_number A (word_of_item v.shape.kind z) ≡ word_of_int z
 item_number A v h z fits e =
     let word : slice_get (words_of_value v) h ≡ Some (word_of_item v.shape.kind z) = get_map (word_of_item v.shape.kind) v.items h z e in
-    some_is (word_number A (word_of_item v.shape.kind z)) (word_of_int z)
+    same_Some (word_number A (word_of_item v.shape.kind z)) (word_of_int z)
     (sym (get_map (word_number A) (words_of_value v) h (word_of_item v.shape.kind z) word)
     ∙ ap (λ (ns : List ℕ). slice_get ns h) (value_numbers A v fits) ∙ get_map word_of_int v.items h z e)
 

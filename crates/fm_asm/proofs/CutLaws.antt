@@ -9,21 +9,18 @@ use Rattle.std.specs.Option.{option_copied}
 use Rattle.std.specs.Prelude.{MatchOption}
 use Rattle.std.proofs.lemmas.List.{drop_more, drop_all, take_all, take_more, length-drop}
 use Rattle.std.proofs.lemmas.Bool.Decides.{nat_tests}
-use Rattle.stack_text.proofs.SharedLaws.{and_left, and_right, not_true, never_true}
+use Rattle.std.proofs.lemmas.Bool.{eq-eqb, not-true, false_from_ne_true, and_parts}
 use Rattle.fm_asm.specs.Cuts.{Cut, in_front, cut, parts_of, split_once, after_prefix, without_leading_spaces, unless_trailing, without_trailing}
-
-pub same_byte : (n : ℕ) → (n == n) ≡ true
-same_byte n = grind (arith, nat_tests)
 
 -- no byte is this one
 abbrev pub lacks : ℕ → List ℕ → Bool
 lacks byte bytes = list_all (λ b. not (b == byte)) bytes
 
 lacks_first : (byte b : ℕ) (bytes : List ℕ) → lacks byte (b ∷ bytes) ≡ true → (b == byte) ≡ false
-lacks_first byte b bytes h = not_true (b == byte) (and_left (not (b == byte)) (lacks byte bytes) h)
+lacks_first byte b bytes h = not-true (b == byte) (and_parts (not (b == byte)) (lacks byte bytes) h).0
 
 lacks_rest : (byte b : ℕ) (bytes : List ℕ) → lacks byte (b ∷ bytes) ≡ true → lacks byte bytes ≡ true
-lacks_rest byte b bytes h = and_right (not (b == byte)) (lacks byte bytes) h
+lacks_rest byte b bytes h = (and_parts (not (b == byte)) (lacks byte bytes) h).1
 
 pub lacks-append : (byte : ℕ) (a b : List ℕ) → lacks byte a ≡ true → lacks byte b ≡ true → lacks byte (a ++ b) ≡ true
 lacks-append byte [] b h k = k
@@ -42,7 +39,7 @@ cut-cons byte b bytes false e = rw e refl
 
 pub cut-append : (byte : ℕ) (front rest : List ℕ) → lacks byte front ≡ true → cut byte (front ++ byte ∷ rest) ≡ (front, Some rest)
 unfolding chosen
-cut-append byte [] rest h = cut-cons byte byte rest true (same_byte byte)
+cut-append byte [] rest h = cut-cons byte byte rest true (eq-eqb byte byte refl)
 cut-append byte (b ∷ front) rest h =
     cut-cons byte b (front ++ byte ∷ rest) false (lacks_first byte b front h) ∙ ap (in_front b) (cut-append byte front rest (lacks_rest byte b front h))
 
@@ -103,7 +100,7 @@ split_once_found byte text front rest e = by_rest (cut byte text).1 refl e
 pub after_prefix-append : (prefix rest : List ℕ) → after_prefix prefix (prefix ++ rest) ≡ Some rest
 unfolding after_prefix
 after_prefix-append [] rest = refl
-after_prefix-append (p ∷ ps) rest = rw (same_byte p) (after_prefix-append ps rest)
+after_prefix-append (p ∷ ps) rest = rw (eq-eqb p p refl) (after_prefix-append ps rest)
 
 pub after_prefix_found : (prefix bytes rest : List ℕ) → after_prefix prefix bytes ≡ Some rest → bytes ≡ prefix ++ rest
 unfolding after_prefix
@@ -120,7 +117,7 @@ after_prefix_found (p ∷ ps) (b ∷ bs) rest e = by_test (b == p) refl e (after
 
 pub last-same : (item : ℕ) (xs : List ℕ) → without_trailing item (xs ++ item ∷ []) ≡ without_trailing item xs
 unfolding without_trailing
-last-same item [] = rw (same_byte item) refl
+last-same item [] = rw (eq-eqb item item refl) refl
 last-same item (x ∷ xs) = ap (unless_trailing item x) (last-same item xs)
 
 pub last-other : (item : ℕ) (xs : List ℕ) (x : ℕ) → (x == item) ≡ false → without_trailing item (xs ++ x ∷ []) ≡ xs ++ x ∷ []
@@ -155,11 +152,11 @@ tail_all k bytes = take_all (length bytes - k) (drop k bytes) (omega (arith, len
 pub cut_found : (byte : ℕ) (bytes : List ℕ) (k : ℕ) → IsFirstByte (is_byte byte) bytes (Some k)
     → (let parts : Cut = (take k bytes, Some (take (length bytes - (k + 1)) (drop (k + 1) bytes))) in parts) ≡ cut byte bytes
 cut_found byte bytes k h =
-    let found = cut_at byte bytes k h.0.high (λ j lt. never_true (get_or bytes j 0 == byte) (h.0.before j (omega arith) lt)) h.1 in
+    let found = cut_at byte bytes k h.0.high (λ j lt. false_from_ne_true (get_or bytes j 0 == byte) (h.0.before j (omega arith) lt)) h.1 in
     ap (λ (rest : List ℕ). let parts : Cut = (take k bytes, Some rest) in parts) (tail_all (k + 1) bytes) ∙ sym found
 
 pub cut_absent : (byte : ℕ) (bytes : List ℕ) → IsFirstByte (is_byte byte) bytes None → (let parts : Cut = (bytes, None) in parts) ≡ cut byte bytes
-cut_absent byte bytes h = sym (cut_nowhere byte bytes (λ j lt. never_true (get_or bytes j 0 == byte) (h j (omega arith) lt)))
+cut_absent byte bytes h = sym (cut_nowhere byte bytes (λ j lt. false_from_ne_true (get_or bytes j 0 == byte) (h j (omega arith) lt)))
 
 -- a prefix, by the bytes that are taken and dropped
 after_prefix_is : (prefix bytes : List ℕ) → pointwise nat_eq (take (length prefix) bytes) prefix ≡ true
@@ -168,8 +165,8 @@ unfolding after_prefix
 after_prefix_is [] bytes h = refl
 after_prefix_is (p ∷ ps) [] h = absurd cc
 after_prefix_is (p ∷ ps) (b ∷ bs) h =
-    let first : (b == p) ≡ true = and_left (b == p) (pointwise nat_eq (take (length ps) bs) ps) h in
-    rw first (after_prefix_is ps bs (and_right (b == p) (pointwise nat_eq (take (length ps) bs) ps) h))
+    let first : (b == p) ≡ true = (and_parts (b == p) (pointwise nat_eq (take (length ps) bs) ps) h).0 in
+    rw first (after_prefix_is ps bs (and_parts (b == p) (pointwise nat_eq (take (length ps) bs) ps) h).1)
 
 after_prefix_none : (prefix bytes : List ℕ) → pointwise nat_eq (take (length prefix) bytes) prefix ≡ false → after_prefix prefix bytes ≡ None
 unfolding after_prefix
@@ -202,7 +199,7 @@ space_next bytes k d is lt so_far =
     sym skipped ∙ ap without_leading_spaces (sym begins) ∙ so_far
 
 differs : (b item : ℕ) → b ≢ item → (b == item) ≡ false
-differs b item h = never_true (b == item) (λ e. h (eqb-true b item e))
+differs b item h = false_from_ne_true (b == item) (λ e. h (eqb-true b item e))
 
 pub other_here : (bytes : List ℕ) (k d : ℕ) → get_or bytes k d ≢ 32 → k < length bytes
     → without_leading_spaces (drop k bytes) ≡ without_leading_spaces bytes → drop k bytes ≡ without_leading_spaces bytes

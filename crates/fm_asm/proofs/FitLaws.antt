@@ -15,7 +15,8 @@ use Rattle.fm_words.specs.declared.instruction.OperandA.TheVariants.{Immediate, 
 use Rattle.fm_words.specs.declared.instruction.Instr.{Instr}
 use Rattle.fm_words.specs.Encoding.{encode_of, IsOperand, IsInstr, significant}
 use Rattle.fm_words.proofs.FieldLaws.{decode_encode, encode_decode}
-use Rattle.fm_asm.specs.Values.{Value, number, label, in_32_bits}
+use Rattle.fm_words.specs.Word.{unsigned_32}
+use Rattle.fm_asm.specs.Values.{Value, number, label}
 use Rattle.fm_asm.specs.Instructions.{in_9_bits}
 use Rattle.fm_asm.specs.Statements.{Statement, base, size, final, start, word, instruction}
 use Rattle.fm_asm.specs.Lines.{Said, Line}
@@ -59,7 +60,7 @@ pub small-below : (n : ℕ) → small n ≡ true → n < 2 ^ 32
 unfolding small
 small-below n h = ltb-true n (2 ^ 32) h
 
-integer_fits : (z : ℤ) → number_fits (in_32_bits z) ≡ true
+integer_fits : (z : ℤ) → number_fits (unsigned_32 z) ≡ true
 unfolding number_fits small
 integer_fits (negsuc n) = refl
 integer_fits (pos n) = by_test (nat_lt n (2 ^ 32)) refl

@@ -4,7 +4,7 @@ use Rattle.std.proofs.Common.{option_map, refl, sym, ap, ◌∙◌, arith, codes
 use Rattle.std.specs.Fmt.{decimal, digits}
 use Rattle.std.specs.List.{list_all}
 use Rattle.std.specs.Char.{is_ascii_digit}
-use Rattle.std.proofs.lemmas.Bool.{and_parts, and_from, cases_lt}
+use Rattle.std.proofs.lemmas.Bool.{and_parts, and_from, cases_lt, cond-true}
 use Rattle.std.proofs.lemmas.Bool.Decides.{nat_tests}
 use Rattle.std.proofs.lemmas.Fmt.{decimal_digit, decimal_step}
 use Rattle.stack_text.specs.Numerals.{is_digits, is_numeral}
@@ -24,7 +24,7 @@ use Rattle.fm_asm.specs.Instructions.{closing_mode, indirect_in, decrement_in, d
 use Rattle.fm_asm.specs.Instructions.{instruction_in}
 use Rattle.fm_asm.specs.Assembly.{SpellsOperand, immediate, place, SpellsInstruction}
 use Rattle.fm_asm.proofs.CutLaws.{lacks, lacks-append, cut-append, cut-lacks, split_once-append}
-use Rattle.fm_asm.proofs.ValueLaws.{if_true, digits_lack}
+use Rattle.fm_asm.proofs.ValueLaws.{digits_lack}
 use Rattle.fm_asm.proofs.TextLaws.{is_text_byte}
 
 -- what stands after a byte, with it, and nothing where it isn't there
@@ -200,14 +200,14 @@ unfolding register_in
 one_digit r h =
     let within : (nat_le 48 (48 + r) && nat_le (48 + r) 57) ≡ true = grind (arith, nat_tests) in
     let back : 48 + r - 48 ≡ r = omega arith in
-    if_true (nat_le 48 (48 + r) && nat_le (48 + r) 57) _ _ within ∙ ap Some back
+    cond-true (nat_le 48 (48 + r) && nat_le (48 + r) 57) _ _ within ∙ ap Some back
 
 two_digits : (r : ℕ) → 10 ≤ r → r < 16 → register_in (49 ∷ (48 + r % 10) ∷ []) ≡ Some r
 unfolding register_in
 two_digits r low high =
     let within : (nat_le 48 (48 + r % 10) && nat_le (48 + r % 10) 53) ≡ true = grind (arith, nat_tests) in
     let back : 48 + r % 10 - 38 ≡ r = omega arith in
-    if_true (nat_le 48 (48 + r % 10) && nat_le (48 + r % 10) 53) _ _ within ∙ ap Some back
+    cond-true (nat_le 48 (48 + r % 10) && nat_le (48 + r % 10) 53) _ _ within ∙ ap Some back
 
 digit_is : (d : ℕ) → d < 10 → is_ascii_digit (48 + d) ≡ true
 digit_is d h = grind (arith, nat_tests)
@@ -279,7 +279,7 @@ no_hash PostIncrement r = refl
 
 pub operand_read : (text : List ℕ) (a : Option OperandA) → SpellsOperand text a → operand_in text ≡ Some a
 unfolding operand_in immediate_in after_prefix
-operand_read _ _ (immediate digits h) = if_true (is_numeral digits) _ _ h
+operand_read _ _ (immediate digits h) = cond-true (is_numeral digits) _ _ h
 operand_read _ _ (place mode reg h) =
     ap (λ o. operand_by o (place_text mode reg)) (no_hash mode reg) ∙ ap (option_map as_operand) (place_read mode reg h)
 

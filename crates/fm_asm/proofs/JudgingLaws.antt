@@ -4,7 +4,7 @@ use Rattle.std.proofs.Common.{is_some, unwrap_or, refl, sym, ap, subst, ◌∙�
 use Rattle.std.specs.Prelude.{option_to_list}
 use Rattle.std.specs.List.{flat_map, list_all, list_any}
 use Rattle.std.specs.Str.{bytes_eq}
-use Rattle.std.proofs.lemmas.Bool.{and_parts, and_from}
+use Rattle.std.proofs.lemmas.Bool.{and_parts, and_from, not-true}
 use Rattle.std.proofs.lemmas.Bool.Decides.{nat_tests}
 use Rattle.stack_text.specs.Breaches.{when}
 use Rattle.stack_text.proofs.SharedLaws.{bytes_apart}
@@ -196,11 +196,7 @@ fresh-push earlier line (name ∷ names) h k =
     let a = and_parts (is_fresh earlier name) (list_all (is_fresh earlier) names) h in
     let b = and_parts (not (is_labelled name line.said.label)) (list_all (λ m. not (is_labelled m line.said.label)) names) k in
     and_from (is_fresh (earlier ++ line ∷ []) name) (list_all (is_fresh (earlier ++ line ∷ [])) names)
-    (offset-push earlier line name a.0 (not_is (is_labelled name line.said.label) b.0)) (fresh-push earlier line names a.1 b.1)
-  where
-    not_is : (t : Bool) → not t ≡ true → t ≡ false
-    not_is true h = absurd cc
-    not_is false h = refl
+    (offset-push earlier line name a.0 (not-true (is_labelled name line.said.label) b.0)) (fresh-push earlier line names a.1 b.1)
 
 no_label_all : (names : List (List ℕ)) → list_all (λ name. not (is_labelled name None)) names ≡ true
 no_label_all [] = refl

@@ -2,7 +2,7 @@
 use Rattle.std.proofs.Common.{◌≡◌, ℕ, ◌==◌, ◌&&◌, true, List, [], ◌∷◌, ◌++◌, length, nat_lt, Option, Some, None, Ok, option_map, refl, sym, ap, ◌∙◌, codes}
 use Rattle.std.proofs.Common.{append_assoc}
 use Rattle.std.specs.List.{list_all}
-use Rattle.std.proofs.lemmas.Bool.{and_parts, and_from}
+use Rattle.std.proofs.lemmas.Bool.{and_parts, and_from, cond-true}
 use Rattle.stack_text.specs.Names.{is_name}
 use Rattle.fm_asm.specs.Cuts.{cut, without_leading_spaces}
 use Rattle.fm_asm.specs.Statements.{Statement, statement_in}
@@ -11,7 +11,7 @@ use Rattle.fm_asm.specs.Lines.{Said, text_of, statement_or_none, is_apart, label
 use Rattle.fm_asm.specs.Sources.{if_of_form, said_of_line}
 use Rattle.fm_asm.specs.Assembly.{says, is_gap, SpellsStatement, SpellsSaid, nothing, statement_alone, label_alone, label_and_statement, IsLine}
 use Rattle.fm_asm.proofs.CutLaws.{cut-append, cut-lacks}
-use Rattle.fm_asm.proofs.ValueLaws.{if_true, name_lacks}
+use Rattle.fm_asm.proofs.ValueLaws.{name_lacks}
 use Rattle.fm_asm.proofs.StatementLaws.{statement_read, IsStatementText, statement_text}
 
 -- a statement that is there
@@ -28,7 +28,7 @@ unfolding without_leading_spaces
 spaces_skipped [] text h = refl
 spaces_skipped (b ∷ gap) text h =
     let parts = and_parts (b == 32) (list_all (λ c. c == 32) gap) h in
-    if_true (b == 32) _ _ parts.0 ∙ spaces_skipped gap text parts.1
+    cond-true (b == 32) _ _ parts.0 ∙ spaces_skipped gap text parts.1
 
 kept_text : (text : List ℕ) → IsStatementText text → without_leading_spaces text ≡ text
 unfolding without_leading_spaces
@@ -44,8 +44,9 @@ unfolding said_in said_by labelled
 label_read name rest s named apart reads =
     let parts : cut 58 (name ++ 58 ∷ rest) ≡ (name, Some rest) = cut-append 58 name rest (name_lacks 58 name refl named) in
     let chosen : labelled name rest ≡ option_map (λ (x : Option Statement). says (Some name) x) (statement_or_none (without_leading_spaces rest)) =
-    if_true (is_name name && is_apart rest) (option_map (λ (x : Option Statement). says (Some name) x)
-    (statement_or_none (without_leading_spaces rest))) None (and_from (is_name name) (is_apart rest) named apart) in
+    cond-true (is_name name && is_apart rest)
+    (option_map (λ (x : Option Statement). says (Some name) x) (statement_or_none (without_leading_spaces rest))) None
+    (and_from (is_name name) (is_apart rest) named apart) in
     rw parts (chosen ∙ ap (option_map (λ (x : Option Statement). says (Some name) x)) reads)
 
 alone : (text : List ℕ) (s : Statement) → SpellsStatement text s → said_in text ≡ Some (says None (Some s))
@@ -68,4 +69,4 @@ said_read _ _ (label_and_statement name gap text s named spaces h) =
 pub line_said : (bytes : List ℕ) (said : Said) → IsLine bytes said → said_of_line bytes ≡ Ok said
 unfolding said_of_line
 line_said bytes said h =
-    if_true (is_plain_line bytes) _ _ h.plain ∙ ap if_of_form (said_read (text_of bytes) said h.written)
+    cond-true (is_plain_line bytes) _ _ h.plain ∙ ap if_of_form (said_read (text_of bytes) said h.written)

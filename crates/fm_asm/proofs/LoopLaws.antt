@@ -3,11 +3,9 @@ use Rattle.std.proofs.Common.{◌≡◌, Bor, ℕ, ◌+◌, ◌<◌, ◌≤◌, 
 use Rattle.std.proofs.Common.{is_some, unwrap_or, refl, sym, ap, ◌∙◌, ◌^◌, append_assoc, nat_lt, lt-ltb}
 use Rattle.std.specs.Prelude.{IsTrue}
 use Rattle.std.specs.List.{flat_map}
-use Rattle.std.specs.Map.{lookup}
 use Rattle.std.specs.Str.{bytes_eq}
 use Rattle.std.proofs.lemmas.Bool.{and_from}
-use Rattle.std.proofs.lemmas.List.{append-nil, map_push, take_more, take_all, drop_more, drop_all}
-use Rattle.indexmap.specs.IndexMap.{insert_entry}
+use Rattle.std.proofs.lemmas.List.{append-nil, map_push, take_more, take_all, drop_more, drop_all, get_or_default}
 use Rattle.stack_text.specs.declared.breach.Breach.{Breach}
 use Rattle.stack_text.specs.Breaches.{lesser_of, least, Notes}
 use Rattle.stack_text.proofs.BreachLaws.{notes_more, notes_next}
@@ -17,7 +15,6 @@ use Rattle.fm_asm.specs.declared.line.Line as declared
 use Rattle.fm_asm.specs.Lines.{Line, line_of}
 use Rattle.fm_asm.specs.Labels.{is_labelled, offset_of, repeated, repeats, first_value}
 use Rattle.stack_text.specs.Options.{first_or}
-use Rattle.stack_text.proofs.SharedLaws.{same_item}
 use Rattle.fm_asm.proofs.TextLaws.{all-append}
 
 -- ---- the first value
@@ -38,13 +35,11 @@ pub value_nowhere : {X : Type 0} (f : X → Option ℕ) (xs : List X) (i : ℕ) 
 unfolding first_value
 value_nowhere {X} f xs i all past so_far = ap (first_value f) (sym (drop_all i xs past)) ∙ so_far
 
--- ---- an item by its place
-
 -- ---- pieces, and words of 32 bits
 
 pub pieces_at : {X Y : Type 0} (f : X → List Y) (xs : List X) (i : ℕ) (d : X) (old new all : List Y) → i < length xs → new ≡ old ++ f (get_or xs i d)
     → old ++ flat_map f (drop i xs) ≡ all → new ++ flat_map f (drop (i + 1) xs) ≡ all
-pieces_at f xs i d old new all lt now so_far = pieces_next f xs i (get_or xs i d) old new all lt (same_item xs i d (get_or xs i d) lt) now so_far
+pieces_at f xs i d old new all lt now so_far = pieces_next f xs i (get_or xs i d) old new all lt (get_or_default xs i d (get_or xs i d) lt) now so_far
 
 pub all_pieces : {X Y : Type 0} (f : X → List Y) (xs : List X) (i : ℕ) (out all : List Y) → length xs ≤ i → out ++ flat_map f (drop i xs) ≡ all → out ≡ all
 all_pieces {X} {Y} f xs i out all past so_far = sym (append-nil out) ∙ ap (λ (ys : List X). out ++ flat_map f ys) (sym (drop_all i xs past)) ∙ so_far
@@ -62,41 +57,9 @@ all_fit ws i past so_far = ap are_words (sym (take_all i ws past)) ∙ so_far
 
 pub notes_at : {X : Type 0} (f : X → List Breach) (xs : List X) (i : ℕ) (d : X) (x y z : Option Breach) → i < length xs
     → Notes x (flat_map f (take i xs)) y → Notes y (f (get_or xs i d)) z → Notes x (flat_map f (take (i + 1) xs)) z
-notes_at f xs i d x y z lt h k = notes_next f xs i (get_or xs i d) x y z lt (same_item xs i d (get_or xs i d) lt) h k
+notes_at f xs i d x y z lt h k = notes_next f xs i (get_or xs i d) x y z lt (get_or_default xs i d (get_or xs i d) lt) h k
 
 -- ---- labels
-
-abbrev Key : Type 0
-Key = Bor (List ℕ)
-
-abbrev sought : List ℕ → Key → Bool
-sought name key = bytes_eq name key.now
-
--- a name that was not there is entered after the others
-pub entered : (eq : Key → Key → Bool) → ((a b : Key) → eq a b ≡ bytes_eq a.now b.now) → (es : List (Key × ℕ)) (key : Key) (p : ℕ)
-    → is_some (lookup (sought key.now) es) ≡ false →
-    (other : List ℕ) → lookup (sought other) (insert_entry eq es key p) ≡ first_or (lookup (sought other) es) (bytes_eq other key.now) p
-entered eq is [] key p absent other = by_test (bytes_eq other key.now)
-  where
-    by_test : (b : Bool) → cond b (Some p) None ≡ first_or None b p
-    by_test true = refl
-    by_test false = refl
-entered eq is (e ∷ es) key p absent other = by_test (bytes_eq key.now e.0.now) refl absent (λ none. entered eq is es key p none other)
-  where
-    by_other : (b : Bool) (later : Option ℕ) → later ≡ first_or (lookup (sought other) es) (bytes_eq other key.now) p
-        → cond b (Some e.1) later ≡ first_or (cond b (Some e.1) (lookup (sought other) es)) (bytes_eq other key.now) p
-    by_other true later h = refl
-    by_other false later h = h
-
-    by_test : (b : Bool) → bytes_eq key.now e.0.now ≡ b → is_some (cond b (Some e.1) (lookup (sought key.now) es)) ≡ false →
-        (is_some (lookup (sought key.now) es) ≡ false → lookup (sought other) (insert_entry eq es key p)
-        ≡ first_or (lookup (sought other) es) (bytes_eq other key.now) p) →
-        lookup (sought other) (cond (eq key e.0) ((e.0, p) ∷ es) (e ∷ insert_entry eq es key p))
-        ≡ first_or (lookup (sought other) (e ∷ es)) (bytes_eq other key.now) p
-    by_test true h none later = absurd cc
-    by_test false h none later =
-        ap (λ (b : Bool). lookup (sought other) (cond b ((e.0, p) ∷ es) (e ∷ insert_entry eq es key p))) (is key e.0 ∙ h)
-        ∙ by_other (bytes_eq other e.0.now) (lookup (sought other) (insert_entry eq es key p)) (later none)
 
 offset-push : (lines : List Line) (line : Line) (name : List ℕ) → offset_of (lines ++ line ∷ []) name
     ≡ first_or (offset_of lines name) (is_labelled name line.said.label) line.offset

@@ -8,7 +8,7 @@ use Rattle.std.specs.Fmt.{decimal}
 use Rattle.std.specs.Int.{w32, to_be_bytes}
 use Rattle.std.specs.List.{flat_map, list_all, slice_split}
 use Rattle.std.specs.Char.{is_ascii_digit}
-use Rattle.std.proofs.lemmas.Bool.{and_parts, and_from}
+use Rattle.std.proofs.lemmas.Bool.{and_parts, and_from, cond-true}
 use Rattle.std.proofs.lemmas.Bool.Decides.{nat_tests}
 use Rattle.std.proofs.lemmas.Fmt.{length-decimal-le}
 use Rattle.std.proofs.lemmas.List.{length-append}
@@ -28,7 +28,8 @@ use Rattle.fm_show.specs.Digits.{hex_digits}
 use Rattle.fm_show.specs.Disassembly.{disassembly_text}
 use Rattle.fm_image.specs.Spelling.{are_words}
 use Rattle.fm_asm.specs.Cuts.{cut, without_leading_spaces, without_trailing, unless_trailing, trimmed}
-use Rattle.fm_asm.specs.Values.{number, in_32_bits, decimal_value}
+use Rattle.fm_words.specs.Word.{unsigned_32}
+use Rattle.fm_asm.specs.Values.{number, decimal_value}
 use Rattle.fm_asm.specs.Statements.{Statement, base, size, final, start, word, instruction}
 use Rattle.stack_text.specs.Lines.{is_plain_line}
 use Rattle.fm_asm.specs.Lines.{Line, text_of}
@@ -41,7 +42,7 @@ use Rattle.fm_asm.specs.Assembly.{says_word, says_instruction, SpellsSaid, nothi
 use Rattle.fm_asm.specs.Assembly.{labels_of, are_distinct, statement_word, IsAssembly}
 use Rattle.fm_asm.specs.Assembling.{assembly_of}
 use Rattle.fm_asm.proofs.CutLaws.{lacks}
-use Rattle.fm_asm.proofs.ValueLaws.{if_true, lacks_from}
+use Rattle.fm_asm.proofs.ValueLaws.{lacks_from}
 use Rattle.fm_asm.proofs.TextLaws.{is_text_byte, all-append, all_weaker, IsTidy, tidy_text, tidy_plain, lines_text, split-lines}
 use Rattle.fm_asm.proofs.PrintedLaws.{decimal_bytes, decimal_text, instruction_written, instruction_tidy}
 use Rattle.fm_asm.proofs.AssemblyLaws.{spelled_is_assembled}
@@ -55,10 +56,10 @@ record Prints (text : List ℕ) (s : Statement) : Type 0 where
 
 decimal_number : (n : ℕ) → n < 2 ^ 32 → decimal_value (decimal n) ≡ Some n
 decimal_number n small =
-    ap in_32_bits (value-signed_decimal (pos n) (grind (arith, nat_tests))) ∙ fits
+    ap unsigned_32 (value-signed_decimal (pos n) (grind (arith, nat_tests))) ∙ fits
   where
-    fits : in_32_bits (pos n) ≡ Some n
-    fits = let yes : Option ℕ = Some n in if_true (nat_lt n (2 ^ 32)) yes None (lt-ltb n (2 ^ 32) small)
+    fits : unsigned_32 (pos n) ≡ Some n
+    fits = let yes : Option ℕ = Some n in cond-true (nat_lt n (2 ^ 32)) yes None (lt-ltb n (2 ^ 32) small)
 
 value_of_decimal : (n : ℕ) → n < 2 ^ 32 → SpellsValue (decimal n) (number (Some n))
 value_of_decimal n small =

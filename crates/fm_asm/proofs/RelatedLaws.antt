@@ -5,13 +5,13 @@ use Rattle.std.specs.Prelude.{option_to_list, IfOk}
 use Rattle.std.specs.List.{flat_map, list_all, list_any, slice_split}
 use Rattle.std.specs.Str.{bytes_eq}
 use Rattle.std.specs.Result.{result_unwrap_or}
-use Rattle.std.proofs.lemmas.Bool.{and_parts, and_from}
+use Rattle.std.proofs.lemmas.Bool.{and_parts, and_from, not-true}
 use Rattle.std.proofs.lemmas.Bool.Decides.{nat_tests}
 use Rattle.stack_text.specs.Breaches.{least}
 use Rattle.stack_text.specs.Results.{◌>>=◌}
 use Rattle.stack_text.specs.declared.breach.Breach.{Breach}
 use Rattle.stack_text.proofs.BreachLaws.{none_least}
-use Rattle.stack_text.proofs.SharedLaws.{not_true, rule_fails, append_none, bytes_apart}
+use Rattle.stack_text.proofs.SharedLaws.{rule_fails, append_none, bytes_apart}
 use Rattle.fm_image.specs.Image.{ImageOf}
 use Rattle.fm_image.specs.Spelling.{are_words}
 use Rattle.fm_asm.specs.declared.fault.AsmFault.{AsmFault}
@@ -65,7 +65,7 @@ none_same : (own : List ℕ) (names : List (List ℕ)) → list_all (λ name. no
 none_same own [] h = refl
 none_same own (name ∷ names) h =
     let parts = and_parts (not (bytes_eq name own)) (list_all (λ m. not (is_labelled m (Some own))) names) h in
-    let apart = bytes_apart name own (not_true (bytes_eq name own) parts.0) in
+    let apart = bytes_apart name own (not-true (bytes_eq name own) parts.0) in
     let later = none_same own names parts.1 in
     rw apart later
 

@@ -11,7 +11,7 @@ use Rattle.fm_asm.specs.Lines.{Said, Line}
 use Rattle.fm_asm.specs.Sources.{if_in_range, final_due, due_after, due_after_line, line_read, word_count, kept, ended, with_lines, lines_read}
 use Rattle.fm_asm.specs.Labels.{number_of}
 use Rattle.fm_asm.specs.Assembly.{IsLine, AreLines, no_line, one_line, statements_of, statement_word}
-use Rattle.fm_asm.proofs.ValueLaws.{if_true}
+use Rattle.std.proofs.lemmas.Bool.{cond-true}
 use Rattle.fm_asm.proofs.LineLaws.{line_said}
 
 -- what a line says, and what is due after it
@@ -102,7 +102,7 @@ words_due b n known (instruction (Some x) ∷ ss) (w ∷ ws) h =
     words_due b n known ss ws rest
 
 sized_due : (b n : ℕ) → is_size b n ≡ true → final_due b (Some n) ≡ Ok (due.Final b n)
-sized_due b n sized = let yes : Result Due ℕ = Ok (due.Final b n) in let other : Result Due ℕ = Err 3 in if_true (is_size b n) yes other sized
+sized_due b n sized = let yes : Result Due ℕ = Ok (due.Final b n) in let other : Result Due ℕ = Err 3 in cond-true (is_size b n) yes other sized
 
 pub header_due : (b n e x : ℕ) (known : List ℕ → Option ℕ) (f s : Value) (ss : List Statement) (ws : List ℕ) → is_size b n ≡ true
     → number_of b known f ≡ Some e → number_of b known s ≡ Some x

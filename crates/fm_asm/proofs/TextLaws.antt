@@ -2,14 +2,13 @@
 use Rattle.std.proofs.Common.{◌≡◌, ℕ, ◌≤◌, ◌==◌, ◌&&◌, Bool, true, false, not, List, [], ◌∷◌, ◌++◌, length, None, refl, sym, ap, ◌∙◌, arith, le-leb}
 use Rattle.std.specs.List.{list_all, slice_split, onto_first}
 use Rattle.std.specs.Char.{is_ascii_digit}
-use Rattle.std.proofs.lemmas.Bool.{and_parts, and_from}
+use Rattle.std.proofs.lemmas.Bool.{and_parts, and_from, not-true, cond-false}
 use Rattle.std.proofs.lemmas.Bool.Decides.{nat_tests}
-use Rattle.stack_text.proofs.SharedLaws.{not_true}
 use Rattle.fm_asm.specs.Cuts.{cut, without_leading_spaces, unless_trailing, without_trailing, trimmed}
 use Rattle.stack_text.specs.Lines.{is_plain_byte, is_plain_line}
 use Rattle.fm_asm.specs.Lines.{text_of}
 use Rattle.fm_asm.proofs.CutLaws.{lacks, cut-lacks}
-use Rattle.fm_asm.proofs.ValueLaws.{if_false, lacks_from}
+use Rattle.fm_asm.proofs.ValueLaws.{lacks_from}
 
 -- a plain byte that begins no comment
 abbrev pub is_text_byte : ℕ → Bool
@@ -48,7 +47,7 @@ pub record IsTidy (text : List ℕ) : Type 0 where
 
 last_kept : (x : ℕ) (xs : List ℕ) → lacks 32 (x ∷ xs) ≡ true → without_trailing 32 (x ∷ xs) ≡ x ∷ xs
 unfolding without_trailing
-last_kept x [] h = rw (not_true (x == 32) (and_parts _ _ h).0) refl
+last_kept x [] h = rw (not-true (x == 32) (and_parts _ _ h).0) refl
 last_kept x (y ∷ xs) h = ap (unless_trailing 32 x) (last_kept y xs (and_parts (not (x == 32)) (lacks 32 (y ∷ xs)) h).1)
 
 end_kept : (front : List ℕ) (x : ℕ) (xs : List ℕ) → lacks 32 (x ∷ xs) ≡ true → without_trailing 32 (front ++ x ∷ xs) ≡ front ++ x ∷ xs
@@ -61,7 +60,7 @@ pub tidy_text : (text : List ℕ) → IsTidy text → text_of text ≡ text
 unfolding text_of trimmed without_leading_spaces
 tidy_text text t =
     let commentless : cut 59 text ≡ (text, None) = cut-lacks 59 text (lacks_from is_text_byte 59 text refl t.bytes) in
-    let begun : without_leading_spaces text ≡ text = ap without_leading_spaces t.begins ∙ if_false (t.first == 32) _ _ t.no_space ∙ sym t.begins in
+    let begun : without_leading_spaces text ≡ text = ap without_leading_spaces t.begins ∙ cond-false (t.first == 32) _ _ t.no_space ∙ sym t.begins in
     let ended : without_trailing 32 text ≡ text = ap (without_trailing 32) t.ends ∙ end_kept t.front t.back t.more t.spaceless ∙ sym t.ends in
     rw commentless (ap (without_trailing 32) begun ∙ ended)
 
@@ -75,7 +74,7 @@ split-line : (line rest : List ℕ) → lacks 10 line ≡ true → slice_split (
 split-line [] rest h = refl
 split-line (b ∷ line) rest h =
     let parts = and_parts (not (b == 10)) (lacks 10 line) h in
-    if_false (b == 10) _ _ (not_true (b == 10) parts.0) ∙ ap (onto_first b) (split-line line rest parts.1)
+    cond-false (b == 10) _ _ (not-true (b == 10) parts.0) ∙ ap (onto_first b) (split-line line rest parts.1)
 
 unfoldable pub lines_text : List (List ℕ) → List ℕ
 lines_text [] = []

@@ -3,7 +3,7 @@ use Rattle.std.proofs.Common.{◌≡◌, ℕ, ◌==◌, ◌&&◌, Bool, true, fa
 use Rattle.std.proofs.Common.{codes, eqb-true, nat_lt}
 use Rattle.std.specs.List.{list_all}
 use Rattle.std.specs.Char.{is_ascii_digit, is_ascii_alphabetic}
-use Rattle.std.proofs.lemmas.Bool.{and_parts, and_from}
+use Rattle.std.proofs.lemmas.Bool.{and_parts, and_from, cond-true, cond-false}
 use Rattle.std.proofs.lemmas.Bool.Decides.{nat_tests}
 use Rattle.std.specs.Prelude.{IsOk}
 use Rattle.std.proofs.lemmas.List.Sums.{list_all-from_AllPass}
@@ -15,18 +15,7 @@ use Rattle.fm_asm.specs.Cuts.{after_prefix}
 use Rattle.fm_asm.specs.Values.{Value, number, label, decimal_value, decimal_in, number_of_bytes, hex_value, hexadecimal_after, as_number, value_in}
 use Rattle.fm_asm.specs.Assembly.{IsHexadecimal, SpellsValue, decimal, hexadecimal, named}
 use Rattle.fm_asm.proofs.CutLaws.{lacks, after_prefix-append}
-
-pub if_true : {A : Type 0} (b : Bool) (x y : A) → b ≡ true → cond b x y ≡ x
-if_true true x y h = refl
-if_true false x y h = absurd cc
-
-pub if_false : {A : Type 0} (b : Bool) (x y : A) → b ≡ false → cond b x y ≡ y
-if_false true x y h = absurd cc
-if_false false x y h = refl
-
-and_false : (b : Bool) → b && false ≡ false
-and_false true = refl
-and_false false = refl
+use Rattle.stack_text.proofs.SharedLaws.{and_false}
 
 -- where each byte passes, and this one doesn't, it is lacking
 pub lacks_from : (p : ℕ → Bool) (byte : ℕ) (bytes : List ℕ) → p byte ≡ false → list_all p bytes ≡ true → lacks byte bytes ≡ true
@@ -63,7 +52,7 @@ hex_is_no_digits digits = and_false (nat_lt 0 (length (48 ∷ 120 ∷ digits)))
 
 pub decimal_written : (digits : List ℕ) → is_digits digits ≡ true → decimal_in digits ≡ Some (decimal_value digits)
 unfolding decimal_in
-decimal_written digits h = if_true (is_digits digits) _ _ h
+decimal_written digits h = cond-true (is_digits digits) _ _ h
 
 hex_written : (digits : List ℕ) (n : ℕ) → IsHexadecimal digits n → hex_value digits ≡ Some n
 unfolding hex_value
@@ -72,19 +61,19 @@ hex_written digits n h = ap number_of_bytes h.digits_are ∙ ap Some (sym h.numb
 pub value_written : (text : List ℕ) (v : Value) → SpellsValue text v → value_in text ≡ Some v
 unfolding value_in
 value_written _ _ (decimal digits h) =
-    if_true (is_digits digits) (Some (number (decimal_value digits)))
+    cond-true (is_digits digits) (Some (number (decimal_value digits)))
     (cond (is_name digits) (Some (label digits)) (hexadecimal_after (after_prefix (codes "0x") digits))) h
 value_written _ _ (hexadecimal digits n h) =
     let rest : hexadecimal_after (after_prefix (codes "0x") (48 ∷ 120 ∷ digits)) ≡ Some (number (Some n)) =
     ap hexadecimal_after (after_prefix-append (codes "0x") digits) ∙ ap (option_map as_number) (hex_written digits n h) in
-    if_false (is_digits (48 ∷ 120 ∷ digits)) (Some (number (decimal_value (48 ∷ 120 ∷ digits))))
+    cond-false (is_digits (48 ∷ 120 ∷ digits)) (Some (number (decimal_value (48 ∷ 120 ∷ digits))))
     (cond (is_name (48 ∷ 120 ∷ digits)) (Some (label (48 ∷ 120 ∷ digits))) (hexadecimal_after (after_prefix (codes "0x") (48 ∷ 120 ∷ digits))))
     (hex_is_no_digits digits)
     ∙ rest
 value_written _ _ (named name h) =
-    if_false (is_digits name) (Some (number (decimal_value name)))
+    cond-false (is_digits name) (Some (number (decimal_value name)))
     (cond (is_name name) (Some (label name)) (hexadecimal_after (after_prefix (codes "0x") name))) (name_is_no_digits name h)
-    ∙ if_true (is_name name) (Some (label name)) (hexadecimal_after (after_prefix (codes "0x") name)) h
+    ∙ cond-true (is_name name) (Some (label name)) (hexadecimal_after (after_prefix (codes "0x") name)) h
 
 -- ---- bytes that no value has
 

@@ -1,11 +1,9 @@
 -- Labels, words, and what breaks a rule where each line is of a form.
 use Rattle.std.specs.Prelude.{◌≡◌, ℕ, ◌+◌, ◌%◌, ◌^◌, List, [], ◌∷◌, ◌++◌, Option, Some, None, Bool, false}
 use Rattle.std.specs.Prelude.{is_some, is_none, not, nat_le, if◌then◌else◌, option_map, unwrap_or}
-use Rattle.std.specs.Borrow.{Bor}
 use Rattle.std.specs.List.{flat_map}
-use Rattle.std.specs.Map.{lookup}
 use Rattle.std.specs.Str.{bytes_eq}
-use Rattle.indexmap.specs.IndexMap.{IndexMap}
+use Rattle.name_tables.specs.Entries.{Entries, look_up}
 use Rattle.stack_text.specs.declared.breach.Breach.{Breach}
 use Rattle.stack_text.specs.Breaches.{when}
 use Rattle.fm_image.specs.Limits.{is_inside}
@@ -26,12 +24,8 @@ unfoldable pub offset_of : List Line → List ℕ → Option ℕ
 offset_of [] name = None
 offset_of (line ∷ lines) name = if is_labelled name line.said.label then Some line.offset else offset_of lines name
 
--- what a table of labels has for a name
-abbrev pub look_up : {S : Type 0} → IndexMap (Bor (List ℕ)) ℕ S → List ℕ → Option ℕ
-look_up table name = lookup (λ key. bytes_eq name key.now) table.entries
-
 -- the table has the first line of each label
-abbrev pub Knows : {S : Type 0} → IndexMap (Bor (List ℕ)) ℕ S → List Line → Type 0
+abbrev pub Knows : Entries ℕ → List Line → Type 0
 Knows table lines = (name : List ℕ) → look_up table name ≡ offset_of lines name
 
 -- rule 4: a label that an earlier line has

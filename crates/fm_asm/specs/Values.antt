@@ -9,6 +9,7 @@ use Rattle.stack_text.specs.Numerals.{is_digits, numeral_value}
 use Rattle.fm_asm.specs.declared.value.Value as declared
 use Rattle.fm_asm.specs.declared.value.Value.TheVariants as variants
 use Rattle.fm_asm.specs.Cuts.{after_prefix}
+use Rattle.fm_words.specs.Word.{unsigned_32}
 
 -- a number, which is `None` where it has more than 32 bits, or a label
 pub data Value : Type 0 where
@@ -20,14 +21,9 @@ abbrev pub value_of : declared.Value → Value
 value_of (variants.Number n) = number n
 value_of (variants.Label name) = label name.now
 
--- the number, if it fits 32 bits
-abbrev pub in_32_bits : ℤ → Option ℕ
-in_32_bits (pos n) = if nat_lt n (2 ^ 32) then Some n else None
-in_32_bits (negsuc n) = None
-
 -- the number of decimal digits, if it fits 32 bits
 abbrev pub decimal_value : List ℕ → Option ℕ
-decimal_value digits = in_32_bits (numeral_value digits)
+decimal_value digits = unsigned_32 (numeral_value digits)
 
 -- the number of a word, if that is decimal digits
 unfoldable pub decimal_in : List ℕ → Option (Option ℕ)

@@ -9,7 +9,8 @@ ghost use Rattle.fm_asm.specs.Cuts.{without_trailing};
 ghost use Rattle.fm_asm.specs.Statements.{statement_of};
 ghost use Rattle.fm_asm.specs.Lines.{line_of};
 ghost use Rattle.fm_asm.specs.Sources.{source_of, IsOfText};
-ghost use Rattle.fm_asm.specs.Labels.{look_up, breaches, as_word, statement_words, line_words, final_word, start_word, first_value};
+ghost use Rattle.name_tables.specs.Entries.{look_up};
+ghost use Rattle.fm_asm.specs.Labels.{breaches, as_word, statement_words, line_words, final_word, start_word, first_value};
 ghost use Rattle.fm_asm.specs.Printing.{is_plain, plain_image};
 ghost use Rattle.fm_asm.specs.Assembly.{IsAssembly};
 ghost use Rattle.fm_asm.specs.Assembling.{GivesAssembly, judged, assembly_of};
@@ -21,7 +22,7 @@ use crate::line::Line;
 use crate::source::{Source, source_in};
 use crate::statement::Statement;
 use fm_image::{Image, bare_image};
-use indexmap::IndexMap;
+use name_tables::NameTable;
 use stack_text::Memory;
 use std::alloc::Global;
 
@@ -37,7 +38,7 @@ fn as_word(number: Option<u64>) -> u32
 fn push_word(
     words: &mut Vec<u32>,
     base: u32,
-    labels: &IndexMap<&[u8], u32>,
+    labels: &NameTable<'_, u32>,
     statement: Option<Statement<'_>>,
 ) -> Result<(), Memory>
     ensures { let more = statement_words base (look_up labels.now) (option_map statement_of statement.entry) in
@@ -55,7 +56,7 @@ fn push_word(
 fn words_of(
     alloc: Global,
     base: u32,
-    labels: &IndexMap<&[u8], u32>,
+    labels: &NameTable<'_, u32>,
     lines: &[Line<'_, '_>],
 ) -> Result<Vec<u32>, Memory>
     ensures { let of_line = line_words base (look_up labels.now) in
@@ -71,7 +72,7 @@ fn words_of(
 /// The number of a `.final`, as a word.
 fn final_word(
     base: u32,
-    labels: &IndexMap<&[u8], u32>,
+    labels: &NameTable<'_, u32>,
     statement: Option<Statement<'_>>,
 ) -> Option<u32>
     ensures { result ≡ final_word base (look_up labels.now) (option_map statement_of statement.entry) }
@@ -83,7 +84,7 @@ fn final_word(
 }
 
 /// The number of the first line that has a `.final`.
-fn final_in(base: u32, labels: &IndexMap<&[u8], u32>, lines: &[Line<'_, '_>]) -> u32
+fn final_in(base: u32, labels: &NameTable<'_, u32>, lines: &[Line<'_, '_>]) -> u32
     ensures { let word_of = final_word base (look_up labels.now) in
         result ≡ first_value (λ line. word_of (line_of line).said.statement) lines.now }
 {
@@ -98,7 +99,7 @@ fn final_in(base: u32, labels: &IndexMap<&[u8], u32>, lines: &[Line<'_, '_>]) ->
 /// The number of a `.start`, as a word.
 fn start_word(
     base: u32,
-    labels: &IndexMap<&[u8], u32>,
+    labels: &NameTable<'_, u32>,
     statement: Option<Statement<'_>>,
 ) -> Option<u32>
     ensures { result ≡ start_word base (look_up labels.now) (option_map statement_of statement.entry) }
@@ -110,7 +111,7 @@ fn start_word(
 }
 
 /// The number of the first line that has a `.start`.
-fn start_in(base: u32, labels: &IndexMap<&[u8], u32>, lines: &[Line<'_, '_>]) -> u32
+fn start_in(base: u32, labels: &NameTable<'_, u32>, lines: &[Line<'_, '_>]) -> u32
     ensures { let word_of = start_word base (look_up labels.now) in
         result ≡ first_value (λ line. word_of (line_of line).said.statement) lines.now }
 {

@@ -7,29 +7,23 @@ ghost use Rattle.fm_image.specs.Limits.{is_inside};
 ghost use Rattle.fm_asm.specs.Values.{value_of};
 ghost use Rattle.fm_asm.specs.Statements.{statement_of};
 ghost use Rattle.fm_asm.specs.Lines.{line_of};
-ghost use Rattle.fm_asm.specs.Labels.{look_up, number_of, is_outside, statement_breaches, line_breaches};
+ghost use Rattle.name_tables.specs.Entries.{look_up};
+ghost use Rattle.fm_asm.specs.Labels.{number_of, is_outside, statement_breaches, line_breaches};
 
 use crate::line::Line;
 use crate::statement::Statement;
 use crate::value::Value;
-use indexmap::IndexMap;
+use name_tables::NameTable;
 use stack_text::{Breach, note_if};
-
-/// How many words stand before the line of a label.
-fn offset_of(labels: &IndexMap<&[u8], u32>, name: &[u8]) -> Option<u32>
-    ensures { result ≡ look_up labels.now name.now }
-{
-    labels.get(name).copied()
-}
 
 /// The number of a value: a label stands for the base and the words before its line.
 #[tactic(auto, unfolding(crate::specs::Labels::number_of))]
-pub(crate) fn number_of(base: u32, labels: &IndexMap<&[u8], u32>, value: Value<'_>) -> Option<u64>
+pub(crate) fn number_of(base: u32, labels: &NameTable<'_, u32>, value: Value<'_>) -> Option<u64>
     ensures { result ≡ number_of base (look_up labels.now) (value_of value.entry) }
 {
     match value {
         Value::Number(number) => Some(u64::from(number?)),
-        Value::Label(name) => Some(u64::from(base) + u64::from(offset_of(labels, name)?)),
+        Value::Label(name) => Some(u64::from(base) + u64::from(labels.get(name)?)),
     }
 }
 
@@ -56,7 +50,7 @@ fn judge_statement(
     best: &mut Option<Breach>,
     base: u32,
     size: u32,
-    labels: &IndexMap<&[u8], u32>,
+    labels: &NameTable<'_, u32>,
     place: u32,
     offset: u32,
     statement: Option<Statement<'_>>,
@@ -89,7 +83,7 @@ pub(crate) fn judge(
     best: &mut Option<Breach>,
     base: u32,
     size: u32,
-    labels: &IndexMap<&[u8], u32>,
+    labels: &NameTable<'_, u32>,
     lines: &[Line<'_, '_>],
 )
     ensures { let breaches = line_breaches base size (look_up labels.now) in

@@ -4,18 +4,19 @@ ghost use Rattle.std.specs.Prelude.{◌≡◌, ℕ, List, [], map, option_map, i
 ghost use Rattle.std.specs.Str.{bytes_eq};
 ghost use Rattle.stack_text.specs.Breaches.{when, Notes};
 ghost use Rattle.fm_asm.specs.Lines.{line_of};
-ghost use Rattle.fm_asm.specs.Labels.{look_up, is_labelled, repeated, repeats, Knows};
+ghost use Rattle.name_tables.specs.Entries.{look_up};
+ghost use Rattle.fm_asm.specs.Labels.{is_labelled, repeated, repeats, Knows};
 ghost use Rattle.stack_text.specs.Options.{first_or};
 
 use crate::line::Line;
-use indexmap::IndexMap;
+use name_tables::NameTable;
 use stack_text::{Breach, Memory, note_if};
 use std::alloc::Global;
 
 /// Enters a label, or notes that it was entered before.
 fn declare<'l>(
     best: &mut Option<Breach>,
-    table: &mut IndexMap<&'l [u8], u32>,
+    table: &mut NameTable<'l, u32>,
     name: &'l [u8],
     offset: u32,
     place: u32,
@@ -24,19 +25,15 @@ fn declare<'l>(
         → look_up table.new other ≡ first_or (look_up table.old other) (bytes_eq other name.now) offset) }
     ensures noted { OnOk result (Notes best.old (when (is_some (look_up table.old name.now)) place 4) best.new) }
 {
-    let is_known = table.contains_key(name);
+    let is_known = table.enter(name, offset)?;
     note_if(best, is_known, place, 4);
-    if is_known {
-        return Ok(());
-    }
-    table.insert(name, offset)?;
     Ok(())
 }
 
 /// Enters the label of a line, if it has one, or notes that it was entered before.
 fn declare_label<'l>(
     best: &mut Option<Breach>,
-    table: &mut IndexMap<&'l [u8], u32>,
+    table: &mut NameTable<'l, u32>,
     label: Option<&'l [u8]>,
     offset: u32,
     place: u32,
@@ -57,11 +54,11 @@ pub(crate) fn labels_of<'l>(
     alloc: Global,
     best: &mut Option<Breach>,
     lines: &[Line<'l, '_>],
-) -> Result<IndexMap<&'l [u8], u32>, Memory>
+) -> Result<NameTable<'l, u32>, Memory>
     ensures known { IfOk result (λ table. Knows table (map line_of lines.now)) }
     ensures noted { OnOk result (Notes best.old (repeats [] (map line_of lines.now)) best.new) }
 {
-    let mut table = IndexMap::new(alloc);
+    let mut table = NameTable::new(alloc);
     for line in lines {
         declare_label(best, &mut table, line.said.label, line.offset, line.place)?;
     }

@@ -110,10 +110,6 @@ pub word_subb : (a b : ℕ) (c : Bool) → a < 2 ^ 32 → (2 ^ 32 - 1 - a + b + 
 word_subb a b true h = omega arith
 word_subb a b false h = omega arith
 
-pub small : (t : Bool) → bit_of t ≤ 1
-small true = omega arith
-small false = omega arith
-
 -- the lowest bit
 pub lowest : (a : ℕ) → a % 2 ≡ bit_of (a % 2 == 1)
 lowest a = grind (arith, nat_tests)

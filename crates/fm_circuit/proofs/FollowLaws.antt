@@ -31,9 +31,11 @@ use Rattle.fm_circuit.proofs.PassLaws.{Passes, one, after, same_start}
 use Rattle.fm_circuit.proofs.PhaseLaws.{asked, place, at_fetch, at_fetched, at_fetched_outside, at_second, at_stored, at_stored_outside, at_fault}
 use Rattle.fm_circuit.proofs.ExecuteLaws.{at_execute}
 use Rattle.fm_circuit.proofs.ResultLaws.{result_below}
-use Rattle.fm_circuit.proofs.WordFields.{op_number_back, cc_number_back, mode_number_back, reads_bit}
+use Rattle.fm_words.proofs.FieldLaws.{op_number_back, cc_number_back, mode_number_back}
+use Rattle.fm_circuit.proofs.WordFields.{reads_bit}
 use Rattle.fm_circuit.proofs.WordsLaws.{words_set, words_after, words_increment, word_found, words_with}
-use Rattle.fm_circuit.proofs.StageLaws.{Reaches, Halts, Comes, answered, IsA, unread, stage_a, place_b}
+use Rattle.fm_machine.proofs.StepLaws.{unread, ending, found_there}
+use Rattle.fm_circuit.proofs.StageLaws.{Reaches, Halts, Comes, answered, IsA, stage_a, place_b}
 
 -- after k cycles the board stands for a machine
 record Lands (now : Board) (k : ℕ) (u : Fm) : Type 0 where
@@ -89,13 +91,9 @@ then_comes now P k p q (Ok x) go le first next = next x refl first
 then_comes now P k p q (Err e) go le first next = halts_sooner p q le first
 
 -- a value has 32 bits
-found_ok : (o : Option ℕ) (a x : ℕ) → found_word o a ≡ Ok x → o ≡ Some x
-found_ok (Some word) a x e = cc
-found_ok None a x e = cc
-
 value_below : (s : Fm) (o : Option ℕ) (own x : ℕ) → AreWords s.memory → own < 2 ^ 32 → value_at s o own ≡ Ok x → x < 2 ^ 32
 value_below s None own x h p e = let same : own ≡ x = cc in subst (λ v. v < 2 ^ 32) same p
-value_below s (Some a) own x h p e = word_found s.base s.memory a x h (found_ok (word_at s.base s.memory a) a x e)
+value_below s (Some a) own x h p e = word_found s.base s.memory a x h (found_there (word_at s.base s.memory a) a x e)
 
 -- the first operand of a word
 is_a : (w : ℕ) → IsA w (operand_of w)
@@ -134,12 +132,6 @@ second_few false mode = omega arith
 first_few : (o : OperandA) → cycles_of_a o ≤ 2
 first_few (Immediate n) = omega arith
 first_few (Place mode r) = places_few mode
-
--- the end of an instruction, from its result
-abbrev ending : Fm → Instr → List ℕ → AluOut → Result Fm Outside
-ending s i rs out =
-    let next = record s { registers = registers_after i.mode_b i.reg_b rs; flags = flags_set i.set s.flags out } in
-    if does_hold i.cc s.flags then store_result next (address_of i.mode_b i.reg_b rs) i.reg_b out.word else Ok next
 
 -- the second operand, read or not: what the board has, and that it gives the result
 record Second (now : Board) (k w a : ℕ) (op : Op) (f : Flags) (rs : List ℕ) (base : ℕ) (m : List ℕ) (x : ℕ) : Type 0 where

@@ -12,8 +12,9 @@ use Rattle.fm_circuit.specs.Circuit.{settled}
 use Rattle.fm_circuit.specs.Processor.{driver_of}
 use Rattle.fm_circuit.specs.Phases.{execute}
 use Rattle.fm_circuit.specs.Board.{on_board, board_of}
+use Rattle.fm_words.proofs.FlagsLaws.{bit_small}
 use Rattle.fm_circuit.proofs.AdderLaws.{not_bit, overflow_bit, turned_addc, turned_add, turned_inc, turned_neg, turned_dec, turned_subb, turned_sub, carry_bit}
-use Rattle.fm_circuit.proofs.AdderLaws.{borrow_bit, carries_inc, carries_add, borrows_neg, borrows_dec, borrows_subb, borrows_sub, word_subb, small, lowest}
+use Rattle.fm_circuit.proofs.AdderLaws.{borrow_bit, carries_inc, carries_add, borrows_neg, borrows_dec, borrows_subb, borrows_sub, word_subb, lowest}
 
 -- a result has 32 bits
 pub result_below : (op : Op) (c : Bool) (a b : ℕ) → a < 2 ^ 32 → b < 2 ^ 32 → (alu_of op c a b).word < 2 ^ 32
@@ -25,7 +26,7 @@ result_below Neg c a b p q = omega arith
 result_below Dec c a b p q = omega arith
 result_below Subb c a b p q = omega arith
 result_below Sub c a b p q = omega arith
-result_below Ror c a b p q = omega (arith, small c)
+result_below Ror c a b p q = omega (arith, bit_small c)
 result_below Asr c a b p q = omega arith
 result_below Lsr c a b p q = omega arith
 result_below Xor c a b p q = xor_of_32 a b p q
@@ -52,7 +53,7 @@ module _ (ir a b at : ℕ) (f : Flags) (rs : List ℕ) (read outside base : ℕ)
   }
   by_op Addc p q e g h = record {
     word = rw (e, g);
-    carry = rw (e, g, h) (carry_bit (a + b + bit_of f.c) _ (omega (arith, small f.c)) refl);
+    carry = rw (e, g, h) (carry_bit (a + b + bit_of f.c) _ (omega (arith, bit_small f.c)) refl);
     overflow = rw (e, g) (overflow_bit a b (a + b + bit_of f.c) p q ∙ ap bit_of (turned_addc a b f.c p q));
   }
   by_op Add p q e g h = record {
@@ -72,7 +73,7 @@ module _ (ir a b at : ℕ) (f : Flags) (rs : List ℕ) (read outside base : ℕ)
   }
   by_op Subb p q e g h = record {
     word = rw (e, g, not_bit f.c) (word_subb a b f.c p);
-    carry = rw (e, g, h, not_bit f.c) (borrow_bit (2 ^ 32 - 1 - a + b + bit_of (not f.c)) _ (omega (arith, small (not f.c))) (borrows_subb a b f.c p));
+    carry = rw (e, g, h, not_bit f.c) (borrow_bit (2 ^ 32 - 1 - a + b + bit_of (not f.c)) _ (omega (arith, bit_small (not f.c))) (borrows_subb a b f.c p));
     overflow = rw (e, g, not_bit f.c) (overflow_bit (2 ^ 32 - 1 - a) b (2 ^ 32 - 1 - a + b + bit_of (not f.c)) (omega arith) q
         ∙ ap bit_of (turned_subb a b f.c p q));
   }

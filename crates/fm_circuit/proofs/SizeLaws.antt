@@ -20,7 +20,7 @@ use Rattle.fm_circuit.specs.Board.{Board, cycle, reset_cycle, on_board, register
 use Rattle.fm_circuit.specs.Processor.{driver_of}
 use Rattle.fm_circuit.specs.Following.{AreWords}
 use Rattle.fm_circuit.specs.Sizes.{register_widths, input_widths, has_width, is_choice, is_sized, FitWidths, FitsBoard, Fitting}
-use Rattle.fm_circuit.proofs.AdderLaws.{small}
+use Rattle.fm_words.proofs.FlagsLaws.{bit_small}
 use Rattle.fm_circuit.proofs.WordsLaws.{words_set, words_with, word_found}
 
 product : (x y m n : ℕ) → x < m → y < n → x * n + y < m * n
@@ -92,7 +92,7 @@ module _ (on : Wire → ℕ) (fit : (wire : Wire) → on wire < 2 ^ width_of wir
     driven_fits width (Equal p q) h =
         let same = eqb-true width 1 (and_parts (width == 1) (has_width (pin_width p) p)
         (and_parts ((width == 1) && has_width (pin_width p) p) (has_width (pin_width p) q) h).0).0 in
-        subst (λ n. bit_of (pin_of on p == pin_of on q) < 2 ^ n) (sym same) (omega (arith, small (pin_of on p == pin_of on q)))
+        subst (λ n. bit_of (pin_of on p == pin_of on q) < 2 ^ n) (sym same) (omega (arith, bit_small (pin_of on p == pin_of on q)))
     driven_fits width (Two by among) h = choice_fits width 1 by among h
     driven_fits width (Four by among) h = choice_fits width 2 by among h
     driven_fits width (Eight by among) h = choice_fits width 3 by among h
@@ -215,7 +215,7 @@ answer_fits : (base : ℕ) (m : List ℕ) (a : ℕ) (o : Option ℕ) → AreWord
     → FitWidths input_widths (unwrap_or o 0 ∷ bit_of (not (is_some o)) ∷ [])
 answer_fits base m a (Some x) h e zero = word_found base m a x h e
 answer_fits base m a None h e zero = omega arith
-answer_fits base m a o h e (suc zero) = omega (arith, small (not (is_some o)))
+answer_fits base m a o h e (suc zero) = omega (arith, bit_small (not (is_some o)))
 answer_fits base m a o h e (suc (suc i)) = omega arith
 
 -- what the registers take at a reset

@@ -11,11 +11,10 @@ use Rattle.fm_words.specs.declared.instruction.Mode.TheVariants.{Register, Indir
 use Rattle.fm_words.specs.declared.instruction.OperandA.{OperandA}
 use Rattle.fm_words.specs.declared.instruction.OperandA.TheVariants.{Immediate, Place}
 use Rattle.fm_words.specs.Word.{word_of_int}
-use Rattle.fm_words.specs.Alu.{alu_of}
 use Rattle.fm_words.specs.Code.{imm_of}
 use Rattle.fm_words.specs.Encoding.{mode_number}
 use Rattle.fm_machine.specs.State.{Fm, word_at}
-use Rattle.fm_machine.specs.Step.{found_word, value_at, value_a, address_of, registers_after, registers_after_a, reads_b}
+use Rattle.fm_machine.specs.Step.{found_word, value_at, value_a, address_of, registers_after, registers_after_a}
 use Rattle.fm_machine.specs.declared.fault.Outside.{Outside}
 use Rattle.fm_circuit.specs.Phases.{fetch, read_a, got_a, read_b, got_b, execute, fault}
 use Rattle.fm_circuit.specs.Board.{Board, cycle, board_of}
@@ -59,25 +58,6 @@ answered phase ir a b at f rs base m o = board_of phase ir a b at f rs (unwrap_o
 abbrev pub IsA : ℕ → OperandA → Type 0
 IsA w (Immediate n) = (w / 2 ^ 9 % 2 ≡ 1) × (word_of_int n ≡ word_of_int (imm_of (w % 2 ^ 9)))
 IsA w (Place mode r) = (w / 2 ^ 9 % 2 ≡ 0) × (w / 2 ^ 4 % 4 ≡ mode_number mode) × (r ≡ w % 16)
-
--- an operation that doesn't read the second operand gives the same result for each value of it
-pub unread : (op : Op) (c : Bool) (a b d : ℕ) → reads_b op ≡ false → alu_of op c a b ≡ alu_of op c a d
-unread Move c a b d h = refl
-unread Inc c a b d h = refl
-unread Addc c a b d h = cc
-unread Add c a b d h = cc
-unread Neg c a b d h = refl
-unread Dec c a b d h = refl
-unread Subb c a b d h = cc
-unread Sub c a b d h = cc
-unread Ror c a b d h = refl
-unread Asr c a b d h = refl
-unread Lsr c a b d h = refl
-unread Xor c a b d h = cc
-unread Or c a b d h = cc
-unread And c a b d h = cc
-unread Not c a b d h = refl
-unread M15 c a b d h = refl
 
 module _ (s : Fm) (w : ℕ) (f : Flags) where
   -- the word of the first operand comes, or none

@@ -8,19 +8,9 @@ use Rattle.std.specs.Int.{from_bool as bit_of}
 use Rattle.fm_words.specs.declared.operation.Op.{Op}
 use Rattle.fm_words.specs.declared.operation.Op.TheVariants.{Move}
 use Rattle.fm_words.specs.Word.{word_of_int}
-use Rattle.fm_words.specs.Code.{op_of, cc_of, mode_of, imm_of, flags_of}
-use Rattle.fm_words.specs.Encoding.{op_number, cc_number, mode_number}
+use Rattle.fm_words.specs.Code.{imm_of, flags_of}
+use Rattle.fm_words.specs.Encoding.{op_number}
 use Rattle.fm_machine.specs.Step.{reads_b}
-
--- the number of what a number gives is that number
-pub op_number_back : (n : ℕ) → n < 16 → op_number (op_of n) ≡ n
-op_number_back n h = eqb-true _ _ (agree_below_at (λ k. eqb (op_number (op_of k)) k) (λ k. true) 16 n refl h)
-
-pub cc_number_back : (n : ℕ) → n < 16 → cc_number (cc_of n) ≡ n
-cc_number_back n h = eqb-true _ _ (agree_below_at (λ k. eqb (cc_number (cc_of k)) k) (λ k. true) 16 n refl h)
-
-pub mode_number_back : (n : ℕ) → n < 4 → mode_number (mode_of n) ≡ n
-mode_number_back n h = eqb-true _ _ (agree_below_at (λ k. eqb (mode_number (mode_of k)) k) (λ k. true) 4 n refl h)
 
 -- the operations that read their second operand, as a row of bits
 by_op : (op : Op) → slice_index (0 ∷ 0 ∷ 1 ∷ 1 ∷ 0 ∷ 0 ∷ 1 ∷ 1 ∷ 0 ∷ 0 ∷ 0 ∷ 1 ∷ 1 ∷ 1 ∷ 0 ∷ 0 ∷ []) (op_number op) ≡ bit_of (reads_b op)

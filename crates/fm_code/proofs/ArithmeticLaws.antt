@@ -11,7 +11,8 @@ use Rattle.fm_words.specs.declared.condition.Flags.{Flags}
 use Rattle.fm_words.specs.Alu.{alu_of, does_hold}
 use Rattle.fm_machine.specs.State.{Fm}
 use Rattle.fm_words.specs.Code.{no_flags}
-use Rattle.fm_code.specs.InstructionWords.{flag_z, flag_c, flags_cv, all_flags}
+use Rattle.fm_machine.specs.Masks.{all_flags}
+use Rattle.fm_code.specs.InstructionWords.{flag_z, flag_c, flags_cv}
 use Rattle.fm_code.specs.Flags.{flags_of_difference}
 use Rattle.fm_code.specs.Templates.{two_code, one_code, not_bool_code, eq_code, lt_code, carry_code, mult2_carry_code, div2_code}
 use Rattle.fm_code.specs.Execution.{Parts, CodeAt}

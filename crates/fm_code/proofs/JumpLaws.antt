@@ -11,7 +11,8 @@ use Rattle.fm_words.specs.declared.condition.Cc.TheVariants.{Zs}
 use Rattle.fm_words.specs.Alu.{does_hold}
 use Rattle.fm_machine.specs.State.{Fm}
 use Rattle.fm_words.specs.Code.{no_flags}
-use Rattle.fm_code.specs.InstructionWords.{reg, push, pop, literal, mov, all_flags, flag_z}
+use Rattle.fm_machine.specs.Masks.{all_flags}
+use Rattle.fm_code.specs.InstructionWords.{reg, push, pop, literal, mov, flag_z}
 use Rattle.fm_code.specs.Flags.{flags_of_word}
 use Rattle.fm_code.specs.Templates.{below_end, jump_code, jump_if_top_code, jump_case_code, pushj_code, popj_code, test_and_jump_code, call_code, pop_call_code}
 use Rattle.fm_code.specs.Templates.{ret_code, temporaries_code, prelude_code}

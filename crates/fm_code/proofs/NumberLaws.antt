@@ -10,6 +10,7 @@ use Rattle.fm_words.specs.Alu.{does_hold, are_same}
 use Rattle.fm_words.specs.declared.condition.Cc.TheVariants as cc
 use Rattle.fm_words.specs.declared.condition.Flags.{Flags}
 use Rattle.fm_code.specs.Flags.{flags_of_word, flags_of_difference}
+use Rattle.std.proofs.Math.IntN.{+ℤ_idr}
 
 -- what 32 bits keep of an exact number, from that number with a multiple of 2^32 added
 wrapped_of : (z : ℤ) (j m : ℕ) → z +ℤ pos (j * 2 ^ 32) ≡ pos m → wrapped z ≡ m % 2 ^ 32
@@ -106,10 +107,6 @@ pub last_bit : (b : Bool) → (bit_of b % 2 == 1) ≡ b
 last_bit true = refl
 last_bit false = refl
 
-pub bit_below : (b : Bool) → bit_of b ≤ 1
-bit_below true = omega arith
-bit_below false = omega arith
-
 pub or_bools : (x y : Bool) → bit_or (bit_of x) (bit_of y) ≡ bit_of (y || x)
 or_bools true true = refl
 or_bools true false = refl
@@ -123,30 +120,17 @@ and_bools false true = refl
 and_bools false false = refl
 
 -- sums and differences of integers that are in range
-pub add_zero : (z : ℤ) → z +ℤ pos 0 ≡ z
-add_zero (pos n) = grind (arith, ints)
-add_zero (negsuc n) = grind (arith, ints)
-
-pub sub_zero : (z : ℤ) → z -ℤ pos 0 ≡ z
-sub_zero (pos n) = grind (arith, ints)
-sub_zero (negsuc n) = grind (arith, ints)
 
 pub sum_number : (x y : ℤ) → is_int x ≡ true → is_int y ≡ true → is_int (x +ℤ y) ≡ true → (word_of_int x + word_of_int y) % 2 ^ 32 ≡ word_of_int (x +ℤ y)
 sum_number x y p q h =
     let e : (word_of_int x + word_of_int y) % 2 ^ 32 ≡ (word_of_int x + word_of_int y + 0) % 2 ^ 32 = omega arith in
-    e ∙ wrapped_sum x y 0 p q ∙ ap wrapped (add_zero (x +ℤ y)) ∙ wrapped-int (x +ℤ y) h
+    e ∙ wrapped_sum x y 0 p q ∙ ap wrapped (+ℤ_idr (x +ℤ y)) ∙ wrapped-int (x +ℤ y) h
 
 pub difference_number : (y x : ℤ) → is_int y ≡ true → is_int x ≡ true → is_int (y -ℤ x) ≡ true
     → (word_of_int y + 2 ^ 32 - word_of_int x) % 2 ^ 32 ≡ word_of_int (y -ℤ x)
 difference_number y x q p h =
     let e : (word_of_int y + 2 ^ 32 - word_of_int x) % 2 ^ 32 ≡ (word_of_int y + 2 ^ 32 - (word_of_int x + 0)) % 2 ^ 32 = omega arith in
-    e ∙ wrapped_difference y x 0 q p (omega arith) ∙ ap wrapped (sub_zero (y -ℤ x)) ∙ wrapped-int (y -ℤ x) h
-
-pub commutes : (x y : ℤ) → x +ℤ y ≡ y +ℤ x
-commutes (pos a) (pos b) = grind (arith, ints)
-commutes (pos a) (negsuc b) = grind (arith, ints)
-commutes (negsuc a) (pos b) = grind (arith, ints)
-commutes (negsuc a) (negsuc b) = grind (arith, ints)
+    e ∙ wrapped_difference y x 0 q p (omega arith) ∙ ap wrapped (+ℤ_idr (y -ℤ x)) ∙ wrapped-int (y -ℤ x) h
 
 -- the overflow of a sum and of a difference with a carry
 pub sum_outside : (x y : ℤ) (k : ℕ) → is_int x ≡ true → is_int y ≡ true → not (is_int (signed_of (word_of_int x) +ℤ signed_of (word_of_int y) +ℤ pos k))

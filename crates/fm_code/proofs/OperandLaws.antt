@@ -31,6 +31,7 @@ use Rattle.fm_machine.proofs.WindowLaws.{some_word}
 use Rattle.fm_code.proofs.HoldsLaws.{Holds-get}
 use Rattle.fm_code.proofs.LayoutLaws.{laid_pop, laid_pop_ctrl}
 use Rattle.fm_code.proofs.RegisterLaws.{registers_of, with_register, next, past, index_of, set_of}
+use Rattle.fm_machine.proofs.StepLaws.{unread, ending}
 
 -- the state of these registers and flags, with the window m
 abbrev pub state_of : ℕ → (ℕ → ℕ) → Flags → List ℕ → Fm
@@ -92,31 +93,6 @@ module _ {P : Parts} {n : ℕ} {s : Fm} {r : ℕ → ℕ} {fl : Flags} {ctrl tem
   step_at c i is w =
       let f = fetch c w in
       rw (f.is, f.up) (ap (λ j. effect_of (state_of P.base r fl c.m) j (registers_of (next r))) (decode_encode i is))
-
--- an operation that doesn't read the second operand gives the same result for each value of it
-unread : (op : Op) (c : Bool) (a b d : ℕ) → reads_b op ≡ false → alu_of op c a b ≡ alu_of op c a d
-unread Move c a b d h = refl
-unread Inc c a b d h = refl
-unread Addc c a b d h = cc
-unread Add c a b d h = cc
-unread Neg c a b d h = refl
-unread Dec c a b d h = refl
-unread Subb c a b d h = cc
-unread Sub c a b d h = cc
-unread Ror c a b d h = refl
-unread Asr c a b d h = refl
-unread Lsr c a b d h = refl
-unread Xor c a b d h = cc
-unread Or c a b d h = cc
-unread And c a b d h = cc
-unread Not c a b d h = refl
-unread M15 c a b d h = refl
-
--- the end of an instruction, from its result
-abbrev ending : Fm → Instr → List ℕ → AluOut → Result Fm Outside
-ending s i rs out =
-    let after = record s { registers = registers_after i.mode_b i.reg_b rs; flags = flags_set i.set s.flags out } in
-    if does_hold i.cc s.flags then store_result after (address_of i.mode_b i.reg_b rs) i.reg_b out.word else Ok after
 
 -- an instruction whose second operand has a value, read or not
 read_or_not : (s : Fm) (i : Instr) (rs : List ℕ) (x y : ℕ) → value_at s (address_of i.mode_b i.reg_b rs) (slice_index rs i.reg_b) ≡ Ok y

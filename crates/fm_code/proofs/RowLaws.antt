@@ -11,9 +11,11 @@ use Rattle.fm_code.proofs.RunLaws.{RunsToView, executes, with_count, with_temp}
 use Rattle.fm_code.proofs.MoveLaws as moves
 use Rattle.fm_code.proofs.JumpLaws as jumps
 use Rattle.fm_code.proofs.ArithmeticLaws as words
-use Rattle.fm_code.proofs.NumberLaws.{same_ints, same_bools, lt_int, sum_number, difference_number, commutes, last_bit, bit_below, or_bools, and_bools}
-use Rattle.fm_code.proofs.NumberLaws.{sum_outside, difference_outside, wrapped_sum, wrapped_difference, nat_sum, nat_sum_outside, nat_difference}
-use Rattle.fm_code.proofs.NumberLaws.{nat_difference_outside, is_zero, is_negative, is_positive, le_is, true_word, false_word}
+use Rattle.std.proofs.Math.IntN.{+ℤ_comm}
+use Rattle.fm_words.proofs.FlagsLaws.{bit_small}
+use Rattle.fm_code.proofs.NumberLaws.{same_ints, same_bools, lt_int, sum_number, difference_number, last_bit, or_bools, and_bools, sum_outside}
+use Rattle.fm_code.proofs.NumberLaws.{difference_outside, wrapped_sum, wrapped_difference, nat_sum, nat_sum_outside, nat_difference, nat_difference_outside}
+use Rattle.fm_code.proofs.NumberLaws.{is_zero, is_negative, is_positive, le_is, true_word, false_word}
 use Rattle.std.specs.Prelude.{Bool, true, not, ◌&&◌, ◌||◌, ◌==◌, nat_le, nat_lt, ℤ, pos, ◌+ℤ◌, ◌-ℤ◌, ◌*ℤ◌, bit_and, bit_or, bit_xor, ◌-◌, ◌/◌, ◌%◌, ◌^◌, ◌<◌}
 use Rattle.std.specs.Int.{from_bool as bit_of}
 use Rattle.std.proofs.lemmas.Bool.Decides.{nat_tests}
@@ -93,7 +95,7 @@ module _ {P : Parts} {n : ℕ} {s : Fm} {f pc : ℕ} {ctrl temp areas : List ℕ
       (wrapped (y +ℤ x +ℤ pos (bit_of u)) ∷ bit_of (not (is_int (y +ℤ x +ℤ pos (bit_of u)))) ∷ temp) areas
   added_ints u y x q p h code =
       let k = bit_of u in
-      let turn = commutes x y in
+      let turn = +ℤ_comm x y in
       let over : not (is_int (signed_of (word_of_int x) +ℤ signed_of (word_of_int y) +ℤ pos (bit_of (k % 2 == 1)))) ≡ not (is_int (y +ℤ x +ℤ pos k)) =
       ap (λ b. not (is_int (signed_of (word_of_int x) +ℤ signed_of (word_of_int y) +ℤ pos (bit_of b)))) (last_bit u) ∙ sum_outside x y k p q
       ∙ ap (λ z. not (is_int (z +ℤ pos k))) turn in
@@ -110,7 +112,7 @@ module _ {P : Parts} {n : ℕ} {s : Fm} {f pc : ℕ} {ctrl temp areas : List ℕ
       let over : not (is_int (signed_of (word_of_int y) -ℤ signed_of (word_of_int x) -ℤ pos (bit_of (k % 2 == 1)))) ≡ not (is_int (y -ℤ x -ℤ pos k)) =
       ap (λ b. not (is_int (signed_of (word_of_int y) -ℤ signed_of (word_of_int x) -ℤ pos (bit_of b)))) (last_bit u) ∙ difference_outside y x k q p in
       let sum : (word_of_int y + 2 ^ 32 - (word_of_int x + bit_of (k % 2 == 1))) % 2 ^ 32 ≡ wrapped (y -ℤ x -ℤ pos k) =
-      ap (λ b. (word_of_int y + 2 ^ 32 - (word_of_int x + bit_of b)) % 2 ^ 32) (last_bit u) ∙ wrapped_difference y x k q p (bit_below u) in
+      ap (λ b. (word_of_int y + 2 ^ 32 - (word_of_int x + bit_of b)) % 2 ^ 32) (last_bit u) ∙ wrapped_difference y x k q p (bit_small u) in
       with_temp (words.carried Subb Vs (not (is_int (y -ℤ x -ℤ pos k))) k (word_of_int y) (word_of_int x) h code (λ fl. over))
       (ap (λ v. v ∷ bit_of (not (is_int (y -ℤ x -ℤ pos k))) ∷ temp) sum)
 
@@ -133,7 +135,7 @@ module _ {P : Parts} {n : ℕ} {s : Fm} {f pc : ℕ} {ctrl temp areas : List ℕ
       let t = not (is_nat (pos y -ℤ pos x -ℤ pos k)) in
       let over : nat_lt y (x + bit_of (k % 2 == 1)) ≡ t = ap (λ b. nat_lt y (x + bit_of b)) (last_bit u) ∙ nat_difference_outside y x k q in
       let sum : (y + 2 ^ 32 - (x + bit_of (k % 2 == 1))) % 2 ^ 32 ≡ wrapped (pos y -ℤ pos x -ℤ pos k) =
-      ap (λ b. (y + 2 ^ 32 - (x + bit_of b)) % 2 ^ 32) (last_bit u) ∙ nat_difference y x k q p (bit_below u) in
+      ap (λ b. (y + 2 ^ 32 - (x + bit_of b)) % 2 ^ 32) (last_bit u) ∙ nat_difference y x k q p (bit_small u) in
       with_temp (words.carried Subb Cs t k y x h code (λ fl. over)) (ap (λ v. v ∷ bit_of t ∷ temp) sum)
 
   doubled : (x : ℕ) → HasRoom P (x ∷ temp) → RunsToView P n s f pc ctrl (x ∷ temp) areas → CodeAt P pc mult2_carry_code
@@ -152,7 +154,7 @@ word_rows P f pc ctrl temp areas =
       eq_bool = λ y x.
           executes (λ s h code. with_temp (words.eq (bit_of y) (bit_of x) h code) (ap (λ b. bit_of b ∷ temp) (same_bools y x))) refl;
       add_int = λ y x q p r.
-          let e = sum_number x y p q (ap is_int (commutes x y) ∙ r) ∙ ap word_of_int (commutes x y) in
+          let e = sum_number x y p q (ap is_int (+ℤ_comm x y) ∙ r) ∙ ap word_of_int (+ℤ_comm x y) in
           executes (λ s h code. words.two Add (word_of_int y) (word_of_int x) (word_of_int (y +ℤ x)) h code (λ c. e)) refl;
       sub_int = λ y x q p r.
           executes (λ s h code. words.two Sub (word_of_int y) (word_of_int x) (word_of_int (y -ℤ x)) h code (λ c. difference_number y x q p r)) refl;

@@ -50,9 +50,6 @@ flag_c = record { c = true; v = false; n = false; z = false }
 abbrev pub flags_cv : Flags
 flags_cv = record { c = true; v = true; n = false; z = false }
 
-abbrev pub all_flags : Flags
-all_flags = record { c = true; v = true; n = true; z = true }
-
 -- an instruction with its target b and its source a; an immediate is no target
 abbrev pub instruction : Op → Cc → Flags → OperandA → OperandA → Instr
 instruction op cc set (Place mode r) a = record { op = op; cc = cc; set = set; mode_b = mode; reg_b = r; a = a }

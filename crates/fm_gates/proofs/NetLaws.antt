@@ -15,7 +15,7 @@ use Rattle.fm_circuit.specs.Processor.{driver_of}
 use Rattle.fm_circuit.specs.Board.{cycle, cycle_with, cycles, on_board, registers, levels}
 use Rattle.fm_circuit.specs.Following.{AreWords}
 use Rattle.fm_circuit.specs.Sizes.{FitWidths, register_widths, input_widths}
-use Rattle.fm_circuit.proofs.AdderLaws.{small}
+use Rattle.fm_words.proofs.FlagsLaws.{bit_small}
 use Rattle.fm_circuit.proofs.SettledLaws.{settled_on, only_settled}
 use Rattle.fm_circuit.proofs.SizeLaws.{driven_fits, settled_fits, sized, memory_fits}
 use Rattle.fm_circuit.proofs.WordsLaws.{word_found}
@@ -248,7 +248,7 @@ module _ (b : BitBoard) (has : HasBits b) where
           registers = leaves_bits;
           file = λ r i below lt. pick_small (b.file r i) (wires w.FileData i) _ (has.file r i below lt) (nets.bits w.FileData i lt);
           read = λ i lt. bit_at-lt (unwrap_or (word_at b.base b.memory (on w.Address)) 0) i;
-          outside = omega (arith, small (not (is_some (word_at b.base b.memory (on w.Address)))));
+          outside = omega (arith, bit_small (not (is_some (word_at b.base b.memory (on w.Address)))));
           memory = memory_fits (gate_value s write_gate == 1 && is_some (word_at b.base b.memory (on w.Address))) b.base b.memory (on w.Address)
               (on w.Out) has.memory (fit w.Out);
         }

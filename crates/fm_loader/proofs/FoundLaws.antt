@@ -21,7 +21,8 @@ use Rattle.fm_loader.specs.Rules.{rule_number, Fault, FailsUnless}
 use Rattle.fm_loader.specs.Values.{mismatch, rule_broken, value_or_fault, found_in, is_named, slot_named, rule_of, fault_at, entry_fault, numbers_of}
 use Rattle.fm_loader.specs.Values.{numbers_for, value_with, value_for, all_found, HaveOwnNames}
 use Rattle.stack_text.specs.Results.{unless_fault}
-use Rattle.stack_text.proofs.SharedLaws.{get_below, bytes_apart}
+use Rattle.std.proofs.lemmas.Option.{slice_get_within}
+use Rattle.stack_text.proofs.SharedLaws.{bytes_apart}
 use Rattle.fm_loader.proofs.NameLaws.{named_same}
 
 -- ---- all are there
@@ -136,7 +137,7 @@ value_set (s ∷ slots) zero slot entries entry own at same new =
     ∙ ap (λ (vs : List (Option ValueOf)). Some (value_with slot.shape (numbers_of entry.value)) ∷ vs) (sym (others_keep slots entries entry apart)))
 value_set (s ∷ slots) (suc index) slot entries entry own at same new =
     let names : List (List ℕ) = map (λ s. s.name) slots in
-    let lt : index < length slots = get_below slots index slot at in
+    let lt : index < length slots = slice_get_within slots index slot at in
     let apart = apart_from_distinct bytes_eq (s.name ∷ names) 0 (suc index) slot.name own (omega arith)
     (omega (arith, length-map slots (λ (s : Slot). s.name))) in
     let other : bytes_eq s.name entry.name ≡ false = ap (bytes_eq s.name) (same ∙ sym (at_slot (λ (s : Slot). s.name) slots index slot slot.name at)) ∙ apart in
@@ -154,7 +155,7 @@ nothing_yet (slot ∷ slots) = ap (λ (vs : List (Option ValueOf)). None ∷ vs)
 pub within_found : (slots : List Slot) (entries : List Entry) (found : List (Option ValueOf)) (index : ℕ) (slot : Slot)
     → found ≡ map (value_for entries) slots → slice_get slots index ≡ Some slot → index < length found
 within_found slots entries found index slot found_is at =
-    let lt = get_below slots index slot at in
+    let lt = slice_get_within slots index slot at in
     omega (arith, lt, ap length found_is, length-map slots (value_for entries))
 
 refused : (slots : List Slot) (entries : List Entry) (i : ℕ) (entry : Entry) (rule : Rule) → i < length entries → entry ≡ get_or entries i entry

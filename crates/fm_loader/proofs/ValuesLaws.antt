@@ -28,9 +28,11 @@ use Rattle.stack_text.specs.Options as options
 use Rattle.stack_text.specs.Results.{◌>>=◌, unless_fault}
 use Rattle.stack_text.proofs.ResultLaws.{bind_ok}
 use Rattle.stack_text.proofs.OptionLaws.{bind_some}
-use Rattle.stack_text.proofs.SharedLaws.{get_below, bytes_apart}
-use Rattle.fm_words.specs.Word.{is_int}
-use Rattle.fm_loader.specs.Parsed.{in_32_bits, character_of, scalar_of, scalar_at, scalars_of, parsed_value, name_at, pair_of, entry_of}
+use Rattle.std.proofs.lemmas.Option.{slice_get_within}
+use Rattle.stack_text.proofs.SharedLaws.{bytes_apart}
+use Rattle.fm_words.specs.Word.{is_int, signed_32}
+use Rattle.stack_text.specs.TreeNames.{name_of_tree}
+use Rattle.fm_loader.specs.Parsed.{character_of, scalar_of, scalar_at, scalars_of, parsed_value, pair_of, entry_of}
 use Rattle.fm_loader.specs.Values.{entry_at, entries_of, mismatch, rule_broken, slot_named, is_named, rule_of, fault_at, entry_fault, number_of, numbers_of}
 use Rattle.fm_loader.specs.Values.{numbers_for, value_with, value_for, found_in, all_found, values_at, values_on, values_in, HaveOwnNames}
 use Rattle.fm_loader.specs.Rules.{rule_number, Fault, GivesValuesUnless}
@@ -164,7 +166,7 @@ named_itself (s ∷ slots) zero slot own at =
     rw ((bytes_eq-Decides slot.name s.name).1 (ap (λ (x : Slot). x.name) (sym is))) (ap Some is)
 named_itself (s ∷ slots) (suc i) slot own at =
     let names : List (List ℕ) = map (λ s. s.name) slots in
-    let lt : i < length slots = get_below slots i slot at in
+    let lt : i < length slots = slice_get_within slots i slot at in
     let apart = apart_from_distinct bytes_eq (s.name ∷ names) 0 (suc i) slot.name own (omega arith) (omega (arith, length-map slots (λ (s : Slot). s.name))) in
     let other : bytes_eq s.name slot.name ≡ false = ap (bytes_eq s.name) (sym (at_slot (λ (s : Slot). s.name) slots i slot slot.name at)) ∙ apart in
     rw (bytes_apart s.name slot.name other) (named_itself slots i slot (IsDistinct-tail bytes_eq s.name names own) at)
@@ -212,7 +214,7 @@ values_are slots text values own h =
 
 -- ---- each item has 32 signed bits
 
-in_bits : (number : ℤ) → is_int (unwrap_or (in_32_bits number) (pos 0)) ≡ true
+in_bits : (number : ℤ) → is_int (unwrap_or (signed_32 number) (pos 0)) ≡ true
 in_bits number = by_test (is_int number) refl
   where
     by_test : (b : Bool) → is_int number ≡ b → is_int (unwrap_or (cond b (Some number) None) (pos 0)) ≡ true
@@ -227,7 +229,7 @@ where_true false s t h = cc
 character_bits : (word : List ℕ) (s : Scalar) → character_of word ≡ Some s → is_int (number_of s) ≡ true
 character_bits [] s h = cc
 character_bits (mark ∷ digits) s h =
-    let is = where_true (eqb mark 35 && is_digits digits) (record { kind = Character; number = in_32_bits (numeral_value digits) }) s h in
+    let is = where_true (eqb mark 35 && is_digits digits) (record { kind = Character; number = signed_32 (numeral_value digits) }) s h in
     subst (λ (t : Scalar). is_int (number_of t) ≡ true) is (in_bits (numeral_value digits))
 
 first_or : (b : Bool) (s t : Scalar) (o : Option Scalar) → cond b (Some s) o ≡ Some t → is_int (number_of s) ≡ true
@@ -240,10 +242,10 @@ unfolding scalar_of
 scalar_bits word s h =
     first_or (bytes_eq word (codes "true")) (record { kind = Boolean; number = Some (pos 1) }) s
     (cond (bytes_eq word (codes "false")) (Some (record { kind = Boolean; number = Some (pos 0) }))
-    (cond (is_numeral word) (Some (record { kind = Integer; number = in_32_bits (numeral_value word) })) (character_of word))) h refl (λ h.
+    (cond (is_numeral word) (Some (record { kind = Integer; number = signed_32 (numeral_value word) })) (character_of word))) h refl (λ h.
     first_or (bytes_eq word (codes "false")) (record { kind = Boolean; number = Some (pos 0) }) s
-    (cond (is_numeral word) (Some (record { kind = Integer; number = in_32_bits (numeral_value word) })) (character_of word)) h refl (λ h.
-    first_or (is_numeral word) (record { kind = Integer; number = in_32_bits (numeral_value word) }) s (character_of word) h
+    (cond (is_numeral word) (Some (record { kind = Integer; number = signed_32 (numeral_value word) })) (character_of word)) h refl (λ h.
+    first_or (is_numeral word) (record { kind = Integer; number = signed_32 (numeral_value word) }) s (character_of word) h
     (in_bits (numeral_value word)) (character_bits word s)))
 
 scalar_at_bits : (tree : Node) (s : Scalar) → scalar_at tree ≡ Some s → is_int (number_of s) ≡ true
@@ -282,9 +284,9 @@ entry_bits : (tree : Node) (entry : Entry) → entry_of tree ≡ Some entry → 
 unfolding entry_of
 entry_bits (atom place word) entry h = cc
 entry_bits (list place trees) entry h =
-    let p = bind_some (pair_of trees) (λ pair. options.◌>>=◌ (name_at pair.0)
+    let p = bind_some (pair_of trees) (λ pair. options.◌>>=◌ (name_of_tree pair.0)
     (λ name. options.◌>>=◌ (parsed_value pair.1) (λ value. Some (record { place = place; name = name; value = value })))) entry h in
-    let q = bind_some (name_at p.0.0) (λ name. options.◌>>=◌ (parsed_value p.0.1)
+    let q = bind_some (name_of_tree p.0.0) (λ name. options.◌>>=◌ (parsed_value p.0.1)
     (λ value. Some (record { place = place; name = name; value = value }))) entry p.2 in
     let r = bind_some (parsed_value p.0.1) (λ value. Some (record { place = place; name = q.0; value = value })) entry q.2 in
     let made : Entry = record { place = place; name = q.0; value = r.0 } in

@@ -2,33 +2,29 @@
 use Rattle.std.specs.Prelude.{ℕ, ℤ, pos, List, [], ◌∷◌, Option, Some, None, ◌&&◌, ◌==◌, if◌then◌else◌, codes}
 use Rattle.std.specs.Option.{option_map}
 use Rattle.std.specs.Str.{bytes_eq}
-use Rattle.fm_words.specs.Word.{is_int}
+use Rattle.fm_words.specs.Word.{signed_32}
 use Rattle.stack_text.specs.declared.shape.Kind.TheVariants.{Integer, Boolean, Character}
 use Rattle.stack_text.specs.Options.{◌>>=◌}
 use Rattle.stack_text.specs.Numerals.{is_digits, is_numeral, numeral_value}
-use Rattle.stack_text.specs.Names.{name_of}
 use Rattle.stack_text.specs.Trees.{Node, Nodes, atom, list, none, more}
 use Rattle.fm_loader.specs.declared.parsed.Scalar.{Scalar}
 use Rattle.fm_loader.specs.declared.parsed.ParsedValue.{ParsedValue}
 use Rattle.fm_loader.specs.declared.parsed.ParsedValue.TheVariants.{Single, Several}
 use Rattle.fm_loader.specs.declared.parsed.Entry.{Entry}
-
--- the number, where it has 32 signed bits
-abbrev pub in_32_bits : ℤ → Option ℤ
-in_32_bits number = if is_int number then Some number else None
+use Rattle.stack_text.specs.TreeNames.{name_of_tree}
 
 -- `#` and digits
 abbrev pub character_of : List ℕ → Option Scalar
 character_of [] = None
 character_of (mark ∷ digits) =
-    if mark == 35 && is_digits digits then Some (record { kind = Character; number = in_32_bits (numeral_value digits) }) else None
+    if mark == 35 && is_digits digits then Some (record { kind = Character; number = signed_32 (numeral_value digits) }) else None
 
 -- `true`, `false`, a numeral, or a character
 unfoldable pub scalar_of : List ℕ → Option Scalar
 scalar_of word =
     if bytes_eq word (codes "true") then Some (record { kind = Boolean; number = Some (pos 1) }) else
     if bytes_eq word (codes "false") then Some (record { kind = Boolean; number = Some (pos 0) }) else
-    if is_numeral word then Some (record { kind = Integer; number = in_32_bits (numeral_value word) }) else character_of word
+    if is_numeral word then Some (record { kind = Integer; number = signed_32 (numeral_value word) }) else character_of word
 
 abbrev pub scalar_at : Node → Option Scalar
 scalar_at (atom place word) = scalar_of word
@@ -46,10 +42,6 @@ unfoldable pub parsed_value : Node → Option ParsedValue
 parsed_value (atom place word) = option_map Single (scalar_of word)
 parsed_value (list place trees) = option_map Several (scalars_of trees)
 
-abbrev pub name_at : Node → Option (List ℕ)
-name_at (atom place word) = name_of word
-name_at (list place trees) = None
-
 -- the two trees of a list of two
 abbrev pub pair_of : Nodes → Option (Node × Node)
 pair_of (more first (more second none)) = Some (first, second)
@@ -60,6 +52,6 @@ unfoldable pub entry_of : Node → Option Entry
 entry_of (atom place word) = None
 entry_of (list place trees) = do
   pair ← pair_of trees
-  name ← name_at pair.0
+  name ← name_of_tree pair.0
   value ← parsed_value pair.1
   Some (record { place = place; name = name; value = value })

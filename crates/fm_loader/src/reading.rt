@@ -5,7 +5,9 @@ ghost use Rattle.stack_text.specs.Gives as memory;
 ghost use Rattle.stack_text.specs.Numerals.{is_numeral, numeral_value};
 ghost use Rattle.stack_text.specs.Views.TreeView.{node_of, nodes_of};
 ghost use Rattle.fm_loader.specs.Rules.{GivesValuesUnless};
-ghost use Rattle.fm_loader.specs.Parsed.{in_32_bits, character_of, scalar_of, scalar_at, scalars_of, parsed_value, name_at, pair_of, entry_of};
+ghost use Rattle.fm_words.specs.Word.{signed_32};
+ghost use Rattle.stack_text.specs.TreeNames.{name_of_tree};
+ghost use Rattle.fm_loader.specs.Parsed.{character_of, scalar_of, scalar_at, scalars_of, parsed_value, pair_of, entry_of};
 ghost use Rattle.fm_loader.specs.Values.{entries_of, entry_at};
 
 use crate::fault::{Rule, ValuesFault, refused};
@@ -18,7 +20,7 @@ use stack_text::{
 /// The number of a numeral, where that has 32 signed bits.
 fn number(numeral: &[u8]) -> Option<i32>
     requires { IsTrue (is_numeral numeral.now) }
-    ensures { result ≡ in_32_bits (numeral_value numeral.now) }
+    ensures { result ≡ signed_32 (numeral_value numeral.now) }
 {
     match read_numeral(numeral) {
         Some(number) => i32::try_from(number).ok(),
@@ -113,7 +115,7 @@ fn parsed_value<H: Heap>(heap: H, tree: &TextTree) -> Result<Option<ParsedValue>
 
 /// The name that a tree is, if it is one.
 fn name<H: Heap>(heap: H, tree: &TextTree) -> Result<Option<Name>, Memory>
-    ensures { memory.ReturnsUnless (H.may_refuse heap) (λ name. name) result (name_at (node_of tree.now)) }
+    ensures { memory.ReturnsUnless (H.may_refuse heap) (λ name. name) result (name_of_tree (node_of tree.now)) }
 {
     match tree {
         TextTree::Atom { place: _, text } => read_name(heap, text),

@@ -13,7 +13,7 @@ use Rattle.fm_circuit.specs.Board.{registers}
 use Rattle.fm_gates.specs.Gates.{Gate, Off, On, WireBit, CarryBit, RegisterBit, InputBit, FileBit, Reset}
 use Rattle.fm_gates.specs.Gates.{Inverse, Both, Either, Differ, Pick, driver_gate, next_gate, carry_gate, file_gate, write_gate}
 use Rattle.fm_verilog.specs.WireNames.{name_of}
-use Rattle.fm_verilog.specs.VerilogText.{port_text, clock_text, declaration_text}
+use Rattle.fm_verilog.specs.VerilogText.{port_name, clock_text, declaration_text}
 
 -- the texts of the numbers below one, in their order
 unfoldable pub below : (ℕ → List ℕ) → ℕ → List ℕ
@@ -34,8 +34,8 @@ file_text r i = indexed (codes "file_" ++ decimal r) i
 
 -- a bit of an input, of which only the first is a word
 abbrev pub input_text : ℕ → ℕ → List ℕ
-input_text zero i = indexed (port_text 0) i
-input_text number i = port_text number
+input_text zero i = indexed (port_name 0) i
+input_text number i = port_name number
 
 -- two gates with an operator between them
 abbrev pub binary_text : List ℕ → List ℕ → List ℕ → List ℕ

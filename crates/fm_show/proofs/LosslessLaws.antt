@@ -8,8 +8,8 @@ use Rattle.std.specs.Fmt.{decimal, signed_decimal}
 use Rattle.std.proofs.lemmas.Bool.Decides.{nat_tests}
 use Rattle.std.proofs.lemmas.Int.{ints}
 use Rattle.std.proofs.lemmas.Fmt.{decimal_by_steps, decimal_injective, signed_decimal_injective}
-use Rattle.stack_text.proofs.SharedLaws.{and_left, and_right}
 use lib.Signed.{mag}
+use Rattle.std.proofs.lemmas.Bool.{and_parts}
 use Rattle.fm_words.specs.declared.operation.Op.{Op}
 use Rattle.fm_words.specs.declared.operation.Op.TheVariants.{Move, Inc, Addc, Add, Neg, Dec, Subb, Sub, Ror, Asr, Lsr, Xor, Or, And, Not, M15}
 use Rattle.fm_words.specs.declared.condition.Cc.{Cc}
@@ -39,7 +39,7 @@ all-append : (p : ℕ → Bool) (a b : List ℕ) → all p a ≡ true → all p 
 unfolding all
 all-append p [] b h k = k
 all-append p (x ∷ a) b h k =
-    rw (and_left (p x) (all p a) h) (all-append p a b (and_right (p x) (all p a) h) k)
+    rw (and_parts (p x) (all p a) h).0 (all-append p a b (and_parts (p x) (all p a) h).1 k)
 
 stops-append : (p : ℕ → Bool) (a b : List ℕ) → stops p a ≡ true → stops p b ≡ true → stops p (a ++ b) ≡ true
 unfolding stops
@@ -60,13 +60,13 @@ same_parts : (p : ℕ → Bool) (a b s t : List ℕ) → all p a ≡ true → al
 unfolding all stops
 same_parts p [] [] s t ha hb hs ht e = record { front = refl; rest = e }
 same_parts p [] (y ∷ b) s t ha hb hs ht e =
-    no_and_yes (p y) (and_left (p y) (all p b) hb) (rw e at hs)
+    no_and_yes (p y) (and_parts (p y) (all p b) hb).0 (rw e at hs)
 same_parts p (x ∷ a) [] s t ha hb hs ht e =
-    no_and_yes (p x) (and_left (p x) (all p a) ha) (rw (sym e) at ht)
+    no_and_yes (p x) (and_parts (p x) (all p a) ha).0 (rw (sym e) at ht)
 same_parts p (x ∷ a) (y ∷ b) s t ha hb hs ht e =
     let head : x ≡ y = cc in
     let tail : a ++ s ≡ b ++ t = cc in
-    let more = same_parts p a b s t (and_right (p x) (all p a) ha) (and_right (p y) (all p b) hb) hs ht tail in
+    let more = same_parts p a b s t (and_parts (p x) (all p a) ha).1 (and_parts (p y) (all p b) hb).1 hs ht tail in
     let front = more.front in
     record { front = cc; rest = more.rest }
 

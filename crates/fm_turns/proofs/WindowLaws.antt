@@ -14,6 +14,7 @@ use Rattle.fm_machine.specs.Step.{value_b, flags_set, store_at_if, store_at, sto
 use Rattle.fm_machine.specs.declared.fault.Outside.{Outside}
 use Rattle.fm_machine.proofs.WindowLaws.{inside, length-with_word}
 use Rattle.fm_turns.specs.Windows.{widened_words, widened, IsBehind}
+use Rattle.fm_machine.proofs.StepLaws.{found_there}
 
 -- ---- words
 
@@ -69,14 +70,10 @@ went_on : {A B : Type 0} (r r' : Result A Outside) (f f' : A → Result B Outsid
 went_on (Ok x) r' f f' t t' same on h = ap (λ q. then_on q f') (same x refl) ∙ on x h
 went_on (Err e) r' f f' t t' same on h = absurd cc
 
-found : (o : Option ℕ) (a w : ℕ) → found_word o a ≡ Ok w → o ≡ Some w
-found (Some v) a w h = cc
-found None a w h = absurd cc
-
 module _ (base : ℕ) (before after : List ℕ) where
   read_wider : (s : Fm) → IsBehind base before s → (a w : ℕ) → read_word s a ≡ Ok w → read_word (widened base before after s) a ≡ Ok w
   read_wider s at a w h =
-      ap (λ o. found_word o a) (read_between base s.base a w before s.memory after at (found (word_at s.base s.memory a) a w h))
+      ap (λ o. found_word o a) (read_between base s.base a w before s.memory after at (found_there (word_at s.base s.memory a) a w h))
 
   value_wider : (s : Fm) → IsBehind base before s → (place : Option ℕ) (own w : ℕ) → value_at s place own ≡ Ok w
       → value_at (widened base before after s) place own ≡ Ok w

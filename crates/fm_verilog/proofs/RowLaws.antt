@@ -5,12 +5,6 @@ use Rattle.fm_circuit.specs.declared.circuit.Pin.{Pin}
 use Rattle.stack_text.proofs.Loops.{drop-item}
 use Rattle.fm_verilog.specs.VerilogText.{row_text, rows_text}
 
--- an element inside a list, whatever stands in for one outside
-pub within : {A : Type 0} (xs : List A) (i : ℕ) (d e : A) → i < length xs → get_or xs i d ≡ get_or xs i e
-within [] i d e h = absurd (omega arith)
-within (x ∷ xs) zero d e h = refl
-within (x ∷ xs) (suc i) d e h = within xs i d e (omega arith)
-
 -- one row more
 pub rows_next : (by : Pin) (pins : List Pin) (i : ℕ) (pin : Pin) (old new all : List ℕ) → i < length pins → pin ≡ get_or pins i pin
     → new ≡ old ++ row_text by i pin → old ++ rows_text by i (drop i pins) ≡ all → new ++ rows_text by (i + 1) (drop (i + 1) pins) ≡ all

@@ -41,9 +41,9 @@ abbrev pub choice_text : Pin → List Pin → List ℕ
 choice_text by among = rows_text by 0 among ++ codes "0"
 
 -- the port of an input
-abbrev pub port_text : ℕ → List ℕ
-port_text zero = codes "bus_read"
-port_text number = codes "bus_outside"
+abbrev pub port_name : ℕ → List ℕ
+port_name zero = codes "bus_read"
+port_name number = codes "bus_outside"
 
 -- two pins with an operator between them
 abbrev pub between : List ℕ → Pin → Pin → List ℕ
@@ -52,7 +52,7 @@ between operator p q = pin_text p ++ operator ++ pin_text q
 -- what drives a wire, as an expression
 unfoldable pub expression_text : Driver → List ℕ
 expression_text (Register number reset next) = pin_text next
-expression_text (Input number) = port_text number
+expression_text (Input number) = port_name number
 expression_text (FileRead number) = codes "file[" ++ pin_text number ++ codes "]"
 expression_text (Not p) = codes "~" ++ pin_text p
 expression_text (And p q) = between (codes " & ") p q

@@ -1,5 +1,7 @@
 -- An instruction's word gives its fields back.
-use Rattle.std.proofs.Common.{◌≡◌, ℕ, zero, suc, ◌+◌, ◌-◌, ◌*◌, ◌/◌, ◌%◌, ◌^◌, ◌<◌, true, arith, refl, ap, ◌∙◌, add-zero}
+use Rattle.std.proofs.Common.{◌≡◌, ℕ, zero, suc, ◌+◌, ◌-◌, ◌*◌, ◌/◌, ◌%◌, ◌^◌, ◌<◌, eqb}
+use Rattle.std.proofs.Common.{true, arith, refl, ap, ◌∙◌, add-zero}
+use Rattle.std.proofs.lemmas.Bool.{eqb-true, agree_below_at}
 use Rattle.std.proofs.lemmas.Bool.Decides.{nat_tests}
 use Rattle.std.proofs.lemmas.Int.{ints}
 use Rattle.std.specs.Prelude.{nat_lt, ℤ, pos, negsuc}
@@ -124,50 +126,14 @@ decode_encode i h =
     λ t. record { op = e_o t; cc = e_c t; set = e_f t; mode_b = e_m t; reg_b = e_r t; a = e_a t }
 
 -- a number of an operation, condition or mode comes back
-op_there : (n : ℕ) → n < 16 → op_number (op_of n) ≡ n
-op_there zero h = refl
-op_there (suc zero) h = refl
-op_there (suc (suc zero)) h = refl
-op_there (suc (suc (suc zero))) h = refl
-op_there (suc (suc (suc (suc zero)))) h = refl
-op_there (suc (suc (suc (suc (suc zero))))) h = refl
-op_there (suc (suc (suc (suc (suc (suc zero)))))) h = refl
-op_there (suc (suc (suc (suc (suc (suc (suc zero))))))) h = refl
-op_there (suc (suc (suc (suc (suc (suc (suc (suc zero)))))))) h = refl
-op_there (suc (suc (suc (suc (suc (suc (suc (suc (suc zero))))))))) h = refl
-op_there (suc (suc (suc (suc (suc (suc (suc (suc (suc (suc zero)))))))))) h = refl
-op_there (suc (suc (suc (suc (suc (suc (suc (suc (suc (suc (suc zero))))))))))) h = refl
-op_there (suc (suc (suc (suc (suc (suc (suc (suc (suc (suc (suc (suc zero)))))))))))) h = refl
-op_there (suc (suc (suc (suc (suc (suc (suc (suc (suc (suc (suc (suc (suc zero))))))))))))) h = refl
-op_there (suc (suc (suc (suc (suc (suc (suc (suc (suc (suc (suc (suc (suc (suc zero)))))))))))))) h = refl
-op_there (suc (suc (suc (suc (suc (suc (suc (suc (suc (suc (suc (suc (suc (suc (suc zero))))))))))))))) h = refl
-op_there (suc (suc (suc (suc (suc (suc (suc (suc (suc (suc (suc (suc (suc (suc (suc (suc n)))))))))))))))) h = absurd (omega arith)
+pub op_number_back : (n : ℕ) → n < 16 → op_number (op_of n) ≡ n
+op_number_back n h = eqb-true _ _ (agree_below_at (λ k. eqb (op_number (op_of k)) k) (λ k. true) 16 n refl h)
 
-cc_there : (n : ℕ) → n < 16 → cc_number (cc_of n) ≡ n
-cc_there zero h = refl
-cc_there (suc zero) h = refl
-cc_there (suc (suc zero)) h = refl
-cc_there (suc (suc (suc zero))) h = refl
-cc_there (suc (suc (suc (suc zero)))) h = refl
-cc_there (suc (suc (suc (suc (suc zero))))) h = refl
-cc_there (suc (suc (suc (suc (suc (suc zero)))))) h = refl
-cc_there (suc (suc (suc (suc (suc (suc (suc zero))))))) h = refl
-cc_there (suc (suc (suc (suc (suc (suc (suc (suc zero)))))))) h = refl
-cc_there (suc (suc (suc (suc (suc (suc (suc (suc (suc zero))))))))) h = refl
-cc_there (suc (suc (suc (suc (suc (suc (suc (suc (suc (suc zero)))))))))) h = refl
-cc_there (suc (suc (suc (suc (suc (suc (suc (suc (suc (suc (suc zero))))))))))) h = refl
-cc_there (suc (suc (suc (suc (suc (suc (suc (suc (suc (suc (suc (suc zero)))))))))))) h = refl
-cc_there (suc (suc (suc (suc (suc (suc (suc (suc (suc (suc (suc (suc (suc zero))))))))))))) h = refl
-cc_there (suc (suc (suc (suc (suc (suc (suc (suc (suc (suc (suc (suc (suc (suc zero)))))))))))))) h = refl
-cc_there (suc (suc (suc (suc (suc (suc (suc (suc (suc (suc (suc (suc (suc (suc (suc zero))))))))))))))) h = refl
-cc_there (suc (suc (suc (suc (suc (suc (suc (suc (suc (suc (suc (suc (suc (suc (suc (suc n)))))))))))))))) h = absurd (omega arith)
+pub cc_number_back : (n : ℕ) → n < 16 → cc_number (cc_of n) ≡ n
+cc_number_back n h = eqb-true _ _ (agree_below_at (λ k. eqb (cc_number (cc_of k)) k) (λ k. true) 16 n refl h)
 
-mode_there : (n : ℕ) → n < 4 → mode_number (mode_of n) ≡ n
-mode_there zero h = refl
-mode_there (suc zero) h = refl
-mode_there (suc (suc zero)) h = refl
-mode_there (suc (suc (suc zero))) h = refl
-mode_there (suc (suc (suc (suc n)))) h = absurd (omega arith)
+pub mode_number_back : (n : ℕ) → n < 4 → mode_number (mode_of n) ≡ n
+mode_number_back n h = eqb-true _ _ (agree_below_at (λ k. eqb (mode_number (mode_of k)) k) (λ k. true) 4 n refl h)
 
 imm_there : (n : ℕ) → n < 512 → imm_number (imm_of n) ≡ n
 imm_there n h = grind (arith, nat_tests, ints)
@@ -182,7 +148,7 @@ operand_one w h =
 
 operand_zero : (w : ℕ) → w / 2 ^ 9 % 2 ≡ 0 → operand_number (operand_of w) + w / 2 ^ 6 % 8 * 2 ^ 6 ≡ w % 1024
 operand_zero w h =
-    let e = mode_there (w / 16 % 4) (omega arith) in
+    let e = mode_number_back (w / 16 % 4) (omega arith) in
     rw h (ap (λ n. 16 * n + w % 16 + w / 64 % 8 * 64) e ∙ low)
   where
     low : 16 * (w / 16 % 4) + w % 16 + w / 64 % 8 * 64 ≡ w % 1024
@@ -198,8 +164,8 @@ encode_decode w = by_bit (w / 512 % 2) refl (omega arith)
   where
     sum : (low : ℕ) → operand_number (operand_of w) + low ≡ w % 1024 → encode_of (decode_of w) ≡ w % 2 ^ 28 - low
     sum low e =
-        sum_is w _ _ _ _ _ low (op_there (w / 2 ^ 24 % 16) (omega arith)) (cc_there (w / 2 ^ 20 % 16) (omega arith))
-        (flags_number_back (w / 2 ^ 16 % 16) (omega arith)) (mode_there (w / 2 ^ 14 % 4) (omega arith)) e
+        sum_is w _ _ _ _ _ low (op_number_back (w / 2 ^ 24 % 16) (omega arith)) (cc_number_back (w / 2 ^ 20 % 16) (omega arith))
+        (flags_number_back (w / 2 ^ 16 % 16) (omega arith)) (mode_number_back (w / 2 ^ 14 % 4) (omega arith)) e
 
     by_bit : (t : ℕ) → w / 512 % 2 ≡ t → t < 2 → encode_of (decode_of w) ≡ significant w
     by_bit zero e h = sum (w / 64 % 8 * 64) (operand_zero w e) ∙ rw e refl

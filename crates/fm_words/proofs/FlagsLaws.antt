@@ -32,7 +32,7 @@ flags_of_back f = by_flags f.c f.v f.n f.z
 pub flags_number_back : (n : ℕ) → n < 16 → flags_number (flags_of n) ≡ n
 flags_number_back n h = eqb-true _ _ (agree_below_at (λ k. eqb (flags_number (flags_of k)) k) (λ k. true) 16 n refl h)
 
-bit_small : (b : Bool) → bit_of b ≤ 1
+pub bit_small : (b : Bool) → bit_of b ≤ 1
 bit_small false = omega arith
 bit_small true = omega arith
 

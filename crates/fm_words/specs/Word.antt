@@ -1,5 +1,6 @@
 -- Words of 32 bits, and the integers that they are read as.
-use Rattle.std.specs.Prelude.{ℕ, ◌-◌, ◌^◌, ◌==◌, Bool, false, nat_lt, if◌then◌else◌, ℤ, pos, negsuc, ◌-ℤ◌, unsigned_abs}
+use Rattle.std.specs.Prelude.{ℕ, ◌-◌, ◌^◌, ◌==◌, Bool, false, Option, Some, None, nat_lt, if◌then◌else◌}
+use Rattle.std.specs.Prelude.{ℤ, pos, negsuc, ◌-ℤ◌, unsigned_abs}
 use Rattle.std.specs.Int.{int_rem_euclid}
 
 -- the signed reading: the word itself below 2^31, else the word minus 2^32
@@ -15,6 +16,15 @@ is_int (negsuc n) = nat_lt n (2 ^ 31)
 abbrev pub is_nat : ℤ → Bool
 is_nat (pos n) = nat_lt n (2 ^ 32)
 is_nat (negsuc n) = false
+
+-- the integer, where it fits 32 bits with a sign
+abbrev pub signed_32 : ℤ → Option ℤ
+signed_32 z = if is_int z then Some z else None
+
+-- the integer as a natural number, where it fits 32 bits without a sign
+abbrev pub unsigned_32 : ℤ → Option ℕ
+unsigned_32 (pos n) = if nat_lt n (2 ^ 32) then Some n else None
+unsigned_32 (negsuc n) = None
 
 -- the word of an integer that fits 32 bits with a sign
 abbrev pub word_of_int : ℤ → ℕ

@@ -3,7 +3,7 @@ use Rattle.std.proofs.Common.{◌≡◌, ℕ, zero, suc, ◌+◌, ◌<◌, ◌�
 use Rattle.std.proofs.Common.{Bool, true, false, not, ◌&&◌, ◌||◌, Option, Some, None, is_none, unwrap_or, refl, ap, sym, ◌∙◌, subst, arith, flat_map, eqb-true}
 use Rattle.std.proofs.Common.{ltb-false, true≢false, length-append, codes}
 use Rattle.std.proofs.lemmas.List.{length-map}
-use Rattle.std.proofs.lemmas.Bool.{false_from_ne_true}
+use Rattle.std.proofs.lemmas.Bool.{false_from_ne_true, not-true}
 use Rattle.std.proofs.lemmas.Slice.Eq.{bytes_eq-Decides}
 use Rattle.stack_text.specs.declared.name.Named.{Named}
 use Rattle.stack_text.specs.declared.shape.Kind.{Kind}
@@ -24,7 +24,7 @@ use Rattle.stack_text.specs.Breaches.{when}
 use Rattle.gypsy_check.specs.Declarations.{type_of, is_condition, variables_of, conditions_of, repeats}
 use Rattle.gypsy_check.specs.Types.{same_length, same_type, is_boolean, has_length, words_of_types}
 use Rattle.stack_text.specs.Values.{same_kind}
-use Rattle.stack_text.proofs.SharedLaws.{not_true, rule_holds, rule_fails, some_of, append_none}
+use Rattle.stack_text.proofs.SharedLaws.{rule_holds, rule_fails, some_of, append_none}
 use Rattle.gypsy_check.specs.Rules.{raised_breaches, handled_breaches, handlers_breaches, undeclared, is_of_type, test_breaches, actuals_breaches}
 use Rattle.gypsy_check.specs.Rules.{data_breaches, callee_breaches, callee_name_breaches, actual_name_breaches, call_breaches, statement_breaches}
 use Rattle.gypsy_check.specs.Rules.{parts_breaches, is_reserved, condition_breaches, type_breaches, local_breaches, variable_breaches, condition_name_breaches}
@@ -64,7 +64,7 @@ number_of_names p =
 
 condition_below : (p : ProcOf) (name : List ℕ) → is_condition p name ≡ true → position_of name (condition_names p) < length p.conds + length p.local_conds
 condition_below p name e =
-    omega (arith, found_below name (condition_names p) (not_true (is_none (place_among name (condition_names p))) e), number_of_names p)
+    omega (arith, found_below name (condition_names p) (not-true (is_none (place_among name (condition_names p))) e), number_of_names p)
 
 leave_not_routine : (name : List ℕ) → is_leave_name name ≡ true → is_routine_name name ≡ false
 leave_not_routine name e =
@@ -101,7 +101,7 @@ reserved_not_declared p name e is =
   where
     kept : is_condition p name ≡ true → is_reserved name ≡ false
     kept k =
-        let found : Found (condition_names p) name = not_true (is_none (place_among name (condition_names p))) k in
+        let found : Found (condition_names p) name = not-true (is_none (place_among name (condition_names p))) k in
         let i = position_of name (condition_names p) in
         let below : i < length (p.conds ++ p.local_conds) = omega (arith, condition_below p name k, length-append p.conds p.local_conds) in
         let at : get_or (map (λ (n : Named). n.name) (p.conds ++ p.local_conds)) i [] ≡ name =

@@ -25,7 +25,7 @@ kind_self Integer = refl
 kind_self Boolean = refl
 kind_self Character = refl
 
-int_same : (m n : ℤ) → same_int m n ≡ true → m ≡ n
+pub int_same : (m n : ℤ) → same_int m n ≡ true → m ≡ n
 int_same m n e = (Decides-int_eq m n).0 e
 
 pos_same : (m n : ℕ) → pos m ≡ pos n → m ≡ n

@@ -14,6 +14,7 @@ use Rattle.gypsy_syntax.specs.Resolved.{procedure_at}
 use Rattle.stack_text.specs.Breaches.{when}
 use Rattle.stack_text.proofs.SharedLaws.{rule_fails, append_none, get_map}
 use Rattle.gypsy_check.specs.Declarations.{type_at, type_of, is_among, repeats}
+use Rattle.std.proofs.lemmas.Bool.{or_left, or_right}
 
 -- the name is among these
 abbrev pub Found : List (List ℕ) → List ℕ → Type 0
@@ -50,14 +51,6 @@ procedure_found procs None e = cc
 procedure_found procs (Some i) e = refl
 
 -- Names that aren't repeated stand at different positions.
-
-or_left : (a b : Bool) → a ≡ true → (a || b) ≡ true
-or_left true b e = refl
-or_left false b e = cc
-
-or_right : (a b : Bool) → b ≡ true → (a || b) ≡ true
-or_right true b e = refl
-or_right false b e = e
 
 -- whatever is the name is among these
 abbrev Covers : List (List ℕ) → List ℕ → Type 0

@@ -26,6 +26,7 @@ use Rattle.gypsy_check.specs.Types.{same_type}
 use Rattle.gypsy_check.specs.Arguments.{kind_of, is_wanted, settled_by, is_undeclared}
 use Rattle.gypsy_check.specs.Rules.{literal_breaches, items_breaches, is_of_type, actuals_breaches, slots_breaches, argument_breaches, statement_breaches}
 use Rattle.gypsy_check.specs.Rules.{parts_breaches, declared_breaches, predef_breaches}
+use Rattle.stack_text.proofs.SharedLaws.{or_false}
 
 -- the least with these
 abbrev pub noted : Option Breach → List Breach → Option Breach
@@ -52,10 +53,6 @@ items_each (l ∷ ls) = ap (λ vs. literal_breaches (literal_of l) ++ vs) (items
 pub list_each : (place : ℕ) (items : _) → literal_breaches
     (literal_of (Rattle.gypsy_syntax.specs.declared.literal.Literal.TheVariants.List place items)) ≡ flat_map literal_breaks items.items
 list_each place items = ap literal_breaches (literal_of-list place items) ∙ items_each items.items
-
-or_false : (b : Bool) → (b || false) ≡ b
-or_false true = refl
-or_false false = refl
 
 or_assoc : (a b c : Bool) → (a || (b || c)) ≡ ((a || b) || c)
 or_assoc true b c = refl

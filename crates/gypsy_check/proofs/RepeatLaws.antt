@@ -10,15 +10,12 @@ use Rattle.stack_text.specs.Breaches.{when, lesser_of, least, Notes}
 use Rattle.stack_text.proofs.BreachLaws.{notes_more}
 use Rattle.gypsy_check.specs.Declarations.{is_among, repeats}
 use Rattle.gypsy_check.specs.Tables.{is_named}
+use Rattle.stack_text.proofs.SharedLaws.{or_false}
 
 swap_or : (a b c : Bool) → (a || (b || c)) ≡ (b || (a || c))
 swap_or true true c = refl
 swap_or true false c = refl
 swap_or false b c = refl
-
-or_false : (b : Bool) → (b || false) ≡ b
-or_false true = refl
-or_false false = refl
 
 -- ---- one more name
 

@@ -1,14 +1,13 @@
 -- A predefined call, by the law of the predefined programs.
 use Rattle.std.proofs.Common.{◌≡◌, ℕ, zero, suc, ◌+◌, ◌<◌, ◌≤◌, Bool, true, false, List, [], ◌∷◌, ◌++◌, length, map, Some, refl, sym, ap, ◌∙◌, subst, arith}
 use Rattle.std.specs.Prelude.{slice_get, slice_set, get_or, pos, ◌==◌}
-use Rattle.std.proofs.lemmas.Bool.{ne_eqb}
+use Rattle.std.proofs.lemmas.Bool.{ne_eqb, cond-false}
 use Rattle.std.proofs.lemmas.List.{get_or-set_same}
-use Rattle.std.proofs.lemmas.Option.{get_or_from_slice_get}
+use Rattle.std.proofs.lemmas.Option.{get_or_from_slice_get, slice_get_within}
 use Rattle.stack_text.specs.declared.shape.Kind.{Kind}
 use Rattle.stack_text.specs.declared.shape.Kind.TheVariants.{Integer}
 use Rattle.stack_text.specs.declared.shape.Shape.{Shape}
 use Rattle.stack_text.specs.Values.{ValueOf, item_count}
-use Rattle.stack_text.proofs.SharedLaws.{get_below}
 use Rattle.piton_words.specs.declared.word.Word.{Word}
 use Rattle.piton_words.specs.declared.word.Word.TheVariants.{Int}
 use Rattle.piton_check.specs.Instruction as i
@@ -40,7 +39,7 @@ use Rattle.gypsy_codegen.specs.Generated.{generated_view}
 use Rattle.gypsy_codegen.specs.Memory.{stack_of, index_of, frame_of, index_words}
 use Rattle.gypsy_codegen.specs.Showing.{HasAt, Stands}
 use Rattle.gypsy_codegen.specs.Law.{Follows}
-use Rattle.gypsy_codegen.proofs.LayoutLaws.{reads_at, writes_at, frame_at, if_no}
+use Rattle.gypsy_codegen.proofs.LayoutLaws.{reads_at, writes_at, frame_at}
 use Rattle.gypsy_codegen.proofs.StepLaws.{Pt, state, state_at, Goes, predef_there, program_is}
 use Rattle.gypsy_codegen.proofs.PushLaws.{Live, free_temp, free_ctrl, here, top}
 use Rattle.gypsy_codegen.proofs.StandLaws.{settle_stands, Comes, comes_on, leads, lands, raise_leads, apply_size}
@@ -110,7 +109,7 @@ module _ (q : Program) (p : ℕ) (fs : List Frame) (x : List ValueOf) (shapes : 
       → (get_or shapes b (simple Integer)).length ≡ item_count (value_at x b).shape
   same_length b n some v e =
       let s : Shape = record { kind = k; length = n } in
-      let count : item_count s ≡ n = if_no (n == 0) 1 n (ne_eqb n 0 (λ z. omega (arith, z, some))) in
+      let count : item_count s ≡ n = cond-false (n == 0) 1 n (ne_eqb n 0 (λ z. omega (arith, z, some))) in
       ap (λ (t : Shape). t.length) (get_or_from_slice_get shapes b s _ e) ∙ sym count ∙ ap item_count (sym (value_fits shapes x b s v e).0)
 
   abbrev length_pushes : Predef → List Arg → List Instruction
@@ -170,7 +169,7 @@ module _ {q : Program} {sizes : StackSizes} {base p : ℕ} {fs : List Frame} {fr
         shape = fit.0;
         fits = fit.1;
         words = λ h w g. ap (λ z. element z (index_of q p fs b + h)) es ∙ reads_at q p x fs b h t w v a.frames_fit e g;
-        local_holds = frame_at q p fs b a.frames_fit (get_below (shapes_of (proc_at q p)) b t e);
+        local_holds = frame_at q p fs b a.frames_fit (slice_get_within (shapes_of (proc_at q p)) b t e);
       }
 
   applies : (k : Kind) (at : ℕ) (r : Predef) (args : List Arg) (e : Effect) (to : ℕ) → ArgsFit (shapes_of (proc_at q p)) k (slots_of r) args
@@ -232,7 +231,7 @@ module _ {q : Program} {sizes : StackSizes} {base p : ℕ} {fs : List Frame} {fr
       let x' = slice_set x b n in
       let v' = apply_fits shapes x k r args n v f eff in
       let first = first_of_row q p fs x shapes k r args f in
-      let in_shapes : b < length shapes = get_below shapes b first.shape first.there in
+      let in_shapes : b < length shapes = slice_get_within shapes b first.shape first.there in
       let in_x : b < length x = omega (arith, Rattle.gypsy_codegen.proofs.CopyLaws.vars_number shapes x v, in_shapes) in
       let set : value_at x' b ≡ n = get_or-set_same x b n no_value in_x in
       let fit = value_fits shapes x' b first.shape v' first.there in

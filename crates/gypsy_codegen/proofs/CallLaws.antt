@@ -2,7 +2,7 @@
 use Rattle.std.proofs.Common.{◌≡◌, ℕ, zero, suc, ◌+◌, ◌-◌, ◌*◌, ◌<◌, ◌≤◌, List, [], ◌∷◌, ◌++◌, length, map, drop, take, max, Bool, true, false, Some, None}
 use Rattle.std.proofs.Common.{refl, sym, ap, ◌∙◌, subst, arith, length-append, leb-true, ltb-true}
 use Rattle.std.specs.Prelude.{slice_get, get_or, if◌then◌else◌, ◌==◌, nat_lt, not, reverse}
-use Rattle.std.proofs.lemmas.Bool.{ne_eqb, leb-false}
+use Rattle.std.proofs.lemmas.Bool.{ne_eqb, leb-false, cond-false}
 use Rattle.std.proofs.lemmas.List.{length-map, append-nil, take-append-drop}
 use Rattle.std.proofs.Math.Seq.{drop-append_seam}
 use Rattle.stack_text.specs.Values.{ValueOf}
@@ -35,10 +35,10 @@ use Rattle.gypsy_semantics.proofs.Keeping.{locals_fit}
 use Rattle.gypsy_semantics.proofs.LendingLaws.{actuals_length}
 use Rattle.gypsy_codegen.proofs.CopyLaws.{copied_back, actuals_below}
 use Rattle.gypsy_codegen.proofs.StackLaws.{push_all-length, push_all-append, values_words, starts-length}
-use Rattle.gypsy_codegen.proofs.LayoutLaws.{if_no, height, low_fits, ctrl_is, newest}
+use Rattle.gypsy_codegen.proofs.LayoutLaws.{height, low_fits, ctrl_is, newest}
 use Rattle.gypsy_codegen.proofs.StepLaws as go
-use Rattle.gypsy_codegen.proofs.StepLaws.{P, Pt, state, spent, Goes, steps_on, stay, lands_at, spend_two, spend_as, three, pushed_dropped, pushed_reverse}
-use Rattle.gypsy_codegen.proofs.StepLaws.{program_there}
+use Rattle.gypsy_space.proofs.SpendLaws.{spend_two}
+use Rattle.gypsy_codegen.proofs.StepLaws.{P, Pt, state, spent, Goes, steps_on, stay, lands_at, spend_as, three, pushed_dropped, pushed_reverse, program_there}
 use Rattle.gypsy_codegen.proofs.PushLaws.{has_front, has_back, size_words, size_indices, size_actuals, Live, free_temp, here, top, passes, jumps, sets_cc}
 use Rattle.gypsy_codegen.proofs.PushLaws.{words_go, indices_go, actuals_go}
 use Rattle.gypsy_codegen.proofs.GuardLaws as guard
@@ -228,8 +228,8 @@ module _ {q : Program} {sizes : StackSizes} {base p : ℕ} {fs : List Frame} {fr
       (omega (arith, room.temp, tall2, w1, tall1, wl, tall, sm, many)) (has_front code at2 pa (i.Call c ∷ after) ha) in
       let prog = generated_program q c in
       let is_other = ne_eqb c q.main cf.not_main in
-      let form : prog.formals ≡ vars_of d = if_no (c == q.main) 0 (vars_of d) is_other in
-      let temps : prog.temporaries ≡ [] = if_no (c == q.main) (map (λ n. Nat n) (starts 0 (shapes_of d))) [] is_other in
+      let form : prog.formals ≡ vars_of d = cond-false (c == q.main) 0 (vars_of d) is_other in
+      let temps : prog.temporaries ≡ [] = cond-false (c == q.main) (map (λ n. Nat n) (starts 0 (shapes_of d))) [] is_other in
       let many' : prog.formals ≡ length (local_indices ++ actual_indices) = omega (arith, form, length-append local_indices actual_indices, w1, w2, sm, many) in
       let no_temps : length prog.temporaries ≡ 0 = ap length temps in
       let ctrl_fits : piton.ctrl_used fr + (2 + (prog.formals + length prog.temporaries)) ≤ sizes.ctrl = omega (arith, room.ctrl, form, no_temps, used_ctrl) in

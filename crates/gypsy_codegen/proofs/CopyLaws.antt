@@ -4,21 +4,17 @@ use Rattle.std.specs.Prelude.{slice_index, slice_set, slice_get}
 use Rattle.std.proofs.lemmas.List.{length-set, get_or-set_same, get_or-set_other, set-get_or, set_comm}
 use Rattle.stack_text.specs.declared.shape.Shape.{Shape}
 use Rattle.stack_text.specs.Values.{ValueOf}
-use Rattle.stack_text.proofs.SharedLaws.{get_below}
+use Rattle.std.proofs.lemmas.Option.{slice_get_within}
 use Rattle.gypsy_syntax.specs.ProgramFits.{Misses, Distinct, ActualsFit, Each}
 use Rattle.gypsy_syntax.specs.Effects.{value_at, no_value}
 use Rattle.gypsy_syntax.specs.ValuesFit.{VarsFit}
 use Rattle.gypsy_semantics.specs.Calls.{copied_out}
+use Rattle.gypsy_semantics.proofs.LendingLaws.{copied_miss}
 
 -- each is below n
 abbrev pub Below : ℕ → List ℕ → Type 0
 Below n [] = Unit {0}
 Below n (a ∷ xs) = (a < n) × Below n xs
-
-pub copied_miss : (xs : List ℕ) (y x : List ValueOf) (a : ℕ) → Misses a xs → value_at (copied_out xs y x) a ≡ value_at x a
-copied_miss [] y x a m = refl
-copied_miss (b ∷ xs) [] x a m = refl
-copied_miss (b ∷ xs) (v ∷ y) x a m = copied_miss xs y (slice_set x b v) a m.1 ∙ get_or-set_other x b a v no_value m.0
 
 pub copied_at : (xs : List ℕ) (y x : List ValueOf) (i : ℕ) → Distinct xs → Below (length x) xs → i < length xs → i < length y
     → value_at (copied_out xs y x) (slice_index xs i) ≡ value_at y i
@@ -66,7 +62,7 @@ pub actuals_below : (shapes formals : List Shape) (xs : List ℕ) → ActualsFit
 actuals_below shapes [] [] f = tt
 actuals_below shapes [] (x ∷ xs) f = absurd f
 actuals_below shapes (s ∷ formals) [] f = absurd f
-actuals_below shapes (s ∷ formals) (x ∷ xs) f = (get_below shapes x s f.0, actuals_below shapes formals xs f.1)
+actuals_below shapes (s ∷ formals) (x ∷ xs) f = (slice_get_within shapes x s f.0, actuals_below shapes formals xs f.1)
 
 -- the actual of a formal has its shape
 pub actual_shape : (shapes formals rest : List Shape) (xs : List ℕ) (b : ℕ) → ActualsFit shapes formals xs → b < length formals

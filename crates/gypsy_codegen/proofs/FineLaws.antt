@@ -9,7 +9,7 @@ use Rattle.stack_text.specs.declared.shape.Kind.{Kind}
 use Rattle.stack_text.specs.declared.shape.Kind.TheVariants.{Integer, Boolean, Character}
 use Rattle.stack_text.specs.declared.shape.Shape.{Shape}
 use Rattle.stack_text.specs.Values.{ValueOf, item_count}
-use Rattle.stack_text.proofs.SharedLaws.{get_below}
+use Rattle.std.proofs.lemmas.Option.{slice_get_within}
 use Rattle.std.proofs.lemmas.Bool.{and_parts}
 use Rattle.piton_words.specs.declared.word.Word.{Word}
 use Rattle.piton_words.specs.declared.word.Word.TheVariants.{Int}
@@ -33,8 +33,8 @@ use Rattle.gypsy_syntax.specs.Programs.{Stmt, Skip, NoOp, Signal, Seq, Loop, If,
 use Rattle.gypsy_syntax.specs.ProgramFits.{Each, CondFits, ActualsFit, ArgFits, ArgsFit, slot_kind, StmtFits, ProgramFits}
 use Rattle.gypsy_syntax.specs.Ranges.{is_in_range}
 use Rattle.gypsy_syntax.specs.ValuesFit.{ValueFits}
-use Rattle.gypsy_space.specs.Needs.{greatest, statement_temp, statement_ctrl, local_words, vars_of, call_need}
-use Rattle.gypsy_space.proofs.SmallLaws.{length-words_of, item_count-positive, words_of-append}
+use Rattle.gypsy_space.specs.Needs.{statement_temp, statement_ctrl, local_words, vars_of, call_need}
+use Rattle.gypsy_space.proofs.SmallLaws.{length-words_of, item_count-positive, words_of-append, greatest_within}
 use Rattle.gypsy_semantics.specs.Calls.{has_cond, is_leave, is_passed_on}
 use Rattle.gypsy_predef.specs.Runs.{word_of_item, words_of_value}
 use Rattle.gypsy_codegen.specs.WordsOf.{words_of_values, local_shapes, number_of}
@@ -84,26 +84,12 @@ locals_few q fits c =
     omega (arith, (fits.procs c).words, words_of-append d.formals (map (λ v. v.shape) d.locals))
 
 -- what a call needs is a word's number
-max_below : (a b n : ℕ) → a ≤ n → b ≤ n → max a b ≤ n
-max_below a b n x y = omega (arith, x, y)
-
-greatest_below : (each : ℕ) (f : Predef → ℕ) (n : ℕ) (s : Stmt) → each ≤ n → ((r : Predef) → f r ≤ n) → greatest each f s ≤ n
-greatest_below each f n Skip x y = omega arith
-greatest_below each f n (NoOp place) x y = omega arith
-greatest_below each f n (Signal place c) x y = omega arith
-greatest_below each f n (Seq s v) x y = max_below _ _ n (greatest_below each f n s x y) (greatest_below each f n v x y)
-greatest_below each f n (Loop place s) x y = greatest_below each f n s x y
-greatest_below each f n (If place b s v) x y = max_below _ _ n (greatest_below each f n s x y) (greatest_below each f n v x y)
-greatest_below each f n (Begin place s cs v) x y = max_below _ _ n (greatest_below each f n s x y) (greatest_below each f n v x y)
-greatest_below each f n (Call place c xs cs) x y = x
-greatest_below each f n (Apply place r args) x y = y r
-
 need_small : (q : Program) → ProgramFits q → (c : ℕ) → ((call_need q c).temp < 2 ^ 32) × ((call_need q c).ctrl < 2 ^ 32)
 unfolding call_need
 need_small q fits c =
     let d = proc_at q c in
-    let temp : statement_temp d.body ≤ 4 = greatest_below 2 predef_temp 4 d.body (omega arith) low_temp in
-    let ctrl : statement_ctrl d.body ≤ 10 = greatest_below 0 predef_ctrl 10 d.body (omega arith) low_ctrl in
+    let temp : statement_temp d.body ≤ 4 = greatest_within 2 predef_temp 4 (omega arith) low_temp d.body in
+    let ctrl : statement_ctrl d.body ≤ 10 = greatest_within 0 predef_ctrl 10 (omega arith) low_ctrl d.body in
     let words = (fits.procs c).words in
     let vars = length-words_of (shapes_of d) in
     let number : length (shapes_of d) ≡ length d.formals + length d.locals =
@@ -139,7 +125,7 @@ vars_count d = omega (arith, length-append d.formals (map (λ v. v.shape) d.loca
 pub offset_below : (q : Program) (p b : ℕ) (s : Shape) → slice_get (shapes_of (proc_at q p)) b ≡ Some s → offset q p b < vars_of (proc_at q p)
 offset_below q p b s e =
     let d = proc_at q p in
-    let below : b < length d.formals + length d.locals = let lt = get_below (shapes_of d) b s e in omega (arith, lt, vars_count d) in
+    let below : b < length d.formals + length d.locals = let lt = slice_get_within (shapes_of d) b s e in omega (arith, lt, vars_count d) in
     by_main (p == q.main) below
   where
     by_front : (d : Proc) (t : Bool) → nat_lt b (length d.formals) ≡ t → b < length d.formals + length d.locals

@@ -4,7 +4,7 @@ use Rattle.std.proofs.Common.{Option, Some, None, is_none, unwrap_or, refl, ap, 
 use Rattle.std.specs.Prelude.{ℤ, pos, negsuc, option_map, IsTrue}
 use Rattle.std.proofs.lemmas.Bool.{lt-ltb, le-leb, ltb-true}
 use Rattle.std.proofs.lemmas.List.Elements.{All-nil, All-cons}
-use Rattle.fm_words.specs.Word.{is_int}
+use Rattle.fm_words.specs.Word.{is_int, unsigned_32}
 use Rattle.piton_words.specs.declared.word.Word.{Word}
 use Rattle.piton_words.specs.declared.word.Word.TheVariants as word
 use Rattle.piton_words.specs.declared.op.WordOp.{WordOp}
@@ -22,7 +22,7 @@ use Rattle.piton_check.specs.declared.resolved.ResolvedArg.{ResolvedArg}
 use Rattle.piton_check.specs.declared.resolved.ResolvedArg.TheVariants as arg
 use Rattle.stack_text.specs.Breaches.{when}
 use Rattle.piton_check.specs.Declarations.{local_names, label_names, program_names, area_names, first_of}
-use Rattle.piton_check.specs.Meaning.{natural, word_of, count_of}
+use Rattle.piton_check.specs.Meaning.{word_of, count_of}
 use Rattle.piton_check.specs.Violations.{word_breaches, argument_breaches, instruction_breaches}
 use Rattle.piton_check.specs.Resolved.{resolved_word, resolved_argument, resolved_instruction}
 use Rattle.piton_check.specs.Instruction as i
@@ -37,14 +37,18 @@ InRange (word.Nat n) = n < 2 ^ 32
 InRange (word.Bool b) = Unit {0}
 InRange w = ⊥
 
--- the names stand for what they were written for: so many locals and programs, and the one area
-pub record World (s : SystemOf) (p : ProgramOf) (n : Names) (locals programs : ℕ) : Type 0 where
-  pub local : (b : ℕ) → b < locals → first_of (local_names p) (get_or n.locals b []) ≡ Some b
+-- the names of programs and of the one area stand for what they were written for, whichever the program
+pub record Base (s : SystemOf) (n : Names) (programs : ℕ) : Type 0 where
   pub program : (c : ℕ) → c < programs → first_of (program_names s) (get_or n.programs c []) ≡ Some c
   pub area : first_of (area_names s) (get_or n.areas 0 []) ≡ Some 0
-  pub local_name : (b : ℕ) → b < locals → IsTrue (is_name (get_or n.locals b []))
   pub program_name : (c : ℕ) → c < programs → IsTrue (is_name (get_or n.programs c []))
   pub area_name : IsTrue (is_name (get_or n.areas 0 []))
+
+-- so do the names of so many locals
+pub record World (s : SystemOf) (p : ProgramOf) (n : Names) (locals programs : ℕ) : Type 0 where
+  pub base : Base s n programs
+  pub local : (b : ℕ) → b < locals → first_of (local_names p) (get_or n.locals b []) ≡ Some b
+  pub local_name : (b : ℕ) → b < locals → IsTrue (is_name (get_or n.locals b []))
 
 -- a label that stands where f says
 abbrev pub Known : ProgramOf → (ℕ → ℕ) → ℕ → Type 0
@@ -78,7 +82,7 @@ pub record Means (s : SystemOf) (p : ProgramOf) (t : InstrOf) (ins : Instruction
 
 -- ---- words and counts
 
-pub natural_is : (n : ℕ) → n < 2 ^ 32 → natural (pos n) ≡ Some n
+pub natural_is : (n : ℕ) → n < 2 ^ 32 → unsigned_32 (pos n) ≡ Some n
 natural_is n lt = ap (λ b. cond b (Some n) None) (lt-ltb n (2 ^ 32) lt)
 
 count_is : (n : ℕ) → n ≤ 65536 → count_of (pos n) ≡ Some n
@@ -237,19 +241,19 @@ module _ (s : SystemOf) (p : ProgramOf) (n : Names) (f : ℕ → ℕ) (locals pr
     view = name_view (with_local i.SetLocal) arg.Local _ _ (w.local b h);
   }
   says (i.PushGlobal a) h = subst (λ x. Says (i.PushGlobal x)) (sym h) record {
-    fits = w.area_name;
-    clean = name_clean arg.Area _ _ 10 w.area;
-    view = name_view (with_area i.PushGlobal) arg.Area _ _ w.area;
+    fits = w.base.area_name;
+    clean = name_clean arg.Area _ _ 10 w.base.area;
+    view = name_view (with_area i.PushGlobal) arg.Area _ _ w.base.area;
   }
   says (i.PopGlobal a) h = subst (λ x. Says (i.PopGlobal x)) (sym h) record {
-    fits = w.area_name;
-    clean = name_clean arg.Area _ _ 10 w.area;
-    view = name_view (with_area i.PopGlobal) arg.Area _ _ w.area;
+    fits = w.base.area_name;
+    clean = name_clean arg.Area _ _ 10 w.base.area;
+    view = name_view (with_area i.PopGlobal) arg.Area _ _ w.base.area;
   }
   says (i.SetGlobal a) h = subst (λ x. Says (i.SetGlobal x)) (sym h) record {
-    fits = w.area_name;
-    clean = name_clean arg.Area _ _ 10 w.area;
-    view = name_view (with_area i.SetGlobal) arg.Area _ _ w.area;
+    fits = w.base.area_name;
+    clean = name_clean arg.Area _ _ 10 w.base.area;
+    view = name_view (with_area i.SetGlobal) arg.Area _ _ w.base.area;
   }
   says (i.PushTempStkIndex k) h = record {
     fits = omega (arith, h);
@@ -284,9 +288,9 @@ module _ (s : SystemOf) (p : ProgramOf) (n : Names) (f : ℕ → ℕ) (locals pr
   says (i.JumpCase tos) h = says_case tos h.0 h.1
   says (i.TestAndJump g k to) h = says_test g k to h.0 h.1
   says (i.Call c) h = record {
-    fits = w.program_name c h;
-    clean = name_clean arg.Program _ _ 8 (w.program c h);
-    view = name_view (with_program i.Call) arg.Program _ _ (w.program c h);
+    fits = w.base.program_name c h;
+    clean = name_clean arg.Program _ _ 8 (w.base.program c h);
+    view = name_view (with_program i.Call) arg.Program _ _ (w.base.program c h);
   }
   says (i.Apply o) h = says_apply o
   says i.PushTempStkFreeSize h = record { fits = tt; clean = refl; view = refl }

@@ -2,12 +2,12 @@
 use Rattle.std.proofs.Common.{◌≡◌, ℕ, ◌+◌, ◌-◌, ◌<◌, ◌≤◌, List, [], ◌∷◌, ◌++◌, length, map, drop, Bool, true, false, Some, refl, sym, ap, ◌∙◌, subst, ⊎_elim}
 use Rattle.std.proofs.Common.{arith, length-append}
 use Rattle.std.specs.Prelude.{slice_index, slice_set, slice_get, nat_lt, ◌==◌, if◌then◌else◌}
-use Rattle.std.proofs.lemmas.Bool.{cases_lt, lt-ltb, le-ltb, eq-eqb, ne_eqb}
+use Rattle.std.proofs.lemmas.Bool.{cases_lt, lt-ltb, le-ltb, eq-eqb, ne_eqb, cond-true, cond-false}
 use Rattle.std.proofs.lemmas.List.{length-map, get_or-drop, drop-set-lt, drop-set-add}
-use Rattle.std.proofs.lemmas.Option.{slice_get-get_or}
+use Rattle.std.proofs.lemmas.Option.{slice_get-get_or, slice_get_within}
 use Rattle.stack_text.specs.declared.shape.Shape.{Shape}
 use Rattle.stack_text.specs.Values.{ValueOf, item_count}
-use Rattle.stack_text.proofs.SharedLaws.{get_below, get_front, get_after, get_map}
+use Rattle.stack_text.proofs.SharedLaws.{get_front, get_after, get_map}
 use Rattle.piton_words.specs.declared.word.Word.{Word}
 use Rattle.piton_words.specs.declared.word.Word.TheVariants.{Nat}
 use Rattle.piton_semantics.specs.State as piton
@@ -32,16 +32,7 @@ use Rattle.gypsy_semantics.proofs.LendingLaws.{actuals_length}
 use Rattle.gypsy_codegen.proofs.StackLaws.{push_all-length, below_pushed, element_of, words_below, words_from, value_words, values_words, read_word}
 use Rattle.gypsy_codegen.proofs.StackLaws.{write_words, words_fit, starts_at, starts-length}
 
-pub if_yes : {A : Type 0} (b : Bool) (x y : A) → b ≡ true → (if b then x else y) ≡ x
-if_yes b x y e = ap (λ c. if c then x else y) e
-
-pub if_no : {A : Type 0} (b : Bool) (x y : A) → b ≡ false → (if b then x else y) ≡ y
-if_no b x y e = ap (λ c. if c then x else y) e
-
-pub get_there : {A : Type 0} (xs : List A) (i : ℕ) (d : A) → i < length xs → slice_get xs i ≡ Some (Rattle.std.specs.Prelude.get_or xs i d)
-get_there xs i d h = slice_get-get_or xs i d h
-
-local_number : (p : Proc) → length (local_shapes p) ≡ length p.locals
+pub local_number : (p : Proc) → length (local_shapes p) ≡ length p.locals
 local_number p = length-map p.locals (λ (v : ValueOf). v.shape)
 
 -- a local, by its number among the locals
@@ -95,9 +86,9 @@ module _ (q : Program) where
       ⊎_elim
       (λ lt.
       let same = actual_shape (shapes_of (proc_at q c)) r.formals (local_shapes r) xs b g.0.actuals lt in
-      omega (arith, if_yes (nat_lt b k) A B (lt-ltb b k lt), index_fits c fs (slice_index xs b) s g.3 (same ∙ h), call_temp p c fs))
+      omega (arith, cond-true (nat_lt b k) A B (lt-ltb b k lt), index_fits c fs (slice_index xs b) s g.3 (same ∙ h), call_temp p c fs))
       (λ le.
-      omega (arith, if_no (nat_lt b k) A B (le-ltb b k le), words_fit (local_shapes r) (b - k) s (sym (local_at r b le) ∙ h), call_temp p c fs))
+      omega (arith, cond-false (nat_lt b k) A B (le-ltb b k le), words_fit (local_shapes r) (b - k) s (sym (local_at r b le) ∙ h), call_temp p c fs))
       (cases_lt b k)
 
   -- a word of a variable
@@ -108,7 +99,7 @@ module _ (q : Program) where
       let shapes = shapes_of (proc_at q p) in
       let i : index_of q p [] b + h ≡ length {A = Word} [] + (words_before shapes b + h) = omega arith in
       ap (element (stack_of q p y [])) i ∙ element_of (words_of_values y) [] (words_before shapes b + h) u
-      (read_word shapes y b h u v (get_below shapes b s e) r)
+      (read_word shapes y b h u v (slice_get_within shapes b s e) r)
   reads_at p y (Held c x w xs cs ∷ fs) b h s u v g e r =
       let d = proc_at q p in
       let k = length d.formals in
@@ -120,8 +111,9 @@ module _ (q : Program) where
       let A = index_of q c fs (slice_index xs b) in
       let B = base_of q c fs + words_before (local_shapes d) (b - k) in
       let fit = value_fits (shapes_of d) y b s v e in
-      let in_value : h < item_count s = omega (arith, get_below (words_of_value (value_at y b)) h u r, value_words (value_at y b) fit.1, ap item_count fit.0) in
-      let in_shapes = get_below (shapes_of d) b s e in
+      let in_value : h < item_count s =
+      omega (arith, slice_get_within (words_of_value (value_at y b)) h u r, value_words (value_at y b) fit.1, ap item_count fit.0) in
+      let in_shapes = slice_get_within (shapes_of d) b s e in
       ⊎_elim
       (λ lt.
       let same = actual_shape (shapes_of (proc_at q c)) d.formals (local_shapes d) xs b g.0.actuals lt ∙ e in
@@ -131,15 +123,15 @@ module _ (q : Program) where
       let value = copied_at xs y x b g.0.distinct
       (subst (λ n. Rattle.gypsy_codegen.proofs.CopyLaws.Below n xs) (sym (vars_number (shapes_of (proc_at q c)) x g.1)) below)
       (omega (arith, many, lt)) (omega (arith, vars_number (shapes_of d) y v, in_shapes)) in
-      ap (λ i. element (push_all ws st) (i + h)) (if_yes (nat_lt b k) A B (lt-ltb b k lt))
+      ap (λ i. element (push_all ws st) (i + h)) (cond-true (nat_lt b k) A B (lt-ltb b k lt))
       ∙ below_pushed ws st (A + h) under
       ∙ reads_at c x' fs (slice_index xs b) h s u vc g.3 same (ap (λ z. slice_get (words_of_value z) h) value ∙ r))
       (λ le.
       let i : B + h ≡ length st + (words_before (local_shapes d) (b - k) + h) = omega (arith, low) in
       let f : k + (b - k) ≡ b = omega (arith, le) in
       let value : value_at (drop k y) (b - k) ≡ value_at y b = get_or-drop k y (b - k) no_value ∙ ap (value_at y) f in
-      let in_locals = get_below (local_shapes d) (b - k) s (sym (local_at d b le) ∙ e) in
-      ap (λ i. element (push_all ws st) (i + h)) (if_no (nat_lt b k) A B (le-ltb b k le))
+      let in_locals = slice_get_within (local_shapes d) (b - k) s (sym (local_at d b le) ∙ e) in
+      ap (λ i. element (push_all ws st) (i + h)) (cond-false (nat_lt b k) A B (le-ltb b k le))
       ∙ ap (element (push_all ws st)) i
       ∙ element_of ws st (words_before (local_shapes d) (b - k) + h) u
       (read_word (local_shapes d) (drop k y) (b - k) h u (vars_behind d.formals (local_shapes d) y v) in_locals
@@ -169,13 +161,13 @@ module _ (q : Program) where
       let low : length st ≡ base_of q c fs = height c x' fs vc g.3 in
       let A = index_of q c fs (slice_index xs b) in
       let B = base_of q c fs + words_before (local_shapes d) (b - k) in
-      let in_shapes = get_below (shapes_of d) b u.shape e in
+      let in_shapes = slice_get_within (shapes_of d) b u.shape e in
       let many = actuals_length (shapes_of (proc_at q c)) d.formals xs g.0.actuals in
       ⊎_elim
       (λ lt.
       let same = actual_shape (shapes_of (proc_at q c)) d.formals (local_shapes d) xs b g.0.actuals lt ∙ e in
       let under : A + length vs ≤ length st = omega (arith, index_fits c fs (slice_index xs b) u.shape g.3 same, value_words u f, low) in
-      ap (λ i. with_elements (push_all ws st) i vs) (if_yes (nat_lt b k) A B (lt-ltb b k lt))
+      ap (λ i. with_elements (push_all ws st) i vs) (cond-true (nat_lt b k) A B (lt-ltb b k lt))
       ∙ words_below vs ws st A under
       ∙ ap (push_all ws) (writes_at c x' fs (slice_index xs b) u vc g.3 same f)
       ∙ ap (λ z. push_all ws (stack_of q c z fs))
@@ -188,7 +180,7 @@ module _ (q : Program) where
       let vl = vars_behind d.formals (local_shapes d) y v in
       let within : words_before (local_shapes d) (b - k) + length vs ≤ length ws =
       omega (arith, words_fit (local_shapes d) (b - k) u.shape here, value_words u f, values_words (local_shapes d) (drop k y) vl) in
-      ap (λ i. with_elements (push_all ws st) i vs) (if_no (nat_lt b k) A B (le-ltb b k le) ∙ i)
+      ap (λ i. with_elements (push_all ws st) i vs) (cond-false (nat_lt b k) A B (le-ltb b k le) ∙ i)
       ∙ words_from vs ws st (words_before (local_shapes d) (b - k)) within
       ∙ ap (λ l. push_all l st) (write_words (local_shapes d) (drop k y) (b - k) u vl here f)
       ∙ ap (λ z. push_all (words_of_values z) st) (sym (drop-set-add k y (b - k) u) ∙ ap (λ i. drop k (slice_set y i u)) n)
@@ -203,7 +195,7 @@ module _ (q : Program) where
   frame_at p [] b g h =
       let d = proc_at q p in
       let k = length d.formals in
-      let off = if_yes (p == q.main) b (if nat_lt b k then length d.locals + b else b - k) (eq-eqb p q.main g) in
+      let off = cond-true (p == q.main) b (if nat_lt b k then length d.locals + b else b - k) (eq-eqb p q.main g) in
       ap (slice_get (index_words (starts 0 (shapes_of d)))) off
       ∙ get_map (λ n. Nat n) (starts 0 (shapes_of d)) b (0 + words_before (shapes_of d) b) (starts_at 0 (shapes_of d) b h)
       ∙ ap (λ n. Some (Nat n)) (omega arith)
@@ -218,21 +210,21 @@ module _ (q : Program) where
       let B = base + words_before sh (b - k) in
       let fr = starts base sh ++ map f xs in
       let many = actuals_length (shapes_of (proc_at q c)) d.formals xs g.0.actuals in
-      let off = if_no (p == q.main) b (if nat_lt b k then m + b else b - k) (ne_eqb p q.main g.0.not_main) in
+      let off = cond-false (p == q.main) b (if nat_lt b k then m + b else b - k) (ne_eqb p q.main g.0.not_main) in
       ⊎_elim
       (λ lt.
       let is = lt-ltb b k lt in
       let n : m + b ≡ length (starts base sh) + b = omega (arith, starts-length base sh, local_number d) in
-      ap (slice_get (index_words fr)) (off ∙ if_yes (nat_lt b k) (m + b) (b - k) is)
+      ap (slice_get (index_words fr)) (off ∙ cond-true (nat_lt b k) (m + b) (b - k) is)
       ∙ get_map (λ n. Nat n) fr (m + b) A (ap (slice_get fr) n ∙ get_after (starts base sh) (map f xs) b
       ∙ get_map f xs b (slice_index xs b) (slice_get-get_or xs b 0 (omega (arith, many, lt))))
-      ∙ ap (λ n. Some (Nat n)) (sym (if_yes (nat_lt b k) A B is)))
+      ∙ ap (λ n. Some (Nat n)) (sym (cond-true (nat_lt b k) A B is)))
       (λ le.
       let is = le-ltb b k le in
-      ap (slice_get (index_words fr)) (off ∙ if_no (nat_lt b k) (m + b) (b - k) is)
+      ap (slice_get (index_words fr)) (off ∙ cond-false (nat_lt b k) (m + b) (b - k) is)
       ∙ get_map (λ n. Nat n) fr (b - k) B (get_front (starts base sh) (map f xs) (b - k) B
       (starts_at base sh (b - k) (omega (arith, h, shapes_number d, local_number d, le))))
-      ∙ ap (λ n. Some (Nat n)) (sym (if_no (nat_lt b k) A B is)))
+      ∙ ap (λ n. Some (Nat n)) (sym (cond-false (nat_lt b k) A B is)))
       (cases_lt b k)
 
   pub proc_there : ProgramFits q → (p : ℕ) (fs : List Frame) → FramesFit q p fs → p < length q.procs

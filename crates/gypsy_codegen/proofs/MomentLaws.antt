@@ -4,7 +4,7 @@ use Rattle.std.proofs.Common.{length-append}
 use Rattle.std.specs.Prelude.{slice_get}
 use Rattle.std.proofs.lemmas.List.{length-map}
 use Rattle.stack_text.specs.Values.{ValueOf}
-use Rattle.stack_text.proofs.SharedLaws.{get_below}
+use Rattle.std.proofs.lemmas.Option.{slice_get_within}
 use Rattle.piton_words.specs.declared.word.Word.{Word}
 use Rattle.piton_words.specs.declared.word.Word.TheVariants.{Nat}
 use Rattle.piton_check.specs.Instruction.{SystemView}
@@ -12,7 +12,7 @@ use Rattle.piton_semantics.specs.State as piton
 use Rattle.piton_semantics.specs.State.{PitonState, locals_of}
 use Rattle.piton_semantics.specs.Law.{Steps}
 use Rattle.gypsy_syntax.specs.declared.predef.Predef.{Predef}
-use Rattle.gypsy_syntax.specs.Programs.{ConditionOf, Routine, Space, Arg, Proc, Program, proc_at, shapes_of, body_of}
+use Rattle.gypsy_syntax.specs.Programs.{ConditionOf, Routine, Space, Arg, Program, proc_at, shapes_of, body_of}
 use Rattle.gypsy_syntax.specs.Programs.{Stmt, Skip, NoOp, Signal, Seq, Loop, If, Begin, Call, Apply}
 use Rattle.gypsy_syntax.specs.ProgramFits.{ProgramFits}
 use Rattle.gypsy_syntax.proofs.PredefLaws.{costs_some}
@@ -41,7 +41,7 @@ use Rattle.gypsy_codegen.specs.Whole.{opened, Reached, same, later}
 use Rattle.gypsy_codegen.specs.Moments.{moved_on, moment, moment_from, AreActivations, ReadsAs, HasMoment}
 use Rattle.gypsy_codegen.specs.Moments.{EachMomentIsReached, CostsSome, EachStepCosts, CountsGrow}
 use Rattle.gypsy_codegen.proofs.StackLaws.{starts-length}
-use Rattle.gypsy_codegen.proofs.LayoutLaws.{frame_at, newest}
+use Rattle.gypsy_codegen.proofs.LayoutLaws.{frame_at, newest, local_number}
 use Rattle.gypsy_codegen.proofs.PushLaws.{PredefsRun}
 use Rattle.gypsy_codegen.proofs.RunLaws.{counts, counted_runs, each_is_shown, place_is_mark, variables_stand}
 
@@ -91,15 +91,12 @@ condition_is (JoinOne place ∷ w) = refl
 condition_is (Guard place cs v ∷ w) = refl
 condition_is (Out c ∷ w) = refl
 
-locals_number : (p : Proc) → length (local_shapes p) ≡ length p.locals
-locals_number p = length-map p.locals (λ (v : ValueOf). v.shape)
-
 module _ (q : Program) where
   -- the newest frame has a local for each variable
   pub frame_number : (p : ℕ) (fs : List Frame) → FramesFit q p fs → length (index_words (frame_of q p fs)) ≡ vars_of (proc_at q p)
   frame_number p [] g =
       let d = proc_at q p in
-      omega (arith, length-map (starts 0 (shapes_of d)) (λ n. Nat n), starts-length 0 (shapes_of d), length-append d.formals (local_shapes d), locals_number d)
+      omega (arith, length-map (starts 0 (shapes_of d)) (λ n. Nat n), starts-length 0 (shapes_of d), length-append d.formals (local_shapes d), local_number d)
   frame_number p (Held c x w xs cs ∷ fs) g =
       let d = proc_at q p in
       let f = λ (i : ℕ). index_of q c fs i in
@@ -109,7 +106,7 @@ module _ (q : Program) where
         length-map (st ++ map f xs) (λ n. Nat n),
         length-append st (map f xs),
         starts-length (base_of q c fs) (local_shapes d),
-        locals_number d,
+        local_number d,
         length-map xs f,
         actuals_length (shapes_of (proc_at q c)) d.formals xs g.0.actuals,
       )
@@ -131,7 +128,7 @@ module _ (q : Program) where
         frames = are_activations p fs a.frames sf.2 sh.frames;
         variables = λ b shape e. record {
           index = index_of q p fs b;
-          local = ap (λ (ws : List Word). slice_get ws (offset q p b)) locals ∙ frame_at q p fs b sf.2 (get_below (shapes_of (proc_at q p)) b shape e);
+          local = ap (λ (ws : List Word). slice_get ws (offset q p b)) locals ∙ frame_at q p fs b sf.2 (slice_get_within (shapes_of (proc_at q p)) b shape e);
           words = variables_stand q a p x w fs t b shape sf sh e;
         };
       }

@@ -38,14 +38,11 @@ use Rattle.gypsy_codegen.proofs.SourceLaws.{ProcForm}
 use Rattle.gypsy_codegen.proofs.ResolveLaws.{procedure_count}
 use Rattle.gypsy_codegen.proofs.SourceLaws.{frame_count}
 use Rattle.gypsy_codegen.proofs.CountLaws.{code_least}
+use Rattle.std.proofs.lemmas.List.{map-append}
 
 counts_both : (a b : List Node) → node_counts (nodes (a ++ b)) ≡ node_counts (nodes a) + node_counts (nodes b)
 counts_both [] b = omega arith
 counts_both (t ∷ a) b = omega (arith, counts_both a b)
-
-mapped_both : {X Y : Type 0} (f : X → Y) (a b : List X) → map f (a ++ b) ≡ map f a ++ map f b
-mapped_both f [] b = refl
-mapped_both f (x ∷ a) b = ap (λ z. f x ∷ z) (mapped_both f a b)
 
 word_nodes : (n : Names) (w : Word) → node_count (word_tree (written_word n w)) ≤ 4
 word_nodes n (word.Int z) = omega arith
@@ -295,5 +292,5 @@ module _ (src : SourceOf) (fits : ProgramFits (program_of src)) where
       let z = words_nodes (names_with src []) (opening_words (program_of src)) in
       let parts : node_counts (nodes (map program_tree (procs ++ others))) ≡ node_counts (nodes (map program_tree procs))
       + node_counts (nodes (map program_tree others)) =
-      ap (λ ts. node_counts (nodes ts)) (mapped_both program_tree procs others) ∙ counts_both (map program_tree procs) (map program_tree others) in
+      ap (λ ts. node_counts (nodes ts)) (map-append program_tree procs others) ∙ counts_both (map program_tree procs) (map program_tree others) in
       omega (arith, x, y, z, parts, few, words, stack)

@@ -32,7 +32,7 @@ use Rattle.gypsy_codegen.specs.Lines.{labels, lines, tail_lines, lines_of}
 use Rattle.gypsy_codegen.specs.Text.{frame_texts, names_with, temporaries_of, written_procedure}
 use Rattle.gypsy_codegen.specs.Acceptable.{total_words}
 use Rattle.gypsy_codegen.proofs.SourceLaws.{ProcForm}
-use Rattle.gypsy_codegen.proofs.InstructionLaws.{InRange, Known}
+use Rattle.gypsy_codegen.proofs.InstructionLaws.{InRange, Known, Base}
 use Rattle.gypsy_codegen.proofs.StackLaws.{starts-length}
 use Rattle.gypsy_codegen.proofs.DeclareLaws.{declarations}
 use Rattle.gypsy_codegen.proofs.LinesLaws.{procedure_distinct, procedure_ranged}
@@ -41,7 +41,7 @@ use Rattle.gypsy_codegen.proofs.FineLaws.{Marks, FineLine, procedure_sure}
 use Rattle.gypsy_codegen.proofs.ProgramLaws.{formals_fit, temporaries_fit, temporaries_clean, temporaries_view, temporaries_count, formals_declared}
 use Rattle.gypsy_codegen.proofs.ProgramLaws.{temporaries_declared}
 use Rattle.gypsy_codegen.proofs.ProgramLaws.{Clean, Made, places, last_part, made_good, made_marks, made_clean}
-use Rattle.gypsy_codegen.proofs.BaseLaws.{Base, world_of}
+use Rattle.gypsy_codegen.proofs.BaseLaws.{world_of}
 use Rattle.gypsy_codegen.proofs.SourceLaws.{frame_differs, frame_named, frame_count}
 use Rattle.gypsy_codegen.proofs.CountLaws.{labels_least, code_few}
 

@@ -27,10 +27,11 @@ use Rattle.gypsy_codegen.specs.Generated.{generated_view, code_of, offset, push_
 use Rattle.gypsy_codegen.specs.Memory.{stack_of, index_of, index_words}
 use Rattle.gypsy_codegen.specs.Showing.{HasAt, Waits}
 use Rattle.gypsy_codegen.proofs.CopyLaws.{Below}
-use Rattle.gypsy_codegen.proofs.LayoutLaws.{height, frame_at, proc_there, Newest, newest, if_no}
-use Rattle.std.proofs.lemmas.Bool.{ne_eqb}
+use Rattle.gypsy_codegen.proofs.LayoutLaws.{height, frame_at, proc_there, Newest, newest}
+use Rattle.std.proofs.lemmas.Bool.{ne_eqb, cond-false}
 use Rattle.gypsy_codegen.proofs.StepLaws as go
-use Rattle.gypsy_codegen.proofs.StepLaws.{P, Pt, Goes, steps_on, stay, lands_at, spend_two, spend_as, spend_none}
+use Rattle.gypsy_space.proofs.SpendLaws.{spend_two, spend_none}
+use Rattle.gypsy_codegen.proofs.StepLaws.{P, Pt, Goes, steps_on, stay, lands_at, spend_as}
 
 pub has_front : (code : List Instruction) (at : ℕ) (a b : List Instruction) → HasAt code at (a ++ b) → HasAt code at a
 has_front code at [] b h = tt
@@ -70,7 +71,7 @@ size_args q p (Lit v ∷ args) = ap suc (size_args q p args)
 
 pub some_items : (n : ℕ) → 1 ≤ (if n == 0 then 1 else n)
 some_items zero = omega arith
-some_items (suc n) = omega (arith, if_no (suc n == 0) 1 (suc n) (ne_eqb (suc n) 0 (λ e. omega (arith, e))))
+some_items (suc n) = omega (arith, cond-false (suc n == 0) 1 (suc n) (ne_eqb (suc n) 0 (λ e. omega (arith, e))))
 
 -- what is known of the predefined programs
 pub record PredefsRun : Type 0 where

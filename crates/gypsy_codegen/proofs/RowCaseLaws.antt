@@ -1,9 +1,9 @@
 -- The rows of the step machine, one by one.
 use Rattle.std.proofs.Common.{◌≡◌, ℕ, Bool, true, false, List, [], ◌∷◌, refl, subst}
 use Rattle.std.specs.Prelude.{◌&&◌, not, if◌then◌else◌}
-use Rattle.gypsy_syntax.specs.Programs.{ConditionOf, Program, NoOp, Signal, Loop, If, Call, Apply}
+use Rattle.gypsy_syntax.specs.Programs.{ConditionOf, NoOp, Signal, Loop, If, Call, Apply}
 use Rattle.gypsy_space.specs.Costs.{spend}
-use Rattle.gypsy_space.specs.Needs.{StackSizes, has_temp_room, has_ctrl_room, has_room, lack_of}
+use Rattle.gypsy_space.specs.Needs.{lack_of}
 use Rattle.gypsy_space.specs.declared.need.Lack.{Lack}
 use Rattle.gypsy_space.specs.declared.need.Lack.TheVariants.{Nothing, Temporary, Control}
 use Rattle.gypsy_semantics.specs.Machine.{Item, Do, Back, JoinThen, JoinOne, Guard, Out, At, Next, used, either_move, call_step, apply_step, end_step, out_step}
@@ -14,16 +14,7 @@ use Rattle.gypsy_codegen.specs.StepRows.{Top, IsShown, at_work, NoOpRow, SignalR
 use Rattle.gypsy_codegen.specs.StepRows.{CallRow, LackTemporaryRow, LackControlRow, WriteRow, FaultRow, BeyondRow, ReturnRow, OutRow, EndRow, MainOutRow}
 use Rattle.gypsy_codegen.proofs.PushLaws.{PredefsRun}
 use Rattle.gypsy_codegen.proofs.RowLaws.{steps_follow}
-
--- a call with room lacks nothing
-nothing_lacks : (q : Program) (sizes : StackSizes) (p : ℕ) (u : StackSizes) → has_room q sizes p u ≡ true → lack_of q sizes p u ≡ Nothing
-unfolding has_room lack_of
-nothing_lacks q sizes p u e = by_room (has_temp_room q sizes p u) (has_ctrl_room q sizes p u) e
-  where
-    by_room : (a b : Bool) → (a && b) ≡ true → (if not a then Temporary else if not b then Control else Nothing) ≡ Nothing
-    by_room true true f = refl
-    by_room true false f = absurd cc
-    by_room false b f = absurd cc
+use Rattle.gypsy_semantics.proofs.Rooms.{nothing_lacks}
 
 module _ (predefs : PredefsRun) where
   follows : (s : Top) (w : List Item) → IsShown s (at_work s w) → Follows s.source (generated_view s.source s.sizes s.base) s.piton s.spent

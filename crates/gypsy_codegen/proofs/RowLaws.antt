@@ -5,7 +5,8 @@ use Rattle.stack_text.specs.declared.shape.Kind.{Kind}
 use Rattle.stack_text.specs.declared.shape.Kind.TheVariants.{Boolean}
 use Rattle.stack_text.specs.declared.shape.Shape.{Shape}
 use Rattle.stack_text.specs.Values.{ValueOf, item_count}
-use Rattle.stack_text.proofs.SharedLaws.{get_below, get_map}
+use Rattle.std.proofs.lemmas.Option.{slice_get_within, slice_get-get_or}
+use Rattle.stack_text.proofs.SharedLaws.{get_map}
 use Rattle.piton_words.specs.declared.word.Word.{Word}
 use Rattle.piton_words.specs.declared.word.Word.TheVariants.{Bool as Truth}
 use Rattle.piton_syntax.specs.declared.test_kind.TestFamily.TheVariants as family
@@ -35,9 +36,10 @@ use Rattle.gypsy_codegen.specs.Generated.{Scope, InLoop, back_code, size, code_o
 use Rattle.gypsy_codegen.specs.Memory.{stack_of, index_of}
 use Rattle.gypsy_codegen.specs.Showing.{HasAt, gen_in, Stands, Tops, cc_of}
 use Rattle.gypsy_codegen.specs.Law.{Follows, StepsFollow}
-use Rattle.gypsy_codegen.proofs.LayoutLaws.{get_there, reads_at}
+use Rattle.gypsy_codegen.proofs.LayoutLaws.{reads_at}
 use Rattle.gypsy_codegen.proofs.StepLaws as go
-use Rattle.gypsy_codegen.proofs.StepLaws.{P, Pt, state, spent, Goes, steps_on, spend_two, three}
+use Rattle.gypsy_space.proofs.SpendLaws.{spend_two}
+use Rattle.gypsy_codegen.proofs.StepLaws.{P, Pt, state, spent, Goes, steps_on, three}
 use Rattle.gypsy_codegen.proofs.PushLaws.{PredefsRun, Live, free_temp, here, top, passes, jumps, pushes_local}
 use Rattle.gypsy_codegen.proofs.StandLaws.{Opened, moved, after_gen, front_gen, settle_stands, open_stands, Comes, comes_on, leads, lands, raises_leads}
 use Rattle.gypsy_codegen.proofs.CallLaws.{Lacks, lacks, call_leads, lack_temporary_leads, lack_control_leads, normal_leads, out_leads, end_halts, out_halts}
@@ -47,7 +49,7 @@ use Rattle.gypsy_codegen.proofs.ApplyLaws.{apply_follows}
 simple_word : (k : Kind) (v : ValueOf) → v.shape ≡ simple k → ValueFits v → slice_get (words_of_value v) 0 ≡ Some (word_of_item k (item_of_value v))
 simple_word k v e f =
     let one : length v.items ≡ 1 = f.number ∙ ap item_count e in
-    get_map (word_of_item v.shape.kind) v.items 0 (item_of_value v) (get_there v.items 0 (pos 0) (omega (arith, one)))
+    get_map (word_of_item v.shape.kind) v.items 0 (item_of_value v) (slice_get-get_or v.items 0 (pos 0) (omega (arith, one)))
     ∙ ap (λ (t : Shape). Some (word_of_item t.kind (item_of_value v))) e
 
 module _ {q : Program} {sizes : StackSizes} {base p : ℕ} {fs : List Frame} {fr : List piton.Frame} (a : Live q sizes base p fs fr) (x : List ValueOf)
@@ -110,7 +112,7 @@ module _ {q : Program} {sizes : StackSizes} {base p : ℕ} {fs : List Frame} {fr
       (subst (λ z. Opened q p z (open_on n (JoinOne place ∷ w))) (sym two_on) o_no)) in
       let yes_way = lands a x s (at + 1 + 1 + 1) (open_on r (JoinThen place n ∷ w)) (spend 2 1 u2) (spend 8 3 t) es yes_tally
       (subst (λ z. Opened q p z (open_on r (JoinThen place n ∷ w))) (sym three_on) o_yes) in
-      let first = pushes_local a b at 2 s u (get_below (shapes_of (proc_at q p)) b (simple Boolean) f.0) (omega (arith, free_temp a x s es v)) h.0 in
+      let first = pushes_local a b at 2 s u (slice_get_within (shapes_of (proc_at q p)) b (simple Boolean) f.0) (omega (arith, free_temp a x s es v)) h.0 in
       let second = go.fetches q sizes base p (here a) fr _ _ (top a).is (at + 1) 2 index s (spend 3 1 u) (Truth (is_true_value value)) h.1.0 read in
       if_leads (is_true_value value) (at + 1 + 1) (a2 + 1) u2 _ _ h.1.1.0 yes_way no_way (Pt p at 2 s fr u) (steps_on first second)
   do_follows (Begin place r cs n) env at w u t e f c wf cw st =

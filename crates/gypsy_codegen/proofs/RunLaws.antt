@@ -1,10 +1,10 @@
 -- The start, each reached state, and a whole run.
 use Rattle.std.proofs.Common.{◌≡◌, ℕ, zero, suc, ◌+◌, ◌-◌, List, [], ◌∷◌, length, map, refl, sym, ap, ◌∙◌, subst, arith}
 use Rattle.std.specs.Prelude.{reverse, ◌==◌}
-use Rattle.std.proofs.lemmas.Bool.{eq-eqb}
+use Rattle.std.proofs.lemmas.Bool.{eq-eqb, cond-true}
 use Rattle.std.proofs.lemmas.List.{append-nil}
 use Rattle.stack_text.specs.Values.{ValueOf, item_count}
-use Rattle.stack_text.proofs.SharedLaws.{get_below}
+use Rattle.std.proofs.lemmas.Option.{slice_get_within}
 use Rattle.piton_words.specs.declared.word.Word.TheVariants.{Nat}
 use Rattle.piton_check.specs.Instruction.{SystemView, ProgramView}
 use Rattle.piton_semantics.specs.State as piton
@@ -49,11 +49,12 @@ use Rattle.gypsy_semantics.proofs.ReachLaws.{counted_too}
 use Rattle.gypsy_predef.specs.Runs.{words_of_value}
 use Rattle.gypsy_codegen.specs.WordsOf.{words_before, local_shapes}
 use Rattle.gypsy_codegen.specs.Memory.{base_of}
-use Rattle.gypsy_codegen.proofs.CopyLaws.{copied_miss}
+use Rattle.gypsy_semantics.proofs.LendingLaws.{copied_miss}
 use Rattle.gypsy_codegen.proofs.StackLaws.{push_all-length, below_pushed, value_words}
 use Rattle.gypsy_codegen.proofs.LayoutLaws.{height, low_fits, index_fits}
-use Rattle.gypsy_codegen.proofs.LayoutLaws.{if_yes, reads_at}
-use Rattle.gypsy_codegen.proofs.StepLaws.{steps_append, spend_two, spend_none, pushed_reverse, program_is}
+use Rattle.gypsy_codegen.proofs.LayoutLaws.{reads_at}
+use Rattle.gypsy_space.proofs.SpendLaws.{spend_two, spend_none}
+use Rattle.gypsy_codegen.proofs.StepLaws.{steps_append, pushed_reverse, program_is}
 use Rattle.gypsy_codegen.proofs.PushLaws.{Live}
 use Rattle.gypsy_codegen.proofs.StandLaws.{body_stands, tops, leads, raise_leads}
 use Rattle.gypsy_codegen.proofs.RowLaws.{steps_follow}
@@ -67,7 +68,7 @@ start_shows q sizes base v fits =
     let b = tops q q.main 0 (open_on (body_of q q.main) []) (body_stands q q.main) in
     let is = program_is q sizes base q.main fits.main in
     let indices : (program_of (generated_view q sizes base) q.main).temporaries ≡ map (λ n. Nat n) (starts 0 (shapes_of (proc_at q q.main))) =
-    ap (λ (p : ProgramView). p.temporaries) is ∙ if_yes (q.main == q.main) (map (λ n. Nat n) (starts 0 (shapes_of (proc_at q q.main)))) []
+    ap (λ (p : ProgramView). p.temporaries) is ∙ cond-true (q.main == q.main) (map (λ n. Nat n) (starts 0 (shapes_of (proc_at q q.main)))) []
     (eq-eqb q.main q.main refl) in
     let frame : List Rattle.piton_words.specs.declared.word.Word.Word → List piton.Frame = λ l. record { locals = l; program = q.main; place = 0 } ∷ [] in
     record {
@@ -227,7 +228,7 @@ waiting_stand q (Held c x w xs cs ∷ fs) p y stack v g ext =
       λ b shape miss e h u r.
           let fit = value_fits (shapes_of (proc_at q c)) x b shape g.1 e in
           let inside : h < item_count shape =
-          omega (arith, get_below (words_of_value (value_at x b)) h u r, value_words (value_at x b) fit.1, ap item_count fit.0) in
+          omega (arith, slice_get_within (words_of_value (value_at x b)) h u r, value_words (value_at x b) fit.1, ap item_count fit.0) in
           let under : index_of q c fs b + h < length low = omega (arith, index_fits q c fs b shape g.3 e, inside, tall) in
           ext' (index_of q c fs b + h) under ∙ reads_at q c x' fs b h shape u vc g.3 e
           (ap (λ z. slice_get (words_of_value z) h) (copied_miss xs y x b miss) ∙ r),
@@ -241,7 +242,7 @@ waiting_variables_stand q a p x w fs t sf sh =
 pub actuals_share : ActualsShare
 actuals_share q p c b x w xs cs fs h =
     let k = length (proc_at q p).formals in
-    if_yes (nat_lt b k) (index_of q c fs (slice_index xs b)) (base_of q c fs + words_before (local_shapes (proc_at q p)) (b - k)) (lt-ltb b k h)
+    cond-true (nat_lt b k) (index_of q c fs (slice_index xs b)) (base_of q c fs + words_before (local_shapes (proc_at q p)) (b - k)) (lt-ltb b k h)
 
 pub raise_follows : PredefsRun → RaiseFollows
 raise_follows bodies q sizes base p x w fs fr env at c t fits small v g words waits st =

@@ -7,10 +7,10 @@ use Rattle.std.specs.List.{list_all}
 use Rattle.std.proofs.lemmas.List.{length-map}
 use Rattle.std.proofs.lemmas.List.Elements.{All-head, All-tail}
 use Rattle.std.proofs.lemmas.Slice.Eq.{bytes_eq-Decides}
-use Rattle.std.proofs.lemmas.Bool.{and_parts}
+use Rattle.std.proofs.lemmas.Bool.{and_parts, not-true}
 use Rattle.stack_text.specs.Names.{is_name}
 use Rattle.stack_text.specs.declared.name.Named.{Named}
-use Rattle.stack_text.proofs.SharedLaws.{not_true, rule_fails, append_none}
+use Rattle.stack_text.proofs.SharedLaws.{rule_fails, append_none}
 use Rattle.gypsy_syntax.specs.declared.literal.Decl.{Decl}
 use Rattle.gypsy_syntax.specs.declared.predef.Predef.{Predef}
 use Rattle.gypsy_syntax.specs.declared.predef.Predef.TheVariants as row
@@ -37,7 +37,7 @@ differ_all (n ∷ names) = list_all (λ m. not (bytes_eq m n)) names && differ_a
 unlike_of : (name : List ℕ) (names : List (List ℕ)) → list_all (λ m. not (bytes_eq m name)) names ≡ true → Unlike name names
 unlike_of name [] e = tt
 unlike_of name (m ∷ names) e =
-    let h = and_parts (not (bytes_eq m name)) (list_all (λ m. not (bytes_eq m name)) names) e in (not_true (bytes_eq m name) h.0, unlike_of name names h.1)
+    let h = and_parts (not (bytes_eq m name)) (list_all (λ m. not (bytes_eq m name)) names) e in (not-true (bytes_eq m name) h.0, unlike_of name names h.1)
 
 pub differ_of : (names : List (List ℕ)) → differ_all names ≡ true → Differ names
 differ_of [] e = tt

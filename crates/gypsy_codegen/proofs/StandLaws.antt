@@ -32,7 +32,8 @@ use Rattle.gypsy_codegen.specs.Generated.{generated_view}
 use Rattle.gypsy_codegen.specs.Memory.{stack_of}
 use Rattle.gypsy_codegen.specs.Showing.{HasAt, gen_in, Stands, Tops, cc_of, StandsAs}
 use Rattle.gypsy_codegen.specs.Law.{tally_of, Leads}
-use Rattle.gypsy_codegen.proofs.StepLaws.{P, Pt, state, spent, Goes, steps_on, stay, spend_two}
+use Rattle.gypsy_space.proofs.SpendLaws.{spend_two}
+use Rattle.gypsy_codegen.proofs.StepLaws.{P, Pt, state, spent, Goes, steps_on, stay}
 use Rattle.gypsy_codegen.proofs.PushLaws.{has_front, has_back, has_all, size_words, size_indices, size_actuals, size_args, Live, free_temp, jumps, sets_cc}
 
 pub size_raises : (q : Program) (p n : ℕ) (env : List Scope) (cs : List ConditionOf) → length (raises q p n env cs) ≡ 3 * length cs

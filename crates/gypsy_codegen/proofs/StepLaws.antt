@@ -32,25 +32,12 @@ use Rattle.gypsy_predef.specs.Bodies as predefined
 use Rattle.gypsy_syntax.specs.Predefined.{predef_number}
 use Rattle.gypsy_predef.specs.Bodies.{bodies}
 use Rattle.gypsy_codegen.specs.Generated.{generated_view, generated_program, count_from, code_of}
+use Rattle.gypsy_space.proofs.SpendLaws.{spend_two, spend_none}
 
 -- Tallies.
 
-pub spend_two : (a b c d : ℕ) (t : Tally) → spend a b (spend c d t) ≡ spend (c + a) (d + b) t
-unfolding spend
-spend_two a b c d t =
-    let e : t.count + c + a ≡ t.count + (c + a) = omega arith in
-    let f : t.steps + d + b ≡ t.steps + (d + b) = omega arith in
-    ap (λ i. record { count = i; steps = t.steps + d + b }) e ∙ ap (λ i. record { count = t.count + (c + a); steps = i }) f
-
 pub spend_as : (a b c d : ℕ) (t : Tally) → a ≡ c → b ≡ d → spend a b t ≡ spend c d t
 spend_as a b c d t e f = ap (λ i. spend i b t) e ∙ ap (λ i. spend c i t) f
-
-pub spend_none : (t : Tally) → t ≡ spend 0 0 t
-unfolding spend
-spend_none t =
-    let e : t.count ≡ t.count + 0 = omega arith in
-    let f : t.steps ≡ t.steps + 0 = omega arith in
-    ap (λ i. record { count = i; steps = t.steps }) e ∙ ap (λ i. record { count = t.count + 0; steps = i }) f
 
 pub three : (a b c d e f : ℕ) (u : Tally) → spend a b (spend c d (spend e f u)) ≡ spend (e + c + a) (f + d + b) u
 three a b c d e f u = ap (spend a b) (spend_two c d e f u) ∙ spend_two a b (e + c) (f + d) u

@@ -55,13 +55,14 @@ use Rattle.gypsy_codegen.proofs.PushLaws.{PredefsRun}
 use Rattle.gypsy_codegen.proofs.RunLaws.{meaning_runs}
 use Rattle.gypsy_codegen.specs.Acceptable.{SourceRuns, code_words_of, LimitsFit, IsAcceptable}
 use Rattle.gypsy_codegen.proofs.SourceLaws.{ProcForm}
-use Rattle.gypsy_codegen.proofs.InstructionLaws.{InRange, natural_is, word_clean, word_fits, word_resolves}
+use Rattle.gypsy_codegen.proofs.InstructionLaws.{InRange, natural_is, word_clean, word_fits, word_resolves, Base}
 use Rattle.gypsy_codegen.proofs.DeclareLaws.{declarations, found_at, names_apart, no_repeats, Apart}
 use Rattle.gypsy_codegen.proofs.FineLaws.{values_in_range, all_words}
 use Rattle.gypsy_codegen.proofs.ProgramLaws.{Clean}
 use Rattle.stack_text.specs.Trees.{node_count}
 use Rattle.stack_text.specs.Grammar.Printed.{unplaced}
-use Rattle.stack_text.proofs.SharedLaws.{both_none, get_below, get_some}
+use Rattle.std.proofs.lemmas.Option.{slice_get_within}
+use Rattle.stack_text.proofs.SharedLaws.{both_none, get_some}
 use Rattle.piton_syntax.specs.Printed.{tree_of}
 use Rattle.piton_syntax.proofs.MadeLaws.{fits_keeps}
 use Rattle.piton_check.specs.Sound.{IsSound}
@@ -69,7 +70,7 @@ use Rattle.piton_check.proofs.SoundLaws.{is_sound}
 use Rattle.gypsy_codegen.proofs.NodeLaws.{system_nodes}
 use Rattle.gypsy_codegen.proofs.SourceLaws.{Kept, kept, named_at}
 use Rattle.gypsy_predef.proofs.FormLaws.{predef_named}
-use Rattle.gypsy_codegen.proofs.BaseLaws.{Base, declared_both}
+use Rattle.gypsy_codegen.proofs.BaseLaws.{declared_both}
 use Rattle.gypsy_codegen.proofs.FrameLaws.{front_at}
 use Rattle.gypsy_codegen.proofs.ProcedureLaws.{procedure_clean, procedure_total}
 
@@ -266,7 +267,7 @@ module _ (texts : TextsResolve) (src : SourceOf) (sizes : StackSizes) (base : â„
       (procs_all src g 0 src.procs (Î» j p e.
       let same : j â‰¡ 0 + j = omega arith in
       subst (Î» z. Clean g (written_procedure src z p) (generated_program q z)) same
-      (procedure_clean src does_fit fit.few_words g j p e (get_below src.procs j p e) (each_at ProcForm src.procs j p procs_fit e)
+      (procedure_clean src does_fit fit.few_words g j p e (slice_get_within src.procs j p e) (each_at ProcForm src.procs j p procs_fit e)
       (at_place (procedure_breaches src) src.procs j p k.procs e) (base_of (frame_texts q j p)))))
       (predefs_all texts g (found_at area_texts 0 (tt, tt) (omega arith)) predefs)
 
@@ -298,7 +299,8 @@ module _ (texts : TextsResolve) (src : SourceOf) (sizes : StackSizes) (base : â„
   main_count =
       let p = main_proc.0 in
       let e = main_proc.1 in
-      let total = procedure_total src does_fit fit.few_words g q.main p e (get_below src.procs q.main p e) (each_at ProcForm src.procs q.main p procs_fit e)
+      let total = procedure_total src does_fit fit.few_words g q.main p e (slice_get_within src.procs q.main p e)
+      (each_at ProcForm src.procs q.main p procs_fit e)
       (at_place (procedure_breaches src) src.procs q.main p k.procs e) (base_of (frame_texts q q.main p)) in
       omega (arith, total, no_formals)
 

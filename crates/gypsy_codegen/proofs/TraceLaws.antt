@@ -3,7 +3,7 @@ use Rattle.std.proofs.Common.{◌≡◌, ℕ, ◌+◌, ◌<◌, List, [], ◌∷
 use Rattle.std.specs.Prelude.{slice_get}
 use Rattle.stack_text.specs.declared.shape.Shape.{Shape}
 use Rattle.stack_text.specs.Values.{ValueOf, item_count}
-use Rattle.stack_text.proofs.SharedLaws.{get_below}
+use Rattle.std.proofs.lemmas.Option.{slice_get_within}
 use Rattle.piton_words.specs.declared.word.Word.{Word}
 use Rattle.piton_check.specs.Instruction.{SystemView}
 use Rattle.piton_semantics.specs.State as piton
@@ -43,7 +43,7 @@ module _ (q : Program) (stack : List Word) where
   holds_here p y fs b shape v g begins e h u r =
       let fit = value_fits (shapes_of (proc_at q p)) y b shape v e in
       let inside : h < item_count shape =
-      omega (arith, get_below (words_of_value (value_at y b)) h u r, value_words (value_at y b) fit.1, ap item_count fit.0) in
+      omega (arith, slice_get_within (words_of_value (value_at y b)) h u r, value_words (value_at y b) fit.1, ap item_count fit.0) in
       let tall : length (stack_of q p y fs) ≡ (used q p fs).temp = height q p y fs v g in
       let under : index_of q p fs b + h < length (stack_of q p y fs) = omega (arith, index_fits q p fs b shape g e, inside, tall) in
       begins (index_of q p fs b + h) under ∙ reads_at q p y fs b h shape u v g e r
@@ -56,7 +56,7 @@ module _ (q : Program) (stack : List Word) where
     number = frame_number q p fs g;
     variables = λ b shape e. record {
       index = index_of q p fs b;
-      local = frame_at q p fs b g (get_below (shapes_of (proc_at q p)) b shape e);
+      local = frame_at q p fs b g (slice_get_within (shapes_of (proc_at q p)) b shape e);
       words = holds_here p y fs b shape v g begins e;
     };
   }

@@ -20,7 +20,7 @@ use Rattle.gypsy_syntax.specs.declared.proc.Proc.{Proc}
 use Rattle.gypsy_syntax.specs.Views.SourceView.{proc_of}
 use Rattle.stack_text.proofs.Loops.{drop-item}
 use Rattle.stack_text.specs.Grammar.Printed.{unplaced}
-use Rattle.stack_text.proofs.SharedLaws.{get_below}
+use Rattle.std.proofs.lemmas.Option.{slice_get_within}
 use Rattle.gypsy_syntax.specs.Programs.{Arg, Var, Lit, Program, no_proc, simple, proc_at, body_of, shapes_of, conds_of}
 use Rattle.gypsy_syntax.specs.Programs.{Stmt, Skip, NoOp, Signal, Seq, Loop, If, Begin, Call, Apply}
 use Rattle.gypsy_syntax.specs.ProgramFits.{Each, ActualsFit, ArgFits, ArgsFit, slot_kind, StmtFits, ProgramFits}
@@ -96,7 +96,7 @@ module _ (s : SourceOf) (fits : ProgramFits (program_of s)) (few : total_words (
 
   writable_at : (p : ℕ) (proc : ProcOf) → slice_get s.procs p ≡ Some proc → IsWritable q (program_texts s) p proc
   writable_at p proc is =
-      let below : p < length s.procs = get_below s.procs p proc is in
+      let below : p < length s.procs = slice_get_within s.procs p proc is in
       let here : proc_at q p ≡ procedure_of s proc = get_or_map (procedure_of s) s.procs p proc no_proc is in
       let vars : vars_of (proc_at q p) ≡ length proc.formals + length proc.locals =
       ap vars_of here ∙ omega (arith, length-map proc.formals (λ d. shape_of d.shape), length-map proc.locals local_value) in

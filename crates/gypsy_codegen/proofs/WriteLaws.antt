@@ -1,7 +1,7 @@
 -- Lines that are written one behind the other.
 use Rattle.std.proofs.Common.{◌≡◌, ℕ, suc, ◌+◌, ◌-◌, ◌<◌, List, ◌∷◌, ◌++◌, length, drop, get_or, replicate, sym, ap, ◌∙◌, append_assoc, arith}
 use Rattle.stack_text.proofs.Loops.{drop-item}
-use Rattle.stack_text.proofs.SharedLaws.{same_item}
+use Rattle.std.proofs.lemmas.List.{get_or_default}
 
 -- the lines of an item are written: they, and those of what is left, behind what is there
 pub more_next : {X Y : Type 0} (f : List X → List Y) (xs : List X) (n : ℕ) (x : X) (piece old new all : List Y) →
@@ -34,5 +34,5 @@ numbered_next {X} {Y} f xs n d piece old new all lt split now so_far =
     let left = drop (n + 1) xs in
     ap (λ (ys : List Y). ys ++ f (n + 1) left) now ∙ append_assoc old piece (f (n + 1) left)
     ∙ ap (λ (ys : List Y). old ++ ys) (sym (split x left))
-    ∙ ap (λ (rest : List X). old ++ f n rest) (sym (drop-item xs n x lt (same_item xs n d x lt)))
+    ∙ ap (λ (rest : List X). old ++ f n rest) (sym (drop-item xs n x lt (get_or_default xs n d x lt)))
     ∙ so_far

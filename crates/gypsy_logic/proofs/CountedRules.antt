@@ -11,7 +11,7 @@ use Rattle.gypsy_syntax.specs.Programs.{Stmt, Skip, NoOp, Signal, Seq, Loop, If,
 use Rattle.gypsy_syntax.specs.Predefined.{predef_effect}
 use Rattle.gypsy_syntax.specs.Effects.{Effect, Normal, Fault, Beyond, no_value, value_at, is_true_value}
 use Rattle.gypsy_space.specs.Costs.{Tally, spend, start_tally, count_of, leaving, main_spend}
-use Rattle.gypsy_space.specs.Needs.{StackSizes, main_used, with_call, has_temp_room, has_ctrl_room, has_room, lack_of}
+use Rattle.gypsy_space.specs.Needs.{StackSizes, main_used, with_call, has_room}
 use Rattle.gypsy_space.specs.declared.need.Lack.TheVariants.{Nothing, Temporary, Control}
 use Rattle.gypsy_semantics.specs.Calls.{CurrentCondition, has_cond, is_passed_on, values_of, target_of, copied_in, copied_out, main_start, main_formals}
 use Rattle.gypsy_semantics.specs.Calls.{main_way}
@@ -24,6 +24,8 @@ use Rattle.gypsy_logic.specs.Counts.{JoinedAfter, HandledAfter, RoundAfter, Agai
 use Rattle.gypsy_logic.specs.Counts.{GivesAfter, MainEndsAfter, MeansAfter}
 use Rattle.gypsy_logic.proofs.CountedTableLaws.{takes_counts}
 use Rattle.gypsy_logic.proofs.Rules.{way_ended, copied_taken}
+use Rattle.std.proofs.lemmas.Bool.{eqb-true}
+use Rattle.gypsy_semantics.proofs.Rooms.{nothing_lacks}
 
 module _ {q : Program} {sizes u : StackSizes} where
   -- a run of which something is said, of the number of instructions in all
@@ -169,9 +171,6 @@ count_is row.MgIndexArray v = refl
 count_is row.MgArrayElementAssignment v = refl
 count_is row.MgIntegerMultiply v = refl
 
-same_nats : (n m : ℕ) → (n == m) ≡ true → n ≡ m
-same_nats n m e = grind (arith, e)
-
 module _ {q : Program} {sizes u : StackSizes} where
   module _ (place : ℕ) (r : Predef) (args : List Arg) (x : List ValueOf) (k : ℕ) (Q : CountedExit) where
     -- where both failures take as many instructions, it doesn't matter which it is
@@ -179,7 +178,7 @@ module _ {q : Program} {sizes u : StackSizes} where
         → (n : ℕ) → (n ≡ predef_count r Fault) ⊎ (n ≡ predef_count r Beyond) → RunsAfter q sizes u (Apply place r args) x x (Some Routine) n
         → EndsAfter q sizes u (Apply place r args) x k Q
     either_failure true e h n which runs =
-        let same = same_nats (predef_count r Fault) (predef_count r Beyond) e in
+        let same = eqb-true (predef_count r Fault) (predef_count r Beyond) e in
         record {
           vars = x;
           way = Some Routine;
@@ -242,15 +241,6 @@ module _ {q : Program} {sizes u : StackSizes} {place : ℕ} {r : Predef} {args :
 
 -- ---- calls of procedures
 
-room_lacks : (temp ctrl : Bool) → (temp && ctrl) ≡ true → (if not temp then Temporary else if not ctrl then Control else Nothing) ≡ Nothing
-room_lacks true true e = refl
-room_lacks true false e = absurd (let f : false ≡ true = e in cc)
-room_lacks false ctrl e = absurd (let f : false ≡ true = e in cc)
-
-lacks_nothing : (q : Program) (sizes : StackSizes) (p : ℕ) (u : StackSizes) → has_room q sizes p u ≡ true → lack_of q sizes p u ≡ Nothing
-unfolding has_room lack_of
-lacks_nothing q sizes p u e = room_lacks (has_temp_room q sizes p u) (has_ctrl_room q sizes p u) e
-
 module _ {q : Program} {sizes u : StackSizes} where
   -- by the callee's body, where the stacks have room for the call
   pub call_after : {place p : ℕ} {xs : List ℕ} {cs : List ConditionOf} {x : List ValueOf} {k : ℕ} {Q : CountedExit} → has_room q sizes p u ≡ true
@@ -260,7 +250,7 @@ module _ {q : Program} {sizes u : StackSizes} where
   call_after {place = place} {p = p} {xs = xs} {cs = cs} {x = x} {k = k} {Q = Q} room h =
       ended_after (Call place p xs cs) x (copied_out xs h.vars x) k (call_count q p + h.taken + return_count q p h.way)
       (k + call_count q p + h.taken + return_count q p h.way) (passed q p cs h.way) Q
-      ((takes_counts q sizes).call_returns place p xs cs u x h.vars h.way h.taken (lacks_nothing q sizes p u room) h.runs) (omega arith) h.holds
+      ((takes_counts q sizes).call_returns place p xs cs u x h.vars h.way h.taken (nothing_lacks q sizes p u room) h.runs) (omega arith) h.holds
 
 module _ {q : Program} {sizes : StackSizes} {p : ℕ} {Room : StackSizes → Type 0} where
   -- a contract for given values: what the body ends with, counted from its beginning

@@ -18,6 +18,7 @@ use Rattle.gypsy_semantics.specs.Counted.{counted_applied, counted_returned, cou
 use Rattle.gypsy_logic.specs.Ends.{passed}
 use Rattle.gypsy_logic.specs.Counts.{RunsAfter, joined, call_count, return_count, predef_count}
 use Rattle.gypsy_logic.specs.CountedTable.{TakesCounts}
+use Rattle.gypsy_space.proofs.SpendLaws.{spend_two, spend_none}
 
 -- ---- what is spent in two parts
 
@@ -27,15 +28,7 @@ tally n s = record { count = n; steps = s }
 same_tally : (n m s p : ℕ) → n ≡ m → s ≡ p → tally n s ≡ tally m p
 same_tally n m s p e f = ap (λ (i : ℕ). tally i s) e ∙ ap (tally m) f
 
-spends : (i p j r : ℕ) (t : Tally) → spend i p (spend j r t) ≡ spend (j + i) (r + p) t
-unfolding spend
-spends i p j r t = same_tally (t.count + j + i) (t.count + (j + i)) (t.steps + r + p) (t.steps + (r + p)) (omega arith) (omega arith)
-
-spends_none : (t : Tally) → t ≡ spend 0 0 t
-unfolding spend
-spends_none t = same_tally t.count (t.count + 0) t.steps (t.steps + 0) (omega arith) (omega arith)
-
--- what a spending spends is what it spends from nothing on
+-- what a spending spend_two is what it spend_two from nothing on
 spends_so_much : (i p : ℕ) (t : Tally) → spend i p t ≡ spend (spend i p start_tally).count (spend i p start_tally).steps t
 unfolding spend
 spends_so_much i p t = same_tally (t.count + i) (t.count + (0 + i)) (t.steps + p) (t.steps + (0 + p)) (omega arith) (omega arith)
@@ -43,8 +36,8 @@ spends_so_much i p t = same_tally (t.count + i) (t.count + (0 + i)) (t.steps + p
 -- a part that a join follows
 part_done : (x : List ValueOf) (c : CurrentCondition) (j p i r : ℕ) (t : Tally) → counted_part (CountedDone x c (spend i r t)) (spend j p)
     ≡ CountedDone x c (spend (i + joined c j) (r + joined c p) t)
-part_done x None j p i r t = ap (CountedDone x None) (spends j p i r t)
-part_done x (Some c) j p i r t = ap (CountedDone x (Some c)) (spends_none (spend i r t) ∙ spends 0 0 i r t)
+part_done x None j p i r t = ap (CountedDone x None) (spend_two j p i r t)
+part_done x (Some c) j p i r t = ap (CountedDone x (Some c)) (spend_none (spend i r t) ∙ spend_two 0 0 i r t)
 
 module _ (q : Program) (sizes : StackSizes) where
   -- from some bound on, which isn't 0
@@ -57,7 +50,7 @@ module _ (q : Program) (sizes : StackSizes) where
       pick (suc m) t le = f m t (omega arith)
 
   skip : (u : StackSizes) (x : List ValueOf) → RunsAfter q sizes u Skip x x None 0
-  skip u x = from_bound Skip u x x None 0 0 0 (λ m t le. ap (CountedDone x None) (spends_none t))
+  skip u x = from_bound Skip u x x None 0 0 0 (λ m t le. ap (CountedDone x None) (spend_none t))
 
   no_op : (place : ℕ) (u : StackSizes) (x : List ValueOf) → RunsAfter q sizes u (NoOp place) x x None 1
   no_op place u x = from_bound (NoOp place) u x x None 1 0 1 (λ m t le. refl)
@@ -69,7 +62,7 @@ module _ (q : Program) (sizes : StackSizes) where
       → RunsAfter q sizes u b y z c k → RunsAfter q sizes u (Seq a b) x z c (n + k)
   seq_on a b u x y z c n k r l = from_bound (Seq a b) u x z c (n + k) (r.bound + l.bound) (r.steps + l.steps) (λ m t le.
       ap (λ (o : CountedOutcome). counted_then o (counted_evaluate q sizes (suc m) b u)) (r.done (suc m) t (omega arith))
-      ∙ l.done (suc m) (spend n r.steps t) (omega arith) ∙ ap (CountedDone z c) (spends k l.steps n r.steps t))
+      ∙ l.done (suc m) (spend n r.steps t) (omega arith) ∙ ap (CountedDone z c) (spend_two k l.steps n r.steps t))
 
   seq_stops : (a b : Stmt) (u : StackSizes) (x y : List ValueOf) (c : ConditionOf) (n : ℕ) → RunsAfter q sizes u a x y (Some c) n
       → RunsAfter q sizes u (Seq a b) x y (Some c) n
@@ -81,7 +74,7 @@ module _ (q : Program) (sizes : StackSizes) where
       (t : Tally) → r.bound ≤ m → counted_part (counted_evaluate q sizes m s u x (spend i p t)) (spend j k)
       ≡ CountedDone y c (spend (i + n + joined c j) (p + r.steps + joined c k) t)
   arm_done m s u x y c n i p j k r t le =
-      ap (λ (o : CountedOutcome). counted_part o (spend j k)) (r.done m (spend i p t) le ∙ ap (CountedDone y c) (spends n r.steps i p t))
+      ap (λ (o : CountedOutcome). counted_part o (spend j k)) (r.done m (spend i p t) le ∙ ap (CountedDone y c) (spend_two n r.steps i p t))
       ∙ part_done y c j k (i + n) (p + r.steps) t
 
   if_true : (place b : ℕ) (s w : Stmt) (u : StackSizes) (x y : List ValueOf) (c : CurrentCondition) (n : ℕ) → is_true_value (value_at x b) ≡ true
@@ -104,19 +97,19 @@ module _ (q : Program) (sizes : StackSizes) where
       ≡ counted_round_end (CountedDone y c (spend (1 + n) (1 + r.steps) t)) (counted_evaluate q sizes m (Loop place s) u)
   round_done m place s u x y c n r t le =
       ap (λ (o : CountedOutcome). counted_round_end o (counted_evaluate q sizes m (Loop place s) u))
-      (r.done (suc m) (spend 1 1 t) le ∙ ap (CountedDone y c) (spends n r.steps 1 1 t))
+      (r.done (suc m) (spend 1 1 t) le ∙ ap (CountedDone y c) (spend_two n r.steps 1 1 t))
 
   loop_on : (place : ℕ) (s : Stmt) (u : StackSizes) (x y z : List ValueOf) (c : CurrentCondition) (n k : ℕ) → RunsAfter q sizes u s x y None n
       → RunsAfter q sizes u (Loop place s) y z c k → RunsAfter q sizes u (Loop place s) x z c (1 + n + 1 + k)
   loop_on place s u x y z c n k r l = from_bound (Loop place s) u x z c (1 + n + 1 + k) (r.bound + l.bound) (1 + r.steps + 1 + l.steps) (λ m t le.
       round_done m place s u x y None n r t (omega arith)
-      ∙ ap (counted_evaluate q sizes m (Loop place s) u y) (spends 1 1 (1 + n) (1 + r.steps) t)
-      ∙ l.done m (spend (1 + n + 1) (1 + r.steps + 1) t) (omega arith) ∙ ap (CountedDone z c) (spends k l.steps (1 + n + 1) (1 + r.steps + 1) t))
+      ∙ ap (counted_evaluate q sizes m (Loop place s) u y) (spend_two 1 1 (1 + n) (1 + r.steps) t)
+      ∙ l.done m (spend (1 + n + 1) (1 + r.steps + 1) t) (omega arith) ∙ ap (CountedDone z c) (spend_two k l.steps (1 + n + 1) (1 + r.steps + 1) t))
 
   loop_left : (place : ℕ) (s : Stmt) (u : StackSizes) (x y : List ValueOf) (n : ℕ) → RunsAfter q sizes u s x y (Some Leave) n
       → RunsAfter q sizes u (Loop place s) x y None (1 + n + 3)
   loop_left place s u x y n r = from_bound (Loop place s) u x y None (1 + n + 3) r.bound (1 + r.steps + 2) (λ m t le.
-      round_done m place s u x y (Some Leave) n r t (omega arith) ∙ ap (CountedDone y None) (spends 3 2 (1 + n) (1 + r.steps) t))
+      round_done m place s u x y (Some Leave) n r t (omega arith) ∙ ap (CountedDone y None) (spend_two 3 2 (1 + n) (1 + r.steps) t))
 
   loop_stops : (place : ℕ) (s : Stmt) (u : StackSizes) (x y : List ValueOf) (c : ConditionOf) (n : ℕ) → is_leave c ≡ false
       → RunsAfter q sizes u s x y (Some c) n → RunsAfter q sizes u (Loop place s) x y (Some c) (1 + n)
@@ -129,7 +122,7 @@ module _ (q : Program) (sizes : StackSizes) where
       → RunsAfter q sizes u s x y None n → RunsAfter q sizes u (Begin place s cs w) x y None (n + 2)
   begin_ends place s cs w u x y n r = from_bound (Begin place s cs w) u x y None (n + 2) r.bound (r.steps + 2) (λ m t le.
       ap (λ (o : CountedOutcome). counted_caught o cs (counted_evaluate q sizes (suc m) w u)) (r.done (suc m) t (omega arith))
-      ∙ ap (CountedDone y None) (spends 2 2 n r.steps t))
+      ∙ ap (CountedDone y None) (spend_two 2 2 n r.steps t))
 
   -- after a body that ends with a condition
   guard_done : (m : ℕ) (s : Stmt) (cs : List ConditionOf) (w : Stmt) (u : StackSizes) (x y : List ValueOf) (c : ConditionOf) (n : ℕ) (b : Bool)
@@ -148,7 +141,7 @@ module _ (q : Program) (sizes : StackSizes) where
   begin_handles place s cs w u x y z c d n k e r l =
       from_bound (Begin place s cs w) u x z d (n + 3 + k + joined d 1) (r.bound + l.bound) (r.steps + 2 + l.steps + joined d 1) (λ m t le.
       guard_done m s cs w u x y c n true r t (omega arith) e
-      ∙ ap (λ (a : Tally). counted_part (counted_evaluate q sizes (suc m) w u y a) (spend 1 1)) (spends 3 2 n r.steps t)
+      ∙ ap (λ (a : Tally). counted_part (counted_evaluate q sizes (suc m) w u y a) (spend 1 1)) (spend_two 3 2 n r.steps t)
       ∙ arm_done (suc m) w u y z d k (n + 3) (r.steps + 2) 1 1 l t (omega arith))
 
   begin_stops : (place : ℕ) (s : Stmt) (cs : List ConditionOf) (w : Stmt) (u : StackSizes) (x y : List ValueOf) (c : ConditionOf) (n : ℕ)
@@ -194,9 +187,9 @@ module _ (q : Program) (sizes : StackSizes) where
       ap (λ (l : Lack). counted_if_room l x t (counted_returned q p xs cs x
       (counted_evaluate q sizes m (body_of q p) (with_call q p u) (copied_in q p xs x) (call_spend q p t)))) e
       ∙ ap (λ (a : Tally). counted_returned q p xs cs x (counted_evaluate q sizes m (body_of q p) (with_call q p u) (copied_in q p xs x) a)) (call_spends p t)
-      ∙ ap (counted_returned q p xs cs x) (r.done m (spend (call_count q p) steps t) le ∙ ap (CountedDone y c) (spends n r.steps (call_count q p) steps t))
+      ∙ ap (counted_returned q p xs cs x) (r.done m (spend (call_count q p) steps t) le ∙ ap (CountedDone y c) (spend_two n r.steps (call_count q p) steps t))
       ∙ returns p xs cs x y c (spend (call_count q p + n) (steps + r.steps) t)
-      ∙ ap (CountedDone (copied_out xs y x) (passed q p cs c)) (spends (return_count q p c) (return_steps p c) (call_count q p + n) (steps + r.steps) t))
+      ∙ ap (CountedDone (copied_out xs y x) (passed q p cs c)) (spend_two (return_count q p c) (return_steps p c) (call_count q p + n) (steps + r.steps) t))
 
   without_room : (place p : ℕ) (xs : List ℕ) (cs : List ConditionOf) (u : StackSizes) (x : List ValueOf) (n steps : ℕ) (l : Lack)
       → lack_of q sizes p u ≡ l → ((t : Tally) (o : CountedOutcome) → counted_if_room l x t o ≡ CountedDone x (Some Space) (spend n steps t))

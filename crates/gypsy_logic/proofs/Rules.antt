@@ -3,7 +3,7 @@
 use Rattle.std.proofs.Common.{◌≡◌, ℕ, zero, suc, ◌+◌, ◌<◌, ◌≤◌, List, [], ◌∷◌, map, length, take, Bool, true, false, Some, None, refl, sym, ap, ◌∙◌, subst}
 use Rattle.std.proofs.Common.{slice_set, arith}
 use Rattle.std.specs.Prelude.{nat_le, ◌&&◌}
-use Rattle.std.proofs.lemmas.Bool.{le-leb}
+use Rattle.std.proofs.lemmas.Bool.{le-leb, and_from}
 use Rattle.stack_text.specs.Values.{ValueOf}
 use Rattle.gypsy_syntax.specs.declared.predef.Predef.{Predef}
 use Rattle.gypsy_syntax.specs.Programs.{ConditionOf, Leave, Routine, Space, Declared, Arg, Program, proc_at, body_of}
@@ -253,14 +253,9 @@ module _ {q : Program} {sizes : StackSizes} {v : List ValueOf} where
 
 -- ---- room
 
-both : (a b : Bool) → a ≡ true → b ≡ true → (a && b) ≡ true
-both true true e f = refl
-both true false e f = f
-both false b e f = e
-
 -- a call has room where neither stack is too small
 pub room_is : (q : Program) (sizes : StackSizes) (p : ℕ) (u : StackSizes) → u.temp + (call_need q p).temp ≤ sizes.temp
     → u.ctrl + (call_need q p).ctrl ≤ sizes.ctrl → has_room q sizes p u ≡ true
 unfolding has_room
 room_is q sizes p u temp ctrl =
-    both (nat_le (u.temp + (call_need q p).temp) sizes.temp) (nat_le (u.ctrl + (call_need q p).ctrl) sizes.ctrl) (le-leb _ _ temp) (le-leb _ _ ctrl)
+    and_from (nat_le (u.temp + (call_need q p).temp) sizes.temp) (nat_le (u.ctrl + (call_need q p).ctrl) sizes.ctrl) (le-leb _ _ temp) (le-leb _ _ ctrl)

@@ -1,16 +1,18 @@
 -- A statement changes no variable that it doesn't write.
 use Rattle.std.proofs.Common.{◌≡◌, ◌≢◌, ℕ, zero, suc, List, [], ◌∷◌, ◌++◌, Bool, true, false, Some, None, refl, ap, ◌∙◌, subst, slice_set}
+use Rattle.std.proofs.lemmas.List.{get_or-set_other}
 use Rattle.stack_text.specs.Values.{ValueOf}
 use Rattle.gypsy_syntax.specs.Programs.{ConditionOf, Arg, Program, body_of}
 use Rattle.gypsy_syntax.specs.Programs.{Stmt, Skip, NoOp, Signal, Seq, Loop, If, Begin, Call, Apply}
 use Rattle.gypsy_syntax.specs.Predefined.{predef_effect}
 use Rattle.gypsy_syntax.specs.ProgramFits.{Misses}
-use Rattle.gypsy_syntax.specs.Effects.{Effect, Normal, Fault, Beyond, value_at, is_true_value}
+use Rattle.gypsy_syntax.specs.Effects.{Effect, Normal, Fault, Beyond, no_value, value_at, is_true_value}
 use Rattle.gypsy_space.specs.Needs.{StackSizes, with_call, has_room}
-use Rattle.gypsy_semantics.specs.Calls.{CurrentCondition, has_cond, is_leave, values_of, target_of, copied_in, copied_out}
+use Rattle.gypsy_semantics.specs.Calls.{CurrentCondition, has_cond, is_leave, values_of, target_of, copied_in}
 use Rattle.gypsy_semantics.specs.Meaning.{MeaningOutcome, Done, Unfinished, then_do, either_way, caught, round_end, applied, returned, if_room, evaluate}
 use Rattle.gypsy_logic.specs.Runs.{Runs}
 use Rattle.gypsy_logic.specs.Written.{written, KeepsOthers}
+use Rattle.gypsy_semantics.proofs.LendingLaws.{copied_miss}
 
 -- ---- which variables a list misses
 
@@ -23,18 +25,6 @@ misses_second b [] bs m = m
 misses_second b (a ∷ ms) bs m = misses_second b ms bs m.1
 
 -- ---- keeping
-
-get_set : (x : List ValueOf) (b a : ℕ) (v : ValueOf) → b ≢ a → value_at (slice_set x a v) b ≡ value_at x b
-get_set [] b a v n = refl
-get_set (w ∷ x) zero zero v n = absurd (n refl)
-get_set (w ∷ x) zero (suc a) v n = refl
-get_set (w ∷ x) (suc b) zero v n = refl
-get_set (w ∷ x) (suc b) (suc a) v n = get_set x b a v (λ e. n (ap suc e))
-
-get_copied : (xs : List ℕ) (y x : List ValueOf) (b : ℕ) → Misses b xs → value_at (copied_out xs y x) b ≡ value_at x b
-get_copied [] y x b m = refl
-get_copied (a ∷ xs) [] x b m = refl
-get_copied (a ∷ xs) (v ∷ y) x b m = get_copied xs y (slice_set x a v) b m.1 ∙ get_set x b a v m.0
 
 pub keeps_all : (bs : List ℕ) (x : List ValueOf) → KeepsOthers bs x x
 keeps_all bs x b m = refl
@@ -76,8 +66,8 @@ module _ (bs : List ℕ) (x : List ValueOf) where
   round_keeps Unfinished f k l = tt
 
 returned_keeps : (q : Program) (p : ℕ) (xs : List ℕ) (cs : List ConditionOf) (x : List ValueOf) (o : MeaningOutcome) → Keeping xs x (returned q p xs cs x o)
-returned_keeps q p xs cs x (Done y None) = λ b misses. get_copied xs y x b misses
-returned_keeps q p xs cs x (Done y (Some c)) = λ b misses. get_copied xs y x b misses
+returned_keeps q p xs cs x (Done y None) = λ b misses. copied_miss xs y x b misses
+returned_keeps q p xs cs x (Done y (Some c)) = λ b misses. copied_miss xs y x b misses
 returned_keeps q p xs cs x Unfinished = tt
 
 room_keeps : (bs : List ℕ) (x : List ValueOf) (b : Bool) (o : MeaningOutcome) → Keeping bs x o → Keeping bs x (if_room b x o)
@@ -85,7 +75,7 @@ room_keeps bs x true o k = k
 room_keeps bs x false o k = keeps_all bs x
 
 applied_keeps : (args : List Arg) (e : Effect) (x : List ValueOf) → Keeping (target_of args ∷ []) x (applied args e x)
-applied_keeps args (Normal v) x = λ b misses. get_set x b (target_of args) v misses.0
+applied_keeps args (Normal v) x = λ b misses. get_or-set_other x (target_of args) b v no_value misses.0
 applied_keeps args Fault x = keeps_all (target_of args ∷ []) x
 applied_keeps args Beyond x = keeps_all (target_of args ∷ []) x
 

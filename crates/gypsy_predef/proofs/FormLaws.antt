@@ -40,6 +40,7 @@ use Rattle.gypsy_predef.specs.Resolving.{BodiesFit}
 use Rattle.gypsy_predef.specs.Texts.{local_name, label_name, lines_of, formals_of, temporary_locals, plain, plain_at, of_name, constant, branch_text}
 use Rattle.gypsy_predef.specs.Texts.{fail_label, condition_area}
 use Rattle.gypsy_predef.specs.Texts.{line_text, temporary_text, named_local}
+use Rattle.piton_semantics.proofs.ReadyForms.{is_test}
 
 -- ---- names
 
@@ -107,21 +108,8 @@ abbrev takes_nothing : Arguments → Bool
 takes_nothing Zero = true
 takes_nothing a = false
 
-abbrev has_test : TestFamily → TestKind → Bool
-has_test family.Nat test.Zero = true
-has_test family.Nat test.NotZero = true
-has_test family.Int test.Zero = true
-has_test family.Int test.NotZero = true
-has_test family.Int test.Neg = true
-has_test family.Int test.NotNeg = true
-has_test family.Int test.Pos = true
-has_test family.Int test.NotPos = true
-has_test family.Bool test.T = true
-has_test family.Bool test.F = true
-has_test f k = false
-
 abbrev takes_test : Arguments → TestKind → Bool
-takes_test (TestAndLabel f) k = has_test f k
+takes_test (TestAndLabel f) k = is_test f k
 takes_test a k = false
 
 abbrev line_right : Line → Bool
@@ -141,7 +129,7 @@ nothing_taken : (a : Arguments) → takes_nothing a ≡ true → a ≡ Zero
 nothing_taken Zero h = refl
 nothing_taken a h = cc
 
-test_there : (f : TestFamily) (k : TestKind) → has_test f k ≡ true → Contains (tests_of f) k
+test_there : (f : TestFamily) (k : TestKind) → is_test f k ≡ true → Contains (tests_of f) k
 test_there family.Nat test.Zero h = (0, lit< tt, refl)
 test_there family.Nat test.NotZero h = (1, lit< tt, refl)
 test_there family.Int test.Zero h = (0, lit< tt, refl)

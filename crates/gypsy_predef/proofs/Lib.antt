@@ -4,6 +4,7 @@ mod ValueLaws
 mod NumberLaws
 mod ProductLaws
 mod MultiplyLaws
+mod IndexLaws
 mod RowLaws
 mod CallLaws
 mod ArgumentLaws

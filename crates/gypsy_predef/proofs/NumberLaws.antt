@@ -24,6 +24,7 @@ use Rattle.piton_semantics.specs.Views.{then_on, test_of, is_negative}
 use Rattle.gypsy_syntax.specs.Ranges.{is_in_range}
 use Rattle.gypsy_syntax.specs.Effects.{same_int}
 use Rattle.gypsy_predef.specs.Runs.{word_of_item}
+use Rattle.std.proofs.Math.IntN.{+ℤ_idr}
 
 -- Equality.
 
@@ -113,18 +114,12 @@ minus_range (negsuc n) h = least_minus n (ltb-true n (2 ^ 31) h)
 pub minus_row : (x : ℤ) (v : Word) (areas : List ℕ) → is_int (neg_ℤ x) ≡ true → words.row_of op.NegInt v v (Int x) areas ≡ Ok (One (Int (neg_ℤ x)))
 minus_row x v areas h = ap int_word (difference_is x) ∙ ap (λ b. where_true b (Ok (One (Int (neg_ℤ x))))) h
 
-no_carry_more : (z : ℤ) → z +ℤ pos 0 ≡ z
-no_carry_more z = omega (arith, ints)
-
-no_carry_less : (z : ℤ) → z -ℤ pos 0 ≡ z
-no_carry_less z = omega (arith, ints)
-
 -- a sum or a difference: whether it is out of range, and then its 32 bits
 pub add_row : (x y : ℤ) (areas : List ℕ) → words.row_of op.AddIntWithCarry (Truth false) (Int x) (Int y) areas ≡ int_carried (x +ℤ y)
-add_row x y areas = ap int_carried (no_carry_more (x +ℤ y))
+add_row x y areas = ap int_carried (+ℤ_idr (x +ℤ y))
 
 pub subtract_row : (x y : ℤ) (areas : List ℕ) → words.row_of op.SubIntWithCarry (Truth false) (Int x) (Int y) areas ≡ int_carried (x -ℤ y)
-subtract_row x y areas = ap int_carried (no_carry_less (x -ℤ y))
+subtract_row x y areas = ap int_carried (+ℤ_idr (x -ℤ y))
 
 -- Tests.
 

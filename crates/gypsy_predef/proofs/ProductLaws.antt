@@ -12,6 +12,7 @@ use borrow.Author.Differences.{up, down, sum_is_lem, product_is, same_in}
 use Rattle.fm_words.specs.Word.{is_int, wrapped}
 use Rattle.fm_words.proofs.WordLaws.{is_int_from_fits, fits_signed}
 use Rattle.piton_semantics.specs.Views.{is_negative}
+use Rattle.stack_text.proofs.SharedLaws.{or_false}
 
 -- ---- sums and products
 
@@ -286,15 +287,11 @@ pub sum_first : (x y : ℤ) (b : Bool) → IsUpTo (neg_ℤ (bit b)) y → IsSum 
 sum_first x y b near =
     let z = pos 0 -ℤ term b x in
     let is : z ≡ x *ℤ neg_ℤ (bit b) = minus b in
-    subst (λ o. IsSum x y (neg_ℤ (bit b)) o (kept z)) (or_none (not (is_int z))) (add_on x y (neg_ℤ (bit b)) z false near (λ e. is) (λ e. cc))
+    subst (λ o. IsSum x y (neg_ℤ (bit b)) o (kept z)) (or_false (not (is_int z))) (add_on x y (neg_ℤ (bit b)) z false near (λ e. is) (λ e. cc))
   where
     minus : (b : Bool) → pos 0 -ℤ term b x ≡ x *ℤ neg_ℤ (bit b)
     minus true = omega (arith, ints)
     minus false = omega (arith, ints)
-
-    or_none : (b : Bool) → (b || false) ≡ b
-    or_none true = refl
-    or_none false = refl
 
 -- all bits are added: an overflow was noted exactly where the product doesn't fit
 pub sum_whole : (x y : ℤ) (overflow : Bool) (sum : ℤ) → IsSum x y y overflow sum → overflow ≡ not (is_int (x *ℤ y))

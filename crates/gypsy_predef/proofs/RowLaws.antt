@@ -35,11 +35,11 @@ use Rattle.gypsy_syntax.proofs.RangeLaws.{simple_item}
 use Rattle.gypsy_predef.specs.Bodies.{body_of}
 use Rattle.gypsy_predef.specs.Runs.{word_of_item, words_of_value, with_elements, length_word, Argument, values_of, ArgumentFits, ArgumentsFit, with_arguments}
 use Rattle.gypsy_predef.specs.Runs.{Runs, PredefRuns, CountsAdd, WordsWritten}
-use Rattle.gypsy_predef.proofs.RunningLaws.{Called, program_is, calls, gets, puts, fails, pushes, pushes_local, pops_local, sets_local, fetches, deposits}
-use Rattle.gypsy_predef.proofs.RunningLaws.{jumps, applies_one, applies_two, applies_three, returns}
+use Rattle.gypsy_predef.proofs.RunningLaws.{Called, program_is, calls, gets, puts, fails, pushes, pushes_local, pops_local, fetches, deposits, jumps}
+use Rattle.gypsy_predef.proofs.RunningLaws.{applies_one, applies_two, applies_three, returns}
+use Rattle.gypsy_predef.proofs.IndexLaws.{ChecksIndex, index_below, index_beyond, index_inside}
 use Rattle.gypsy_predef.proofs.StackLaws.{element_over, element_under_two, element_there, written_one, written_length, written_word, written_other}
-use Rattle.gypsy_predef.proofs.NumberLaws.{eq_row, not_less, same_range, minus_range, minus_row, add_row, subtract_row, truth_test, false_test, negative_test}
-use Rattle.gypsy_predef.proofs.NumberLaws.{to_nat_row, add_nat_row}
+use Rattle.gypsy_predef.proofs.NumberLaws.{eq_row, not_less, same_range, minus_range, minus_row, add_row, subtract_row, truth_test, to_nat_row, add_nat_row}
 use Rattle.gypsy_predef.proofs.ProductLaws.{kept_is}
 use Rattle.gypsy_predef.proofs.MultiplyLaws.{product_fits, product_overflows}
 use Rattle.gypsy_predef.proofs.ValueLaws.{simple_words, simple_argument, literal_word, array_word, truth_words, for_two, for_three}
@@ -442,26 +442,49 @@ module _ (s : SystemView) (program caller place : ℕ) (f : Frame) (fs : List Fr
       calls (called (body_of row.MgIntegerMultiply) ready.found) ready.found (Nat c.index ∷ Nat b.index ∷ Nat a.index ∷ stack) areas at (omega arith) ready.ctrl
       (product_overflows s program caller place f fs areas ready.found a.index b.index c.index u v stack x.word y.word ready.temp fits h)
 
+  -- both rows of arrays look at the index first
+  reads_index : (found : slice_get s.programs program ≡ Some (body_of row.MgIndexArray)) → ChecksIndex (called (body_of row.MgIndexArray) found) 2
+  reads_index found = record {
+    reads = refl;
+    fetches = refl;
+    keeps = refl;
+    is_below = refl;
+    index = refl;
+    count = refl;
+    compares = refl;
+    is_beyond = refl;
+    fault = refl;
+    notes = refl;
+    ends = refl;
+  }
+
+  stores_index : (found : slice_get s.programs program ≡ Some (body_of row.MgArrayElementAssignment)) →
+      ChecksIndex (called (body_of row.MgArrayElementAssignment) found) 1
+  stores_index found = record {
+    reads = refl;
+    fetches = refl;
+    keeps = refl;
+    is_below = refl;
+    index = refl;
+    count = refl;
+    compares = refl;
+    is_beyond = refl;
+    fault = refl;
+    notes = refl;
+    ends = refl;
+  }
+
   reads_below_zero : (a b c : Argument) → Ready row.MgIndexArray → ArgumentFits stack Simple k a → ArgumentFits stack Array k b
       → ArgumentFits stack Simple Integer c →
       is_negative (item_of_value c.value) ≡ true → Runs s row.MgIndexArray (a ∷ b ∷ c ∷ []) stack
       (from (length_word b.value ∷ Nat c.index ∷ Nat b.index ∷ Nat a.index ∷ stack)) (Fault)
   unfolding predef_cost
   reads_below_zero a b c ready fa fb fc hn =
-      let body = body_of row.MgIndexArray in
-      let here = called body ready.found in
-      let room = ready.temp in
-      let at_index = simple_argument stack Integer c fc in
-      let z = item_of_value c.value in
-      let n = pos (item_count b.value.shape) in
-      let less = int_lt z n in
-      let locals = Nat a.index ∷ Nat b.index ∷ Nat c.index ∷ Int n ∷ Int (pos 0) ∷ [] in
-      let kept = Nat a.index ∷ Nat b.index ∷ Nat c.index ∷ Int n ∷ Int z ∷ [] in
-      (calls here ready.found (length_word b.value ∷ Nat c.index ∷ Nat b.index ∷ Nat a.index ∷ stack) areas at (omega arith) ready.ctrl
-      (gets here 0 locals stack areas 2 c.index (Int z) refl refl refl at_index.word (omega (arith, room))
-      (sets_local here 2 locals 4 (Int z) stack areas refl
-      (jumps here 3 kept family.Int test.Neg 16 (Int z) true stack areas refl (negative_test z ∙ ap Ok hn)
-      (fails here 16 kept stack areas refl refl refl (omega (arith, room)))))))
+      let here = called (body_of row.MgIndexArray) ready.found in
+      calls here ready.found (length_word b.value ∷ Nat c.index ∷ Nat b.index ∷ Nat a.index ∷ stack) areas at (omega arith) ready.ctrl
+      (index_below here 2 (reads_index ready.found) (Nat a.index) (Nat b.index) (Nat c.index)
+      (pos (item_count b.value.shape)) (item_of_value c.value) stack areas c.index
+      refl (simple_argument stack Integer c fc).word (omega (arith, ready.temp)) hn)
 
   reads_beyond : (a b c : Argument) → Ready row.MgIndexArray → ArgumentFits stack Simple k a → ArgumentFits stack Array k b
       → ArgumentFits stack Simple Integer c →
@@ -469,24 +492,11 @@ module _ (s : SystemView) (program caller place : ℕ) (f : Frame) (fs : List Fr
       → Runs s row.MgIndexArray (a ∷ b ∷ c ∷ []) stack (from (length_word b.value ∷ Nat c.index ∷ Nat b.index ∷ Nat a.index ∷ stack)) (Beyond)
   unfolding predef_cost
   reads_beyond a b c ready fa fb fc hn hl =
-      let body = body_of row.MgIndexArray in
-      let here = called body ready.found in
-      let room = ready.temp in
-      let at_index = simple_argument stack Integer c fc in
-      let z = item_of_value c.value in
-      let n = pos (item_count b.value.shape) in
-      let less = int_lt z n in
-      let locals = Nat a.index ∷ Nat b.index ∷ Nat c.index ∷ Int n ∷ Int (pos 0) ∷ [] in
-      let kept = Nat a.index ∷ Nat b.index ∷ Nat c.index ∷ Int n ∷ Int z ∷ [] in
-      (calls here ready.found (length_word b.value ∷ Nat c.index ∷ Nat b.index ∷ Nat a.index ∷ stack) areas at (omega arith) ready.ctrl
-      (gets here 0 locals stack areas 2 c.index (Int z) refl refl refl at_index.word (omega (arith, room))
-      (sets_local here 2 locals 4 (Int z) stack areas refl
-      (jumps here 3 kept family.Int test.Neg 16 (Int z) false stack areas refl (negative_test z ∙ ap Ok hn)
-      (pushes_local here 4 kept stack areas 4 (Int z) refl refl (omega (arith, room))
-      (pushes_local here 5 kept (Int z ∷ stack) areas 3 (Int n) refl refl (omega (arith, room))
-      (applies_two here 6 kept op.LtInt (Int n) (Int z) (One (Truth less)) stack areas refl refl refl refl
-      (jumps here 7 kept family.Bool test.F 16 (Truth less) true stack areas refl (false_test less true (ap not hl))
-      (fails here 16 kept stack areas refl refl refl (omega (arith, room)))))))))))
+      let here = called (body_of row.MgIndexArray) ready.found in
+      calls here ready.found (length_word b.value ∷ Nat c.index ∷ Nat b.index ∷ Nat a.index ∷ stack) areas at (omega arith) ready.ctrl
+      (index_beyond here 2 (reads_index ready.found) (Nat a.index) (Nat b.index) (Nat c.index)
+      (pos (item_count b.value.shape)) (item_of_value c.value) stack areas c.index
+      refl (simple_argument stack Integer c fc).word (omega (arith, ready.temp)) hn hl)
 
   reads : (a b c : Argument) → Ready row.MgIndexArray → ArgumentFits stack Simple k a → ArgumentFits stack Array k b → ArgumentFits stack Simple Integer c →
       (i : ℕ) → item_of_value c.value ≡ pos i → i < length b.value.items → Runs s row.MgIndexArray (a ∷ b ∷ c ∷ []) stack
@@ -494,17 +504,14 @@ module _ (s : SystemView) (program caller place : ℕ) (f : Frame) (fs : List Fr
       (Normal record { shape = simple b.value.shape.kind; items = get_or b.value.items i (pos 0) ∷ [] })
   unfolding predef_cost
   reads a b c ready fa fb fc i hi h =
-      let body = body_of row.MgIndexArray in
-      let here = called body ready.found in
+      let here = called (body_of row.MgIndexArray) ready.found in
       let room = ready.temp in
       let at_index = simple_argument stack Integer c fc in
       let z = item_of_value c.value in
       let n = pos (item_count b.value.shape) in
-      let less = int_lt z n in
-      let locals = Nat a.index ∷ Nat b.index ∷ Nat c.index ∷ Int n ∷ Int (pos 0) ∷ [] in
       let kept = Nat a.index ∷ Nat b.index ∷ Nat c.index ∷ Int n ∷ Int z ∷ [] in
       let hn : is_negative z ≡ false = ap is_negative hi in
-      let hl : less ≡ true = ap (λ z. int_lt z n) hi ∙ ap (nat_lt i) (sym fb.1.number) ∙ lt-ltb i (length b.value.items) h in
+      let hl : int_lt z n ≡ true = ap (λ z. int_lt z n) hi ∙ ap (nat_lt i) (sym fb.1.number) ∙ lt-ltb i (length b.value.items) h in
       let word = array_word stack k b i fb h in
       let low : b.index + i < length stack = element_there stack (b.index + i) _ word in
       let number : words.row_of op.IntToNat (Int z) (Int z) (Int z) (map length areas) ≡ Ok (One (Nat i)) =
@@ -516,19 +523,14 @@ module _ (s : SystemView) (program caller place : ℕ) (f : Frame) (fs : List Fr
       let w = word_of_item b.value.shape.kind item in
       written 17 54 a.index _ w record { shape = simple b.value.shape.kind; items = item ∷ [] } refl
       (calls here ready.found (length_word b.value ∷ Nat c.index ∷ Nat b.index ∷ Nat a.index ∷ stack) areas at (omega arith) ready.ctrl
-      (gets here 0 locals stack areas 2 c.index (Int z) refl refl refl at_index.word (omega (arith, room))
-      (sets_local here 2 locals 4 (Int z) stack areas refl
-      (jumps here 3 kept family.Int test.Neg 16 (Int z) false stack areas refl (negative_test z ∙ ap Ok hn)
-      (pushes_local here 4 kept stack areas 4 (Int z) refl refl (omega (arith, room))
-      (pushes_local here 5 kept (Int z ∷ stack) areas 3 (Int n) refl refl (omega (arith, room))
-      (applies_two here 6 kept op.LtInt (Int n) (Int z) (One (Truth less)) stack areas refl refl refl refl
-      (jumps here 7 kept family.Bool test.F 16 (Truth less) false stack areas refl (false_test less false (ap not hl))
+      (index_inside here 2 (reads_index ready.found) (Nat a.index) (Nat b.index) (Nat c.index)
+      n z stack areas c.index refl at_index.word (omega (arith, room)) hn hl
       (pushes_local here 8 kept stack areas 1 (Nat b.index) refl refl (omega (arith, room))
       (pushes_local here 9 kept (Nat b.index ∷ stack) areas 4 (Int z) refl refl (omega (arith, room))
       (applies_one here 10 kept op.IntToNat (Int z) (One (Nat i)) (Nat b.index ∷ stack) areas refl refl number refl
       (applies_two here 11 kept op.AddNat (Nat i) (Nat b.index) (One (Nat (b.index + i))) stack areas refl refl sum refl
       (fetches here 12 kept (b.index + i) w stack areas refl word
-      (puts here 13 kept 0 a.index w stack areas refl refl refl refl d.low (omega (arith, room))))))))))))))))
+      (puts here 13 kept 0 a.index w stack areas refl refl refl refl d.low (omega (arith, room))))))))))
 
   stores_below_zero : (a b c : Argument) → Ready row.MgArrayElementAssignment → ArgumentFits stack Array k a → ArgumentFits stack Simple Integer b
       → ArgumentFits stack Simple k c →
@@ -536,20 +538,11 @@ module _ (s : SystemView) (program caller place : ℕ) (f : Frame) (fs : List Fr
       (from (length_word a.value ∷ Nat c.index ∷ Nat b.index ∷ Nat a.index ∷ stack)) (Fault)
   unfolding predef_cost
   stores_below_zero a b c ready fa fb fc hn =
-      let body = body_of row.MgArrayElementAssignment in
-      let here = called body ready.found in
-      let room = ready.temp in
-      let at_index = simple_argument stack Integer b fb in
-      let z = item_of_value b.value in
-      let n = pos (item_count a.value.shape) in
-      let less = int_lt z n in
-      let locals = Nat a.index ∷ Nat b.index ∷ Nat c.index ∷ Int n ∷ Int (pos 0) ∷ [] in
-      let kept = Nat a.index ∷ Nat b.index ∷ Nat c.index ∷ Int n ∷ Int z ∷ [] in
-      (calls here ready.found (length_word a.value ∷ Nat c.index ∷ Nat b.index ∷ Nat a.index ∷ stack) areas at (omega arith) ready.ctrl
-      (gets here 0 locals stack areas 1 b.index (Int z) refl refl refl at_index.word (omega (arith, room))
-      (sets_local here 2 locals 4 (Int z) stack areas refl
-      (jumps here 3 kept family.Int test.Neg 16 (Int z) true stack areas refl (negative_test z ∙ ap Ok hn)
-      (fails here 16 kept stack areas refl refl refl (omega (arith, room)))))))
+      let here = called (body_of row.MgArrayElementAssignment) ready.found in
+      calls here ready.found (length_word a.value ∷ Nat c.index ∷ Nat b.index ∷ Nat a.index ∷ stack) areas at (omega arith) ready.ctrl
+      (index_below here 1 (stores_index ready.found) (Nat a.index) (Nat b.index) (Nat c.index)
+      (pos (item_count a.value.shape)) (item_of_value b.value) stack areas b.index
+      refl (simple_argument stack Integer b fb).word (omega (arith, ready.temp)) hn)
 
   stores_beyond : (a b c : Argument) → Ready row.MgArrayElementAssignment → ArgumentFits stack Array k a → ArgumentFits stack Simple Integer b
       → ArgumentFits stack Simple k c →
@@ -558,24 +551,11 @@ module _ (s : SystemView) (program caller place : ℕ) (f : Frame) (fs : List Fr
       (Beyond)
   unfolding predef_cost
   stores_beyond a b c ready fa fb fc hn hl =
-      let body = body_of row.MgArrayElementAssignment in
-      let here = called body ready.found in
-      let room = ready.temp in
-      let at_index = simple_argument stack Integer b fb in
-      let z = item_of_value b.value in
-      let n = pos (item_count a.value.shape) in
-      let less = int_lt z n in
-      let locals = Nat a.index ∷ Nat b.index ∷ Nat c.index ∷ Int n ∷ Int (pos 0) ∷ [] in
-      let kept = Nat a.index ∷ Nat b.index ∷ Nat c.index ∷ Int n ∷ Int z ∷ [] in
-      (calls here ready.found (length_word a.value ∷ Nat c.index ∷ Nat b.index ∷ Nat a.index ∷ stack) areas at (omega arith) ready.ctrl
-      (gets here 0 locals stack areas 1 b.index (Int z) refl refl refl at_index.word (omega (arith, room))
-      (sets_local here 2 locals 4 (Int z) stack areas refl
-      (jumps here 3 kept family.Int test.Neg 16 (Int z) false stack areas refl (negative_test z ∙ ap Ok hn)
-      (pushes_local here 4 kept stack areas 4 (Int z) refl refl (omega (arith, room))
-      (pushes_local here 5 kept (Int z ∷ stack) areas 3 (Int n) refl refl (omega (arith, room))
-      (applies_two here 6 kept op.LtInt (Int n) (Int z) (One (Truth less)) stack areas refl refl refl refl
-      (jumps here 7 kept family.Bool test.F 16 (Truth less) true stack areas refl (false_test less true (ap not hl))
-      (fails here 16 kept stack areas refl refl refl (omega (arith, room)))))))))))
+      let here = called (body_of row.MgArrayElementAssignment) ready.found in
+      calls here ready.found (length_word a.value ∷ Nat c.index ∷ Nat b.index ∷ Nat a.index ∷ stack) areas at (omega arith) ready.ctrl
+      (index_beyond here 1 (stores_index ready.found) (Nat a.index) (Nat b.index) (Nat c.index)
+      (pos (item_count a.value.shape)) (item_of_value b.value) stack areas b.index
+      refl (simple_argument stack Integer b fb).word (omega (arith, ready.temp)) hn hl)
 
   stores : (a b c : Argument) → Ready row.MgArrayElementAssignment → ArgumentFits stack Array k a → ArgumentFits stack Simple Integer b
       → ArgumentFits stack Simple k c →
@@ -584,17 +564,14 @@ module _ (s : SystemView) (program caller place : ℕ) (f : Frame) (fs : List Fr
       (Normal record { shape = a.value.shape; items = slice_set a.value.items i (item_of_value c.value) })
   unfolding predef_cost
   stores a b c ready fa fb fc i hi h =
-      let body = body_of row.MgArrayElementAssignment in
-      let here = called body ready.found in
+      let here = called (body_of row.MgArrayElementAssignment) ready.found in
       let room = ready.temp in
       let at_index = simple_argument stack Integer b fb in
       let z = item_of_value b.value in
       let n = pos (item_count a.value.shape) in
-      let less = int_lt z n in
-      let locals = Nat a.index ∷ Nat b.index ∷ Nat c.index ∷ Int n ∷ Int (pos 0) ∷ [] in
       let kept = Nat a.index ∷ Nat b.index ∷ Nat c.index ∷ Int n ∷ Int z ∷ [] in
       let hn : is_negative z ≡ false = ap is_negative hi in
-      let hl : less ≡ true = ap (λ z. int_lt z n) hi ∙ ap (nat_lt i) (sym fa.1.number) ∙ lt-ltb i (length a.value.items) h in
+      let hl : int_lt z n ≡ true = ap (λ z. int_lt z n) hi ∙ ap (nat_lt i) (sym fa.1.number) ∙ lt-ltb i (length a.value.items) h in
       let word = array_word stack k a i fa h in
       let low : a.index + i < length stack = element_there stack (a.index + i) _ word in
       let number : words.row_of op.IntToNat (Int z) (Int z) (Int z) (map length areas) ≡ Ok (One (Nat i)) =
@@ -613,20 +590,15 @@ module _ (s : SystemView) (program caller place : ℕ) (f : Frame) (fs : List Fr
       ∙ ap (with_element stack (a.index + i)) kind in
       stored 17 54 _ _ _ out
       (calls here ready.found (length_word a.value ∷ Nat c.index ∷ Nat b.index ∷ Nat a.index ∷ stack) areas at (omega arith) ready.ctrl
-      (gets here 0 locals stack areas 1 b.index (Int z) refl refl refl at_index.word (omega (arith, room))
-      (sets_local here 2 locals 4 (Int z) stack areas refl
-      (jumps here 3 kept family.Int test.Neg 16 (Int z) false stack areas refl (negative_test z ∙ ap Ok hn)
-      (pushes_local here 4 kept stack areas 4 (Int z) refl refl (omega (arith, room))
-      (pushes_local here 5 kept (Int z ∷ stack) areas 3 (Int n) refl refl (omega (arith, room))
-      (applies_two here 6 kept op.LtInt (Int n) (Int z) (One (Truth less)) stack areas refl refl refl refl
-      (jumps here 7 kept family.Bool test.F 16 (Truth less) false stack areas refl (false_test less false (ap not hl))
+      (index_inside here 1 (stores_index ready.found) (Nat a.index) (Nat b.index) (Nat c.index)
+      n z stack areas b.index refl at_index.word (omega (arith, room)) hn hl
       (gets here 8 kept stack areas 2 c.index w refl refl refl x.word (omega (arith, room))
       (pushes_local here 10 kept (w ∷ stack) areas 0 (Nat a.index) refl refl (omega (arith, room))
       (pushes_local here 11 kept (Nat a.index ∷ w ∷ stack) areas 4 (Int z) refl refl (omega (arith, room))
       (applies_one here 12 kept op.IntToNat (Int z) (One (Nat i)) (Nat a.index ∷ w ∷ stack) areas refl refl number refl
       (applies_two here 13 kept op.AddNat (Nat i) (Nat a.index) (One (Nat (a.index + i))) (w ∷ stack) areas refl refl sum refl
       (deposits here 14 kept (a.index + i) w stack areas refl low
-      (returns here 15 kept (with_element stack (a.index + i) w) areas refl)))))))))))))))
+      (returns here 15 kept (with_element stack (a.index + i) w) areas refl)))))))))
 
   -- The rows whose outcome depends on the values.
 

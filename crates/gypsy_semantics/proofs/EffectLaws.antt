@@ -92,7 +92,7 @@ EffectFits s (Normal v) = (v.shape ≡ s) × ValueFits v
 EffectFits s Fault = Unit {0}
 EffectFits s Beyond = Unit {0}
 
-truth_fits : (b : Bool) → ValueFits (truth_value b)
+pub truth_fits : (b : Bool) → ValueFits (truth_value b)
 truth_fits true = record { few = omega arith; number = refl; items = refl }
 truth_fits false = record { few = omega arith; number = refl; items = refl }
 

@@ -25,6 +25,12 @@ use Rattle.gypsy_semantics.specs.Room.{HasWords, HaveWords}
 use Rattle.gypsy_semantics.specs.Views.RunView.{handed_back, lending, lending_move}
 use Rattle.gypsy_semantics.proofs.Keeping.{copies_back}
 
+-- a variable that is no actual keeps its value
+pub copied_miss : (xs : List ℕ) (y x : List ValueOf) (a : ℕ) → Misses a xs → value_at (copied_out xs y x) a ≡ value_at x a
+copied_miss [] y x a m = refl
+copied_miss (b ∷ xs) [] x a m = refl
+copied_miss (b ∷ xs) (v ∷ y) x a m = copied_miss xs y (slice_set x b v) a m.1 ∙ get_or-set_other x b a v no_value m.0
+
 -- Writes.
 
 -- writes, the last one first

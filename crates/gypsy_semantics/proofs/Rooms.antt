@@ -1,5 +1,6 @@
 -- Each step keeps the words that are left.
-use Rattle.std.proofs.Common.{◌≡◌, ℕ, ◌+◌, ◌≤◌, max, List, [], ◌∷◌, length, leb-true, not, if◌then◌else◌, Bool, true, false, refl, arith}
+use Rattle.std.proofs.Common.{◌≡◌, ℕ, ◌+◌, ◌≤◌, max, List, [], ◌∷◌, length, leb-true, not, ◌&&◌, if◌then◌else◌}
+use Rattle.std.proofs.Common.{Bool, true, false, refl, arith}
 use Rattle.stack_text.specs.Values.{ValueOf}
 use Rattle.gypsy_syntax.specs.declared.predef.Predef.{Predef}
 use Rattle.gypsy_syntax.specs.Programs.{ConditionOf, Routine, Space, Arg, Proc, Program, proc_at, body_of}
@@ -7,8 +8,8 @@ use Rattle.gypsy_syntax.specs.Programs.{Stmt, Skip, NoOp, Signal, Seq, Loop, If,
 use Rattle.gypsy_syntax.specs.Predefined.{predef_effect}
 use Rattle.gypsy_syntax.specs.Effects.{Effect, Normal, Fault, Beyond, value_at, is_true_value}
 use Rattle.gypsy_space.specs.Costs.{Tally, spend, predef_spend, out_spend}
-use Rattle.gypsy_space.specs.Needs.{StackSizes, temp_need, ctrl_need, local_words, frame_of, main_need, with_call, call_need, has_temp_room, has_ctrl_room}
-use Rattle.gypsy_space.specs.Needs.{lack_of}
+use Rattle.gypsy_space.specs.Needs.{StackSizes, temp_need, ctrl_need, local_words, frame_of, main_need, with_call, call_need}
+use Rattle.gypsy_space.specs.Needs.{has_room, has_temp_room, has_ctrl_room, lack_of}
 use Rattle.gypsy_space.specs.declared.need.Lack.{Lack}
 use Rattle.gypsy_space.specs.declared.need.Lack.TheVariants.{Nothing, Temporary, Control}
 use Rattle.gypsy_semantics.specs.Calls.{has_cond, is_leave, is_passed_on, matching, values_of, copied_out}
@@ -21,6 +22,16 @@ pub rooms : (temp ctrl : Bool) → (if not temp then Temporary else if not ctrl 
 rooms true true e = (refl, refl)
 rooms true false e = absurd cc
 rooms false ctrl e = absurd cc
+
+-- a call with room lacks nothing
+pub nothing_lacks : (q : Program) (sizes : StackSizes) (p : ℕ) (u : StackSizes) → has_room q sizes p u ≡ true → lack_of q sizes p u ≡ Nothing
+unfolding has_room lack_of
+nothing_lacks q sizes p u e = by_room (has_temp_room q sizes p u) (has_ctrl_room q sizes p u) e
+  where
+    by_room : (temp ctrl : Bool) → (temp && ctrl) ≡ true → (if not temp then Temporary else if not ctrl then Control else Nothing) ≡ Nothing
+    by_room true true f = refl
+    by_room true false f = absurd cc
+    by_room false ctrl f = absurd cc
 
 body_covered : (p : Proc) → Covers p p.body
 body_covered p = (omega arith, omega arith)

@@ -7,3 +7,4 @@ mod CalleeLaws
 mod ResolveLaws
 pub mod SmallLaws
 mod AcceptedLaws
+pub mod SpendLaws

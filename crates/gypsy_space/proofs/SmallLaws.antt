@@ -16,7 +16,9 @@ use Rattle.gypsy_syntax.specs.Programs.{Program, Proc, no_proc, proc_at, shapes_
 use Rattle.gypsy_syntax.specs.Resolved.{argument_of, cond_of, position_of, procedure_names, procedure_of, program_of, statement_of, statement_of_all}
 use Rattle.gypsy_syntax.specs.Sources.{ArgOf, variable, constant, LiteralOf, integer, truth, character, array}
 use Rattle.gypsy_syntax.specs.Sources.{StmtOf, StmtsOf, no_op, signal, seq, loop, branch, begin, call, predef, no_parts, part, ProcOf, SourceOf}
-use Rattle.gypsy_space.specs.Needs.{arg_words, args_words, code_words, local_words, statement_words, vars_of}
+use Rattle.gypsy_syntax.specs.declared.predef.Predef.{Predef}
+use Rattle.gypsy_syntax.specs.Programs.{Stmt, Skip, NoOp, Signal, Seq, Loop, If, Begin, Call, Apply}
+use Rattle.gypsy_space.specs.Needs.{arg_words, args_words, code_words, greatest, local_words, statement_words, vars_of}
 use Rattle.gypsy_syntax.proofs.FitsLaws.{keeps_fits}
 use Rattle.gypsy_syntax.proofs.PredefLaws.{few_words}
 use Rattle.gypsy_space.specs.declared.need.Need.{Need}
@@ -35,6 +37,18 @@ words_of-append (x ∷ xs) ys = let e : words_of (xs ++ ys) ≡ words_of xs + wo
 pub length-words_of : (xs : List Shape) → length xs ≤ words_of xs
 length-words_of [] = omega arith
 length-words_of (x ∷ xs) = let le = length-words_of xs in let some_ = item_count-positive x in omega (arith, le, some_)
+
+-- the greatest need of a statement is at most what each of its parts may have
+pub greatest_within : (each : ℕ) (f : Predef → ℕ) (n : ℕ) → each ≤ n → ((r : Predef) → f r ≤ n) → (s : Stmt) → greatest each f s ≤ n
+greatest_within each f n k h Skip = omega arith
+greatest_within each f n k h (NoOp place) = omega arith
+greatest_within each f n k h (Signal place c) = omega arith
+greatest_within each f n k h (Seq a b) = omega (arith, greatest_within each f n k h a, greatest_within each f n k h b)
+greatest_within each f n k h (Loop place s) = greatest_within each f n k h s
+greatest_within each f n k h (If place b s w) = omega (arith, greatest_within each f n k h s, greatest_within each f n k h w)
+greatest_within each f n k h (Begin place s cs w) = omega (arith, greatest_within each f n k h s, greatest_within each f n k h w)
+greatest_within each f n k h (Call place p xs cs) = k
+greatest_within each f n k h (Apply place r args) = h r
 
 record AreFew (p : Proc) : Type 0 where
   words : local_words p ≤ 65536

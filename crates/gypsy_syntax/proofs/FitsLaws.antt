@@ -36,7 +36,7 @@ use Rattle.gypsy_syntax.specs.Printed.{tree_of}
 use Rattle.gypsy_syntax.specs.Sizes.{nesting, deepest}
 use Rattle.gypsy_syntax.specs.Sources.{LiteralOf, LiteralsOf, integer, truth, character, array, no_items, item, ArgOf, variable, constant}
 use Rattle.gypsy_syntax.specs.Sources.{StmtOf, StmtsOf, no_op, signal, seq, loop, branch, begin, call, predef, no_parts, part, LocalOf, ProcOf, SourceOf}
-use Rattle.gypsy_syntax.proofs.KeepsLaws.{by_empty, character_digits}
+use Rattle.gypsy_syntax.proofs.KeepsLaws.{by_empty, character_digits, keeps_number}
 
 -- ---- names and numbers
 
@@ -55,11 +55,8 @@ fits_handled (list p (more c cs)) h =
     holds_more (FittingList IsNamed (list p (more c cs))) (Handled (list p (more c cs))) (names_in (list p (more c cs)))
     (λ ns k. record { some = let n : length ns ≡ 1 + count_of cs = k.count in omega (arith, n); all = k.all }) (fits_names (list p (more c cs)))
 
-fits_number : (p : ℕ) (w : List ℕ) → Holds IsNumber (number_at p w)
-fits_number p w = holds_judged IsNumber p 11 (fits_128_bits (numeral_value w)) _ (λ h. record { of_value = h })
-
 fits_number_in : (t : Node) → Holds IsNumber (number_in t)
-fits_number_in (atom p w) = fits_number p w
+fits_number_in (atom p w) = keeps_number p w
 fits_number_in (list p ts) = record { of_value = tt }
 
 fits_code : (p : ℕ) (w : List ℕ) → is_digits w ≡ true → Holds IsNatural (number_at p w)
@@ -73,7 +70,7 @@ fits_simple_at p w = pick (is_numeral w) (is_character w) refl
     pick : (n c : Bool) → is_character w ≡ c →
         Holds FitsSimple (if n then Ok (integer p) ⊛ number_at p w else if c then Ok (character p) ⊛ number_at p (drop 1 w)
         else judged p 8 (is_truth_word w) (Ok (truth p (bytes_eq w (codes "true")))))
-    pick true c e = holds_one IsNumber FitsSimple (integer p) (number_at p w) (λ z h. h) (fits_number p w)
+    pick true c e = holds_one IsNumber FitsSimple (integer p) (number_at p w) (λ z h. h) (keeps_number p w)
     pick false true e = holds_one IsNatural FitsSimple (character p) (number_at p (drop 1 w)) (λ z h. h) (fits_code p (drop 1 w) (character_digits w e))
     pick false false e = holds_judged FitsSimple p 8 (is_truth_word w) _ (λ h. record { of_value = tt })
 

@@ -56,7 +56,7 @@ number_judged v z e h = subst (λ (u : ℤ). judged 0 11 (fits_128_bits u) (Ok u
 pub number_again : (z : ℤ) → IsNumber z → number_at 0 (signed_decimal z) ≡ Ok z
 number_again z h = number_judged (numeral_value (signed_decimal z)) z (value-signed_decimal z h) h
 
-keeps_number : (p : ℕ) (w : List ℕ) → Holds IsNumber (number_at p w)
+pub keeps_number : (p : ℕ) (w : List ℕ) → Holds IsNumber (number_at p w)
 keeps_number p w = holds_judged IsNumber p 11 (fits_128_bits (numeral_value w)) _ (λ k. record { of_value = k })
 
 pub record KeepsDigits (z : ℤ) : Type 0 where

@@ -3,7 +3,7 @@
 use Rattle.std.proofs.Common.{◌∙◌, ◌≡◌, ℕ, suc, ◌+◌, ◌<◌, ◌≤◌, ◌^◌, max, true, false, leb, List, [], ◌∷◌, length, map, Option, Some, None, Ok, All, refl, sym}
 use Rattle.std.proofs.Common.{ap, subst, arith}
 use Rattle.std.specs.Prelude.{ℤ, ◌&&◌}
-use Rattle.std.proofs.lemmas.Bool.{le-leb}
+use Rattle.std.proofs.lemmas.Bool.{le-leb, and_from}
 use Rattle.stack_text.specs.declared.name.Named.{Named}
 use Rattle.stack_text.specs.Trees.{Node, Nodes, list, none, more, depth, depths, node_count, AtomsAreRuns, AllAtomsAreRuns}
 use Rattle.stack_text.specs.Views.TreeView.{nodes}
@@ -13,7 +13,7 @@ use Rattle.stack_text.specs.Grammar.Printed.{list_tree, name_tree, unplaced_name
 use Rattle.stack_text.proofs.AtomLaws.{name_is_run}
 use Rattle.stack_text.proofs.NumeralTextLaws.{natural_written}
 use Rattle.stack_text.proofs.MadeLaws.{Made, made_each, made_names}
-use Rattle.stack_text.proofs.KeepsLaws.{and_true, named_again, ok_one, ok_two, ok_three, ok_six, passes}
+use Rattle.stack_text.proofs.KeepsLaws.{named_again, ok_one, ok_two, ok_three, ok_six, passes}
 use Rattle.gypsy_syntax.specs.declared.keyword.Keyword.{Keyword}
 use Rattle.gypsy_syntax.specs.declared.keyword.Keyword.TheVariants as word
 use Rattle.gypsy_syntax.specs.declared.literal.Decl.{Decl}
@@ -234,7 +234,7 @@ made_procedure p h =
     let body = made_statement p.body h.body in
     let few : (are_few (list_tree decl_tree p.formals) (list_tree local_tree p.locals)
     && are_few (list_tree name_tree p.conds) (list_tree name_tree p.local_conds)) ≡ true =
-    and_true (are_few (list_tree decl_tree p.formals) (list_tree local_tree p.locals))
+    and_from (are_few (list_tree decl_tree p.formals) (list_tree local_tree p.locals))
     _ (few_of decl_tree local_tree p.formals p.locals formals.count locals.count h.few_variables)
     (few_of name_tree name_tree p.conds p.local_conds conds.count local_conds.count h.few_conds) in
     record {

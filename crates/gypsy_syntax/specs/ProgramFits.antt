@@ -12,6 +12,7 @@ use Rattle.gypsy_syntax.specs.Programs.{ConditionOf, Leave, Routine, Space, Decl
 use Rattle.gypsy_syntax.specs.Programs.{Proc, Program, simple, proc_at, shapes_of, conds_of, words_of}
 use Rattle.gypsy_syntax.specs.Programs.{Stmt, Skip, NoOp, Signal, Seq, Loop, If, Begin, Call, Apply}
 use Rattle.gypsy_syntax.specs.ValuesFit.{ValueFits}
+pub use Rattle.stack_text.specs.Lists.{Each}
 
 -- a is none of these
 abbrev pub Misses : ℕ → List ℕ → Type 0
@@ -22,11 +23,6 @@ Misses a (b ∷ xs) = (a ≢ b) × Misses a xs
 abbrev pub Distinct : List ℕ → Type 0
 Distinct [] = Unit {0}
 Distinct (a ∷ xs) = Misses a xs × Distinct xs
-
--- each of the list
-abbrev pub Each : {X : Type 0} → (X → Type 0) → List X → Type 0
-Each P [] = Unit {0}
-Each P (x ∷ xs) = P x × Each P xs
 
 -- a condition that is signalled or given, inside a loop or not, where so many are declared: never spaceerror
 abbrev pub CondFits : Bool → ℕ → ConditionOf → Type 0

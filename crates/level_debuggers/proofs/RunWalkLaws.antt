@@ -10,7 +10,7 @@ use Rattle.piton_check.specs.Instruction.{SystemView}
 use Rattle.piton_semantics.specs.declared.error_kind.ErrorKind.{ErrorKind}
 use Rattle.piton_semantics.specs.Fits.{system_in}
 use Rattle.piton_semantics.specs.Law.{Steps, none, more, advanced}
-use Rattle.piton_semantics.specs.StateView.{Seen, saturated, seen_after, seen_from, seen_step}
+use Rattle.piton_semantics.specs.StateView.{Seen, saturated, seen_after, seen_step}
 use Rattle.piton_semantics.specs.State.{Frame, PitonState}
 use Rattle.piton_semantics.specs.Step.{piton_step, step_cost}
 use Rattle.piton_semantics.specs.Views as views
@@ -21,6 +21,7 @@ use Rattle.level_debuggers.specs.PitonLevels.{PitonLevelOf, piton_after, piton_e
 use Rattle.level_debuggers.specs.RunWalks.{WalksTo, MachinesWalk, MachinesArrive, SystemsWalk}
 use Rattle.level_debuggers.specs.Steps.{Over, Makes}
 use Rattle.level_debuggers.specs.Walks.{Walk, with_event, walk_on, walk}
+use Rattle.piton_semantics.proofs.RunLaws.{seen_next_by}
 
 -- one step, and the others
 walks_on : (n : ℕ) (level after to : LevelOf) (event : Event) → next_of level ≡ Makes event after → WalksTo n after to → WalksTo (suc n) level to
@@ -98,18 +99,12 @@ piton_makes : (run : PitonLevelOf) (q : PitonState) (f : Frame) (fs frames : Lis
 piton_makes run q f fs [] e step = absurd cc
 piton_makes run q f fs (g ∷ gs) e step = refl
 
-seen_makes : (s : SystemView) (v : Seen) (q : PitonState) (f : Frame) (fs frames : List Frame) → frames ≡ f ∷ fs → piton_step s v.state ≡ Ok q
-    → seen_from s v frames ≡ Ok (seen_after s v q)
-unfolding views.then_on
-seen_makes s v q f fs [] e step = absurd cc
-seen_makes s v q f fs (g ∷ gs) e step = ap (λ (r : Result PitonState ErrorKind). views.then_on r (λ q. Ok (seen_after s v q))) step
-
 system_makes : (run : PitonLevelOf) (q : PitonState) (f : Frame) (fs : List Frame) → run.seen.state.frames ≡ f ∷ fs
     → piton_step (system_in run.checked) run.seen.state ≡ Ok q →
     next_of (Piton run) ≡ Makes (piton_event run) (Piton (record run { seen = seen_after (system_in run.checked) run.seen q }))
 system_makes run q f fs e step =
     piton_makes run q f fs run.seen.state.frames e step
-    ∙ ap (λ (r : Result Seen ErrorKind). lifted Piton (piton_after run r)) (seen_makes (system_in run.checked) run.seen q f fs run.seen.state.frames e step)
+    ∙ ap (λ (r : Result Seen ErrorKind). lifted Piton (piton_after run r)) (seen_next_by (system_in run.checked) run.seen q f fs run.seen.state.frames e step)
 
 walks_from : (s : SystemView) (n cost : ℕ) (p q : PitonState) → Steps s n cost p q → (run : PitonLevelOf) → system_in run.checked ≡ s → run.seen.state ≡ p →
     run.seen.steps < 2 ^ 64 → run.seen.counted < 2 ^ 64 → WalksTo n (Piton run) (Piton (record run { seen = advanced run.seen n cost q }))

@@ -150,12 +150,9 @@ refused m n old new stop made lt is =
     ∙ ap (λ (b : Bool). record { run = cond b (run.Moved n) (refused_after new.steps stop); session = new }) (not_same m n (omega arith))
 
 -- all steps were made
-same_number : (n : ℕ) → (n == n) ≡ true
-same_number n = elim (eqb_tells n n) [ inl h ↦ h.0 | inr h ↦ absurd (h.1 refl) ]
-
 at_last : (n steps : ℕ) (next : Next LevelOf) → ends_by n n steps next ≡ cond (is_over next) (run.Ended n) (run.Moved n)
 at_last n steps Over = refl
-at_last n steps (Stops stop) = ap (λ (b : Bool). cond b (run.Moved n) (refused_after steps stop)) (same_number n)
+at_last n steps (Stops stop) = ap (λ (b : Bool). cond b (run.Moved n) (refused_after steps stop)) (eq-eqb n n refl)
 at_last n steps (Makes event after) = refl
 
 by_all : (n : ℕ) (old new : SessionOf) (over : Bool) → Made n old new → is_over (next_of new.level) ≡ over

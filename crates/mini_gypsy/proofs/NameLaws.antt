@@ -6,7 +6,8 @@ use Rattle.std.specs.List.{list_all}
 use Rattle.std.proofs.lemmas.Bool.{agree_below_at, eqb-true, and_parts}
 use Rattle.std.proofs.lemmas.Slice.Eq.{bytes_eq-Decides}
 use Rattle.stack_text.specs.Names.{is_name, begins_with_letter}
-use Rattle.stack_text.proofs.SharedLaws.{and_false, get_below, get_front}
+use Rattle.std.proofs.lemmas.Option.{slice_get_within}
+use Rattle.stack_text.proofs.SharedLaws.{and_false, get_front}
 use Rattle.gypsy_syntax.specs.declared.literal.TypeText.{TypeText}
 use Rattle.gypsy_syntax.specs.Made.{new_simple}
 use Rattle.gypsy_syntax.specs.ProgramFits.{Each}
@@ -196,7 +197,7 @@ knows ds b good apart = record {
 
     stands : (i : ℕ) (s : Sort) → slice_get (map (λ (d : Declared). d.sort) ds) i ≡ Some s → place_among (nth_name names i) (variable_names p) ≡ Some i
     stands i s e =
-        let lt = get_below (map (λ (d : Declared). d.sort) ds) i s e in
+        let lt = slice_get_within (map (λ (d : Declared). d.sort) ds) i s e in
         ap (place_among (nth_name names i)) whole ∙ place_at names others i (omega (arith, lt, names_length ds)) apart
 
     after : (s : Sort) (k : ℕ) → k < depths → place_among (temporary_name s k) (variable_names p) ≡ Some (length names + temporary s k)

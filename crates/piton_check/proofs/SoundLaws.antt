@@ -4,14 +4,14 @@ use Rattle.std.proofs.Common.{slice_get, Option, Some, None, All, unwrap_or, tru
 use Rattle.std.specs.Prelude.{ℤ, pos, negsuc, IsTrue}
 use Rattle.std.specs.List.{flat_map}
 use Rattle.std.specs.Option.{is_none, option_map}
-use Rattle.std.proofs.lemmas.Bool.{ltb-true, ltb-false, leb-true, lt-ltb}
-use Rattle.std.proofs.lemmas.List.{length-map, length-append}
+use Rattle.std.proofs.lemmas.Bool.{ltb-true, ltb-false, leb-true, lt-ltb, not-false}
+use Rattle.std.proofs.lemmas.List.{length-map, length-append, get_or-map}
 use Rattle.std.proofs.lemmas.List.Elements.{All-nil, All-cons, All-map}
 use Rattle.std.proofs.lemmas.List.Quantifiers.{position-Some}
 use Rattle.stack_text.proofs.OptionLaws.{bind_some}
 use Rattle.stack_text.specs.declared.name.Named.{Named}
 use Rattle.std.proofs.lemmas.Bool.{and_parts}
-use Rattle.fm_words.specs.Word.{is_int}
+use Rattle.fm_words.specs.Word.{is_int, unsigned_32, signed_32}
 use Rattle.piton_words.specs.declared.word.Word.{Word}
 use Rattle.piton_words.specs.declared.word.Word.TheVariants as word
 use Rattle.piton_syntax.specs.declared.argument.ArgKind.{ArgKind}
@@ -43,8 +43,9 @@ use Rattle.piton_check.specs.Instruction as seen
 use Rattle.piton_check.specs.Instruction.{Instruction, instruction_of, instruction_view, program_view, system_view, with_word, with_number, with_local}
 use Rattle.piton_check.specs.Instruction.{with_place, with_area, with_program, with_test, place_of}
 use Rattle.stack_text.specs.Options.{◌>>=◌}
-use Rattle.stack_text.proofs.SharedLaws.{rule_fails, some_of, some_is, append_none, get_map}
-use Rattle.piton_check.specs.Meaning.{natural, integer, position_in, area_lengths, program_lengths, word_of, name_kind, count_of}
+use Rattle.std.proofs.lemmas.Option.{same_Some, slice_get-get_or, cond_some}
+use Rattle.stack_text.proofs.SharedLaws.{rule_fails, some_of, append_none, get_map}
+use Rattle.piton_check.specs.Meaning.{position_in, area_lengths, program_lengths, word_of, name_kind, count_of}
 use Rattle.piton_check.specs.Resolved.{resolved, resolved_word, resolved_temporary, resolved_area, resolved_argument, resolved_instruction, resolved_program}
 use Rattle.piton_check.specs.Resolved.{resolved_number}
 use Rattle.piton_check.specs.Sound.{Exists, IsPlace, IsLocal, IsArea, IsProgram, IsCount, IsPlaced, IsEnd, IsSoundProgram, IsMain, IsSound, local_count}
@@ -65,44 +66,30 @@ none_each : {X : Type 0} (f : X → List Breach) (xs : List X) → flat_map f xs
 none_each f [] h = All-nil (λ x. f x ≡ [])
 none_each f (x ∷ xs) h = let p = append_none (f x) (flat_map f xs) h in All-cons (λ y. f y ≡ []) x xs p.0 (none_each f xs p.1)
 
-get-or : {X : Type 0} (xs : List X) (i : ℕ) (d : X) → i < length xs → slice_get xs i ≡ Some (get_or xs i d)
-get-or [] i d lt = absurd (omega (arith, lt))
-get-or (x ∷ xs) zero d lt = refl
-get-or (x ∷ xs) (suc i) d lt = get-or xs i d (omega (arith, lt))
-
-or-map : {X Y : Type 0} (f : X → Y) (xs : List X) (i : ℕ) (d : X) (e : Y) → i < length xs → get_or (map f xs) i e ≡ f (get_or xs i d)
-or-map f [] i d e lt = absurd (omega (arith, lt))
-or-map f (x ∷ xs) zero d e lt = refl
-or-map f (x ∷ xs) (suc i) d e lt = or-map f xs i d e (omega (arith, lt))
-
 -- ---- what means something
 
 map_some : {X Y : Type 0} (f : X → Y) (o : Option X) (y : Y) → option_map f o ≡ Some y → (x : X) × (o ≡ Some x) × (f x ≡ y)
 map_some f None y h = absurd cc
 map_some f (Some x) y h = (x, refl, cc)
 
-test_some : {X : Type 0} (b : Bool) (x y : X) → cond b (Some x) None ≡ Some y → (b ≡ true) × (x ≡ y)
-test_some true x y h = (refl, cc)
-test_some false x y h = absurd cc
-
 first_within : (ds : List Declaration) (name : List ℕ) (i : ℕ) → first_of ds name ≡ Some i → i < length ds
 first_within ds name i h = (position-Some (is_named name) ds i None h).0
 
-natural_below : (z : ℤ) (n : ℕ) → natural z ≡ Some n → n < 2 ^ 32
-natural_below (pos m) n h = let t = test_some (ltb m (2 ^ 32)) m n h in let e : m ≡ n = t.1 in omega (arith, ltb-true m (2 ^ 32) t.0, e)
+natural_below : (z : ℤ) (n : ℕ) → unsigned_32 z ≡ Some n → n < 2 ^ 32
+natural_below (pos m) n h = let t = cond_some (ltb m (2 ^ 32)) m n h in let e : m ≡ n = t.1 in omega (arith, ltb-true m (2 ^ 32) t.0, e)
 natural_below (negsuc m) n h = absurd cc
 
 position_below : (count : ℕ) (z : ℤ) (n : ℕ) → position_in count z ≡ Some n → n < count
 position_below count z n h =
-    let b = bind_some (natural z) (λ m. cond (ltb m count) (Some m) None) n h in
-    let t = test_some (ltb b.0 count) b.0 n b.2 in
+    let b = bind_some (unsigned_32 z) (λ m. cond (ltb m count) (Some m) None) n h in
+    let t = cond_some (ltb b.0 count) b.0 n b.2 in
     let e : b.0 ≡ n = t.1 in
     omega (arith, ltb-true b.0 count t.0, e)
 
 count_below : (z : ℤ) (n : ℕ) → count_of z ≡ Some n → n ≤ 65536
 count_below z n h =
-    let b = bind_some (natural z) (λ m. cond (leb m 65536) (Some m) None) n h in
-    let t = test_some (leb b.0 65536) b.0 n b.2 in
+    let b = bind_some (unsigned_32 z) (λ m. cond (leb m 65536) (Some m) None) n h in
+    let t = cond_some (leb b.0 65536) b.0 n b.2 in
     let e : b.0 ≡ n = t.1 in
     omega (arith, leb-true b.0 65536 t.0, e)
 
@@ -137,22 +124,22 @@ program_within s name i h =
 
 word_exists : (s : SystemOf) (i : WordItem) (w : Word) → word_of s i ≡ Some w → Exists (view_of s) w
 word_exists s (item.Int n) w h =
-    let m = map_some word.Int (integer n.number) w h in
-    let t = test_some (is_int n.number) n.number m.0 m.1 in
+    let m = map_some word.Int (signed_32 n.number) w h in
+    let t = cond_some (is_int n.number) n.number m.0 m.1 in
     subst (Exists (view_of s)) m.2 (subst (λ (z : ℤ). IsTrue (is_int z)) t.1 t.0)
-word_exists s (item.Nat n) w h = let m = map_some word.Nat (natural n.number) w h in subst (Exists (view_of s)) m.2 (natural_below n.number m.0 m.1)
-word_exists s (item.Bitv n) w h = let m = map_some word.Bitv (natural n.number) w h in subst (Exists (view_of s)) m.2 (natural_below n.number m.0 m.1)
+word_exists s (item.Nat n) w h = let m = map_some word.Nat (unsigned_32 n.number) w h in subst (Exists (view_of s)) m.2 (natural_below n.number m.0 m.1)
+word_exists s (item.Bitv n) w h = let m = map_some word.Bitv (unsigned_32 n.number) w h in subst (Exists (view_of s)) m.2 (natural_below n.number m.0 m.1)
 word_exists s (item.Bool b) w h = let e : word.Bool b ≡ w = cc in subst (Exists (view_of s)) e tt
 word_exists s (item.Addr area n) w h =
     let a = bind_some (first_of (area_names s) area.name) (λ i. position_in (get_or (area_lengths s) i 0) n.number >>= λ o. Some (word.Addr i o)) w h in
     let o = bind_some (position_in (get_or (area_lengths s) a.0 0) n.number) (λ o. Some (word.Addr a.0 o)) w a.2 in
-    let e : word.Addr a.0 o.0 ≡ w = some_is (word.Addr a.0 o.0) w o.2 in
+    let e : word.Addr a.0 o.0 ≡ w = same_Some (word.Addr a.0 o.0) w o.2 in
     let inside : o.0 < get_or (area_lengths s) a.0 0 = position_below (get_or (area_lengths s) a.0 0) n.number o.0 o.1 in
     subst (Exists (view_of s)) e (area_within s area.name a.0 a.1, subst (λ (count : ℕ). o.0 < count) (area_length_is s s.areas a.0) inside)
 word_exists s (item.Pc program n) w h =
     let a = bind_some (first_of (program_names s) program.name) (λ i. position_in (get_or (program_lengths s) i 0) n.number >>= λ o. Some (word.Pc i o)) w h in
     let o = bind_some (position_in (get_or (program_lengths s) a.0 0) n.number) (λ o. Some (word.Pc a.0 o)) w a.2 in
-    let e : word.Pc a.0 o.0 ≡ w = some_is (word.Pc a.0 o.0) w o.2 in
+    let e : word.Pc a.0 o.0 ≡ w = same_Some (word.Pc a.0 o.0) w o.2 in
     let inside : o.0 < get_or (program_lengths s) a.0 0 = position_below (get_or (program_lengths s) a.0 0) n.number o.0 o.1 in
     subst (Exists (view_of s)) e (program_within s program.name a.0 a.1, subst (λ (count : ℕ). o.0 < count) (program_length_is s s.programs a.0) inside)
 word_exists s (item.Subr program) w h =
@@ -357,11 +344,7 @@ module _ (s : SystemOf) (p : ProgramOf) where
   end_sound o args is fits h = absurd (true≢false (sym is))
 
   last_end : (o : PitonOp) (place : ℕ) → when (not (is_end o)) place 12 ≡ [] → is_end o ≡ true
-  last_end o place h = by_test (is_end o) (rule_fails (not (is_end o)) place 12 h)
-    where
-      by_test : (b : Bool) → not b ≡ false → b ≡ true
-      by_test true e = refl
-      by_test false e = absurd cc
+  last_end o place h = not-false (is_end o) (rule_fails (not (is_end o)) place 12 h)
 
   program_sound : FitsProgram p → program_breaches s p ≡ [] → IsSoundProgram (view_of s) (view_in s p)
   program_sound fits none =
@@ -391,15 +374,15 @@ module _ (s : SystemOf) (p : ProgramOf) where
           let k : ℕ = length (j ∷ js) - 1 in
           let lt : k < length (j ∷ js) = omega arith in
           let i = get_or (j ∷ js) k j in
-          let ends_at : end_breaches (Some i) ≡ [] = subst (λ (o : Option InstrOf). end_breaches o ≡ []) (get-or (j ∷ js) k j lt) ends in
+          let ends_at : end_breaches (Some i) ≡ [] = subst (λ (o : Option InstrOf). end_breaches o ≡ []) (slice_get-get_or (j ∷ js) k j lt) ends in
           let good : IsEnd (instruction_view (resolved_instruction s p i)) =
           end_sound i.op i.args (last_end i.op i.place ends_at) (fit k j lt).args (none k j lt) in
           let long : length (map instruction_view (map (resolved_instruction s p) (j ∷ js))) ≡ length (j ∷ js) =
           length-map (map (resolved_instruction s p) (j ∷ js)) instruction_view ∙ length-map (j ∷ js) (resolved_instruction s p) in
           let under : k < length (map (resolved_instruction s p) (j ∷ js)) = omega (arith, lt, length-map (j ∷ js) (resolved_instruction s p)) in
           let at_k : get_or (map instruction_view (map (resolved_instruction s p) (j ∷ js))) k seen.NoOp ≡ instruction_view (resolved_instruction s p i) =
-          or-map instruction_view (map (resolved_instruction s p) (j ∷ js)) k (resolved_instruction s p j) seen.NoOp under
-          ∙ ap instruction_view (or-map (resolved_instruction s p) (j ∷ js) k j (resolved_instruction s p j) lt) in
+          get_or-map instruction_view (map (resolved_instruction s p) (j ∷ js)) k (resolved_instruction s p j) seen.NoOp under
+          ∙ ap instruction_view (get_or-map (resolved_instruction s p) (j ∷ js) k j (resolved_instruction s p j) lt) in
           subst (λ (n : ℕ). IsEnd (get_or (map instruction_view (map (resolved_instruction s p) (j ∷ js))) (n - 1) seen.NoOp)) (sym long)
           (subst IsEnd (sym at_k) good)
 
@@ -418,11 +401,7 @@ within_number low high (pos n) small h =
 size_sound : (low high : ℕ) (n : Number) → high ≤ 2 ^ 31 → when (not (is_within low high n.number)) n.place 14 ≡ [] → (low ≤ resolved_number n.number)
     × (resolved_number n.number ≤ high)
 size_sound low high n small h =
-    within_number low high n.number small (by_test (is_within low high n.number) (rule_fails (not (is_within low high n.number)) n.place 14 h))
-  where
-    by_test : (b : Bool) → not b ≡ false → b ≡ true
-    by_test true e = refl
-    by_test false e = absurd cc
+    within_number low high n.number small (not-false (is_within low high n.number) (rule_fails (not (is_within low high n.number)) n.place 14 h))
 
 no_formals : {X : Type 0} (xs : List X) (place : ℕ) → when (ltb 0 (length xs)) place 4 ≡ [] → length xs ≡ 0
 no_formals xs place h = let le : length xs ≤ 0 = ltb-false 0 (length xs) (rule_fails (ltb 0 (length xs)) place 4 h) in omega (arith, le)

@@ -2,7 +2,7 @@
 use Rattle.std.specs.Prelude.{ℕ, ◌^◌, ℤ, pos, negsuc, List, map, length, get_or, Option, Some, None, nat_lt, nat_le, if◌then◌else◌}
 use Rattle.std.specs.Option.{option_map}
 use Rattle.stack_text.specs.SharedLimits.{most_stack}
-use Rattle.fm_words.specs.Word.{is_int}
+use Rattle.fm_words.specs.Word.{signed_32, unsigned_32}
 use Rattle.piton_words.specs.declared.word.Word.{Word}
 use Rattle.piton_words.specs.declared.word.Word.TheVariants as word
 use Rattle.piton_syntax.specs.declared.argument.ArgKind.{ArgKind}
@@ -17,18 +17,9 @@ use Rattle.piton_check.specs.declared.resolved.ResolvedArg.TheVariants as arg
 use Rattle.stack_text.specs.Options.{◌>>=◌}
 use Rattle.piton_check.specs.Declarations.{area_names, program_names, local_names, label_names, first_of}
 
--- a number that a natural word has
-abbrev pub natural : ℤ → Option ℕ
-natural (pos n) = if nat_lt n (2 ^ 32) then Some n else None
-natural (negsuc n) = None
-
--- a number that an integer word has
-abbrev pub integer : ℤ → Option ℤ
-integer i = if is_int i then Some i else None
-
 -- a number that is a position in a list of that length
 abbrev pub position_in : ℕ → ℤ → Option ℕ
-position_in count number = natural number >>= λ n. if nat_lt n count then Some n else None
+position_in count number = unsigned_32 number >>= λ n. if nat_lt n count then Some n else None
 
 abbrev pub area_lengths : SystemOf → List ℕ
 area_lengths s = map (λ a. length a.words) s.areas
@@ -38,9 +29,9 @@ program_lengths s = map (λ p. length p.instrs) s.programs
 
 -- what a word means, where its number is in the range of its tag and all that it names exists
 abbrev pub word_of : SystemOf → WordItem → Option Word
-word_of s (item.Int n) = option_map word.Int (integer n.number)
-word_of s (item.Nat n) = option_map word.Nat (natural n.number)
-word_of s (item.Bitv n) = option_map word.Bitv (natural n.number)
+word_of s (item.Int n) = option_map word.Int (signed_32 n.number)
+word_of s (item.Nat n) = option_map word.Nat (unsigned_32 n.number)
+word_of s (item.Bitv n) = option_map word.Bitv (unsigned_32 n.number)
 word_of s (item.Bool truth) = Some (word.Bool truth)
 word_of s (item.Addr area n) =
     first_of (area_names s) area.name >>= λ a. position_in (get_or (area_lengths s) a 0) n.number >>= λ o. Some (word.Addr a o)
@@ -65,4 +56,4 @@ name_of s p _ name = None
 
 -- a count that an instruction may have
 abbrev pub count_of : ℤ → Option ℕ
-count_of number = natural number >>= λ n. if nat_le n most_stack then Some n else None
+count_of number = unsigned_32 number >>= λ n. if nat_le n most_stack then Some n else None

@@ -14,7 +14,8 @@ use Rattle.piton_syntax.specs.Systems.{InstrOf, ProgramOf, AreaOf, SystemOf}
 use Rattle.piton_check.specs.declared.resolved.ResolvedArg.{ResolvedArg}
 use Rattle.piton_check.specs.declared.resolved.ResolvedArg.TheVariants as arg
 use Rattle.piton_check.specs.Declarations.{program_names, first_of}
-use Rattle.piton_check.specs.Meaning.{natural, word_of, name_kind, name_of, count_of}
+use Rattle.fm_words.specs.Word.{unsigned_32}
+use Rattle.piton_check.specs.Meaning.{word_of, name_kind, name_of, count_of}
 
 pub record ResolvedInstrOf : Type 0 where
   pub op : PitonOp
@@ -61,7 +62,7 @@ resolved_program s p = record {
 }
 
 abbrev pub resolved_number : ℤ → ℕ
-resolved_number number = unwrap_or (natural number) 0
+resolved_number number = unwrap_or (unsigned_32 number) 0
 
 abbrev pub resolved : SystemOf → ResolvedOf
 resolved s = record {

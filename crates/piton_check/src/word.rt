@@ -4,7 +4,8 @@ ghost use Rattle.std.specs.Prelude.{◌≡◌, map, get_or, IfOk, OnOk};
 ghost use Rattle.std.specs.List.{flat_map};
 ghost use Rattle.stack_text.specs.Breaches.{Notes};
 ghost use Rattle.piton_check.specs.Declarations.{area_names, program_names, first_of};
-ghost use Rattle.piton_check.specs.Meaning.{natural, integer, position_in, area_lengths, program_lengths, word_of};
+ghost use Rattle.fm_words.specs.Word.{unsigned_32, signed_32};
+ghost use Rattle.piton_check.specs.Meaning.{position_in, area_lengths, program_lengths, word_of};
 ghost use Rattle.piton_check.specs.Resolved.{resolved_word, resolved_temporary};
 ghost use Rattle.piton_check.specs.Tables.{KnowsSystem};
 ghost use Rattle.piton_check.specs.Violations.{word_breaches, temporary_breaches};
@@ -17,14 +18,14 @@ use std::alloc::Global;
 
 /// The number, where a natural word has it.
 pub(crate) fn natural(number: i128) -> Option<u32>
-    ensures { result ≡ natural number }
+    ensures { result ≡ unsigned_32 number }
 {
     u32::try_from(number).ok()
 }
 
 /// The number, where an integer word has it.
 fn integer(number: i128) -> Option<i32>
-    ensures { result ≡ integer number }
+    ensures { result ≡ signed_32 number }
 {
     i32::try_from(number).ok()
 }

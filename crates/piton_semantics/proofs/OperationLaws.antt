@@ -4,7 +4,7 @@ use Rattle.std.proofs.Common.{⊎_elim}
 use Rattle.std.specs.Prelude.{not, ◌&&◌, ◌||◌, nat_lt, ℤ, pos, negsuc, ◌+ℤ◌, ◌-ℤ◌, ◌*ℤ◌, int_lt, unsigned_abs, bit_and, bit_or, bit_xor}
 use Rattle.std.specs.Int.{from_bool as bit_of, cast_signed, w32}
 use Rattle.std.proofs.lemmas.Bool.Decides.{nat_tests}
-use Rattle.std.proofs.lemmas.Bool.{cases_lt, ltb-true}
+use Rattle.std.proofs.lemmas.Bool.{cases_lt, ltb-true, eqb-true}
 use Rattle.std.proofs.lemmas.Int.{ints as integers}
 use Rattle.fm_words.specs.Alu.{are_same as are_same_tests}
 use Rattle.fm_words.specs.Word.{is_int, is_nat, are_same_ints, word_of_int, wrapped}
@@ -38,9 +38,6 @@ sub_abs y x h = grind (arith, integers)
 
 same_lt : (c q o : ℕ) → nat_lt (c + q) (c + o) ≡ nat_lt q o
 same_lt c q o = grind (arith, nat_tests)
-
-same_from : (a b : ℕ) → (a == b) ≡ true → a ≡ b
-same_from a b h = grind (arith, nat_tests)
 
 offset_fits : (lens : List ℕ) (a o x : ℕ) → is_offset lens a (pos o -ℤ pos x) ≡ true → x ≤ o
 offset_fits lens a o x h = ⊎_elim negative (λ le. le) (cases_lt o x)
@@ -339,7 +336,7 @@ module _ (P : Parts) (A : Addresses) (lens : List ℕ) (IsPlace : ℕ → ℕ �
       by_addr top _ out (λ w. W third → W second → W w → G op.LtAddr third second w out) h (λ b x h1.
       by_addr second _ out (λ w. W third → W w → W (Addr b x) → G op.LtAddr third w (Addr b x) out) h1 (λ a o h2 u q p.
       by_true (a == b) _ out _ h2 (λ r h3.
-      by_ok (One (Truth (nat_lt o x))) out (λ v. G op.LtAddr third (Addr a o) (Addr b x) v) h3 (compared a o b x (same_from a b r)))))
+      by_ok (One (Truth (nat_lt o x))) out (λ v. G op.LtAddr third (Addr a o) (Addr b x) v) h3 (compared a o b x (eqb-true a b r)))))
     where
       compared : (a o b x : ℕ) → a ≡ b → G op.LtAddr third (Addr a o) (Addr b x) (One (Truth (nat_lt o x)))
       compared a o b x e =

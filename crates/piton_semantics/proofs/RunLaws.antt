@@ -49,7 +49,7 @@ run_kept s (suc k) p q sound is h =
     let f = first_of_run s k p q h in
     run_kept s k f.next q sound (step_kept s p f.next sound is f.step) f.rest
 
-seen_next_by : (s : SystemView) (v : Seen) (q : PitonState) (f : Frame) (fs fs' : List Frame) → fs' ≡ f ∷ fs → piton_step s v.state ≡ Ok q →
+pub seen_next_by : (s : SystemView) (v : Seen) (q : PitonState) (f : Frame) (fs fs' : List Frame) → fs' ≡ f ∷ fs → piton_step s v.state ≡ Ok q →
     seen_from s v fs' ≡ Ok (seen_after s v q)
 unfolding then_on
 seen_next_by s v q f fs [] e h = cc

@@ -75,58 +75,33 @@ nat_fits (pos n) h = ltb-true n (2 ^ 32) h
 nat_fits (negsuc n) h = cc
 
 -- the second and the top of one type
-pub record Ints (second top : Word) (row : ℤ → ℤ → Result Outcome WordError) (out : Outcome) : Type 0 where
-  pub s : ℤ
-  pub t : ℤ
-  pub second_is : second ≡ Int s
-  pub top_is : top ≡ Int t
+pub record Both {A : Type 0} (made : A → Word) (second top : Word) (row : A → A → Result Outcome WordError) (out : Outcome) : Type 0 where
+  pub s : A
+  pub t : A
+  pub second_is : second ≡ made s
+  pub top_is : top ≡ made t
   pub goes : row s t ≡ Ok out
+
+both_are : {A : Type 0} (of : Word → Result A WordError) (made : A → Word) → ((w : Word) (x : A) → of w ≡ Ok x → w ≡ made x) →
+    (second top : Word) (row : A → A → Result Outcome WordError) (out : Outcome) →
+    (of top >>= λ t. of second >>= λ s. row s t) ≡ Ok out → Both made second top row out
+both_are of made is second top row out h =
+    let a = went_on (of top) (λ t. of second >>= λ s. row s t) out h in
+    let b = went_on (of second) (λ s. row s a.value) out a.goes in
+    record { s = b.value; t = a.value; second_is = is second b.value b.is; top_is = is top a.value a.is; goes = b.goes }
 
 pub ints_are : (second top : Word) (row : ℤ → ℤ → Result Outcome WordError) (out : Outcome) →
-    ints second top row ≡ Ok out → Ints second top row out
-ints_are second top row out h =
-    let a = went_on (int_of top) (λ t. int_of second >>= λ s. row s t) out h in
-    let b = went_on (int_of second) (λ s. row s a.value) out a.goes in
-    record { s = b.value; t = a.value; second_is = int_is _ _ b.is; top_is = int_is _ _ a.is; goes = b.goes }
-
-pub record Nats (second top : Word) (row : ℕ → ℕ → Result Outcome WordError) (out : Outcome) : Type 0 where
-  pub s : ℕ
-  pub t : ℕ
-  pub second_is : second ≡ Nat s
-  pub top_is : top ≡ Nat t
-  pub goes : row s t ≡ Ok out
+    ints second top row ≡ Ok out → Both Int second top row out
+ints_are = both_are int_of Int int_is
 
 pub nats_are : (second top : Word) (row : ℕ → ℕ → Result Outcome WordError) (out : Outcome) →
-    nats second top row ≡ Ok out → Nats second top row out
-nats_are second top row out h =
-    let a = went_on (nat_of top) (λ t. nat_of second >>= λ s. row s t) out h in
-    let b = went_on (nat_of second) (λ s. row s a.value) out a.goes in
-    record { s = b.value; t = a.value; second_is = nat_is _ _ b.is; top_is = nat_is _ _ a.is; goes = b.goes }
-
-pub record Bitvs (second top : Word) (row : ℕ → ℕ → Result Outcome WordError) (out : Outcome) : Type 0 where
-  pub s : ℕ
-  pub t : ℕ
-  pub second_is : second ≡ Bitv s
-  pub top_is : top ≡ Bitv t
-  pub goes : row s t ≡ Ok out
+    nats second top row ≡ Ok out → Both Nat second top row out
+nats_are = both_are nat_of Nat nat_is
 
 pub bitvs_are : (second top : Word) (row : ℕ → ℕ → Result Outcome WordError) (out : Outcome) →
-    bitvs second top row ≡ Ok out → Bitvs second top row out
-bitvs_are second top row out h =
-    let a = went_on (bitv_of top) (λ t. bitv_of second >>= λ s. row s t) out h in
-    let b = went_on (bitv_of second) (λ s. row s a.value) out a.goes in
-    record { s = b.value; t = a.value; second_is = bitv_is _ _ b.is; top_is = bitv_is _ _ a.is; goes = b.goes }
-
-pub record Bools (second top : Word) (row : Bool → Bool → Result Outcome WordError) (out : Outcome) : Type 0 where
-  pub s : Bool
-  pub t : Bool
-  pub second_is : second ≡ Truth s
-  pub top_is : top ≡ Truth t
-  pub goes : row s t ≡ Ok out
+    bitvs second top row ≡ Ok out → Both Bitv second top row out
+bitvs_are = both_are bitv_of Bitv bitv_is
 
 pub bools_are : (second top : Word) (row : Bool → Bool → Result Outcome WordError) (out : Outcome) →
-    bools second top row ≡ Ok out → Bools second top row out
-bools_are second top row out h =
-    let a = went_on (bool_of top) (λ t. bool_of second >>= λ s. row s t) out h in
-    let b = went_on (bool_of second) (λ s. row s a.value) out a.goes in
-    record { s = b.value; t = a.value; second_is = bool_is _ _ b.is; top_is = bool_is _ _ a.is; goes = b.goes }
+    bools second top row ≡ Ok out → Both Truth second top row out
+bools_are = both_are bool_of Truth bool_is

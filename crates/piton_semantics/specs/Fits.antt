@@ -10,14 +10,11 @@ use Rattle.piton_check.specs.PitonChecking.{CheckedOf}
 use Rattle.piton_check.specs.Instruction.{Instruction, SystemView, system_view}
 use Rattle.piton_check.specs.Sound.{Exists}
 use Rattle.piton_semantics.specs.State.{Frame, PitonState, program_of, instruction_at, variables_of, ctrl_used}
+pub use Rattle.stack_text.specs.Lists.{Each}
 
 -- the system of a checked one, its names resolved
 abbrev pub system_in : CheckedOf → SystemView
 system_in c = system_view c.resolved
-
-abbrev pub Each : {A : Type 0} → (A → Type 0) → List A → Type 0
-Each P [] = Unit {0}
-Each P (x ∷ xs) = P x × Each P xs
 
 abbrev pub IsPlace : SystemView → ℕ → ℕ → Type 0
 IsPlace s program place = place < length (program_of s program).instructions

@@ -11,7 +11,8 @@ use Rattle.fm_words.specs.declared.operation.Op.TheVariants as fm
 use Rattle.fm_words.specs.declared.condition.Cc.{Cc}
 use Rattle.fm_words.specs.declared.condition.Cc.TheVariants as cc
 use Rattle.fm_words.specs.Word.{word_of_int}
-use Rattle.fm_code.specs.InstructionWords.{reg, at, push, pop, literal, literal_at, mov, add, sub, always, setting, when, flag_z, all_flags}
+use Rattle.fm_machine.specs.Masks.{all_flags}
+use Rattle.fm_code.specs.InstructionWords.{reg, at, push, pop, literal, literal_at, mov, add, sub, always, setting, when, flag_z}
 use Rattle.fm_code.specs.Templates as code
 use Rattle.piton_check.specs.declared.piece.Piece.{Piece}
 use Rattle.piton_check.specs.declared.piece.Piece.TheVariants.{Code, Number, Place, Entry, Area, TempEnd, TempStart, CtrlStart, Table}

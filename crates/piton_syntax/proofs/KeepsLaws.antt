@@ -10,7 +10,7 @@ use Rattle.stack_text.specs.Names.{is_name}
 use Rattle.stack_text.specs.Numerals.{is_digits, is_numeral, numeral_value, fits_128_bits}
 use Rattle.stack_text.specs.Trees.{Node, Nodes, atom, list, none, more, place_of, IsWellFormed}
 use Rattle.stack_text.specs.Views.TreeView.{nodes}
-use Rattle.std.proofs.lemmas.Bool.{and_parts}
+use Rattle.std.proofs.lemmas.Bool.{and_parts, and_from}
 use Rattle.stack_text.proofs.AtomLaws.{name_is_run, numeral_is_run}
 use Rattle.stack_text.specs.Grammar.Printed.{name_tree, unplaced_name}
 use Rattle.stack_text.specs.Grammar.Printed.{list_tree}
@@ -45,9 +45,9 @@ use Rattle.piton_syntax.specs.Printed.{number_tree, truth_tree, item_tree, word_
 use Rattle.piton_syntax.specs.Printed.{tree_of}
 use Rattle.stack_text.proofs.NumeralTextLaws.{value-signed_decimal, numeral-signed_decimal, digits-signed_decimal}
 use Rattle.stack_text.proofs.KeepsLaws.{named_again as name_again, keeps_name as keeps_name_or, keeps_named as keeps_named_or, keeps_list as keeps_list_or}
-use Rattle.stack_text.proofs.KeepsLaws.{KeepsName, Alike, AllAlike, Holds, IsRun, Keeps, KeepsEach, alike_list_length, alike_items, and_true, found_passes}
-use Rattle.stack_text.proofs.KeepsLaws.{found_tests, holds_at, holds_four, holds_if, holds_judged, holds_more, holds_one, holds_seven, holds_two, keeps_each}
-use Rattle.stack_text.proofs.KeepsLaws.{ok_four, ok_one, ok_seven, ok_two, passes, well_formed}
+use Rattle.stack_text.proofs.KeepsLaws.{KeepsName, Alike, AllAlike, Holds, IsRun, Keeps, KeepsEach, alike_list_length, alike_items, found_passes, found_tests}
+use Rattle.stack_text.proofs.KeepsLaws.{holds_at, holds_four, holds_if, holds_judged, holds_more, holds_one, holds_seven, holds_two, keeps_each, ok_four}
+use Rattle.stack_text.proofs.KeepsLaws.{ok_one, ok_seven, ok_two, passes, well_formed}
 use Rattle.piton_syntax.proofs.WordLaws.{operation_named-name}
 
 -- ---- names and numbers
@@ -277,7 +277,7 @@ keeps_some k (more t ts) pass =
     holds_two (KeepsArgument k t) (KeepsSome k ts) (KeepsSome k (more t ts)) front (argument_of k t) (each_of (argument_of k) ts)
     (λ x g xs h. record {
       alike = (g.alike, h.alike);
-      are_kind = and_true (is_of_kind k (argument_tree x)) _ g.is_kind h.are_kind;
+      are_kind = and_from (is_of_kind k (argument_tree x)) _ g.is_kind h.are_kind;
       reads = ok_two front _ _ (unplaced_argument x) (map unplaced_argument xs) g.reads h.reads;
     })
     (keeps_argument k t p.0) (keeps_some k ts p.1)

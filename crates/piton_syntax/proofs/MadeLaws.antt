@@ -4,7 +4,7 @@ use Rattle.std.proofs.Common.{◌∙◌, ◌≡◌, ℕ, zero, suc, ◌+◌, ◌
 use Rattle.std.proofs.Common.{All, Contains, refl, sym, ap, subst, arith}
 use Rattle.std.specs.Prelude.{◌&&◌}
 use Rattle.std.specs.Fmt.{signed_decimal}
-use Rattle.std.proofs.lemmas.Bool.{le-leb}
+use Rattle.std.proofs.lemmas.Bool.{le-leb, and_from}
 use Rattle.std.proofs.lemmas.List.Elements.{All-head, All-tail}
 use Rattle.stack_text.specs.declared.name.Named.{Named}
 use Rattle.stack_text.specs.Names.{is_name}
@@ -43,7 +43,7 @@ use Rattle.piton_syntax.specs.Fits.{IsSigned, IsUnsigned, FitsItem, FitsWord, Fi
 use Rattle.piton_syntax.specs.Fits.{FitsProgram, FitsArea, FitsForm}
 use Rattle.stack_text.proofs.NumeralTextLaws.{natural_written, numeral-signed_decimal}
 use Rattle.stack_text.proofs.MadeLaws.{Made, made_each, made_names}
-use Rattle.stack_text.proofs.KeepsLaws.{passes, ok_one, ok_two, ok_four, ok_seven, and_true}
+use Rattle.stack_text.proofs.KeepsLaws.{passes, ok_one, ok_two, ok_four, ok_seven}
 use Rattle.piton_syntax.proofs.KeepsLaws.{named_again, number_again, word_again, truth_again, named_and_numbered, called_again, unlabelled_again, op_run}
 
 -- ---- numbers and words
@@ -189,7 +189,7 @@ made_argument k a h = absurd h
 
 are_kind : (k : ArgKind) (xs : List ArgText) → All (FitsArgument k) xs → are_of_kind k (nodes (map argument_tree xs)) ≡ true
 are_kind k [] h = refl
-are_kind k (x ∷ xs) h = and_true (is_of_kind k (argument_tree x)) _ (made_argument k x (All-head (FitsArgument k) x xs h)).is_kind
+are_kind k (x ∷ xs) h = and_from (is_of_kind k (argument_tree x)) _ (made_argument k x (All-head (FitsArgument k) x xs h)).is_kind
     (are_kind k xs (All-tail (FitsArgument k) x xs h))
 
 record MadeArguments (row : Arguments) (xs : List ArgText) : Type 0 where
@@ -270,7 +270,7 @@ made_program p h = by_instrs p.instrs h.instrs h.some_instrs h.few_instrs
         omega (arith, h.few_locals, formals.count, temporaries.count) in
         let count : count_of (nodes (map instruction_tree (i ∷ is))) ≤ 1048576 = subst (λ (n : ℕ). n ≤ 1048576) (sym instrs.count) few in
         let small : is_small_program formals_tree temporaries_tree (nodes (map instruction_tree (i ∷ is))) ≡ true =
-        and_true (leb (count_of (nodes (map name_tree p.formals)) + count_of (nodes (map temporary_tree p.temporaries))) 400) _ (le-leb _ 400 locals)
+        and_from (leb (count_of (nodes (map name_tree p.formals)) + count_of (nodes (map temporary_tree p.temporaries))) 400) _ (le-leb _ 400 locals)
         (le-leb _ 1048576 count) in
         record {
           reads = passes 0 9 (is_small_program formals_tree temporaries_tree (nodes (map instruction_tree (i ∷ is)))) _ _ small
@@ -309,7 +309,7 @@ made_system s h = by_programs s.programs h.programs h.some_programs h.few_progra
         let area_count : count_of (nodes (map area_tree s.areas)) ≤ 1000 = subst (λ (n : ℕ). n ≤ 1000) (sym areas.count) h.few_areas in
         let program_count : count_of (nodes (map program_tree (p ∷ ps))) ≤ 1100 = subst (λ (n : ℕ). n ≤ 1100) (sym programs.count) few in
         let small : is_small_system (nodes (map area_tree s.areas)) (nodes (map program_tree (p ∷ ps))) ≡ true =
-        and_true (leb (count_of (nodes (map area_tree s.areas))) 1000) _ (le-leb _ 1000 area_count) (le-leb _ 1100 program_count) in
+        and_from (leb (count_of (nodes (map area_tree s.areas))) 1000) _ (le-leb _ 1000 area_count) (le-leb _ 1100 program_count) in
         let numbers : (is_digits (signed_decimal s.ctrl.number) && is_digits (signed_decimal s.temp.number) && is_digits (signed_decimal s.base.number))
         ≡ true =
         rw (ctrl.is_written, temp.is_written, base.is_written) refl in

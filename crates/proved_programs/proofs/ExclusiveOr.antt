@@ -27,10 +27,6 @@ xor_twice a b = sym (xor_assoc a a b) ∙ ap (λ (n : ℕ). bit_xor n b) (xor_se
 pub xor_exchange : (a b c : ℕ) → bit_xor a (bit_xor b c) ≡ bit_xor b (bit_xor a c)
 xor_exchange a b c = sym (xor_assoc a b c) ∙ ap (λ (n : ℕ). bit_xor n c) (xor_comm a b) ∙ xor_assoc b a c
 
--- where it is zero, both are one number
-pub xor_same : (a b : ℕ) → bit_xor a b ≡ 0 → a ≡ b
-xor_same a b e = sym (xor_zero_r a) ∙ ap (bit_xor a) (sym e) ∙ xor_twice a b
-
 pub doubled : (n : ℕ) → 2 ^ suc n ≡ 2 ^ n * 2
 doubled n = ap (λ (m : ℕ). 2 ^ m) (let e : suc n ≡ n + 1 = omega arith in e) ∙ pow-add 2 n 1
 

@@ -6,7 +6,8 @@ use Rattle.std.specs.Int.Bits.{xor_self, xor_zero_r}
 use Rattle.std.proofs.lemmas.Nat.Bits.{bit_at_xor, bit_at-lt, bit_at-zero}
 use Rattle.gypsy_logic.proofs.Rules.{recursion_rule}
 use Rattle.proved_programs.specs.NimGame.{NimMove, Wins, by_move, Loses, whatever, nim_sum, BoutonsTheorem}
-use Rattle.proved_programs.proofs.ExclusiveOr.{xor_twice, xor_exchange, xor_same, highest, xor_less}
+use Rattle.fm_code.proofs.XorLaws.{same_from_xor}
+use Rattle.proved_programs.proofs.ExclusiveOr.{xor_twice, xor_exchange, highest, xor_less}
 
 -- how many objects there are
 abbrev objects : List ℕ → ℕ
@@ -38,7 +39,7 @@ leaves_zero xs ys zero_sum m f =
     let there = pile_there xs m.pile m.left m.fewer in
     let e : nim_sum ys ≡ bit_xor m.left p =
     ap nim_sum m.is ∙ sum_set xs m.pile m.left there ∙ ap (λ (n : ℕ). bit_xor m.left (bit_xor p n)) zero_sum ∙ ap (bit_xor m.left) (xor_zero_r p) in
-    let same : m.left ≡ p = xor_same m.left p (sym e ∙ f) in
+    let same : m.left ≡ p = same_from_xor m.left p (sym e ∙ f) in
     absurd (omega (arith, m.fewer, same))
 
 -- a bit of the exclusive or is a bit of some pile

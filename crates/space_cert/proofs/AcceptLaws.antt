@@ -1,12 +1,11 @@
 -- What the code judges is whether the certificate covers the source.
 use Rattle.std.proofs.Common.{◌≡◌, ℕ, zero, suc, ◌+◌, ◌<◌, ◌≤◌, nat_le, cond, slice_get, List, [], ◌∷◌, ◌++◌, map, length, get_or, Bool, true, false, ◌&&◌}
 use Rattle.std.proofs.Common.{◌==◌, Option, Some, None, inl, inr, refl, ap, sym, ◌∙◌, subst, arith, eq-eqb, leb-true}
-use Rattle.std.proofs.lemmas.Bool.{and_parts, le-leb, eqb-true, cases_lt, false_from_ne_true}
+use Rattle.std.proofs.lemmas.Bool.{and_parts, le-leb, eqb-true, cases_lt, false_from_ne_true, and_from}
 use Rattle.std.proofs.lemmas.List.{length-map, get_or_past}
 use Rattle.std.proofs.lemmas.List.Elements.{All-nil, All-cons, All-head, All-tail}
 use Rattle.std.specs.List.{All}
 use Rattle.stack_text.specs.Values.{ValueOf}
-use Rattle.stack_text.proofs.KeepsLaws.{and_true}
 use Rattle.gypsy_syntax.specs.declared.literal.Decl.{Decl}
 use Rattle.gypsy_syntax.specs.declared.proc.Proc.{Proc as TextProc}
 use Rattle.gypsy_syntax.specs.Views.SourceView.{proc_of}
@@ -22,18 +21,19 @@ use Rattle.gypsy_space.proofs.SmallLaws.{words_of-append}
 use Rattle.space_cert.specs.Covers.{Bounds, as_words, bound_at, words_sum, callees, IsAtMost, own_need, call_bound, CoversCall, CoversRun, Covers}
 use Rattle.space_cert.specs.Reaches.{calls_of}
 use Rattle.space_cert.specs.Order.{call_bound_by}
-use Rattle.space_cert.specs.Accepting.{is_at_most, is_some_and, covers_call, covers_calls, covers_run, covers_from, covers_main, covers, source_callees}
-use Rattle.space_cert.specs.Accepting.{parts_callees, source_calls, needs_from, is_covered}
-use Rattle.space_cert.proofs.CoversLaws.{main_within}
+use Rattle.gypsy_semantics.specs.Views.Fitting.{suffice}
+use Rattle.space_cert.specs.Accepting.{is_some_and, covers_call, covers_calls, covers_run, covers_from, covers_main, covers, source_callees, parts_callees}
+use Rattle.space_cert.specs.Accepting.{source_calls, needs_from, is_covered}
+use Rattle.space_cert.proofs.CoversLaws.{main_within, some_there}
 use Rattle.space_cert.proofs.CertifyLaws.{body_calls, calls_below, calls_same}
 
-at_most_true : (u v : StackSizes) → is_at_most u v ≡ true → IsAtMost u v
+at_most_true : (u v : StackSizes) → suffice u v ≡ true → IsAtMost u v
 at_most_true u v e =
     let k = and_parts (nat_le u.temp v.temp) (nat_le u.ctrl v.ctrl) e in
     record { temp = leb-true u.temp v.temp k.0; ctrl = leb-true u.ctrl v.ctrl k.1 }
 
-at_most_is : (u v : StackSizes) → IsAtMost u v → is_at_most u v ≡ true
-at_most_is u v h = and_true (nat_le u.temp v.temp) (nat_le u.ctrl v.ctrl) (le-leb u.temp v.temp h.temp) (le-leb u.ctrl v.ctrl h.ctrl)
+at_most_is : (u v : StackSizes) → IsAtMost u v → suffice u v ≡ true
+at_most_is u v h = and_from (nat_le u.temp v.temp) (nat_le u.ctrl v.ctrl) (le-leb u.temp v.temp h.temp) (le-leb u.ctrl v.ctrl h.ctrl)
 
 some_true : (o : Option StackSizes) (f : StackSizes → Bool) (P : StackSizes → Type 0) → ((w : StackSizes) → f w ≡ true → P w) → is_some_and o f ≡ true
     → IsSomeAnd o P
@@ -45,10 +45,6 @@ some_is_true : (o : Option StackSizes) (f : StackSizes → Bool) (P : StackSizes
 some_is_true None f P h k = absurd k
 some_is_true (Some w) f P h k = h w k
 
-some_there : (o : Option StackSizes) (P : StackSizes → Type 0) → IsSomeAnd o P → IsSome o
-some_there None P h = absurd h
-some_there (Some w) P h = refl
-
 past_none : (bs : Bounds) (p : ℕ) (b : StackSizes) → bound_at bs p ≡ Some b → p < length bs
 past_none bs p b e = elim (cases_lt p (length bs)) [ inl h ↦ h | inr h ↦ absurd (none_some (sym (ap (option_map as_words) (get_or_past bs p None h)) ∙ e)) ]
   where
@@ -58,13 +54,13 @@ past_none bs p b e = elim (cases_lt p (length bs)) [ inl h ↦ h | inr h ↦ abs
 module _ (q : Program) (ns : List Need) (needs : AreNeeds q ns) (fits : ProgramFits q) (bs : Bounds) where
   call_true : (b : StackSizes) (r : ℕ) → r < length q.procs → covers_call ns bs b r ≡ true → CoversCall q bs b r
   call_true b r lt e =
-      some_true (bound_at bs r) (λ d. is_at_most (call_bound_by (need_at ns r) d) b) (λ d. IsAtMost (call_bound q r d) b)
-      (λ d i. at_most_true (call_bound q r d) b (subst (λ n. is_at_most (call_bound_by n d) b ≡ true) (needs.each r lt) i)) e
+      some_true (bound_at bs r) (λ d. suffice (call_bound_by (need_at ns r) d) b) (λ d. IsAtMost (call_bound q r d) b)
+      (λ d i. at_most_true (call_bound q r d) b (subst (λ n. suffice (call_bound_by n d) b ≡ true) (needs.each r lt) i)) e
 
   call_is : (b : StackSizes) (r : ℕ) → r < length q.procs → CoversCall q bs b r → covers_call ns bs b r ≡ true
   call_is b r lt h =
-      some_is_true (bound_at bs r) (λ d. is_at_most (call_bound_by (need_at ns r) d) b) (λ d. IsAtMost (call_bound q r d) b)
-      (λ d i. subst (λ n. is_at_most (call_bound_by n d) b ≡ true) (sym (needs.each r lt)) (at_most_is (call_bound q r d) b i)) h
+      some_is_true (bound_at bs r) (λ d. suffice (call_bound_by (need_at ns r) d) b) (λ d. IsAtMost (call_bound q r d) b)
+      (λ d i. subst (λ n. suffice (call_bound_by n d) b ≡ true) (sym (needs.each r lt)) (at_most_is (call_bound q r d) b i)) h
 
   calls_true : (b : StackSizes) (ps : List ℕ) → All (λ r. r < length q.procs) ps → covers_calls ns bs b ps ≡ true → All (CoversCall q bs b) ps
   calls_true b [] lt e = All-nil (CoversCall q bs b)
@@ -76,15 +72,15 @@ module _ (q : Program) (ns : List Need) (needs : AreNeeds q ns) (fits : ProgramF
   calls_is : (b : StackSizes) (ps : List ℕ) → All (λ r. r < length q.procs) ps → All (CoversCall q bs b) ps → covers_calls ns bs b ps ≡ true
   calls_is b [] lt h = refl
   calls_is b (r ∷ ps) lt h =
-      and_true (covers_call ns bs b r) (covers_calls ns bs b ps)
+      and_from (covers_call ns bs b r) (covers_calls ns bs b ps)
       (call_is b r (All-head (λ x. x < length q.procs) r ps lt) (All-head (CoversCall q bs b) r ps h))
       (calls_is b ps (All-tail (λ x. x < length q.procs) r ps lt) (All-tail (CoversCall q bs b) r ps h))
 
   run_true : (p : ℕ) (b : StackSizes) → p < length q.procs → covers_run ns bs (need_at ns p) (calls_of q p) (Some b) ≡ true → CoversRun q bs p b
   run_true p b lt e =
-      let k = and_parts (is_at_most (stack_sizes (need_at ns p).ctrl (need_at ns p).temp) b) (covers_calls ns bs b (calls_of q p)) e in
+      let k = and_parts (suffice (stack_sizes (need_at ns p).ctrl (need_at ns p).temp) b) (covers_calls ns bs b (calls_of q p)) e in
       record {
-        own = at_most_true (own_need (proc_at q p)) b (subst (λ (n : Need). is_at_most (stack_sizes n.ctrl n.temp) b ≡ true) (needs.each p lt) k.0);
+        own = at_most_true (own_need (proc_at q p)) b (subst (λ (n : Need). suffice (stack_sizes n.ctrl n.temp) b ≡ true) (needs.each p lt) k.0);
         calls = calls_true b (calls_of q p) (calls_below q fits p) k.1;
       }
 
@@ -92,8 +88,8 @@ module _ (q : Program) (ns : List Need) (needs : AreNeeds q ns) (fits : ProgramF
       → covers_run ns bs (need_at ns p) (calls_of q p) o ≡ true
   run_is p None lt h = refl
   run_is p (Some b) lt h =
-      and_true (is_at_most (stack_sizes (need_at ns p).ctrl (need_at ns p).temp) b) (covers_calls ns bs b (calls_of q p))
-      (subst (λ (n : Need). is_at_most (stack_sizes n.ctrl n.temp) b ≡ true) (sym (needs.each p lt)) (at_most_is (own_need (proc_at q p)) b (h b refl).own))
+      and_from (suffice (stack_sizes (need_at ns p).ctrl (need_at ns p).temp) b) (covers_calls ns bs b (calls_of q p))
+      (subst (λ (n : Need). suffice (stack_sizes n.ctrl n.temp) b ≡ true) (sym (needs.each p lt)) (at_most_is (own_need (proc_at q p)) b (h b refl).own))
       (calls_is b (calls_of q p) (calls_below q fits p) (h b refl).calls)
 
   from_true : (calls : List (List ℕ)) (k i : ℕ) → covers_from ns bs k calls ≡ true → i < length calls
@@ -115,7 +111,7 @@ module _ (q : Program) (ns : List Need) (needs : AreNeeds q ns) (fits : ProgramF
   from_is [] k h = refl
   from_is (ps ∷ calls) k h =
       let first : k + 0 ≡ k = omega arith in
-      and_true (covers_run ns bs (need_at ns k) ps (bound_at bs k)) (covers_from ns bs (k + 1) calls)
+      and_from (covers_run ns bs (need_at ns k) ps (bound_at bs k)) (covers_from ns bs (k + 1) calls)
       (subst (λ j. covers_run ns bs (need_at ns j) ps (bound_at bs j) ≡ true) first (h 0 (omega arith)))
       (from_is calls (k + 1) (λ i lt. subst (λ j. covers_run ns bs (need_at ns j) (get_or calls i []) (bound_at bs j) ≡ true) (shift k i)
       (h (suc i) (omega (arith, lt)))))
@@ -131,7 +127,7 @@ module _ (q : Program) (ns : List Need) (needs : AreNeeds q ns) (fits : ProgramF
       let k = and_parts (length bs == length (body_calls q)) (covers_main (main_used q) sizes (bound_at bs q.main) && covers_from ns bs 0 (body_calls q)) e in
       let j = and_parts (covers_main (main_used q) sizes (bound_at bs q.main)) (covers_from ns bs 0 (body_calls q)) k.1 in
       let number : length bs ≡ length q.procs = eqb-true (length bs) (length (body_calls q)) k.0 ∙ many in
-      let main = some_true (bound_at bs q.main) (λ b. is_at_most (words_sum (main_used q) b) sizes) (λ b. IsAtMost (words_sum (main_used q) b) sizes)
+      let main = some_true (bound_at bs q.main) (λ b. suffice (words_sum (main_used q) b) sizes) (λ b. IsAtMost (words_sum (main_used q) b) sizes)
       (λ b i. at_most_true (words_sum (main_used q) b) sizes i) j.0 in
       record {
         certificate = record {
@@ -155,9 +151,9 @@ module _ (q : Program) (ns : List Need) (needs : AreNeeds q ns) (fits : ProgramF
 
   pub covers_is : (sizes : StackSizes) → Covers q bs sizes → covers ns bs (main_used q) sizes q.main (body_calls q) ≡ true
   covers_is sizes h =
-      and_true (length bs == length (body_calls q)) (covers_main (main_used q) sizes (bound_at bs q.main) && covers_from ns bs 0 (body_calls q))
+      and_from (length bs == length (body_calls q)) (covers_main (main_used q) sizes (bound_at bs q.main) && covers_from ns bs 0 (body_calls q))
       (eq-eqb (length bs) (length (body_calls q)) (h.certificate.number ∙ sym many))
-      (and_true (covers_main (main_used q) sizes (bound_at bs q.main)) (covers_from ns bs 0 (body_calls q))
+      (and_from (covers_main (main_used q) sizes (bound_at bs q.main)) (covers_from ns bs 0 (body_calls q))
       (main (bound_at bs q.main) refl h.certificate.main)
       (from_is (body_calls q) 0 (λ i lt.
       let zero_add : i ≡ 0 + i = omega arith in

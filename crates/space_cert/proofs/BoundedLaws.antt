@@ -1,8 +1,7 @@
 -- Bounds that aren't large.
 use Rattle.std.proofs.Common.{◌≡◌, ℕ, suc, ◌≤◌, ◌^◌, nat_le, [], ◌∷◌, true, Option, Some, None, refl}
-use Rattle.std.proofs.lemmas.Bool.{le-leb}
+use Rattle.std.proofs.lemmas.Bool.{le-leb, and_from}
 use Rattle.std.specs.Option.{option_map}
-use Rattle.stack_text.proofs.KeepsLaws.{and_true}
 use Rattle.gypsy_space.specs.Needs.{StackSizes}
 use Rattle.space_cert.specs.Bounded.{is_bound, are_bounds}
 use Rattle.space_cert.specs.Covers.{Bounds, as_words}
@@ -11,9 +10,9 @@ use Rattle.space_cert.specs.Order.{AreBounds}
 -- all of them
 pub all_bounds : (bs : Bounds) → AreBounds bs → are_bounds bs ≡ true
 all_bounds [] h = refl
-all_bounds (o ∷ bs) h = and_true (is_bound o) (are_bounds bs) (first o (λ b e. h 0 b e)) (all_bounds bs (λ p b e. h (suc p) b e))
+all_bounds (o ∷ bs) h = and_from (is_bound o) (are_bounds bs) (first o (λ b e. h 0 b e)) (all_bounds bs (λ p b e. h (suc p) b e))
   where
     first : (o : Option (ℕ × ℕ)) → ((b : StackSizes) → option_map as_words o ≡ Some b → (b.temp ≤ 2 ^ 40) × (b.ctrl ≤ 2 ^ 40)) → is_bound o ≡ true
     first None f = refl
     first (Some b) f =
-        and_true (nat_le b.0 (2 ^ 40)) (nat_le b.1 (2 ^ 40)) (le-leb b.0 (2 ^ 40) (f (as_words b) refl).0) (le-leb b.1 (2 ^ 40) (f (as_words b) refl).1)
+        and_from (nat_le b.0 (2 ^ 40)) (nat_le b.1 (2 ^ 40)) (le-leb b.0 (2 ^ 40) (f (as_words b) refl).0) (le-leb b.1 (2 ^ 40) (f (as_words b) refl).1)

@@ -1,10 +1,9 @@
 -- The least certificate of a source is read again.
 use Rattle.std.proofs.Common.{◌≡◌, ◌≤◌, ◌+◌, ◌*◌, ◌^◌, ℕ, zero, suc, max, Bool, true, false, if◌then◌else◌, Option, Some, None, Result, Ok, length, refl, sym}
 use Rattle.std.proofs.Common.{ap, ◌∙◌, subst, arith}
-use Rattle.std.proofs.lemmas.Bool.{le-leb}
+use Rattle.std.proofs.lemmas.Bool.{le-leb, and_from}
 use Rattle.std.proofs.lemmas.List.{length-map}
 use Rattle.std.specs.Result.{MatchResult}
-use Rattle.stack_text.proofs.KeepsLaws.{and_true}
 use Rattle.gypsy_syntax.specs.Predefined.{predef_temp, predef_ctrl}
 use Rattle.gypsy_syntax.specs.Programs.{Program, proc_at}
 use Rattle.gypsy_syntax.specs.ProgramFits.{ProgramFits}
@@ -18,7 +17,9 @@ use Rattle.space_cert.specs.Covers.{Bounds, IsAtMost, own_need, call_bound}
 use Rattle.space_cert.specs.Least.{IsLeast, IsFirstRecursive}
 use Rattle.space_cert.specs.Reaches.{calls_of}
 use Rattle.space_cert.proofs.CertifiedLaws.{greatest_least, certified_is}
-use Rattle.space_cert.proofs.CertifyLaws.{small_words, greatest_within, temp_small, ctrl_small}
+use Rattle.space_cert.proofs.CertifyLaws.{small_words}
+use Rattle.gypsy_space.proofs.SmallLaws.{greatest_within}
+use Rattle.gypsy_syntax.proofs.PredefLaws.{low_temp, low_ctrl}
 use Rattle.space_cert.proofs.NameLaws.{own_names, are_names, few_names}
 use Rattle.space_cert.proofs.ReadAgainLaws.{printed_short, printed_reads}
 
@@ -31,8 +32,8 @@ limit k = stack_sizes (k * 262144) (k * 262144)
 module _ (q : Program) (fits : ProgramFits q) where
   own_small : (p k : ℕ) → IsAtMost (own_need (proc_at q p)) (limit (suc k))
   own_small p k = record {
-    temp = omega (arith, greatest_within q 2 predef_temp 4 (omega arith) (temp_small q) (proc_at q p).body);
-    ctrl = omega (arith, greatest_within q 0 predef_ctrl 10 (omega arith) (ctrl_small q) (proc_at q p).body);
+    temp = omega (arith, greatest_within 2 predef_temp 4 (omega arith) low_temp (proc_at q p).body);
+    ctrl = omega (arith, greatest_within 0 predef_ctrl 10 (omega arith) low_ctrl (proc_at q p).body);
   }
 
   call_small : (p k : ℕ) (d : StackSizes) → IsAtMost d (limit k) → IsAtMost (call_bound q p d) (limit (suc k))
@@ -61,13 +62,13 @@ module _ (q : Program) (fits : ProgramFits q) where
     one_small p = by_reached (is_reached q p) (run_within q (length q.procs) p) (run_small (length q.procs) p)
       where
         by_reached : (b : Bool) (w : StackSizes) → IsAtMost w (limit (length q.procs)) → is_bound (if b then Some (w.temp, w.ctrl) else None) ≡ true
-        by_reached true w h = and_true _ _ (le-leb w.temp (2 ^ 40) (omega (arith, h.temp, few))) (le-leb w.ctrl (2 ^ 40) (omega (arith, h.ctrl, few)))
+        by_reached true w h = and_from _ _ (le-leb w.temp (2 ^ 40) (omega (arith, h.temp, few))) (le-leb w.ctrl (2 ^ 40) (omega (arith, h.ctrl, few)))
         by_reached false w h = refl
 
     all_small : (n p : ℕ) → are_bounds (bounds_from q n p) ≡ true
     unfolding bounds_from
     all_small zero p = refl
-    all_small (suc n) p = and_true (is_bound (least_bound q p)) (are_bounds (bounds_from q n (p + 1))) (one_small p) (all_small n (p + 1))
+    all_small (suc n) p = and_from (is_bound (least_bound q p)) (are_bounds (bounds_from q n (p + 1))) (one_small p) (all_small n (p + 1))
 
 -- 2. It is read again.
 

@@ -7,17 +7,18 @@ use Rattle.std.proofs.lemmas.List.Elements.{All-nil, All-cons, All-head, All-tai
 use Rattle.std.specs.List.{All, Contains}
 use Rattle.std.specs.Option.{unwrap_or}
 use Rattle.stack_text.specs.declared.shape.Shape.{Shape}
-use Rattle.stack_text.specs.Values.{ValueOf, item_count}
+use Rattle.stack_text.specs.Values.{ValueOf}
 use Rattle.gypsy_syntax.specs.declared.predef.Predef.{Predef}
 use Rattle.gypsy_syntax.specs.declared.predef.Predef.TheVariants as row
 use Rattle.gypsy_syntax.specs.Predefined.{predef_temp, predef_ctrl}
-use Rattle.gypsy_syntax.specs.Programs.{Proc, Program, no_proc, proc_at, body_of, shapes_of, conds_of, words_of}
+use Rattle.gypsy_syntax.specs.Programs.{Proc, Program, no_proc, proc_at, body_of, shapes_of, conds_of}
 use Rattle.gypsy_syntax.specs.Programs.{Stmt, Skip, NoOp, Signal, Seq, Loop, If, Begin, Call, Apply}
 use Rattle.gypsy_syntax.specs.ProgramFits.{StmtFits, ProcFits, ProgramFits}
-use Rattle.gypsy_space.specs.Needs.{StackSizes, stack_sizes, greatest, local_words, vars_of}
+use Rattle.gypsy_space.specs.Needs.{StackSizes, stack_sizes, local_words, vars_of}
 use Rattle.gypsy_space.specs.Events.{AreNeeds, need_at}
 use Rattle.gypsy_space.specs.declared.need.Need.{Need}
-use Rattle.gypsy_space.proofs.SmallLaws.{words_of-append}
+use Rattle.gypsy_space.proofs.SmallLaws.{words_of-append, length-words_of, greatest_within}
+use Rattle.gypsy_syntax.proofs.PredefLaws.{low_temp, low_ctrl}
 use Rattle.space_cert.specs.Covers.{Bounds, no_bounds, bound_at, IsAtMost, callees, own_need, call_bound}
 use Rattle.space_cert.specs.Reaches.{Reaches, Directly, Further, Leads, calls_of, IsReached}
 use Rattle.space_cert.specs.Least.{IsLeast, IsFirstRecursive}
@@ -99,40 +100,17 @@ module _ (q : Program) where
   not_both : true ≡ false → ⊥
   not_both e = cc
 
-  one_item : (s : Shape) → 1 ≤ item_count s
-  one_item s = pick (s.length == 0) refl
-    where
-      pick : (b : Bool) → (s.length == 0) ≡ b → 1 ≤ (if b then 1 else s.length)
-      pick true e = omega arith
-      pick false e = elim (cases_eq s.length 0) [ inl i ↦ absurd (not_both (sym (eq-eqb s.length 0 i) ∙ e)) | inr n ↦ omega (arith, n) ]
-
-  many_words : (shapes : List Shape) → length shapes ≤ words_of shapes
-  many_words [] = omega arith
-  many_words (s ∷ shapes) = omega (arith, one_item s, many_words shapes)
-
   pub small_words : (p : Proc) → ProcFits q p → local_words p + vars_of p ≤ 131072
   small_words p h =
       let shapes = map (λ (v : ValueOf). v.shape) p.locals in
-      omega (arith, h.words, words_of-append p.formals shapes, many_words p.formals, many_words shapes, length-map p.locals (λ (v : ValueOf). v.shape))
-
-  pub greatest_within : (each : ℕ) (f : Predef → ℕ) (n : ℕ) → each ≤ n → ((r : Predef) → f r ≤ n) → (s : Stmt) → greatest each f s ≤ n
-  greatest_within each f n k h Skip = omega arith
-  greatest_within each f n k h (NoOp place) = omega arith
-  greatest_within each f n k h (Signal place c) = omega arith
-  greatest_within each f n k h (Seq a b) = omega (arith, greatest_within each f n k h a, greatest_within each f n k h b)
-  greatest_within each f n k h (Loop place s) = greatest_within each f n k h s
-  greatest_within each f n k h (If place b s w) = omega (arith, greatest_within each f n k h s, greatest_within each f n k h w)
-  greatest_within each f n k h (Begin place s cs w) = omega (arith, greatest_within each f n k h s, greatest_within each f n k h w)
-  greatest_within each f n k h (Call place p xs cs) = k
-  greatest_within each f n k h (Apply place r args) = h r
-
-  pub temp_small : (r : Predef) → predef_temp r ≤ 4
-  temp_small row.MgSimpleVariableAssignment = omega arith
-  temp_small _ = omega arith
-
-  pub ctrl_small : (r : Predef) → predef_ctrl r ≤ 10
-  ctrl_small row.MgSimpleVariableAssignment = omega arith
-  ctrl_small _ = omega arith
+      omega (
+        arith,
+        h.words,
+        words_of-append p.formals shapes,
+        length-words_of p.formals,
+        length-words_of shapes,
+        length-map p.locals (λ (v : ValueOf). v.shape),
+      )
 
   -- twice so many words a procedure
   abbrev limit : ℕ → StackSizes
@@ -186,8 +164,8 @@ module _ (q : Program) where
 
       own_small : (p : Proc) (k : ℕ) → IsAtMost (own_need p) (limit (k + 1))
       own_small p k = record {
-        temp = omega (arith, greatest_within 2 predef_temp 4 (omega arith) temp_small p.body);
-        ctrl = omega (arith, greatest_within 0 predef_ctrl 10 (omega arith) ctrl_small p.body);
+        temp = omega (arith, greatest_within 2 predef_temp 4 (omega arith) low_temp p.body);
+        ctrl = omega (arith, greatest_within 0 predef_ctrl 10 (omega arith) low_ctrl p.body);
       }
 
       grows : IsAtMost b (limit (length before)) → IsAtMost b (limit (suc (length before)))

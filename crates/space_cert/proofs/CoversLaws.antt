@@ -1,8 +1,7 @@
 -- A covered call has room, and leaves its callee covered.
-use Rattle.std.proofs.Common.{◌≡◌, not, if◌then◌else◌, ℕ, ◌+◌, ◌≤◌, max, length, true, Option, Some, None, subst, arith}
-use Rattle.std.proofs.lemmas.Bool.{le-leb}
-use Rattle.std.specs.Option.{IsSomeAnd, unwrap_or}
-use Rattle.stack_text.proofs.KeepsLaws.{and_true}
+use Rattle.std.proofs.Common.{◌≡◌, not, if◌then◌else◌, ℕ, ◌+◌, ◌≤◌, max, length, true, Option, Some, None, refl, subst, arith}
+use Rattle.std.proofs.lemmas.Bool.{le-leb, and_from}
+use Rattle.std.specs.Option.{IsSome, IsSomeAnd, unwrap_or}
 use Rattle.gypsy_syntax.specs.Programs.{Program, proc_at}
 use Rattle.gypsy_space.specs.Needs.{StackSizes, stack_sizes, main_used, temp_need, ctrl_need, local_words, vars_of, frame_of, with_call, call_need}
 use Rattle.gypsy_space.specs.Needs.{has_temp_room, has_ctrl_room, has_room, lack_of}
@@ -13,6 +12,10 @@ use Rattle.space_cert.specs.Covers.{Bounds, bound_at, words_sum, IsAtMost, own_n
 pub main_within : (q : Program) (bs : Bounds) (sizes : StackSizes) → Covers q bs sizes → (b : StackSizes) → bound_at bs q.main ≡ Some b
     → IsAtMost (words_sum (main_used q) b) sizes
 main_within q bs sizes covers b e = subst (λ o. IsAtMost (words_sum (main_used q) (unwrap_or o (stack_sizes 0 0))) sizes) e covers.within
+
+pub some_there : (o : Option StackSizes) (P : StackSizes → Type 0) → IsSomeAnd o P → IsSome o
+some_there None P h = absurd h
+some_there (Some w) P h = refl
 
 -- the bound that the callee has
 pub record HasBound (q : Program) (bs : Bounds) (b : StackSizes) (p : ℕ) : Type 0 where
@@ -46,7 +49,7 @@ module _ (q : Program) (sizes : StackSizes) (p : ℕ) (u b d : StackSizes) (own 
 
   pub room : has_room q sizes p u ≡ true
   unfolding has_room
-  room = and_true (has_temp_room q sizes p u) (has_ctrl_room q sizes p u) temp_room ctrl_room
+  room = and_from (has_temp_room q sizes p u) (has_ctrl_room q sizes p u) temp_room ctrl_room
 
   pub lacks_nothing : lack_of q sizes p u ≡ Nothing
   unfolding lack_of

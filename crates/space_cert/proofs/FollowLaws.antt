@@ -8,7 +8,7 @@ use Rattle.space_cert.specs.Internal.SearchView.{AreCalls, HasFinished, HasAdvan
 use Rattle.space_cert.specs.declared.search.Mark.{Mark}
 use Rattle.space_cert.specs.declared.search.Mark.TheVariants.{New, Entered}
 use Rattle.space_cert.specs.declared.search.Group.{Group}
-use Rattle.space_cert.proofs.MarkLaws.{marked_below}
+use Rattle.space_cert.proofs.MarkLaws.{marked_below, new_apart}
 use Rattle.space_cert.proofs.SearchingLaws.{called, joins_keeps, some_below, ends_found, ends_keeps, ends_less}
 
 -- a mark, as it is read
@@ -37,9 +37,6 @@ follow_joins cs main s w h le at m lt t u is f = pick s.below refl
 pub entered_below : (marks : List Mark) (entered done : List ℕ) → AreMarked marks entered done → All (λ p. p < length marks) entered
 entered_below marks entered done h =
     All-from_get_or (λ p. p < length marks) entered 0 (λ i lt. marked_below marks (get_or entered i 0) (λ e. new_apart (sym e ∙ h.places i lt)))
-  where
-    new_apart : {at : ℕ} → New ≡ Entered at → ⊥
-    new_apart e = cc
 
 pub finish_advances : (cs : List (List ℕ)) (main : ℕ) (s t : SearchOf) → IsSearch cs main s → length s.todo ≤ s.top.from → (more : Bool)
     → HasFinished s t more → HasAdvanced cs main s t more

@@ -15,12 +15,7 @@ use Rattle.space_cert.specs.Covers.{IsAtMost}
 use Rattle.space_cert.specs.Larger.{EndsWith, LargerStacksChangeNothing, CoveredRunsAreTheSame}
 use Rattle.space_cert.specs.Never.{Visits, First, Later, HasCallRoom}
 use Rattle.space_cert.proofs.NeverLaws.{never}
-
--- where nothing lacks, both stacks have room
-rooms : (a b : Bool) → (if not a then Temporary else if not b then Control else Nothing) ≡ Nothing → (a ≡ true) × (b ≡ true)
-rooms true true e = (refl, refl)
-rooms true false e = cc
-rooms false b e = cc
+use Rattle.gypsy_semantics.proofs.Rooms.{rooms}
 
 module _ (q : Program) (s t : StackSizes) (most : IsAtMost s t) where
   -- a call that has room has it on larger stacks

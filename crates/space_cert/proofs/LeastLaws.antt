@@ -12,7 +12,7 @@ use Rattle.space_cert.specs.Covers.{sizes_for, Covers}
 use Rattle.space_cert.specs.Reaches.{Reaches, Directly, Further, calls_of, IsReached, IsRecursive}
 use Rattle.space_cert.specs.Least.{IsLeast}
 use Rattle.space_cert.specs.Order.{IsOrder, greater, call_words, greatest_call, run_bound, with_bound, bounds_of_order}
-use Rattle.space_cert.proofs.CoversLaws.{main_within}
+use Rattle.space_cert.proofs.CoversLaws.{main_within, some_there}
 use Rattle.space_cert.proofs.ContainsLaws.{contains_none, contains_first, contains_later, contains_cases}
 
 -- Words.
@@ -226,14 +226,10 @@ module _ (q : Program) where
   callee_known : (bs : Bounds) → IsCertificate q bs → (p r : ℕ) → IsSome (bound_at bs p) → Contains (calls_of q p) r → IsSome (bound_at bs r)
   callee_known bs cert p r k h = pick (bound_at bs p) refl k
     where
-      some : (o : Option StackSizes) (P : StackSizes → Type 0) → IsSomeAnd o P → IsSome o
-      some None P h = absurd h
-      some (Some x) P h = refl
-
       pick : (o : Option StackSizes) → bound_at bs p ≡ o → IsSome o → IsSome (bound_at bs r)
       pick None e k = cc
       pick (Some b) e k =
-          some (bound_at bs r) (λ d. IsAtMost (call_bound q r d) b) (All-contains (CoversCall q bs b) (calls_of q p) r (cert.each p b e).calls h)
+          some_there (bound_at bs r) (λ d. IsAtMost (call_bound q r d) b) (All-contains (CoversCall q bs b) (calls_of q p) r (cert.each p b e).calls h)
 
   along : (bs : Bounds) → IsCertificate q bs → (p r : ℕ) → IsSome (bound_at bs p) → Reaches (calls_of q) p r → IsSome (bound_at bs r)
   along bs cert p r k (Directly h) = callee_known bs cert p r k h

@@ -24,10 +24,10 @@ weight_set (x ∷ marks) [] p m lt le = absurd (omega (arith, le))
 weight_set (x ∷ marks) (c ∷ cs) zero m lt le = omega arith
 weight_set (x ∷ marks) (c ∷ cs) (suc p) m lt le = omega (arith, weight_set marks cs p m (omega (arith, lt)) (omega (arith, le)))
 
-new_apart : {at : ℕ} → New ≡ Entered at → ⊥
+pub new_apart : {at : ℕ} → New ≡ Entered at → ⊥
 new_apart e = cc
 
-new_not_done : New ≡ Done → ⊥
+pub new_not_done : New ≡ Done → ⊥
 new_not_done e = cc
 
 entered_not_done : {at : ℕ} → Entered at ≡ Done → ⊥

@@ -25,13 +25,14 @@ use Rattle.stack_text.proofs.SharedLaws.{name_few}
 use Rattle.gypsy_syntax.specs.Resolved.{place_among}
 use Rattle.space_cert.specs.Bounded.{is_bound, are_bounds}
 use Rattle.space_cert.specs.Covers.{Bounds, no_bounds}
-use Rattle.space_cert.specs.CertText.{Fault, or_fault, name_at, three_of, place_for, up_to_limit, number_of, number_at, parts_entry, entry_at, with_entries}
-use Rattle.space_cert.specs.CertText.{bounds_at, bounds_on, bounds_in, entry_tree, entry_trees, certificate_tree, certificate_text}
+use Rattle.stack_text.specs.TreeNames.{name_of_tree}
+use Rattle.space_cert.specs.CertText.{Fault, or_fault, three_of, place_for, up_to_limit, number_of, number_at, parts_entry, entry_at, with_entries, bounds_at}
+use Rattle.space_cert.specs.CertText.{bounds_on, bounds_in, entry_tree, entry_trees, certificate_tree, certificate_text}
 use Rattle.space_cert.proofs.NameLaws.{place_own}
 
 -- What is read goes by no place.
 
-name_same : (t : Node) → name_at t ≡ name_at (without_places t)
+name_same : (t : Node) → name_of_tree t ≡ name_of_tree (without_places t)
 name_same (atom p w) = refl
 name_same (list p ts) = refl
 
@@ -70,7 +71,8 @@ module _ (names : List (List ℕ)) where
   three_lifts bs place (more a none) e h = cc
   three_lifts bs place (more a (more b none)) e h = cc
   three_lifts bs place (more a (more b (more c none))) e h =
-      named_lifts bs place (name_at a) (number_at b) (number_at c) e ((λ i. named_entry names bs 0 (name_same a i) (number_same b i) (number_same c i)) ∙ h)
+      named_lifts bs place (name_of_tree a) (number_at b) (number_at c) e
+      ((λ i. named_entry names bs 0 (name_same a i) (number_same b i) (number_same c i)) ∙ h)
   three_lifts bs place (more a (more b (more c (more d ts)))) e h = cc
 
   entry_lifts : (bs : Bounds) (t : Node) (e : ℕ × (ℕ × ℕ)) → entry_at names bs (without_places t) ≡ Ok e → entry_at names bs t ≡ Ok e

@@ -7,21 +7,18 @@ use Rattle.std.proofs.lemmas.List.Elements.{All-nil, All-cons, Contains-append_l
 use Rattle.space_cert.specs.Reaches.{Reaches, Directly, Further, Leads}
 use Rattle.space_cert.specs.Internal.Search.{GroupOf, all_members, IsGroup, AreGroups, AreDone, earlier, earliest, first_with}
 use Rattle.space_cert.proofs.ContainsLaws.{contains_none, contains_first, contains_later, contains_cases}
+use Rattle.space_cert.proofs.ReachLaws.{reached_by}
 
 module _ (calls : ℕ → List ℕ) where
   -- Ways.
 
-  pub reach_on : (a b c : ℕ) → Reaches calls a b → Reaches calls b c → Reaches calls a c
-  reach_on a b c h (Directly g) = Further h g
-  reach_on a b c h (Further {r = r} g k) = Further (reach_on a b r h g) k
-
   pub lead_reach : (a b c : ℕ) → Leads calls a b → Reaches calls b c → Reaches calls a c
   lead_reach a b c (inl e) h = subst (λ x. Reaches calls x c) (sym e) h
-  lead_reach a b c (inr g) h = reach_on a b c g h
+  lead_reach a b c (inr g) h = reached_by calls a b c g h
 
   pub reach_lead : (a b c : ℕ) → Reaches calls a b → Leads calls b c → Reaches calls a c
   reach_lead a b c h (inl e) = subst (Reaches calls a) e h
-  reach_lead a b c h (inr g) = reach_on a b c h g
+  reach_lead a b c h (inr g) = reached_by calls a b c h g
 
   pub lead_on : (a b c : ℕ) → Leads calls a b → Leads calls b c → Leads calls a c
   lead_on a b c (inl e) h = subst (λ x. Leads calls x c) (sym e) h

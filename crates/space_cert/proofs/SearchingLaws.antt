@@ -13,8 +13,8 @@ use Rattle.space_cert.specs.declared.search.Mark.TheVariants.{New, Entered, Done
 use Rattle.space_cert.specs.declared.search.Group.{Group}
 use Rattle.space_cert.proofs.ContainsLaws.{contains_none, contains_first, contains_cases}
 use Rattle.space_cert.proofs.SearchLaws.{visited, passed, circled, joined, finished, left_groups, lead_on, call_leads}
-use Rattle.space_cert.proofs.MarkLaws.{count_set, weight_set, marked_below, new_is, not_both, enters, leaves, done_marks-length, done_counts, done_weighs}
-use Rattle.space_cert.proofs.MarkLaws.{take_there, drop_there}
+use Rattle.space_cert.proofs.MarkLaws.{new_apart, new_not_done, count_set, weight_set, marked_below, new_is, not_both, enters, leaves, done_marks-length}
+use Rattle.space_cert.proofs.MarkLaws.{done_counts, done_weighs, take_there, drop_there}
 
 -- Lists that end with w.
 
@@ -359,12 +359,6 @@ module _ (cs : List (List ℕ)) (main : ℕ) where
       none_is_some : (r : ℕ) → None ≡ Some r → ⊥
       none_is_some r e = cc
 
-      new_entered : {at : ℕ} → New ≡ Entered at → ⊥
-      new_entered e = cc
-
-      new_done : New ≡ Done → ⊥
-      new_done e = cc
-
       all_new : (n : ℕ) → new_count (replicate n New) ≡ n
       all_new zero = refl
       all_new (suc n) = omega (arith, all_new n)
@@ -378,8 +372,8 @@ module _ (cs : List (List ℕ)) (main : ℕ) where
       nothing = record {
         places = λ i l. absurd (omega (arith, l));
         finished = λ p k. absurd (contains_none k);
-        entered_is = λ p at e. absurd (new_entered (sym (new_at (length cs) p) ∙ e));
-        finished_is = λ p e. absurd (new_done (sym (new_at (length cs) p) ∙ e));
+        entered_is = λ p at e. absurd (new_apart (sym (new_at (length cs) p) ∙ e));
+        finished_is = λ p e. absurd (new_not_done (sym (new_at (length cs) p) ∙ e));
       }
 
       alone : IsGroup (call_of cs) [] [] (record { members = main ∷ []; todo = call_of cs main; again = false })

@@ -1,14 +1,13 @@
 -- Trees of certificates.
 use Rattle.std.proofs.Common.{◌≡◌, ◌≢◌, ℕ, zero, suc, ◌+◌, ◌<◌, ◌≤◌, ◌^◌, nat_le, List, [], ◌∷◌, length, get_or, set, drop, replicate, true, Option, Some, None}
 use Rattle.std.proofs.Common.{Result, Ok, refl, ap, sym, ◌∙◌, arith}
-use Rattle.std.proofs.lemmas.Bool.{and_parts, le-leb}
+use Rattle.std.proofs.lemmas.Bool.{and_parts, le-leb, and_from}
 use Rattle.std.proofs.lemmas.List.{drop_all}
 use Rattle.stack_text.specs.Gives.{Fails}
 use Rattle.stack_text.specs.Results.{◌>>=◌}
 use Rattle.stack_text.specs.Trees.{more}
 use Rattle.stack_text.specs.declared.tree.TextTree.{TextTree}
 use Rattle.stack_text.specs.Views.TreeView.{node_of, nodes_of}
-use Rattle.stack_text.proofs.KeepsLaws.{and_true}
 use Rattle.space_cert.specs.CertText.{Fault, three_of, entry_at, with_entries}
 use Rattle.space_cert.specs.Covers.{Bounds}
 use Rattle.space_cert.specs.Bounded.{is_bound, are_bounds}
@@ -58,8 +57,8 @@ none_within (suc n) = none_within n
 pub set_within : (bs : Bounds) (p : ℕ) (b : ℕ × ℕ) → are_bounds bs ≡ true → b.0 ≤ 2 ^ 40 → b.1 ≤ 2 ^ 40 → are_bounds (set bs p (Some b)) ≡ true
 set_within [] p b h t c = refl
 set_within (o ∷ bs) zero b h t c =
-    and_true (is_bound (Some b)) (are_bounds bs) (and_true (nat_le b.0 (2 ^ 40)) (nat_le b.1 (2 ^ 40)) (le-leb b.0 (2 ^ 40) t) (le-leb b.1 (2 ^ 40) c))
+    and_from (is_bound (Some b)) (are_bounds bs) (and_from (nat_le b.0 (2 ^ 40)) (nat_le b.1 (2 ^ 40)) (le-leb b.0 (2 ^ 40) t) (le-leb b.1 (2 ^ 40) c))
     (and_parts (is_bound o) (are_bounds bs) h).1
 set_within (o ∷ bs) (suc p) b h t c =
-    and_true (is_bound o) (are_bounds (set bs p (Some b))) (and_parts (is_bound o) (are_bounds bs) h).0
+    and_from (is_bound o) (are_bounds (set bs p (Some b))) (and_parts (is_bound o) (are_bounds bs) h).0
     (set_within bs p b (and_parts (is_bound o) (are_bounds bs) h).1 t c)

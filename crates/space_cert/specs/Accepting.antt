@@ -10,9 +10,7 @@ use Rattle.gypsy_space.specs.Events.{need_at, need_of}
 use Rattle.gypsy_space.specs.declared.need.Need.{Need}
 use Rattle.space_cert.specs.Covers.{Bounds, bound_at, words_sum, callees}
 use Rattle.space_cert.specs.Order.{call_bound_by}
-
-abbrev pub is_at_most : StackSizes → StackSizes → Bool
-is_at_most u v = nat_le u.temp v.temp && nat_le u.ctrl v.ctrl
+use Rattle.gypsy_semantics.specs.Views.Fitting.{suffice}
 
 -- there is one, and it passes
 abbrev pub is_some_and : Option StackSizes → (StackSizes → Bool) → Bool
@@ -20,7 +18,7 @@ is_some_and None f = false
 is_some_and (Some w) f = f w
 
 abbrev pub covers_call : List Need → Bounds → StackSizes → ℕ → Bool
-covers_call ns bs b p = is_some_and (bound_at bs p) (λ d. is_at_most (call_bound_by (need_at ns p) d) b)
+covers_call ns bs b p = is_some_and (bound_at bs p) (λ d. suffice (call_bound_by (need_at ns p) d) b)
 
 abbrev pub covers_calls : List Need → Bounds → StackSizes → List ℕ → Bool
 covers_calls ns bs b ps = list_all (covers_call ns bs b) ps
@@ -28,7 +26,7 @@ covers_calls ns bs b ps = list_all (covers_call ns bs b) ps
 -- of a procedure with these needs and these callees
 abbrev pub covers_run : List Need → Bounds → Need → List ℕ → Option StackSizes → Bool
 covers_run ns bs n ps None = true
-covers_run ns bs n ps (Some b) = is_at_most (stack_sizes n.ctrl n.temp) b && covers_calls ns bs b ps
+covers_run ns bs n ps (Some b) = suffice (stack_sizes n.ctrl n.temp) b && covers_calls ns bs b ps
 
 -- the procedures from p on
 abbrev pub covers_from : List Need → Bounds → ℕ → List (List ℕ) → Bool
@@ -36,7 +34,7 @@ covers_from ns bs p [] = true
 covers_from ns bs p (ps ∷ calls) = covers_run ns bs (need_at ns p) ps (bound_at bs p) && covers_from ns bs (p + 1) calls
 
 abbrev pub covers_main : StackSizes → StackSizes → Option StackSizes → Bool
-covers_main used sizes bound = is_some_and bound (λ b. is_at_most (words_sum used b) sizes)
+covers_main used sizes bound = is_some_and bound (λ b. suffice (words_sum used b) sizes)
 
 abbrev pub covers : List Need → Bounds → StackSizes → StackSizes → ℕ → List (List ℕ) → Bool
 covers ns bs used sizes main calls =

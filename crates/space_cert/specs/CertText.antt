@@ -7,7 +7,6 @@ use Rattle.std.specs.Fmt.{decimal}
 use Rattle.space_cert.specs.Bounded.{most_bound}
 use Rattle.stack_text.specs.declared.text_fault.TextRule.{TextRule}
 use Rattle.stack_text.specs.Results.{◌>>=◌}
-use Rattle.stack_text.specs.Names.{name_of}
 use Rattle.stack_text.specs.Numerals.{is_digits, numeral_value}
 use Rattle.stack_text.specs.Trees.{Node, Nodes, atom, list, none, more}
 use Rattle.stack_text.specs.TreeIn.{tree_in}
@@ -18,6 +17,7 @@ use Rattle.gypsy_syntax.specs.Resolved.{place_among}
 use Rattle.space_cert.specs.declared.reading.CertTextFault.{CertTextFault}
 use Rattle.space_cert.specs.declared.reading.CertTextFault.TheVariants.{Refused, Memory}
 use Rattle.space_cert.specs.Covers.{Bounds, no_bounds}
+use Rattle.stack_text.specs.TreeNames.{name_of_tree}
 
 -- the number of a rule, and a place
 abbrev pub Fault : Type 0
@@ -32,10 +32,6 @@ or_fault fault (Some x) = Ok x
 abbrev pub three_of : Nodes → Option (Node × Node × Node)
 three_of (more first (more second (more third none))) = Some (first, second, third)
 three_of trees = None
-
-abbrev pub name_at : Node → Option (List ℕ)
-name_at (atom place word) = name_of word
-name_at (list place trees) = None
 
 -- Z2. A procedure has the name, and no bounds yet.
 
@@ -64,7 +60,7 @@ number_at (list place trees) = None
 
 unfoldable pub parts_entry : List (List ℕ) → Bounds → ℕ → Node × Node × Node → Result (ℕ × (ℕ × ℕ)) Fault
 parts_entry names bs place parts = do
-  name ← or_fault (1, place) (name_at parts.0)
+  name ← or_fault (1, place) (name_of_tree parts.0)
   p ← or_fault (2, place) (place_for bs (place_among name names))
   temp ← or_fault (3, place) (number_at parts.1)
   ctrl ← or_fault (3, place) (number_at parts.2)

@@ -14,7 +14,8 @@ ghost use Rattle.gypsy_check.specs.Accepted.{IsAccepted};
 ghost use Rattle.space_cert.specs.Covers.{Covers, as_words, bound_at, sizes_for};
 ghost use Rattle.space_cert.specs.Never.{NeverSpaceError};
 ghost use Rattle.space_cert.specs.Accepting.{covers, covers_call, covers_calls, covers_from, covers_main, covers_run};
-ghost use Rattle.space_cert.specs.Accepting.{is_at_most, is_covered, parts_callees, source_callees, source_calls};
+ghost use Rattle.gypsy_semantics.specs.Views.Fitting.{suffice};
+ghost use Rattle.space_cert.specs.Accepting.{is_covered, parts_callees, source_callees, source_calls};
 
 use crate::certificate::Certificate;
 use crate::certifying::{bound_of, call_bound};
@@ -25,7 +26,7 @@ use stack_text::Name;
 
 /// Whether these words of both stacks are at most those.
 fn is_at_most(words: (u64, u64), most: (u64, u64)) -> bool
-    ensures { result ≡ is_at_most (as_words words) (as_words most) }
+    ensures { result ≡ suffice (as_words words) (as_words most) }
 {
     words.0 <= most.0 && words.1 <= most.1
 }

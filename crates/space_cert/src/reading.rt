@@ -10,7 +10,8 @@ ghost use Rattle.gypsy_syntax.specs.Views.SourceView.{source_of};
 ghost use Rattle.gypsy_space.specs.Callees.{names_of};
 ghost use Rattle.space_cert.specs.Bounded.{are_bounds};
 ghost use Rattle.space_cert.specs.Covers.{no_bounds};
-ghost use Rattle.space_cert.specs.CertText.{GivesCertificateText, bounds_at, bounds_in, entry_at, fault_of, free_place, name_at};
+ghost use Rattle.stack_text.specs.TreeNames.{name_of_tree};
+ghost use Rattle.space_cert.specs.CertText.{GivesCertificateText, bounds_at, bounds_in, entry_at, fault_of, free_place};
 ghost use Rattle.space_cert.specs.CertText.{number_at, number_of, parts_entry, three_of, with_entries};
 ghost use Rattle.space_cert.specs.Internal.Names.{names_in};
 
@@ -104,7 +105,7 @@ fn number_at(tree: &TextTree) -> Option<u64>
 
 /// The name that a tree is, if it is one.
 fn name_at(alloc: Global, tree: &TextTree) -> Result<Option<Name>, Memory>
-    ensures { memory.Returns (λ name. name) result (name_at (node_of tree.now)) }
+    ensures { memory.Returns (λ name. name) result (name_of_tree (node_of tree.now)) }
 {
     match tree {
         TextTree::Atom { place: _, text } => read_name(alloc, text),

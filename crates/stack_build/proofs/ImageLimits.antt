@@ -199,7 +199,7 @@ shorts : (ds : List Decl) → Each (λ (s : Shape). s.length ≤ 4096) (shapes_i
 shorts [] h = tt
 shorts (d ∷ ds) h = (h.0, shorts ds h.1)
 
-words_front : (a b : List Shape) → words_of a ≤ words_of (a ++ b)
+pub words_front : (a b : List Shape) → words_of a ≤ words_of (a ++ b)
 words_front [] b = omega arith
 words_front (s ∷ a) b = omega (arith, words_front a b)
 

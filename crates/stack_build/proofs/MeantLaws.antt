@@ -31,7 +31,7 @@ use Rattle.stack_build.specs.Meant.{IsMeant, EndsAsMeant, NeverOutside, EndlessA
 use Rattle.stack_build.proofs.MomentLaws.{run_up_to}
 
 -- a run comes to an address first after one count alone, and in one state
-first_once : (m : Fm) (pc k j : ℕ) (s t : Fm) → IsFirst m pc k s → IsFirst m pc j t → (k ≡ j) × (s ≡ t)
+pub first_once : (m : Fm) (pc k j : ℕ) (s t : Fm) → IsFirst m pc k s → IsFirst m pc j t → (k ≡ j) × (s ≡ t)
 first_once m pc k j s t f g =
     ⊎_elim (λ lt. absurd (g.before k s lt f.reached f.there))
     (λ le. ⊎_elim (λ lt. absurd (f.before j t lt g.reached g.there))

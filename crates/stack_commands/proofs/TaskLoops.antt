@@ -5,7 +5,7 @@ use Rattle.std.specs.Prelude.{slice_get, slice_index_or}
 use Rattle.std.specs.List.{list_all}
 use Rattle.std.proofs.lemmas.Grind.{replicate_next}
 use Rattle.std.proofs.lemmas.List.{drop_more}
-use Rattle.std.proofs.lemmas.Option.{slice_get-get_or}
+use Rattle.std.proofs.lemmas.Option.{slice_get-get_or, same_Some}
 use Rattle.stack_text.specs.Results.{◌>>=◌}
 use Rattle.stack_text.specs.Values.{ValueOf}
 use Rattle.stack_text.proofs.ResultLoops.{with_front, with_front-with_front}
@@ -105,19 +105,13 @@ pub test_more : {X : Type 0} (p : X → Bool) (xs : List X) (i : ℕ) (x : X) �
 test_more {X} p xs i x there lt passes so_far =
     let t = task_there xs i lt in
     let both : Some t.0 ≡ Some x = sym t.1 ∙ there in
-    let same : t.0 ≡ x = same_item t.0 x both in
+    let same : t.0 ≡ x = same_Some t.0 x both in
     sym (ap (λ (b : Bool). b && list_all p (drop (i + 1) xs)) (ap p same ∙ passes)) ∙ ap (list_all p) (sym t.2) ∙ so_far
-  where
-    same_item : (a b : X) → let o : Option X = Some a in o ≡ Some b → a ≡ b
-    same_item a b h = cc
 
 pub test_fails : {X : Type 0} (p : X → Bool) (xs : List X) (i : ℕ) (x : X) → slice_get xs i ≡ Some x → i < length xs → p x ≡ false
     → list_all p (drop i xs) ≡ list_all p xs → list_all p xs ≡ false
 test_fails {X} p xs i x there lt fails so_far =
     let t = task_there xs i lt in
     let both : Some t.0 ≡ Some x = sym t.1 ∙ there in
-    let same : t.0 ≡ x = same_item t.0 x both in
+    let same : t.0 ≡ x = same_Some t.0 x both in
     sym so_far ∙ ap (list_all p) t.2 ∙ ap (λ (b : Bool). b && list_all p (drop (i + 1) xs)) (ap p same ∙ fails)
-  where
-    same_item : (a b : X) → let o : Option X = Some a in o ≡ Some b → a ≡ b
-    same_item a b h = cc

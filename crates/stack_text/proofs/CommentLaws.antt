@@ -5,7 +5,7 @@ use Rattle.std.proofs.lemmas.List.{take_all, length-drop, get_or-drop}
 use Rattle.stack_text.specs.declared.class.Class.TheVariants.{LineEnd, Space, Semicolon, Opening, Closing, AtomByte, Invalid}
 use Rattle.stack_text.specs.Tokens.{class_of, tokens, between, in_comment}
 use Rattle.stack_text.proofs.TokenLaws.{comment_goes_on, comment_ends, tokens_past}
-use Rattle.stack_text.proofs.SharedLaws.{never_true}
+use Rattle.std.proofs.lemmas.Bool.{false_from_ne_true}
 
 others : (a b c d e : Bool) → cond a Space (cond b Semicolon (cond c Opening (cond d Closing (cond e AtomByte Invalid)))) ≢ LineEnd
 others true b c d e h = cc
@@ -53,7 +53,7 @@ found_in text from n lt h e =
     let at : (k : ℕ) → get_or (take (length text - from) (drop from text)) k 0 ≡ get_or text (from + k) 0 =
     λ k. ap (λ (xs : List ℕ). get_or xs k 0) (rest_is text from) ∙ get_or-drop from text k 0 in
     found text from n (omega (arith, lt, ap length (rest_is text from), length-drop from text))
-    (λ k l. never_true _ (λ t. h k l (ap (λ (b : ℕ). eqb b 10) (at k) ∙ t)))
+    (λ k l. false_from_ne_true _ (λ t. h k l (ap (λ (b : ℕ). eqb b 10) (at k) ∙ t)))
     (ap (λ (b : ℕ). eqb b 10) (sym (at n)) ∙ e)
 
 pub nowhere_in : (text : List ℕ) (from : ℕ) → from ≤ length text
@@ -64,4 +64,5 @@ nowhere_in text from le h =
     let at : (k : ℕ) → get_or (take (length text - from) (drop from text)) k 0 ≡ get_or text (from + k) 0 =
     λ k. ap (λ (xs : List ℕ). get_or xs k 0) (rest_is text from) ∙ get_or-drop from text k 0 in
     nowhere text from (length text - from) (omega arith)
-    (λ k l. never_true _ (λ t. h k (omega arith) (omega (arith, ap length (rest_is text from), length-drop from text)) (ap (λ (b : ℕ). eqb b 10) (at k) ∙ t)))
+    (λ k l. false_from_ne_true _ (λ t. h k (omega arith) (omega (arith, ap length (rest_is text from), length-drop from text))
+    (ap (λ (b : ℕ). eqb b 10) (at k) ∙ t)))

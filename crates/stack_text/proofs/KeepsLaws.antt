@@ -263,10 +263,6 @@ pub found_tests : {X : Type 0} (test : X → Bool) (xs : List X) (x : X) → fin
 found_tests test [] x h = absurd cc
 found_tests test (y ∷ ys) x h = found_tests_first test y x (test y) (find test ys) refl (found_tests test ys x) h
 
-pub and_true : (a b : Bool) → a ≡ true → b ≡ true → (a && b) ≡ true
-and_true true b h k = k
-and_true false b h k = h
-
 pub holds_more : {X : Type 0} (P Q : X → Type 0) (r : Judged X) → ((x : X) → P x → Q x) → Holds P r → Holds Q r
 holds_more P Q (Ok x) f h = record { of_value = f x h.of_value }
 holds_more P Q (Err fs) f h = record { of_value = tt }

@@ -18,21 +18,9 @@ pub and_false : (b : Bool) → (b && false) ≡ false
 and_false true = refl
 and_false false = refl
 
-pub and_left : (a b : Bool) → a && b ≡ true → a ≡ true
-and_left true b h = refl
-and_left false b h = cc
-
-pub and_right : (a b : Bool) → a && b ≡ true → b ≡ true
-and_right true b h = h
-and_right false b h = cc
-
-pub not_true : (b : Bool) → not b ≡ true → b ≡ false
-not_true true e = cc
-not_true false e = refl
-
-pub never_true : (t : Bool) → (t ≡ true → ⊥) → t ≡ false
-never_true true h = absurd (h refl)
-never_true false h = refl
+pub or_false : (b : Bool) → (b || false) ≡ b
+or_false true = refl
+or_false false = refl
 
 pub rule_holds : (b : Bool) (place rule : ℕ) → when (not b) place rule ≡ [] → b ≡ true
 rule_holds true place rule e = refl
@@ -46,20 +34,12 @@ pub some_of : {X : Type 0} (o : Option X) → is_none o ≡ false → (x : X) ×
 some_of None e = cc
 some_of (Some x) e = (x, refl)
 
-pub some_is : {X : Type 0} (x y : X) → Some x ≡ Some y → x ≡ y
-some_is x y h = cc
-
 pub append_none : {X : Type 0} (a b : List X) → a ++ b ≡ [] → (a ≡ []) × (b ≡ [])
 append_none [] b e = (refl, e)
 append_none (x ∷ a) b e = cc
 
 pub both_none : {X : Type 0} (a b : List X) → a ≡ [] → b ≡ [] → a ++ b ≡ []
 both_none a b e f = ap (λ z. z ++ b) e ∙ f
-
-pub get_below : {A : Type 0} (xs : List A) (i : ℕ) (x : A) → slice_get xs i ≡ Some x → i < length xs
-get_below [] i x e = cc
-get_below (y ∷ xs) zero x e = omega arith
-get_below (y ∷ xs) (suc i) x e = let h = get_below xs i x e in omega (arith, h)
 
 pub get_some : {X : Type 0} (xs : List X) (k : ℕ) → k < length xs → (x : X) × (slice_get xs k ≡ Some x)
 get_some [] k lt = absurd (omega (arith, lt))
@@ -81,11 +61,6 @@ pub get_map : {X Y : Type 0} (g : X → Y) (xs : List X) (i : ℕ) (x : X) → s
 get_map g [] i x h = cc
 get_map g (y ∷ xs) zero x h = let same : y ≡ x = cc in ap (λ z. Some (g z)) same
 get_map g (y ∷ xs) (suc i) x h = get_map g xs i x h
-
-pub same_item : {X : Type 0} (xs : List X) (n : ℕ) (d e : X) → n < length xs → get_or xs n d ≡ get_or xs n e
-same_item [] n d e lt = absurd (omega (arith, lt))
-same_item (x ∷ xs) zero d e lt = refl
-same_item (x ∷ xs) (suc n) d e lt = same_item xs n d e (omega (arith, lt))
 
 pub reverse_snoc : {A : Type 0} (xs : List A) (x : A) → reverse (xs ++ x ∷ []) ≡ x ∷ reverse xs
 reverse_snoc xs x = reverse-append xs (x ∷ [])

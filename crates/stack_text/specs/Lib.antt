@@ -6,6 +6,7 @@ pub mod TreeIn
 pub mod TreeText
 pub mod PlaceOrder
 pub mod Names
+pub mod TreeNames
 pub mod Numerals
 pub mod Values
 pub mod Lines
@@ -15,6 +16,7 @@ pub mod Gives
 pub mod Results
 pub mod Options
 pub mod Breaches
+pub mod Lists
 -- Grammars, which the crates above read and print their texts by.
 pub mod Grammar
 -- In folders: how clauses see the code, what is internal.

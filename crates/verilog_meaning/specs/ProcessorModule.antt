@@ -10,6 +10,7 @@ use Rattle.fm_circuit.specs.Circuit.{pin_width}
 use Rattle.fm_circuit.specs.Processor.{driver_of}
 use Rattle.fm_verilog.specs.WireNames.{name_of}
 use Rattle.verilog_meaning.specs.Syntax as v
+use Rattle.fm_verilog.specs.VerilogText.{port_name}
 
 -- a pin
 abbrev pub pin_expression : Pin → v.Expression
@@ -22,11 +23,6 @@ abbrev pub rows_expression : Pin → ℕ → List Pin → v.Expression
 rows_expression by number [] = v.Integer 0
 rows_expression by number (pin ∷ pins) =
     v.Choice (v.Equal (pin_expression by) (v.Number (pin_width by) number)) (pin_expression pin) (rows_expression by (number + 1) pins)
-
--- the port of an input
-abbrev pub port_name : ℕ → List ℕ
-port_name zero = codes "bus_read"
-port_name number = codes "bus_outside"
 
 -- a pin with so many zeros above it
 abbrev pub widened : ℕ → Pin → v.Expression

@@ -1,6 +1,6 @@
 use Rattle.std.proofs.Common.{◌≡◌, ℕ, [], ◌∷◌, List, get_or, refl, subst}
 use Rattle.stack_text.proofs.Loops.{drop-item}
-use Rattle.stack_text.proofs.SharedLaws.{same_item}
+use Rattle.std.proofs.lemmas.List.{get_or_default}
 use Rattle.piton_check.specs.Instruction as i
 use Rattle.gypsy_syntax.specs.ProgramFits.{Each}
 use Rattle.gypsy_space.specs.Nodes.{seen_program}
@@ -18,7 +18,7 @@ loop-actual-preserved c =
     let k = c.loop-actual.actual-index in
     let lt = c.loop-actual-test.true in
     let x : ℕ = get_or xs k 0 in
-    let here : x ≡ get_or xs k x = same_item xs k 0 x lt in
+    let here : x ≡ get_or xs k x = get_or_default xs k 0 x lt in
     let P : List ℕ → Type 0 = Each (HasWord q p) in
     record {
       words = (subst P (drop-item xs k x lt here) c.loop-actual.invariant.words).1;

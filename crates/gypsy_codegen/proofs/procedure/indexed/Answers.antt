@@ -4,7 +4,7 @@ use Rattle.stack_text.specs.Values.{item_count}
 use Rattle.stack_text.specs.declared.name.Named.{Named}
 use Rattle.stack_text.specs.declared.shape.Shape.{Shape}
 use Rattle.stack_text.specs.Grammar.Printed.{unplaced}
-use Rattle.stack_text.proofs.SharedLaws.{same_item}
+use Rattle.std.proofs.lemmas.List.{get_or_default}
 use Rattle.piton_syntax.specs.declared.word_text.WordText.{WordText}
 use Rattle.piton_words.specs.declared.word.Word.TheVariants.{Nat}
 use Rattle.gypsy_syntax.specs.Programs.{words_of}
@@ -25,14 +25,14 @@ next_one names shapes k at size d lt there is =
     let left : List (List ℕ) = drop (k + 1) names in
     let rest : List Shape = drop (k + 1) shapes in
     ap₂ (λ (ns : List (List ℕ)) (ss : List Shape). temporaries_of nameless ns (map (λ i. Nat i) (starts at ss)))
-    (drop-item names k n lt (same_item names k [] n lt)) (drop-item shapes k s there (same_item shapes k d s there))
+    (drop-item names k n lt (get_or_default names k [] n lt)) (drop-item shapes k s there (get_or_default shapes k d s there))
     ∙ ap (λ (m : ℕ). (unplaced n, written_word nameless (Nat at)) ∷ temporaries_of nameless left (map (λ i. Nat i) (starts (at + m) rest))) (sym is)
 
 fewer_words : (shapes : List Shape) (k size : ℕ) (d : Shape) → k < length shapes → size ≡ item_count (get_or shapes k d) →
     words_of (drop k shapes) ≡ size + words_of (drop (k + 1) shapes)
 fewer_words shapes k size d there is =
     let s : Shape = get_or shapes k d in
-    ap words_of (drop-item shapes k s there (same_item shapes k d s there)) ∙ ap (λ (m : ℕ). m + words_of (drop (k + 1) shapes)) (sym is)
+    ap words_of (drop-item shapes k s there (get_or_default shapes k d s there)) ∙ ap (λ (m : ℕ). m + words_of (drop (k + 1) shapes)) (sym is)
 
 pub loop-number-preserved : goal.loop-number-preserved
 loop-number-preserved c =

@@ -1,6 +1,6 @@
 use Rattle.std.proofs.Common.{◌≡◌, ◌++◌, [], ◌∷◌, List, get_or, map, refl, rules}
 use Rattle.std.specs.Prelude.{ℤ, pos}
-use Rattle.stack_text.proofs.SharedLaws.{same_item}
+use Rattle.std.proofs.lemmas.List.{get_or_default}
 use Rattle.gypsy_predef.specs.Runs.{word_of_item}
 use Rattle.gypsy_codegen.specs.Internal.Views.{nameless}
 use Rattle.gypsy_codegen.specs.Written.{written_word}
@@ -15,4 +15,5 @@ loop-item-preserved c =
     let word = written_word nameless (word_of_item c.args.kind z) in
     let pushed : c.push.new.self.items ≡ c.loop-item.words.items ++ word ∷ [] = search rules in
     more_next (λ (zs : List ℤ). map (written_word nameless) (map (word_of_item c.args.kind) zs)) items k z (word ∷ [])
-    c.loop-item.words.items c.push.new.self.items _ c.loop-item-test.true (same_item items k (pos 0) z c.loop-item-test.true) refl pushed c.loop-item.invariant
+    c.loop-item.words.items c.push.new.self.items _ c.loop-item-test.true (get_or_default items k (pos 0) z c.loop-item-test.true) refl pushed
+    c.loop-item.invariant

@@ -2,7 +2,7 @@ use Rattle.std.proofs.Common.{◌≡◌, ℕ, ◌+◌, ◌<◌, List, map, lengt
 use Rattle.std.proofs.lemmas.Bool.Decides.{nat_tests}
 use Rattle.std.specs.Prelude.{Bool, ◌==◌, if◌then◌else◌}
 use Rattle.stack_text.proofs.Loops.{drop-item}
-use Rattle.stack_text.proofs.SharedLaws.{same_item}
+use Rattle.std.proofs.lemmas.List.{get_or_default}
 use Rattle.gypsy_syntax.specs.Programs.{ConditionOf, Leave, Routine, Space, Declared}
 use Rattle.gypsy_space.specs.Nodes.{seen_cond}
 use Rattle.gypsy_space.specs.declared.program.Condition.{Condition}
@@ -56,4 +56,4 @@ loop-cond-preserved c =
     let lt = c.loop-cond-test.true in
     let d : Condition = get_or conds k condition.Leave in
     let marked = rw c.number_of.ensures.exact at c.in_ok-mark.ensures in
-    λ e. more e conds k d _ _ lt (same_item conds k condition.Leave d lt) (marked (number_of e)) (c.loop-cond.invariant e)
+    λ e. more e conds k d _ _ lt (get_or_default conds k condition.Leave d lt) (marked (number_of e)) (c.loop-cond.invariant e)
