@@ -12,47 +12,36 @@ ghost use Rattle.gypsy_codegen.specs.Internal.Views.{ArgHasWord, code_in, env, I
 
 use crate::calls::{call_program, push_local};
 use crate::context::{Context, Scopes, label_to, shape_at};
-use crate::lines::{area, constant, plain, test};
+use crate::emitter::Emitter;
 use crate::words::simple_word;
 use gypsy_predef::instruction_text::number;
 use gypsy_space::{Application, Argument, Condition};
 use gypsy_syntax::Predef;
-use piton_syntax::{InstrText, PitonOp, TestKind, WordItem};
+use piton_syntax::{PitonOp, TestKind, WordItem};
 use stack_text::{Memory, Shape};
-use std::alloc::Global;
 
 /// An argument, pushed: the index of a variable, or a literal.
-fn push_arg(
-    alloc: Global,
-    instrs: &mut Vec<InstrText>,
-    context: &Context,
-    arg: &Argument,
-) -> Result<(), Memory>
+fn push_arg(emitter: &mut Emitter, context: &Context, arg: &Argument) -> Result<(), Memory>
     requires ready { IsReady context.now }
     requires word { ArgHasWord (program_in context.now) context.now.procedure (seen_arg arg.now) }
     ensures { let pushed = push_args (program_in context.now) context.now.procedure (seen_arg arg.now ∷ []) in
-        OnOk result (instrs.new.items ≡ instrs.old.items ++ code_in context.now pushed) }
+        OnOk result (emitter.new ≡ emitter.old ++ code_in context.now pushed) }
 {
     match arg {
-        Argument::Variable(variable) => push_local(alloc, instrs, context, *variable),
-        Argument::Constant(value) => constant(alloc, instrs, None, simple_word(value)),
+        Argument::Variable(variable) => push_local(emitter, context, *variable),
+        Argument::Constant(value) => emitter.constant(None, simple_word(value)),
     }
 }
 
 /// The arguments, pushed.
-fn push_args(
-    alloc: Global,
-    instrs: &mut Vec<InstrText>,
-    context: &Context,
-    args: &[Argument],
-) -> Result<(), Memory>
+fn push_args(emitter: &mut Emitter, context: &Context, args: &[Argument]) -> Result<(), Memory>
     requires ready { IsReady context.now }
     requires words { Each (ArgHasWord (program_in context.now) context.now.procedure) (map seen_arg args.now) }
     ensures { let pushed = push_args (program_in context.now) context.now.procedure (map seen_arg args.now) in
-        OnOk result (instrs.new.items ≡ instrs.old.items ++ code_in context.now pushed) }
+        OnOk result (emitter.new ≡ emitter.old ++ code_in context.now pushed) }
 {
     for arg in args {
-        push_arg(alloc, instrs, context, arg)?;
+        push_arg(emitter, context, arg)?;
     }
     Ok(())
 }
@@ -69,14 +58,9 @@ fn array_length(shapes: &[Shape], args: &[Argument], at: usize) -> u32
 }
 
 /// The length that the array rows push last.
-fn push_length(
-    alloc: Global,
-    instrs: &mut Vec<InstrText>,
-    context: &Context,
-    call: &Application,
-) -> Result<(), Memory>
+fn push_length(emitter: &mut Emitter, context: &Context, call: &Application) -> Result<(), Memory>
     ensures { let pushed = length_code context.now.shapes.now call.now.which (map seen_arg call.now.args.items) in
-        OnOk result (instrs.new.items ≡ instrs.old.items ++ code_in context.now pushed) }
+        OnOk result (emitter.new ≡ emitter.old ++ code_in context.now pushed) }
 {
     let at = match call.which {
         Predef::MgIndexArray => 1,
@@ -85,7 +69,7 @@ fn push_length(
     };
     let length = array_length(context.shapes, call.args.as_slice(), at);
     let item = WordItem::Int(number(length as i128));
-    constant(alloc, instrs, None, item)
+    emitter.constant(None, item)
 }
 
 /// Whether a predefined procedure may signal routineerror.
@@ -97,21 +81,20 @@ pub(crate) fn can_fail(which: Predef) -> bool
 
 /// The test for a fault, and the jump to a label.
 fn test_fault(
-    alloc: Global,
-    instrs: &mut Vec<InstrText>,
+    emitter: &mut Emitter,
     context: &Context,
     which: Predef,
     to: u32,
 ) -> Result<(), Memory>
-    ensures { OnOk result (instrs.new.items ≡
-        instrs.old.items ++ code_in context.now (test_code which to)) }
+    ensures { OnOk result (emitter.new ≡
+        emitter.old ++ code_in context.now (test_code which to)) }
 {
     if !can_fail(which) {
         return Ok(());
     }
-    area(alloc, instrs, PitonOp::PushGlobal)?;
-    plain(alloc, instrs, None, PitonOp::Sub1Nat)?;
-    test(alloc, instrs, PitonOp::TestNatAndJump, TestKind::Zero, to)
+    emitter.area(PitonOp::PushGlobal)?;
+    emitter.plain(None, PitonOp::Sub1Nat)?;
+    emitter.test(PitonOp::TestNatAndJump, TestKind::Zero, to)
 }
 
 /// The position of a predefined procedure in the table.
@@ -123,8 +106,7 @@ fn number_of(which: Predef) -> usize
 
 /// A predefined call.
 pub(crate) fn apply(
-    alloc: Global,
-    instrs: &mut Vec<InstrText>,
+    emitter: &mut Emitter,
     context: &Context,
     scopes: &Scopes,
     call: &Application,
@@ -134,12 +116,12 @@ pub(crate) fn apply(
         Each (ArgHasWord (program_in context.now) context.now.procedure) args }
     ensures { let statement = Apply call.now.place call.now.which (map seen_arg call.now.args.items) in
         let code = apply_code (program_in context.now) context.now.procedure (env scopes.now) statement in
-        OnOk result (instrs.new.items ≡ instrs.old.items ++ code_in context.now code) }
+        OnOk result (emitter.new ≡ emitter.old ++ code_in context.now code) }
 {
-    push_args(alloc, instrs, context, call.args.as_slice())?;
-    push_length(alloc, instrs, context, call)?;
+    push_args(emitter, context, call.args.as_slice())?;
+    push_length(emitter, context, call)?;
     let position = context.program.procedures.len() + number_of(call.which);
-    call_program(alloc, instrs, context, position)?;
+    call_program(emitter, context, position)?;
     let to = label_to(context, scopes, Condition::Routine);
-    test_fault(alloc, instrs, context, call.which, to)
+    test_fault(emitter, context, call.which, to)
 }

@@ -20,18 +20,18 @@ use crate::context::{
     Context, Scopes, control_call_need, label_to, number_of, offset, procedure_at,
     temporary_call_need,
 };
-use crate::lines::{area, constant, jump, name_in, of_number, plain, push_label, put, test};
+use crate::emitter::Emitter;
+use crate::lines::{name_in, push_label};
 use crate::words::{local_count, local_words};
-use gypsy_predef::instruction_text::{number, of_name};
+use gypsy_predef::instruction_text::number;
 use gypsy_space::{CallSite, Condition, Procedure};
-use piton_syntax::{ArgText, InstrText, PitonOp, TestKind, WordItem, WordText};
+use piton_syntax::{ArgText, PitonOp, TestKind, WordItem, WordText};
 use stack_text::{Memory, Name, Value};
 use std::alloc::Global;
 
 /// A condition is raised: its number is put into `c-c`, and its target is jumped to.
 pub(crate) fn raise(
-    alloc: Global,
-    instrs: &mut Vec<InstrText>,
+    emitter: &mut Emitter,
     context: &Context,
     scopes: &Scopes,
     label: Option<u32>,
@@ -39,106 +39,90 @@ pub(crate) fn raise(
 ) -> Result<(), Memory>
     ensures { let c = seen_cond cond in
         let target = label_to (program_in context.now) context.now.procedure (env scopes.now) c in
-        OnOk result (instrs.new.items ≡ instrs.old.items ++ raise_text label (number_of c) target) }
+        OnOk result (emitter.new ≡ emitter.old ++ raise_text label (number_of c) target) }
 {
     let item = WordItem::Nat(number(number_of(cond) as i128));
-    constant(alloc, instrs, label, item)?;
-    area(alloc, instrs, PitonOp::PopGlobal)?;
-    jump(alloc, instrs, label_to(context, scopes, cond))
+    emitter.constant(label, item)?;
+    emitter.area(PitonOp::PopGlobal)?;
+    emitter.jump(label_to(context, scopes, cond))
 }
 
 /// The index of a variable, pushed.
 #[inline(always)]
 pub(crate) fn push_local(
-    alloc: Global,
-    instrs: &mut Vec<InstrText>,
+    emitter: &mut Emitter,
     context: &Context,
     variable: u32,
 ) -> Result<(), Memory>
     requires ready { IsReady context.now }
     requires word { HasWord (program_in context.now) context.now.procedure variable }
     ensures { let at = offset (program_in context.now) context.now.procedure variable in
-        OnOk result (instrs.new.items ≡ instrs.old.items ++ code_in context.now (i.PushLocal at ∷ [])) }
+        OnOk result (emitter.new ≡ emitter.old ++ code_in context.now (i.PushLocal at ∷ [])) }
 {
     let at = offset(context.program, context.procedure, variable);
     let name = name_in(context.locals, at)?;
-    of_name(alloc, instrs, PitonOp::PushLocal, name)
+    emitter.of_name(PitonOp::PushLocal, name)
 }
 
 /// A call of a program.
 #[inline(always)]
 pub(crate) fn call_program(
-    alloc: Global,
-    instrs: &mut Vec<InstrText>,
+    emitter: &mut Emitter,
     context: &Context,
     program: usize,
 ) -> Result<(), Memory>
     requires { program < length context.now.programs.now }
-    ensures { OnOk result (instrs.new.items ≡ instrs.old.items ++ code_in context.now (i.Call program ∷ [])) }
+    ensures { OnOk result (emitter.new ≡ emitter.old ++ code_in context.now (i.Call program ∷ [])) }
 {
     let name = name_in(context.programs, program)?;
-    of_name(alloc, instrs, PitonOp::Call, name)
+    emitter.of_name(PitonOp::Call, name)
 }
 
 /// Words, pushed.
-fn constants(alloc: Global, instrs: &mut Vec<InstrText>, words: Vec<WordText>) -> Result<(), Memory>
-    ensures { OnOk result (instrs.new.items ≡ instrs.old.items ++ map word_constant words.items) }
+fn constants(emitter: &mut Emitter, words: Vec<WordText>) -> Result<(), Memory>
+    ensures { OnOk result (emitter.new ≡ emitter.old ++ map word_constant words.items) }
 {
     for word in words {
-        let args = vec![in alloc; ArgText::Word(word)]?;
-        put(alloc, instrs, None, PitonOp::PushConstant, args)?;
+        let args = vec![in emitter.alloc(); ArgText::Word(word)]?;
+        emitter.put(None, PitonOp::PushConstant, args)?;
     }
     Ok(())
 }
 
 /// The words of the locals of a callee, pushed.
-fn push_words(
-    alloc: Global,
-    instrs: &mut Vec<InstrText>,
-    locals: &[(Name, Value)],
-) -> Result<(), Memory>
-    ensures { OnOk result (instrs.new.items ≡ instrs.old.items ++ local_constants (held_values locals.now)) }
+fn push_words(emitter: &mut Emitter, locals: &[(Name, Value)]) -> Result<(), Memory>
+    ensures { OnOk result (emitter.new ≡ emitter.old ++ local_constants (held_values locals.now)) }
 {
-    let mut words = Vec::new(alloc);
+    let mut words = Vec::new(emitter.alloc());
     local_words(&mut words, locals)?;
-    constants(alloc, instrs, words)
+    constants(emitter, words)
 }
 
 /// The indices of the locals of a callee, pushed. The locals have so many words together.
-fn push_indices(
-    alloc: Global,
-    instrs: &mut Vec<InstrText>,
-    locals: &[(Name, Value)],
-    words: u64,
-) -> Result<(), Memory>
+fn push_indices(emitter: &mut Emitter, locals: &[(Name, Value)], words: u64) -> Result<(), Memory>
     requires all { words_of (map (λ v. v.shape) (held_values locals.now)) ≡ words }
     requires few { words ≤ 65536 }
-    ensures { OnOk result (instrs.new.items ≡
-        instrs.old.items ++ index_text words 0 0 (map (λ v. v.shape) (held_values locals.now))) }
+    ensures { OnOk result (emitter.new ≡
+        emitter.old ++ index_text words 0 0 (map (λ v. v.shape) (held_values locals.now))) }
 {
     let mut first = 0;
     for (number, (_, value)) in locals.iter().enumerate() {
         let index = words + number as u64 - 1 - first;
-        of_number(alloc, instrs, PitonOp::PushTempStkIndex, index)?;
+        emitter.of_number(PitonOp::PushTempStkIndex, index)?;
         first += value.shape.item_count() as u64;
     }
     Ok(())
 }
 
 /// The indices of the actuals, pushed.
-fn push_actuals(
-    alloc: Global,
-    instrs: &mut Vec<InstrText>,
-    context: &Context,
-    actuals: &[u32],
-) -> Result<(), Memory>
+fn push_actuals(emitter: &mut Emitter, context: &Context, actuals: &[u32]) -> Result<(), Memory>
     requires ready { IsReady context.now }
     requires words { Each (HasWord (program_in context.now) context.now.procedure) actuals.now }
     ensures { let pushed = push_actuals (program_in context.now) context.now.procedure actuals.now in
-        OnOk result (instrs.new.items ≡ instrs.old.items ++ code_in context.now pushed) }
+        OnOk result (emitter.new ≡ emitter.old ++ code_in context.now pushed) }
 {
     for actual in actuals {
-        push_local(alloc, instrs, context, *actual)?;
+        push_local(emitter, context, *actual)?;
     }
     Ok(())
 }
@@ -154,38 +138,31 @@ fn callee_words(context: &Context, callee: u32) -> u64
 }
 
 /// The words and the indices of the locals of a callee, pushed.
-fn push_locals(alloc: Global, instrs: &mut Vec<InstrText>, callee: &Procedure) -> Result<(), Memory>
+fn push_locals(emitter: &mut Emitter, callee: &Procedure) -> Result<(), Memory>
     requires { local_words (seen_proc callee.now) ≤ 65536 }
     ensures { let c = seen_proc callee.now in
-        OnOk result (instrs.new.items ≡
-        instrs.old.items ++ (local_constants c.locals ++ index_text (local_words c) 0 0 (local_shapes c))) }
+        OnOk result (emitter.new ≡
+        emitter.old ++ (local_constants c.locals ++ index_text (local_words c) 0 0 (local_shapes c))) }
 {
     let locals = callee.locals.as_slice();
     let words = local_count(locals);
-    push_words(alloc, instrs, locals)?;
-    push_indices(alloc, instrs, locals, words)
+    push_words(emitter, locals)?;
+    push_indices(emitter, locals, words)
 }
 
 /// Half of a guard: what an instruction pushes as free words is compared with what is needed, and fewer go to a label.
-fn guard(
-    alloc: Global,
-    instrs: &mut Vec<InstrText>,
-    free: PitonOp,
-    need: u64,
-    to: u32,
-) -> Result<(), Memory>
-    ensures { OnOk result (instrs.new.items ≡ instrs.old.items ++ half_guard free need to) }
+fn guard(emitter: &mut Emitter, free: PitonOp, need: u64, to: u32) -> Result<(), Memory>
+    ensures { OnOk result (emitter.new ≡ emitter.old ++ half_guard free need to) }
 {
-    plain(alloc, instrs, None, free)?;
-    constant(alloc, instrs, None, WordItem::Nat(number(need as i128)))?;
-    plain(alloc, instrs, None, PitonOp::LtNat)?;
-    test(alloc, instrs, PitonOp::TestBoolAndJump, TestKind::T, to)
+    emitter.plain(None, free)?;
+    emitter.constant(None, WordItem::Nat(number(need as i128)))?;
+    emitter.plain(None, PitonOp::LtNat)?;
+    emitter.test(PitonOp::TestBoolAndJump, TestKind::T, to)
 }
 
 /// The guard of a call, which goes to a label where a stack lacks room.
 pub(crate) fn guard_call(
-    alloc: Global,
-    instrs: &mut Vec<InstrText>,
+    emitter: &mut Emitter,
     context: &Context,
     callee: u32,
     to: u32,
@@ -193,19 +170,18 @@ pub(crate) fn guard_call(
     requires ready { IsReady context.now }
     requires callee { callee < length (program_in context.now).procs }
     ensures { let code = guard_code (call_need (program_in context.now) callee) to in
-        OnOk result (instrs.new.items ≡ instrs.old.items ++ code_in context.now code) }
+        OnOk result (emitter.new ≡ emitter.old ++ code_in context.now code) }
 {
     let temporary = temporary_call_need(context, callee);
     let control = control_call_need(context, callee);
-    guard(alloc, instrs, PitonOp::PushTempStkFreeSize, temporary, to)?;
-    guard(alloc, instrs, PitonOp::PushCtrlStkFreeSize, control, to)?;
+    guard(emitter, PitonOp::PushTempStkFreeSize, temporary, to)?;
+    guard(emitter, PitonOp::PushCtrlStkFreeSize, control, to)?;
     Ok(())
 }
 
 /// What stands between the guard of a call and the call, and the call itself.
 pub(crate) fn before_call(
-    alloc: Global,
-    instrs: &mut Vec<InstrText>,
+    emitter: &mut Emitter,
     context: &Context,
     site: &CallSite,
 ) -> Result<(), Memory>
@@ -214,34 +190,30 @@ pub(crate) fn before_call(
     requires words { Each (HasWord (program_in context.now) context.now.procedure) site.now.actuals.items }
     ensures { let code = before_code (program_in context.now) context.now.procedure site.now.callee
         site.now.actuals.items in
-        OnOk result (instrs.new.items ≡ instrs.old.items ++ code_in context.now code) }
+        OnOk result (emitter.new ≡ emitter.old ++ code_in context.now code) }
 {
-    push_locals(alloc, instrs, procedure_at(context.program, site.callee))?;
-    push_actuals(alloc, instrs, context, site.actuals.as_slice())?;
-    call_program(alloc, instrs, context, site.callee as usize)?;
+    push_locals(emitter, procedure_at(context.program, site.callee))?;
+    push_actuals(emitter, context, site.actuals.as_slice())?;
+    call_program(emitter, context, site.callee as usize)?;
     Ok(())
 }
 
 /// The jump by the condition that a call left: to the first label for leave and for routineerror, to the second where it is
 /// normal, to the third for spaceerror, and to those that follow for the condition actuals.
-fn jump_by_condition(
-    alloc: Global,
-    instrs: &mut Vec<InstrText>,
-    first: u32,
-    conds: &[Condition],
-) -> Result<(), Memory>
+fn jump_by_condition(emitter: &mut Emitter, first: u32, conds: &[Condition]) -> Result<(), Memory>
     requires { first + 3 + length conds.now < 2 ^ 32 }
     ensures { let others = raise_labels (first + 3) (map seen_cond conds.now) in
         let targets = first ∷ first ∷ (first + 1) ∷ (first + 2) ∷ others in
-        OnOk result (instrs.new.items ≡ instrs.old.items ++ instruction None op.JumpCase (map label_arg targets) ∷ []) }
+        OnOk result (emitter.new ≡ emitter.old ++ instruction None op.JumpCase (map label_arg targets) ∷ []) }
 {
+    let alloc = emitter.alloc();
     let mut args = Vec::new(alloc);
     push_label(alloc, &mut args, first)?;
     push_label(alloc, &mut args, first)?;
     push_label(alloc, &mut args, first + 1)?;
     push_label(alloc, &mut args, first + 2)?;
     raise_labels(alloc, &mut args, first + 3, conds)?;
-    put(alloc, instrs, None, PitonOp::JumpCase, args)
+    emitter.put(None, PitonOp::JumpCase, args)
 }
 
 /// The labels of the raises of condition actuals, from this one on.
@@ -264,8 +236,7 @@ fn raise_labels(
 
 /// The raises of condition actuals, with labels from this one on.
 fn raises(
-    alloc: Global,
-    instrs: &mut Vec<InstrText>,
+    emitter: &mut Emitter,
     context: &Context,
     scopes: &Scopes,
     first: u32,
@@ -274,19 +245,18 @@ fn raises(
     requires { first + length conds.now < 2 ^ 32 }
     ensures { let lines = marked_raises (program_in context.now) context.now.procedure (env scopes.now) first
         (map seen_cond conds.now) in
-        OnOk result (instrs.new.items ≡ instrs.old.items ++ map (written (names_of context.now)) lines) }
+        OnOk result (emitter.new ≡ emitter.old ++ map (written (names_of context.now)) lines) }
 {
     for (number, cond) in conds.iter().enumerate() {
         let label = first + number as u32;
-        raise(alloc, instrs, context, scopes, Some(label), *cond)?;
+        raise(emitter, context, scopes, Some(label), *cond)?;
     }
     Ok(())
 }
 
 /// What follows a call.
 pub(crate) fn after_call(
-    alloc: Global,
-    instrs: &mut Vec<InstrText>,
+    emitter: &mut Emitter,
     context: &Context,
     site: &CallSite,
     scopes: &Scopes,
@@ -298,36 +268,15 @@ pub(crate) fn after_call(
     ensures { let q = program_in context.now in
         let lines = after_lines q context.now.procedure (env scopes.now) first (local_words (proc_at q site.now.callee))
         (map seen_cond site.now.conds.items) in
-        OnOk result (instrs.new.items ≡ instrs.old.items ++ map (written (names_of context.now)) lines) }
+        OnOk result (emitter.new ≡ emitter.old ++ map (written (names_of context.now)) lines) }
 {
     let words = callee_words(context, site.callee);
-    of_number(alloc, instrs, PitonOp::PopStar, words)?;
-    area(alloc, instrs, PitonOp::PushGlobal)?;
-    jump_by_condition(alloc, instrs, first, site.conds.as_slice())?;
-    raise(
-        alloc,
-        instrs,
-        context,
-        scopes,
-        Some(first),
-        Condition::Routine,
-    )?;
-    raise(
-        alloc,
-        instrs,
-        context,
-        scopes,
-        Some(first + 2),
-        Condition::Space,
-    )?;
-    raises(
-        alloc,
-        instrs,
-        context,
-        scopes,
-        first + 3,
-        site.conds.as_slice(),
-    )?;
-    plain(alloc, instrs, Some(first + 1), PitonOp::NoOp)?;
+    emitter.of_number(PitonOp::PopStar, words)?;
+    emitter.area(PitonOp::PushGlobal)?;
+    jump_by_condition(emitter, first, site.conds.as_slice())?;
+    raise(emitter, context, scopes, Some(first), Condition::Routine)?;
+    raise(emitter, context, scopes, Some(first + 2), Condition::Space)?;
+    raises(emitter, context, scopes, first + 3, site.conds.as_slice())?;
+    emitter.plain(Some(first + 1), PitonOp::NoOp)?;
     Ok(())
 }

@@ -7,6 +7,7 @@
 mod apply;
 mod calls;
 mod context;
+mod emitter;
 mod fault;
 mod generating;
 mod handled;

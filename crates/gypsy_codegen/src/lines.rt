@@ -1,18 +1,10 @@
-//! Instructions, put one behind the other.
+//! Labels, and names of a table, as instructions have them.
 
-ghost use Rattle.std.specs.Prelude.{◌≡◌, ◌++◌, [], ◌∷◌, ◌<◌, pos, length, None, OnOk, IfOk, option_map};
-ghost use Rattle.piton_syntax.specs.declared.argument.ArgText.TheVariants as arg;
-ghost use Rattle.piton_syntax.specs.declared.op.PitonOp.TheVariants as op;
-ghost use Rattle.piton_syntax.specs.declared.word_text.WordItem.TheVariants as item;
-ghost use Rattle.stack_text.specs.Grammar.Printed.{unplaced};
-ghost use Rattle.gypsy_predef.specs.Texts.{instruction, constant, of_name, condition_area, number};
-ghost use Rattle.gypsy_codegen.specs.Internal.Views.{labelled};
+ghost use Rattle.std.specs.Prelude.{◌≡◌, ◌++◌, [], ◌∷◌, ◌<◌, length, OnOk, IfOk};
 ghost use Rattle.gypsy_codegen.specs.Written.{label_name, label_arg, name_in};
 
-use gypsy_predef::instruction_text;
-use gypsy_predef::instruction_text::{condition_area, number, of_name};
 use itoa::Buffer;
-use piton_syntax::{ArgText, InstrText, PitonOp, TestKind, WordItem, WordText};
+use piton_syntax::ArgText;
 use stack_text::{Memory, Name, Named};
 use std::alloc::Global;
 
@@ -46,90 +38,4 @@ pub(crate) fn name_in(names: &[Name], at: usize) -> Result<Named, Memory>
     ensures { IfOk result (λ name. name ≡ name_in names.now at) }
 {
     names[at].unplaced()
-}
-
-/// One more instruction.
-#[inline(always)]
-pub(crate) fn put(
-    alloc: Global,
-    instrs: &mut Vec<InstrText>,
-    label: Option<u32>,
-    op: PitonOp,
-    args: Vec<ArgText>,
-) -> Result<(), Memory>
-    ensures { OnOk result (instrs.new.items ≡ instrs.old.items ++ labelled label op args.items ∷ []) }
-{
-    let label = match label {
-        Some(label) => Some(label_named(alloc, label)?),
-        None => None,
-    };
-    instruction_text::put(instrs, label, op, args)
-}
-
-/// An instruction without arguments.
-pub(crate) fn plain(
-    alloc: Global,
-    instrs: &mut Vec<InstrText>,
-    label: Option<u32>,
-    op: PitonOp,
-) -> Result<(), Memory>
-    ensures { OnOk result (instrs.new.items ≡ instrs.old.items ++ labelled label op [] ∷ []) }
-{
-    put(alloc, instrs, label, op, Vec::new(alloc))
-}
-
-/// An instruction of a number of words.
-pub(crate) fn of_number(
-    alloc: Global,
-    instrs: &mut Vec<InstrText>,
-    op: PitonOp,
-    count: u64,
-) -> Result<(), Memory>
-    ensures { OnOk result (instrs.new.items ≡
-        instrs.old.items ++ instruction None op (arg.Number (number (pos count)) ∷ []) ∷ []) }
-{
-    let args = vec![in alloc; ArgText::Number(number(count as i128))]?;
-    put(alloc, instrs, None, op, args)
-}
-
-/// A `push-constant`.
-#[inline(always)]
-pub(crate) fn constant(
-    alloc: Global,
-    instrs: &mut Vec<InstrText>,
-    label: Option<u32>,
-    item: WordItem,
-) -> Result<(), Memory>
-    ensures { OnOk result (instrs.new.items ≡ instrs.old.items ++ constant (option_map label_name label) item ∷ []) }
-{
-    let args = vec![in alloc; ArgText::Word(WordText { place: 0, item })]?;
-    put(alloc, instrs, label, PitonOp::PushConstant, args)
-}
-
-/// A jump.
-pub(crate) fn jump(alloc: Global, instrs: &mut Vec<InstrText>, to: u32) -> Result<(), Memory>
-    ensures { OnOk result (instrs.new.items ≡ instrs.old.items ++ instruction None op.Jump (label_arg to ∷ []) ∷ []) }
-{
-    of_name(alloc, instrs, PitonOp::Jump, label_named(alloc, to)?)
-}
-
-/// An instruction of the area that holds the condition.
-pub(crate) fn area(alloc: Global, instrs: &mut Vec<InstrText>, op: PitonOp) -> Result<(), Memory>
-    ensures { OnOk result (instrs.new.items ≡ instrs.old.items ++ of_name op condition_area ∷ []) }
-{
-    of_name(alloc, instrs, op, condition_area(alloc)?)
-}
-
-/// A test, and the jump to a label.
-pub(crate) fn test(
-    alloc: Global,
-    instrs: &mut Vec<InstrText>,
-    op: PitonOp,
-    kind: TestKind,
-    to: u32,
-) -> Result<(), Memory>
-    ensures { let args = arg.Test kind ∷ label_arg to ∷ [] in
-        OnOk result (instrs.new.items ≡ instrs.old.items ++ instruction None op args ∷ []) }
-{
-    instruction_text::test(alloc, instrs, op, kind, label_named(alloc, to)?)
 }

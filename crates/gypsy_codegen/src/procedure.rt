@@ -15,7 +15,8 @@ ghost use Rattle.gypsy_codegen.specs.WordsOf.{starts};
 ghost use Rattle.gypsy_codegen.specs.Written.{written};
 
 use crate::context::{Context, Scopes, number_of, procedure_at};
-use crate::lines::{area, constant, jump, name_in, plain};
+use crate::emitter::Emitter;
+use crate::lines::name_in;
 use crate::statement::statement;
 use gypsy_predef::instruction_text;
 use gypsy_space::{Condition, Needs, Procedure, Program};
@@ -164,14 +165,14 @@ fn formals(alloc: Global, is_main: bool, names: &[Name]) -> Result<Vec<Named>, M
 }
 
 /// What follows the body of a procedure.
-fn tail(alloc: Global, instrs: &mut Vec<InstrText>) -> Result<(), Memory>
-    ensures { OnOk result (instrs.new.items ≡ instrs.old.items ++ map (written nameless) tail_lines) }
+fn tail(emitter: &mut Emitter) -> Result<(), Memory>
+    ensures { OnOk result (emitter.new ≡ emitter.old ++ map (written nameless) tail_lines) }
 {
-    jump(alloc, instrs, 1)?;
+    emitter.jump(1)?;
     let item = WordItem::Nat(instruction_text::number(number_of(Condition::Routine) as i128));
-    constant(alloc, instrs, Some(0), item)?;
-    area(alloc, instrs, PitonOp::PopGlobal)?;
-    plain(alloc, instrs, Some(1), PitonOp::Ret)
+    emitter.constant(Some(0), item)?;
+    emitter.area(PitonOp::PopGlobal)?;
+    emitter.plain(Some(1), PitonOp::Ret)
 }
 
 /// The instructions of a procedure.
@@ -185,18 +186,11 @@ fn instructions(alloc: Global, context: &Context) -> Result<Vec<InstrText>, Memo
         IfOk result (λ instrs. instrs.items ≡ map (written (names_of context.now)) lines) }
 {
     let words = context.needs.need_of(context.procedure).code_words;
-    let mut instrs = Vec::with_capacity(alloc, (words / WORDS_EACH) as usize)?;
+    let mut emitter = Emitter::with_capacity(alloc, (words / WORDS_EACH) as usize)?;
     let found = procedure_at(context.program, context.procedure);
-    statement(
-        alloc,
-        &mut instrs,
-        context,
-        &found.body,
-        &Scopes::Outside,
-        2,
-    )?;
-    tail(alloc, &mut instrs)?;
-    Ok(instrs)
+    statement(&mut emitter, context, &found.body, &Scopes::Outside, 2)?;
+    tail(&mut emitter)?;
+    Ok(emitter.into_instrs())
 }
 
 /// The program of a procedure.

@@ -18,69 +18,56 @@ ghost use Rattle.gypsy_codegen.specs.Written.{label_arg, Marked, written};
 use crate::apply::apply;
 use crate::calls::{after_call, before_call, guard_call, push_local, raise};
 use crate::context::{Context, NORMAL, Scopes};
+use crate::emitter::Emitter;
 use crate::handled::Handled;
-use crate::lines::{area, constant, jump, plain, test};
 use gypsy_predef::instruction_text::number;
 use gypsy_space::{CallSite, Condition, Node};
-use piton_syntax::{InstrText, PitonOp, TestKind, WordItem};
+use piton_syntax::{PitonOp, TestKind, WordItem};
 use stack_text::Memory;
-use std::alloc::Global;
 use std::rc::Rc;
 
 /// The condition is normal again, from a label on.
-fn normal(alloc: Global, instrs: &mut Vec<InstrText>, label: u32) -> Result<(), Memory>
-    ensures { OnOk result (instrs.new.items ≡ instrs.old.items ++ normal_text label) }
+fn normal(emitter: &mut Emitter, label: u32) -> Result<(), Memory>
+    ensures { OnOk result (emitter.new ≡ emitter.old ++ normal_text label) }
 {
-    constant(alloc, instrs, Some(label), WordItem::Nat(number(NORMAL)))?;
-    area(alloc, instrs, PitonOp::PopGlobal)
+    emitter.constant(Some(label), WordItem::Nat(number(NORMAL)))?;
+    emitter.area(PitonOp::PopGlobal)
 }
 
 /// A jump, and behind it the label from which on the condition is normal again.
-fn jump_to_normal(
-    alloc: Global,
-    instrs: &mut Vec<InstrText>,
-    to: u32,
-    label: u32,
-) -> Result<(), Memory>
+fn jump_to_normal(emitter: &mut Emitter, to: u32, label: u32) -> Result<(), Memory>
     ensures { let text = instruction None op.Jump (label_arg to ∷ []) ∷ normal_text label in
-        OnOk result (instrs.new.items ≡ instrs.old.items ++ text) }
+        OnOk result (emitter.new ≡ emitter.old ++ text) }
 {
-    jump(alloc, instrs, to)?;
-    normal(alloc, instrs, label)
+    emitter.jump(to)?;
+    normal(emitter, label)
 }
 
 /// A jump, and behind it a label.
-fn jump_over(alloc: Global, instrs: &mut Vec<InstrText>, to: u32, label: u32) -> Result<(), Memory>
+fn jump_over(emitter: &mut Emitter, to: u32, label: u32) -> Result<(), Memory>
     ensures { let text = instruction None op.Jump (label_arg to ∷ []) ∷ labelled (Some label) op.NoOp [] ∷ [] in
-        OnOk result (instrs.new.items ≡ instrs.old.items ++ text) }
+        OnOk result (emitter.new ≡ emitter.old ++ text) }
 {
-    jump(alloc, instrs, to)?;
-    plain(alloc, instrs, Some(label), PitonOp::NoOp)
+    emitter.jump(to)?;
+    emitter.plain(Some(label), PitonOp::NoOp)
 }
 
 /// The test of an `if`, and the jump to a label where it is false.
-fn branch(
-    alloc: Global,
-    instrs: &mut Vec<InstrText>,
-    context: &Context,
-    variable: u32,
-    to: u32,
-) -> Result<(), Memory>
+fn branch(emitter: &mut Emitter, context: &Context, variable: u32, to: u32) -> Result<(), Memory>
     requires ready { IsReady context.now }
     requires word { HasWord (program_in context.now) context.now.procedure variable }
     ensures { let at = offset (program_in context.now) context.now.procedure variable in
         let code = i.PushLocal at ∷ i.FetchTempStk ∷ i.TestAndJump family.Bool test.F to ∷ [] in
-        OnOk result (instrs.new.items ≡ instrs.old.items ++ code_in context.now code) }
+        OnOk result (emitter.new ≡ emitter.old ++ code_in context.now code) }
 {
-    push_local(alloc, instrs, context, variable)?;
-    plain(alloc, instrs, None, PitonOp::FetchTempStk)?;
-    test(alloc, instrs, PitonOp::TestBoolAndJump, TestKind::F, to)
+    push_local(emitter, context, variable)?;
+    emitter.plain(None, PitonOp::FetchTempStk)?;
+    emitter.test(PitonOp::TestBoolAndJump, TestKind::F, to)
 }
 
 /// A call of a procedure.
 fn call(
-    alloc: Global,
-    instrs: &mut Vec<InstrText>,
+    emitter: &mut Emitter,
     context: &Context,
     site: &CallSite,
     scopes: &Scopes,
@@ -92,19 +79,18 @@ fn call(
     requires labels { first + 3 + length site.now.conds.items < 2 ^ 32 }
     ensures { let conds = map seen_cond site.now.conds.items in
         let statement = Call site.now.place site.now.callee site.now.actuals.items conds in
-        OnOk result (instrs.new.items ≡ instrs.old.items ++ statement_text context.now scopes.now first statement) }
+        OnOk result (emitter.new ≡ emitter.old ++ statement_text context.now scopes.now first statement) }
 {
-    guard_call(alloc, instrs, context, site.callee, first + 2)?;
-    before_call(alloc, instrs, context, site)?;
-    after_call(alloc, instrs, context, site, scopes, first)?;
+    guard_call(emitter, context, site.callee, first + 2)?;
+    before_call(emitter, context, site)?;
+    after_call(emitter, context, site, scopes, first)?;
     Ok(())
 }
 
 /// A loop of a body, and the next label behind it. Its place is not in its lines.
 #[cycle(statements)]
 fn repetition(
-    alloc: Global,
-    instrs: &mut Vec<InstrText>,
+    emitter: &mut Emitter,
     context: &Context,
     body: &Rc<Node>,
     scopes: &Scopes,
@@ -114,21 +100,20 @@ fn repetition(
     requires names { NamesAreThere (program_in context.now) context.now.procedure (seen_statement body.now.value) }
     requires labels { first + (labels (seen_statement body.now.value) + 2) < 2 ^ 32 }
     ensures lines { let text = statement_text context.now scopes.now first (Loop 0 (seen_statement body.now.value)) in
-        OnOk result (instrs.new.items ≡ instrs.old.items ++ text) }
+        OnOk result (emitter.new ≡ emitter.old ++ text) }
     ensures next { IfOk result (λ next. next ≡ first + (labels (seen_statement body.now.value) + 2)) }
 {
-    plain(alloc, instrs, Some(first), PitonOp::NoOp)?;
+    emitter.plain(Some(first), PitonOp::NoOp)?;
     let inner = Scopes::InLoop(first + 1, &*scopes);
-    let next = statement(alloc, instrs, context, body, &inner, first + 2)?;
-    jump_to_normal(alloc, instrs, first, first + 1)?;
+    let next = statement(emitter, context, body, &inner, first + 2)?;
+    jump_to_normal(emitter, first, first + 1)?;
     Ok(next)
 }
 
 /// The body of a `begin` with these conditions, whose handler has the first label.
 #[cycle(statements)]
 fn guarded(
-    alloc: Global,
-    instrs: &mut Vec<InstrText>,
+    emitter: &mut Emitter,
     context: &Context,
     body: &Rc<Node>,
     conds: &Rc<Vec<Condition>>,
@@ -141,19 +126,18 @@ fn guarded(
     ensures lines { let inside = InBegin (map seen_cond conds.now.value.items) first ∷ env scopes.now in
         let code = lines (program_in context.now) context.now.procedure inside (first + 2) in
         let text = map (written (names_of context.now)) (code (seen_statement body.now.value)) in
-        OnOk result (instrs.new.items ≡ instrs.old.items ++ text) }
+        OnOk result (emitter.new ≡ emitter.old ++ text) }
     ensures next { IfOk result (λ next. next ≡ first + 2 + labels (seen_statement body.now.value)) }
 {
-    let handled = Handled::new(alloc, conds.as_slice())?;
+    let handled = Handled::new(emitter.alloc(), conds.as_slice())?;
     let inner = Scopes::InBegin(&handled, first, &*scopes);
-    statement(alloc, instrs, context, body, &inner, first + 2)
+    statement(emitter, context, body, &inner, first + 2)
 }
 
 /// The second statement of two, and behind it the label where both go on.
 #[cycle(statements)]
 fn second(
-    alloc: Global,
-    instrs: &mut Vec<InstrText>,
+    emitter: &mut Emitter,
     context: &Context,
     node: &Rc<Node>,
     scopes: &Scopes,
@@ -166,19 +150,18 @@ fn second(
     ensures lines { let names = names_of context.now in
         let code = lines (program_in context.now) context.now.procedure (env scopes.now) first in
         let text = map (written names) (code (seen_statement node.now.value) ++ Marked label i.NoOp ∷ []) in
-        OnOk result (instrs.new.items ≡ instrs.old.items ++ text) }
+        OnOk result (emitter.new ≡ emitter.old ++ text) }
     ensures next { IfOk result (λ next. next ≡ first + labels (seen_statement node.now.value)) }
 {
-    let next = statement(alloc, instrs, context, node, scopes, first)?;
-    plain(alloc, instrs, Some(label), PitonOp::NoOp)?;
+    let next = statement(emitter, context, node, scopes, first)?;
+    emitter.plain(Some(label), PitonOp::NoOp)?;
     Ok(next)
 }
 
 /// A statement whose first label is this one, and the next label behind it.
 #[cycle(statements)]
 pub(crate) fn statement(
-    alloc: Global,
-    instrs: &mut Vec<InstrText>,
+    emitter: &mut Emitter,
     context: &Context,
     node: &Rc<Node>,
     scopes: &Scopes,
@@ -188,42 +171,42 @@ pub(crate) fn statement(
     requires names { NamesAreThere (program_in context.now) context.now.procedure (seen_statement node.now.value) }
     requires labels { first + labels (seen_statement node.now.value) < 2 ^ 32 }
     ensures lines { let text = statement_text context.now scopes.now first (seen_statement node.now.value) in
-        OnOk result (instrs.new.items ≡ instrs.old.items ++ text) }
+        OnOk result (emitter.new ≡ emitter.old ++ text) }
     ensures next { IfOk result (λ next. next ≡ first + labels (seen_statement node.now.value)) }
 {
     match &**node {
         Node::NoOp(_) => {
-            plain(alloc, instrs, None, PitonOp::NoOp)?;
+            emitter.plain(None, PitonOp::NoOp)?;
             Ok(first)
         }
         Node::Signal(_, cond) => {
-            raise(alloc, instrs, context, scopes, None, *cond)?;
+            raise(emitter, context, scopes, None, *cond)?;
             Ok(first)
         }
         Node::Seq(nodes) => {
-            let next = parts(alloc, instrs, context, nodes, scopes, first)?;
+            let next = parts(emitter, context, nodes, scopes, first)?;
             Ok(next)
         }
-        Node::Loop(_, body) => repetition(alloc, instrs, context, body, scopes, first),
+        Node::Loop(_, body) => repetition(emitter, context, body, scopes, first),
         Node::If(_, variable, yes, no) => {
-            branch(alloc, instrs, context, *variable, first)?;
-            let behind = statement(alloc, instrs, context, yes, scopes, first + 2)?;
-            jump_over(alloc, instrs, first + 1, first)?;
-            let next = second(alloc, instrs, context, no, scopes, behind, first + 1)?;
+            branch(emitter, context, *variable, first)?;
+            let behind = statement(emitter, context, yes, scopes, first + 2)?;
+            jump_over(emitter, first + 1, first)?;
+            let next = second(emitter, context, no, scopes, behind, first + 1)?;
             Ok(next)
         }
         Node::Begin(_, body, conds, arm) => {
-            let behind = guarded(alloc, instrs, context, body, conds, scopes, first)?;
-            jump_to_normal(alloc, instrs, first + 1, first)?;
-            let next = second(alloc, instrs, context, arm, scopes, behind, first + 1)?;
+            let behind = guarded(emitter, context, body, conds, scopes, first)?;
+            jump_to_normal(emitter, first + 1, first)?;
+            let next = second(emitter, context, arm, scopes, behind, first + 1)?;
             Ok(next)
         }
         Node::Call(site) => {
-            call(alloc, instrs, context, site, scopes, first)?;
+            call(emitter, context, site, scopes, first)?;
             Ok(first + 3 + site.conds.len() as u32)
         }
         Node::Apply(site) => {
-            apply(alloc, instrs, context, scopes, site)?;
+            apply(emitter, context, scopes, site)?;
             Ok(first)
         }
     }
@@ -232,8 +215,7 @@ pub(crate) fn statement(
 /// The parts of a sequence.
 #[cycle(statements)]
 fn parts(
-    alloc: Global,
-    instrs: &mut Vec<InstrText>,
+    emitter: &mut Emitter,
     context: &Context,
     parts: &Rc<Vec<Rc<Node>>>,
     scopes: &Scopes,
@@ -244,12 +226,12 @@ fn parts(
         NamesAreThere (program_in context.now) context.now.procedure parts }
     requires labels { first + labels (seen_statements parts.now.value.items) < 2 ^ 32 }
     ensures lines { let text = statement_text context.now scopes.now first (seen_statements parts.now.value.items) in
-        OnOk result (instrs.new.items ≡ instrs.old.items ++ text) }
+        OnOk result (emitter.new ≡ emitter.old ++ text) }
     ensures next { IfOk result (λ next. next ≡ first + labels (seen_statements parts.now.value.items)) }
 {
     let mut next = first;
     for index in 0..parts.len() {
-        next = statement(alloc, instrs, context, &parts[index], scopes, next)?;
+        next = statement(emitter, context, &parts[index], scopes, next)?;
     }
     Ok(next)
 }

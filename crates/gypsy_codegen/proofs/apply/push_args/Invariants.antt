@@ -11,8 +11,7 @@ abbrev pub invariant-loop-arg : goal.invariant-loop-arg
 invariant-loop-arg l = record {
   words : Each (ArgHasWord (seen_program l.context.program.now) l.context.procedure) (map seen_arg (drop l.arg-index l.args));
   lines :
-      l.instrs.items ++ map (written (names_of l.context))
+      l.emitter ++ map (written (names_of l.context))
       (unmarked (push_args (seen_program l.context.program.now) l.context.procedure (map seen_arg (drop l.arg-index l.args)))) ≡
-      l.fn.instrs.items ++ map (written (names_of l.context))
-      (unmarked (push_args (seen_program l.context.program.now) l.context.procedure (map seen_arg l.args)));
+      l.fn.emitter ++ map (written (names_of l.context)) (unmarked (push_args (seen_program l.context.program.now) l.context.procedure (map seen_arg l.args)));
 }

@@ -23,8 +23,8 @@ returns c =
     let jumped = c.in_ok-jump_by_condition.ensures in
     let others = c.in_ok-raises.ensures in
     after_is (names_of context) (marked_raises q context.procedure scopes (l + 3) conds) (l + 1)
-    c.args.instrs.now.items c.of_number.new.instrs.items c.area.new.instrs.items c.jump_by_condition.new.instrs.items c.raise.new.instrs.items
-    c.raise-2.new.instrs.items c.raises.new.instrs.items c.plain.new.instrs.items
+    c.args.emitter.now c.of_number.new.self c.area.new.self c.jump_by_condition.new.emitter c.raise.new.emitter
+    c.raise-2.new.emitter c.raises.new.emitter c.plain.new.self
     (instruction None op.PopStar (arg.Number (number (pos (local_words (proc_at q c.args.site.now.callee)))) ∷ [])) (of_name op.PushGlobal condition_area)
     (instruction None op.JumpCase (map label_arg (l ∷ l ∷ (l + 1) ∷ (l + 2) ∷ raise_labels (l + 3) conds)))
     (raise_text (Some l) (number_of Routine) (label_to q context.procedure scopes Routine))

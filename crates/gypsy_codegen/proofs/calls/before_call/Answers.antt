@@ -18,5 +18,5 @@ returns c =
     let site = c.args.site.now in
     let actuals = c.in_ok-push_actuals.ensures in
     before_is (names_of context) (seen_program context.program.now) context.procedure site.callee site.actuals.items (seen_proc c.procedure_at.result.now)
-    c.args.instrs.now.items c.push_locals.new.instrs.items c.push_actuals.new.instrs.items c.call_program.new.instrs.items c.procedure_at.ensures
+    c.args.emitter.now c.push_locals.new.emitter c.push_actuals.new.emitter c.call_program.new.emitter c.procedure_at.ensures
     c.in_ok-push_locals.ensures (rw c.as_slice.ensures.value at actuals) c.in_ok-call_program.ensures

@@ -4,4 +4,4 @@ use Rattle.gypsy_codegen.proofs.calls.constants.Given as goal
 
 abbrev pub invariant-loop-word : goal.invariant-loop-word
 invariant-loop-word l =
-    l.instrs.items ++ map word_constant l.word-iterator.rest.items ≡ l.fn.instrs.items ++ map word_constant l.fn.words.items
+    l.emitter ++ map word_constant l.word-iterator.rest.items ≡ l.fn.emitter ++ map word_constant l.fn.words.items

@@ -9,5 +9,5 @@ returns c =
     let context = c.args.context.now in
     guard_is (names_of context) (call_need (seen_program context.program.now) c.args.callee) c.args.to
     c.temporary_call_need-temporary.result c.control_call_need-control.result
-    c.args.instrs.now.items c.guard.new.instrs.items c.guard-2.new.instrs.items
+    c.args.emitter.now c.guard.new.emitter c.guard-2.new.emitter
     c.temporary_call_need-temporary.ensures c.control_call_need-control.ensures c.in_ok-guard.ensures c.in_ok-guard-2.ensures

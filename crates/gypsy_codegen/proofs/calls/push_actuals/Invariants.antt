@@ -11,7 +11,7 @@ abbrev pub invariant-loop-actual : goal.invariant-loop-actual
 invariant-loop-actual l = record {
   words : Each (HasWord (seen_program l.context.program.now) l.context.procedure) (drop l.actual-index l.actuals);
   lines :
-      l.instrs.items ++ map (written (names_of l.context))
+      l.emitter ++ map (written (names_of l.context))
       (unmarked (push_actuals (seen_program l.context.program.now) l.context.procedure (drop l.actual-index l.actuals))) ≡
-      l.fn.instrs.items ++ map (written (names_of l.context)) (unmarked (push_actuals (seen_program l.context.program.now) l.context.procedure l.actuals));
+      l.fn.emitter ++ map (written (names_of l.context)) (unmarked (push_actuals (seen_program l.context.program.now) l.context.procedure l.actuals));
 }

@@ -7,6 +7,6 @@ abbrev pub invariant-loop-number : goal.invariant-loop-number
 invariant-loop-number l = record {
   words : l.first + words_of (map (λ v. v.shape) (map (λ v. v.1) (drop l.number l.locals))) ≡ l.words;
   lines :
-      l.instrs.items ++ index_text l.words l.number l.first (map (λ v. v.shape) (map (λ v. v.1) (drop l.number l.locals))) ≡
-      l.fn.instrs.items ++ index_text l.words 0 0 (map (λ v. v.shape) (map (λ v. v.1) l.locals));
+      l.emitter ++ index_text l.words l.number l.first (map (λ v. v.shape) (map (λ v. v.1) (drop l.number l.locals))) ≡
+      l.fn.emitter ++ index_text l.words 0 0 (map (λ v. v.shape) (map (λ v. v.1) l.locals));
 }

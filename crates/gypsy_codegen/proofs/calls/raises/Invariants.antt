@@ -7,8 +7,8 @@ use Rattle.gypsy_codegen.proofs.calls.raises.Given as goal
 
 abbrev pub invariant-loop-number : goal.invariant-loop-number
 invariant-loop-number l =
-    l.instrs.items ++ map (written (names_of l.context))
+    l.emitter ++ map (written (names_of l.context))
     (marked_raises (seen_program l.context.program.now) l.context.procedure (env l.scopes) (l.first + l.number)
     (map seen_cond (drop l.number l.conds))) ≡
-    l.fn.instrs.items ++ map (written (names_of l.context))
+    l.fn.emitter ++ map (written (names_of l.context))
     (marked_raises (seen_program l.context.program.now) l.context.procedure (env l.scopes) l.first (map seen_cond l.conds))

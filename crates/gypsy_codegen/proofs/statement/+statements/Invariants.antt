@@ -11,8 +11,8 @@ invariant-parts-loop-index l = record {
   names : NamesAreThere (seen_program l.context.program.now) l.context.procedure (seen_statements (drop l.index l.parts.value.items));
   next : l.next + labels (seen_statements (drop l.index l.parts.value.items)) ≡ l.first + labels (seen_statements l.parts.value.items);
   lines :
-      l.instrs.items ++ map (written (names_of l.context))
+      l.emitter ++ map (written (names_of l.context))
       (lines (seen_program l.context.program.now) l.context.procedure (env l.scopes) l.next (seen_statements (drop l.index l.parts.value.items))) ≡
-      l.fn.instrs.items ++ map (written (names_of l.context))
+      l.fn.emitter ++ map (written (names_of l.context))
       (lines (seen_program l.context.program.now) l.context.procedure (env l.scopes) l.first (seen_statements l.parts.value.items));
 }
