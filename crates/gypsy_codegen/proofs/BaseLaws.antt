@@ -1,5 +1,5 @@
 -- What is known of a system and its names, whichever the program.
-use Rattle.std.proofs.Common.{◌≡◌, ℕ, ◌<◌, List, [], ◌∷◌, ◌++◌, length, get_or, Some, refl, ap, ◌∙◌}
+use Rattle.std.proofs.Common.{◌≡◌, ℕ, List, [], ◌∷◌, ◌++◌, length, get_or, Some, refl, ap, ◌∙◌}
 use Rattle.std.specs.Prelude.{IsTrue}
 use Rattle.stack_text.specs.Names.{is_name}
 use Rattle.stack_text.specs.Grammar.Printed.{unplaced}

@@ -1,6 +1,5 @@
 -- The rows of the step machine, one by one.
-use Rattle.std.proofs.Common.{◌≡◌, ℕ, Bool, true, false, List, [], ◌∷◌, refl, subst}
-use Rattle.std.specs.Prelude.{◌&&◌, not, if◌then◌else◌}
+use Rattle.std.proofs.Common.{◌≡◌, ℕ, List, [], ◌∷◌, subst}
 use Rattle.gypsy_syntax.specs.Programs.{ConditionOf, NoOp, Signal, Loop, If, Call, Apply}
 use Rattle.gypsy_space.specs.Costs.{spend}
 use Rattle.gypsy_space.specs.Needs.{lack_of}

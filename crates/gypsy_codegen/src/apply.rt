@@ -86,8 +86,7 @@ fn test_fault(
     which: Predef,
     to: u32,
 ) -> Result<(), Memory>
-    ensures { OnOk result (emitter.new ≡
-        emitter.old ++ code_in context.now (test_code which to)) }
+    ensures { OnOk result (emitter.new ≡ emitter.old ++ code_in context.now (test_code which to)) }
 {
     if !can_fail(which) {
         return Ok(());

@@ -1,9 +1,8 @@
 //! Instructions, put one behind the other.
 
-ghost use Rattle.std.specs.Prelude.{◌≡◌, ◌++◌, [], ◌∷◌, pos, List, None, OnOk, IfOk, option_map};
+ghost use Rattle.std.specs.Prelude.{◌≡◌, ◌++◌, [], ◌∷◌, pos, None, OnOk, IfOk, option_map};
 ghost use Rattle.piton_syntax.specs.declared.argument.ArgText.TheVariants as arg;
 ghost use Rattle.piton_syntax.specs.declared.op.PitonOp.TheVariants as op;
-ghost use Rattle.piton_syntax.specs.Systems.{InstrOf};
 ghost use Rattle.gypsy_predef.specs.Texts.{instruction, constant, of_name, condition_area, number};
 ghost use Rattle.gypsy_codegen.specs.Internal.Views.{labelled};
 ghost use Rattle.gypsy_codegen.specs.Written.{label_name, label_arg};
@@ -16,7 +15,9 @@ use stack_text::{Memory, Named};
 use std::alloc::Global;
 use std::marker::Model;
 
-/// The instructions of a procedure that are there already. A label that is given to a new one stands in front of it.
+/// The instructions of a procedure so far. Contracts see the list of them.
+///
+/// A label that a method is given stands in front of the new instruction.
 #[derive(Drop)]
 pub(crate) struct Emitter {
     alloc: Global,
@@ -24,6 +25,9 @@ pub(crate) struct Emitter {
 }
 
 impl Model for Emitter {
+    ghost use Rattle.std.specs.Prelude.{List};
+    ghost use Rattle.piton_syntax.specs.Systems.{InstrOf};
+
     ghost Value = { List InstrOf };
 
     ghost view = { λ emitter. emitter.instrs.items };
