@@ -19,6 +19,7 @@ use Rattle.gypsy_space.specs.Costs.{Tally, spend, out_spend, main_spend}
 use Rattle.gypsy_space.specs.Needs.{StackSizes, temp_need, local_words, vars_of, with_call, call_need, has_temp_room, has_ctrl_room, lack_of, call_spend}
 use Rattle.gypsy_space.specs.declared.need.Lack.{Lack}
 use Rattle.gypsy_space.specs.declared.need.Lack.TheVariants.{Nothing, Temporary, Control}
+use Rattle.gypsy_space.proofs.SpendLaws.{spend_two}
 use Rattle.gypsy_semantics.specs.Calls.{CurrentCondition, copied_in, copied_out, is_passed_on, matching, main_way, main_formals}
 use Rattle.gypsy_semantics.specs.Machine.{Item, Do, Frame, Held, At, open_on, settle, raise, used}
 use Rattle.gypsy_semantics.specs.Kept.{in_loop, WorkFits}
@@ -37,7 +38,6 @@ use Rattle.gypsy_codegen.proofs.CopyLaws.{copied_back, actuals_below}
 use Rattle.gypsy_codegen.proofs.StackLaws.{push_all-length, push_all-append, values_words, starts-length}
 use Rattle.gypsy_codegen.proofs.LayoutLaws.{height, low_fits, ctrl_is, newest}
 use Rattle.gypsy_codegen.proofs.StepLaws as go
-use Rattle.gypsy_space.proofs.SpendLaws.{spend_two}
 use Rattle.gypsy_codegen.proofs.StepLaws.{P, Pt, state, spent, Goes, steps_on, stay, lands_at, spend_as, three, pushed_dropped, pushed_reverse, program_there}
 use Rattle.gypsy_codegen.proofs.PushLaws.{has_front, has_back, size_words, size_indices, size_actuals, Live, free_temp, here, top, passes, jumps, sets_cc}
 use Rattle.gypsy_codegen.proofs.PushLaws.{words_go, indices_go, actuals_go}

@@ -2,6 +2,7 @@
 use Rattle.std.proofs.Common.{◌≡◌, ℕ, suc, ◌+◌, ◌*◌, ◌≤◌, ◌^◌, List, [], ◌∷◌, ◌++◌, map, length, Bool, true, false, cond, leb, refl, ap, ◌∙◌, arith}
 use Rattle.std.specs.Prelude.{◌==◌}
 use Rattle.std.proofs.lemmas.Bool.{leb-true}
+use Rattle.std.proofs.lemmas.List.{map-append}
 use Rattle.stack_text.specs.declared.shape.Shape.{Shape}
 use Rattle.stack_text.specs.Values.{item_count}
 use Rattle.stack_text.specs.Trees.{Node, atom, node_count, node_counts}
@@ -38,7 +39,6 @@ use Rattle.gypsy_codegen.proofs.SourceLaws.{ProcForm}
 use Rattle.gypsy_codegen.proofs.ResolveLaws.{procedure_count}
 use Rattle.gypsy_codegen.proofs.SourceLaws.{frame_count}
 use Rattle.gypsy_codegen.proofs.CountLaws.{code_least}
-use Rattle.std.proofs.lemmas.List.{map-append}
 
 counts_both : (a b : List Node) → node_counts (nodes (a ++ b)) ≡ node_counts (nodes a) + node_counts (nodes b)
 counts_both [] b = omega arith

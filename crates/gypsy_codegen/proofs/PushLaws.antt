@@ -17,6 +17,7 @@ use Rattle.gypsy_syntax.specs.ProgramFits.{ProgramFits}
 use Rattle.gypsy_syntax.specs.ValuesFit.{VarsFit}
 use Rattle.gypsy_space.specs.Costs.{Tally, spend}
 use Rattle.gypsy_space.specs.Needs.{StackSizes, temp_need, ctrl_need}
+use Rattle.gypsy_space.proofs.SpendLaws.{spend_two, spend_none}
 use Rattle.gypsy_semantics.specs.Machine.{Frame, Held, used}
 use Rattle.gypsy_semantics.specs.Kept.{FramesFit}
 use Rattle.gypsy_semantics.specs.Room.{HasWords, HaveWords}
@@ -30,7 +31,6 @@ use Rattle.gypsy_codegen.proofs.CopyLaws.{Below}
 use Rattle.gypsy_codegen.proofs.LayoutLaws.{height, frame_at, proc_there, Newest, newest}
 use Rattle.std.proofs.lemmas.Bool.{ne_eqb, cond-false}
 use Rattle.gypsy_codegen.proofs.StepLaws as go
-use Rattle.gypsy_space.proofs.SpendLaws.{spend_two, spend_none}
 use Rattle.gypsy_codegen.proofs.StepLaws.{P, Pt, Goes, steps_on, stay, lands_at, spend_as}
 
 pub has_front : (code : List Instruction) (at : ℕ) (a b : List Instruction) → HasAt code at (a ++ b) → HasAt code at a

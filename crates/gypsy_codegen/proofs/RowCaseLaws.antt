@@ -7,13 +7,13 @@ use Rattle.gypsy_space.specs.declared.need.Lack.{Lack}
 use Rattle.gypsy_space.specs.declared.need.Lack.TheVariants.{Nothing, Temporary, Control}
 use Rattle.gypsy_semantics.specs.Machine.{Item, Do, Back, JoinThen, JoinOne, Guard, Out, At, Next, used, either_move, call_step, apply_step, end_step, out_step}
 use Rattle.gypsy_semantics.specs.Machine.{open_on, gypsy_step}
+use Rattle.gypsy_semantics.proofs.Rooms.{nothing_lacks}
 use Rattle.gypsy_codegen.specs.Generated.{generated_view}
 use Rattle.gypsy_codegen.specs.Law.{Follows}
 use Rattle.gypsy_codegen.specs.StepRows.{Top, IsShown, at_work, NoOpRow, SignalRow, LoopRow, BackRow, ThenRow, ElseRow, JoinThenRow, JoinOneRow, GuardRow}
 use Rattle.gypsy_codegen.specs.StepRows.{CallRow, LackTemporaryRow, LackControlRow, WriteRow, FaultRow, BeyondRow, ReturnRow, OutRow, EndRow, MainOutRow}
 use Rattle.gypsy_codegen.proofs.PushLaws.{PredefsRun}
 use Rattle.gypsy_codegen.proofs.RowLaws.{steps_follow}
-use Rattle.gypsy_semantics.proofs.Rooms.{nothing_lacks}
 
 module _ (predefs : PredefsRun) where
   follows : (s : Top) (w : List Item) → IsShown s (at_work s w) → Follows s.source (generated_view s.source s.sizes s.base) s.piton s.spent

@@ -1,11 +1,11 @@
 -- Each step of the step machine is so many steps of the generated system.
 use Rattle.std.proofs.Common.{◌≡◌, ℕ, ◌+◌, List, [], ◌∷◌, ◌++◌, length, Bool, true, false, Some, refl, sym, ap, ◌∙◌, subst, arith}
 use Rattle.std.specs.Prelude.{slice_get, pos}
+use Rattle.std.proofs.lemmas.Option.{slice_get_within, slice_get-get_or}
 use Rattle.stack_text.specs.declared.shape.Kind.{Kind}
 use Rattle.stack_text.specs.declared.shape.Kind.TheVariants.{Boolean}
 use Rattle.stack_text.specs.declared.shape.Shape.{Shape}
 use Rattle.stack_text.specs.Values.{ValueOf, item_count}
-use Rattle.std.proofs.lemmas.Option.{slice_get_within, slice_get-get_or}
 use Rattle.stack_text.proofs.SharedLaws.{get_map}
 use Rattle.piton_words.specs.declared.word.Word.{Word}
 use Rattle.piton_words.specs.declared.word.Word.TheVariants.{Bool as Truth}
@@ -24,6 +24,7 @@ use Rattle.gypsy_space.specs.Costs.{Tally, spend}
 use Rattle.gypsy_space.specs.Needs.{StackSizes, lack_of}
 use Rattle.gypsy_space.specs.declared.need.Lack.{Lack}
 use Rattle.gypsy_space.specs.declared.need.Lack.TheVariants.{Nothing, Temporary, Control}
+use Rattle.gypsy_space.proofs.SpendLaws.{spend_two}
 use Rattle.gypsy_semantics.specs.Calls.{values_of}
 use Rattle.gypsy_semantics.specs.Machine.{Item, Do, Back, JoinThen, JoinOne, Guard, Out, Frame, Held, State, At, Next, open_on, settle, either_move, call_step}
 use Rattle.gypsy_semantics.specs.Machine.{used, do_step, end_step, out_step, gypsy_step}
@@ -38,7 +39,6 @@ use Rattle.gypsy_codegen.specs.Showing.{HasAt, gen_in, Stands, Tops, cc_of}
 use Rattle.gypsy_codegen.specs.Law.{Follows, StepsFollow}
 use Rattle.gypsy_codegen.proofs.LayoutLaws.{reads_at}
 use Rattle.gypsy_codegen.proofs.StepLaws as go
-use Rattle.gypsy_space.proofs.SpendLaws.{spend_two}
 use Rattle.gypsy_codegen.proofs.StepLaws.{P, Pt, state, spent, Goes, steps_on, three}
 use Rattle.gypsy_codegen.proofs.PushLaws.{PredefsRun, Live, free_temp, here, top, passes, jumps, pushes_local}
 use Rattle.gypsy_codegen.proofs.StandLaws.{Opened, moved, after_gen, front_gen, settle_stands, open_stands, Comes, comes_on, leads, lands, raises_leads}

@@ -3,8 +3,8 @@ use Rattle.std.proofs.Common.{◌≡◌, ℕ, zero, suc, ◌+◌, ◌-◌, List,
 use Rattle.std.specs.Prelude.{reverse, ◌==◌}
 use Rattle.std.proofs.lemmas.Bool.{eq-eqb, cond-true}
 use Rattle.std.proofs.lemmas.List.{append-nil}
-use Rattle.stack_text.specs.Values.{ValueOf, item_count}
 use Rattle.std.proofs.lemmas.Option.{slice_get_within}
+use Rattle.stack_text.specs.Values.{ValueOf, item_count}
 use Rattle.piton_words.specs.declared.word.Word.TheVariants.{Nat}
 use Rattle.piton_check.specs.Instruction.{SystemView, ProgramView}
 use Rattle.piton_semantics.specs.State as piton
@@ -16,6 +16,7 @@ use Rattle.gypsy_syntax.specs.Programs.{Program, proc_at, body_of, shapes_of}
 use Rattle.gypsy_syntax.specs.ProgramFits.{ProgramFits}
 use Rattle.gypsy_space.specs.Costs.{Tally, spend, start_tally}
 use Rattle.gypsy_space.specs.Needs.{StackSizes}
+use Rattle.gypsy_space.proofs.SpendLaws.{spend_two, spend_none}
 use Rattle.gypsy_semantics.specs.Calls.{CurrentCondition, main_start}
 use Rattle.gypsy_semantics.specs.Machine.{Item, Do, Back, JoinThen, JoinOne, Guard, Out, Frame, State, At, Move, Next, Ended, Ending, Over, Going, go_on, run}
 use Rattle.gypsy_semantics.specs.Machine.{gypsy_step, start, open_on}
@@ -46,14 +47,12 @@ use Rattle.gypsy_semantics.specs.Machine.{Held, used}
 use Rattle.gypsy_semantics.specs.Kept.{FramesFit}
 use Rattle.gypsy_semantics.proofs.EffectLaws.{value_fits}
 use Rattle.gypsy_semantics.proofs.ReachLaws.{counted_too}
+use Rattle.gypsy_semantics.proofs.LendingLaws.{copied_miss}
 use Rattle.gypsy_predef.specs.Runs.{words_of_value}
 use Rattle.gypsy_codegen.specs.WordsOf.{words_before, local_shapes}
 use Rattle.gypsy_codegen.specs.Memory.{base_of}
-use Rattle.gypsy_semantics.proofs.LendingLaws.{copied_miss}
 use Rattle.gypsy_codegen.proofs.StackLaws.{push_all-length, below_pushed, value_words}
-use Rattle.gypsy_codegen.proofs.LayoutLaws.{height, low_fits, index_fits}
-use Rattle.gypsy_codegen.proofs.LayoutLaws.{reads_at}
-use Rattle.gypsy_space.proofs.SpendLaws.{spend_two, spend_none}
+use Rattle.gypsy_codegen.proofs.LayoutLaws.{height, low_fits, index_fits, reads_at}
 use Rattle.gypsy_codegen.proofs.StepLaws.{steps_append, pushed_reverse, program_is}
 use Rattle.gypsy_codegen.proofs.PushLaws.{Live}
 use Rattle.gypsy_codegen.proofs.StandLaws.{body_stands, tops, leads, raise_leads}

@@ -18,6 +18,7 @@ use Rattle.gypsy_syntax.specs.Programs.{ConditionOf, Arg, Routine, Space, Progra
 use Rattle.gypsy_syntax.specs.Programs.{Stmt, Skip, NoOp, Signal, Seq, Loop, If, Begin, Call, Apply}
 use Rattle.gypsy_space.specs.Costs.{Tally, spend}
 use Rattle.gypsy_space.specs.Needs.{StackSizes, temp_need, local_words, call_need}
+use Rattle.gypsy_space.proofs.SpendLaws.{spend_two}
 use Rattle.gypsy_semantics.specs.Calls.{has_cond, is_leave}
 use Rattle.gypsy_semantics.specs.Machine.{Item, Do, Back, JoinThen, JoinOne, Guard, Out, Frame, State, At, opens, open_on, settle, stop_if, raise}
 use Rattle.gypsy_codegen.specs.WordsOf.{number_of, words_of_values, local_shapes}
@@ -32,7 +33,6 @@ use Rattle.gypsy_codegen.specs.Generated.{generated_view}
 use Rattle.gypsy_codegen.specs.Memory.{stack_of}
 use Rattle.gypsy_codegen.specs.Showing.{HasAt, gen_in, Stands, Tops, cc_of, StandsAs}
 use Rattle.gypsy_codegen.specs.Law.{tally_of, Leads}
-use Rattle.gypsy_space.proofs.SpendLaws.{spend_two}
 use Rattle.gypsy_codegen.proofs.StepLaws.{P, Pt, state, spent, Goes, steps_on, stay}
 use Rattle.gypsy_codegen.proofs.PushLaws.{has_front, has_back, has_all, size_words, size_indices, size_actuals, size_args, Live, free_temp, jumps, sets_cc}
 

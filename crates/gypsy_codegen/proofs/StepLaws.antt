@@ -27,12 +27,12 @@ use Rattle.gypsy_syntax.specs.declared.predef.Predef.TheVariants as row
 use Rattle.gypsy_syntax.specs.Programs.{Program}
 use Rattle.gypsy_space.specs.Costs.{Tally, spend}
 use Rattle.gypsy_space.specs.Needs.{StackSizes}
+use Rattle.gypsy_space.proofs.SpendLaws.{spend_two, spend_none}
 use Rattle.gypsy_predef.specs.Runs.{push_all}
 use Rattle.gypsy_predef.specs.Bodies as predefined
 use Rattle.gypsy_syntax.specs.Predefined.{predef_number}
 use Rattle.gypsy_predef.specs.Bodies.{bodies}
 use Rattle.gypsy_codegen.specs.Generated.{generated_view, generated_program, count_from, code_of}
-use Rattle.gypsy_space.proofs.SpendLaws.{spend_two, spend_none}
 
 -- Tallies.
 

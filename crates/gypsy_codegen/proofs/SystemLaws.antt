@@ -6,6 +6,7 @@ use Rattle.std.specs.List.{list_all}
 use Rattle.std.proofs.lemmas.List.{length-map, length-replicate}
 use Rattle.std.proofs.lemmas.List.Elements.{All-nil, All-cons}
 use Rattle.std.proofs.lemmas.Bool.{le-leb, eq-eqb}
+use Rattle.std.proofs.lemmas.Option.{slice_get_within}
 use Rattle.stack_text.specs.declared.shape.Kind.{Kind}
 use Rattle.stack_text.specs.declared.shape.Kind.TheVariants.{Integer, Boolean, Character}
 use Rattle.stack_text.specs.declared.shape.Shape.{Shape}
@@ -61,7 +62,6 @@ use Rattle.gypsy_codegen.proofs.FineLaws.{values_in_range, all_words}
 use Rattle.gypsy_codegen.proofs.ProgramLaws.{Clean}
 use Rattle.stack_text.specs.Trees.{node_count}
 use Rattle.stack_text.specs.Grammar.Printed.{unplaced}
-use Rattle.std.proofs.lemmas.Option.{slice_get_within}
 use Rattle.stack_text.proofs.SharedLaws.{both_none, get_some}
 use Rattle.piton_syntax.specs.Printed.{tree_of}
 use Rattle.piton_syntax.proofs.MadeLaws.{fits_keeps}

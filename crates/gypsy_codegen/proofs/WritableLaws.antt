@@ -3,6 +3,7 @@ use Rattle.std.proofs.Common.{◌≡◌, ℕ, suc, ◌+◌, ◌<◌, ◌≤◌, 
 use Rattle.std.proofs.Common.{◌∙◌, arith, subst, length-append}
 use Rattle.std.specs.Prelude.{pos}
 use Rattle.std.proofs.lemmas.List.{length-map, map-append}
+use Rattle.std.proofs.lemmas.Option.{slice_get_within}
 use Rattle.stack_text.specs.declared.name.Named.{Named}
 use Rattle.stack_text.specs.declared.shape.Kind.{Kind}
 use Rattle.stack_text.specs.declared.shape.Kind.TheVariants.{Boolean}
@@ -20,7 +21,6 @@ use Rattle.gypsy_syntax.specs.declared.proc.Proc.{Proc}
 use Rattle.gypsy_syntax.specs.Views.SourceView.{proc_of}
 use Rattle.stack_text.proofs.Loops.{drop-item}
 use Rattle.stack_text.specs.Grammar.Printed.{unplaced}
-use Rattle.std.proofs.lemmas.Option.{slice_get_within}
 use Rattle.gypsy_syntax.specs.Programs.{Arg, Var, Lit, Program, no_proc, simple, proc_at, body_of, shapes_of, conds_of}
 use Rattle.gypsy_syntax.specs.Programs.{Stmt, Skip, NoOp, Signal, Seq, Loop, If, Begin, Call, Apply}
 use Rattle.gypsy_syntax.specs.ProgramFits.{Each, ActualsFit, ArgFits, ArgsFit, slot_kind, StmtFits, ProgramFits}

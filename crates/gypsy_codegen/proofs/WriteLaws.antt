@@ -1,7 +1,7 @@
 -- Lines that are written one behind the other.
 use Rattle.std.proofs.Common.{◌≡◌, ℕ, suc, ◌+◌, ◌-◌, ◌<◌, List, ◌∷◌, ◌++◌, length, drop, get_or, replicate, sym, ap, ◌∙◌, append_assoc, arith}
-use Rattle.stack_text.proofs.Loops.{drop-item}
 use Rattle.std.proofs.lemmas.List.{get_or_default}
+use Rattle.stack_text.proofs.Loops.{drop-item}
 
 -- the lines of an item are written: they, and those of what is left, behind what is there
 pub more_next : {X Y : Type 0} (f : List X → List Y) (xs : List X) (n : ℕ) (x : X) (piece old new all : List Y) →

@@ -1,6 +1,6 @@
 use Rattle.std.proofs.Common.{◌≡◌, ℕ, [], ◌∷◌, List, get_or, refl, subst}
-use Rattle.stack_text.proofs.Loops.{drop-item}
 use Rattle.std.proofs.lemmas.List.{get_or_default}
+use Rattle.stack_text.proofs.Loops.{drop-item}
 use Rattle.piton_check.specs.Instruction as i
 use Rattle.gypsy_syntax.specs.ProgramFits.{Each}
 use Rattle.gypsy_space.specs.Nodes.{seen_program}

@@ -1,10 +1,10 @@
 use Rattle.std.proofs.Common.{◌≡◌, ℕ, ◌+◌, ◌<◌, ◌++◌, [], ◌∷◌, List, map, length, drop, get_or, ap, ap₂, sym, ◌∙◌, append_assoc, arith, rules}
+use Rattle.std.proofs.lemmas.List.{get_or_default}
 use Rattle.stack_text.proofs.Loops.{drop-item}
 use Rattle.stack_text.specs.Values.{item_count}
 use Rattle.stack_text.specs.declared.name.Named.{Named}
 use Rattle.stack_text.specs.declared.shape.Shape.{Shape}
 use Rattle.stack_text.specs.Grammar.Printed.{unplaced}
-use Rattle.std.proofs.lemmas.List.{get_or_default}
 use Rattle.piton_syntax.specs.declared.word_text.WordText.{WordText}
 use Rattle.piton_words.specs.declared.word.Word.TheVariants.{Nat}
 use Rattle.gypsy_syntax.specs.Programs.{words_of}
