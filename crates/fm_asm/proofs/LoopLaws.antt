@@ -1,9 +1,8 @@
 -- Loops over lines, and over words.
-use Rattle.std.proofs.Common.{◌≡◌, Bor, ℕ, ◌+◌, ◌<◌, ◌≤◌, List, [], ◌∷◌, ◌++◌, length, map, get_or, take, drop, Option, Some, None, Bool, true, false, cond}
-use Rattle.std.proofs.Common.{is_some, unwrap_or, refl, sym, ap, ◌∙◌, ◌^◌, append_assoc, nat_lt, lt-ltb}
+use Rattle.std.proofs.Common.{◌≡◌, ℕ, ◌+◌, ◌<◌, ◌≤◌, List, [], ◌∷◌, ◌++◌, length, map, get_or, take, drop, Option, Some, None, Bool, true, false, cond}
+use Rattle.std.proofs.Common.{unwrap_or, refl, sym, ap, ◌∙◌, ◌^◌, append_assoc, nat_lt, lt-ltb}
 use Rattle.std.specs.Prelude.{IsTrue}
 use Rattle.std.specs.List.{flat_map}
-use Rattle.std.specs.Str.{bytes_eq}
 use Rattle.std.proofs.lemmas.Bool.{and_from}
 use Rattle.std.proofs.lemmas.List.{append-nil, map_push, take_more, take_all, drop_more, drop_all, get_or_default}
 use Rattle.stack_text.specs.declared.breach.Breach.{Breach}

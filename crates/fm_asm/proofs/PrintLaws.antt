@@ -21,6 +21,7 @@ use Rattle.stack_text.proofs.NumeralTextLaws.{value-signed_decimal}
 use Rattle.fm_words.specs.declared.condition.Flags.{Flags}
 use Rattle.fm_words.specs.Code.{no_flags, decode_of}
 use Rattle.fm_words.specs.Encoding.{encode_of}
+use Rattle.fm_words.specs.Word.{unsigned_32}
 use Rattle.fm_image.specs.Image.{ImageOf}
 use Rattle.fm_image.specs.Limits.{marked_version, is_size, is_inside, is_image}
 use Rattle.fm_image.proofs.LimitLaws.{limits_of}
@@ -28,7 +29,6 @@ use Rattle.fm_show.specs.Digits.{hex_digits}
 use Rattle.fm_show.specs.Disassembly.{disassembly_text}
 use Rattle.fm_image.specs.Spelling.{are_words}
 use Rattle.fm_asm.specs.Cuts.{cut, without_leading_spaces, without_trailing, unless_trailing, trimmed}
-use Rattle.fm_words.specs.Word.{unsigned_32}
 use Rattle.fm_asm.specs.Values.{number, decimal_value}
 use Rattle.fm_asm.specs.Statements.{Statement, base, size, final, start, word, instruction}
 use Rattle.stack_text.specs.Lines.{is_plain_line}

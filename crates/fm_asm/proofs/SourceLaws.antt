@@ -1,6 +1,7 @@
 -- The lines of a text are read, and each statement is due.
 use Rattle.std.proofs.Common.{◌≡◌, ℕ, ◌+◌, true, List, [], ◌∷◌, ◌++◌, length, map, Option, Some, None, Result, Ok, Err, refl, sym, ap, ◌∙◌}
 use Rattle.std.specs.Prelude.{option_to_list}
+use Rattle.std.proofs.lemmas.Bool.{cond-true}
 use Rattle.stack_text.specs.Results.{◌>>=◌}
 use Rattle.fm_image.specs.Limits.{is_size}
 use Rattle.fm_asm.specs.declared.due.Due.{Due}
@@ -11,7 +12,6 @@ use Rattle.fm_asm.specs.Lines.{Said, Line}
 use Rattle.fm_asm.specs.Sources.{if_in_range, final_due, due_after, due_after_line, line_read, word_count, kept, ended, with_lines, lines_read}
 use Rattle.fm_asm.specs.Labels.{number_of}
 use Rattle.fm_asm.specs.Assembly.{IsLine, AreLines, no_line, one_line, statements_of, statement_word}
-use Rattle.std.proofs.lemmas.Bool.{cond-true}
 use Rattle.fm_asm.proofs.LineLaws.{line_said}
 
 -- what a line says, and what is due after it

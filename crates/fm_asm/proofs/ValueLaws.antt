@@ -11,11 +11,11 @@ use Rattle.hex.specs.Hex.{decode_sized, is_hex_digit}
 use Rattle.hex.proofs.HexLemmas.{IsOk-decode_sized}
 use Rattle.stack_text.specs.Names.{is_name, is_name_byte, begins_with_letter}
 use Rattle.stack_text.specs.Numerals.{is_digits}
+use Rattle.stack_text.proofs.SharedLaws.{and_false}
 use Rattle.fm_asm.specs.Cuts.{after_prefix}
 use Rattle.fm_asm.specs.Values.{Value, number, label, decimal_value, decimal_in, number_of_bytes, hex_value, hexadecimal_after, as_number, value_in}
 use Rattle.fm_asm.specs.Assembly.{IsHexadecimal, SpellsValue, decimal, hexadecimal, named}
 use Rattle.fm_asm.proofs.CutLaws.{lacks, after_prefix-append}
-use Rattle.stack_text.proofs.SharedLaws.{and_false}
 
 -- where each byte passes, and this one doesn't, it is lacking
 pub lacks_from : (p : ℕ → Bool) (byte : ℕ) (bytes : List ℕ) → p byte ≡ false → list_all p bytes ≡ true → lacks byte bytes ≡ true

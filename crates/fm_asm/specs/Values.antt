@@ -1,15 +1,15 @@
 -- Values: a number, or a label that stands for one.
-use Rattle.std.specs.Prelude.{ℕ, ℤ, pos, negsuc, ◌^◌, List, Option, Some, None, Result, Ok, Err}
-use Rattle.std.specs.Prelude.{nat_lt, if◌then◌else◌, codes, option_map}
+use Rattle.std.specs.Prelude.{ℕ, List, Option, Some, None, Result, Ok, Err}
+use Rattle.std.specs.Prelude.{if◌then◌else◌, codes, option_map}
 use Rattle.std.specs.Int.{w32, from_be_bytes}
 use Rattle.hex.specs.Hex.{decode_sized}
 use Rattle.hex.specs.declared.error.FromHexError.{FromHexError}
 use Rattle.stack_text.specs.Names.{is_name}
 use Rattle.stack_text.specs.Numerals.{is_digits, numeral_value}
+use Rattle.fm_words.specs.Word.{unsigned_32}
 use Rattle.fm_asm.specs.declared.value.Value as declared
 use Rattle.fm_asm.specs.declared.value.Value.TheVariants as variants
 use Rattle.fm_asm.specs.Cuts.{after_prefix}
-use Rattle.fm_words.specs.Word.{unsigned_32}
 
 -- a number, which is `None` where it has more than 32 bits, or a label
 pub data Value : Type 0 where

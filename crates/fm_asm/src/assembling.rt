@@ -3,13 +3,13 @@
 ghost use Rattle.std.specs.Prelude.{◌≡◌, ◌≤◌, ◌<◌, ◌^◌, ◌++◌, IsTrue, length, take, option_map, OnOk, IfOk};
 ghost use Rattle.std.specs.List.{flat_map};
 ghost use Rattle.stack_text.specs.Breaches.{least};
+ghost use Rattle.name_tables.specs.Entries.{look_up};
 ghost use Rattle.fm_image.specs.Image.{ImageOf};
 ghost use Rattle.fm_image.specs.Limits.{is_size, is_inside};
 ghost use Rattle.fm_asm.specs.Cuts.{without_trailing};
 ghost use Rattle.fm_asm.specs.Statements.{statement_of};
 ghost use Rattle.fm_asm.specs.Lines.{line_of};
 ghost use Rattle.fm_asm.specs.Sources.{source_of, IsOfText};
-ghost use Rattle.name_tables.specs.Entries.{look_up};
 ghost use Rattle.fm_asm.specs.Labels.{breaches, as_word, statement_words, line_words, final_word, start_word, first_value};
 ghost use Rattle.fm_asm.specs.Printing.{is_plain, plain_image};
 ghost use Rattle.fm_asm.specs.Assembly.{IsAssembly};

@@ -3,8 +3,8 @@
 ghost use Rattle.std.specs.Prelude.{◌≡◌, ℕ, List, [], map, option_map, is_some, OnOk, IfOk};
 ghost use Rattle.std.specs.Str.{bytes_eq};
 ghost use Rattle.stack_text.specs.Breaches.{when, Notes};
-ghost use Rattle.fm_asm.specs.Lines.{line_of};
 ghost use Rattle.name_tables.specs.Entries.{look_up};
+ghost use Rattle.fm_asm.specs.Lines.{line_of};
 ghost use Rattle.fm_asm.specs.Labels.{is_labelled, repeated, repeats, Knows};
 ghost use Rattle.stack_text.specs.Options.{first_or};
 

@@ -7,6 +7,7 @@ use Rattle.std.proofs.Math.Nat.{mod-lt}
 use Rattle.std.specs.Prelude.{map, not, is_some, unwrap_or, slice_set, nat_lt, nat_le, slice_index}
 use Rattle.std.specs.List.{list_all}
 use Rattle.std.specs.Int.{from_bool as bit_of}
+use Rattle.fm_words.proofs.FlagsLaws.{bit_small}
 use Rattle.fm_circuit.specs.declared.wire.Wire.{Wire}
 use Rattle.fm_circuit.specs.declared.wire.Wire.TheVariants as w
 use Rattle.fm_circuit.specs.declared.circuit.Pin.{Pin}
@@ -20,7 +21,6 @@ use Rattle.fm_circuit.specs.Board.{Board, cycle, reset_cycle, on_board, register
 use Rattle.fm_circuit.specs.Processor.{driver_of}
 use Rattle.fm_circuit.specs.Following.{AreWords}
 use Rattle.fm_circuit.specs.Sizes.{register_widths, input_widths, has_width, is_choice, is_sized, FitWidths, FitsBoard, Fitting}
-use Rattle.fm_words.proofs.FlagsLaws.{bit_small}
 use Rattle.fm_circuit.proofs.WordsLaws.{words_set, words_with, word_found}
 
 product : (x y m n : ℕ) → x < m → y < n → x * n + y < m * n

@@ -4,13 +4,13 @@ use Rattle.std.specs.Prelude.{nat_le, nat_lt, not, ◌&&◌, ◌||◌, ℤ, pos,
 use Rattle.std.specs.Int.{from_bool as bit_of}
 use Rattle.std.proofs.lemmas.Bool.Decides.{nat_tests}
 use Rattle.std.proofs.lemmas.Int.{ints, int_rem_euclid_is}
+use Rattle.std.proofs.Math.IntN.{+ℤ_idr}
 use Rattle.fm_words.specs.Word.{signed_of, is_int, is_nat, word_of_int, wrapped, are_same_ints}
 use Rattle.fm_words.proofs.WordLaws.{signed_of-word_of_int, wrapped-int}
 use Rattle.fm_words.specs.Alu.{does_hold, are_same}
 use Rattle.fm_words.specs.declared.condition.Cc.TheVariants as cc
 use Rattle.fm_words.specs.declared.condition.Flags.{Flags}
 use Rattle.fm_code.specs.Flags.{flags_of_word, flags_of_difference}
-use Rattle.std.proofs.Math.IntN.{+ℤ_idr}
 
 -- what 32 bits keep of an exact number, from that number with a multiple of 2^32 added
 wrapped_of : (z : ℤ) (j m : ℕ) → z +ℤ pos (j * 2 ^ 32) ≡ pos m → wrapped z ≡ m % 2 ^ 32
@@ -120,7 +120,6 @@ and_bools false true = refl
 and_bools false false = refl
 
 -- sums and differences of integers that are in range
-
 pub sum_number : (x y : ℤ) → is_int x ≡ true → is_int y ≡ true → is_int (x +ℤ y) ≡ true → (word_of_int x + word_of_int y) % 2 ^ 32 ≡ word_of_int (x +ℤ y)
 sum_number x y p q h =
     let e : (word_of_int x + word_of_int y) % 2 ^ 32 ≡ (word_of_int x + word_of_int y + 0) % 2 ^ 32 = omega arith in

@@ -2,6 +2,8 @@
 use Rattle.std.proofs.Common.{◌≡◌, ℕ, ◌+◌, ◌*◌, List, [], ◌∷◌, ◌++◌, length, refl, ap, ◌∙◌, arith, length-append}
 use Rattle.std.specs.Prelude.{replicate, reverse}
 use Rattle.std.proofs.lemmas.List.{length-replicate, length-reverse}
+use Rattle.std.proofs.Math.IntN.{+ℤ_comm}
+use Rattle.fm_words.proofs.FlagsLaws.{bit_small}
 use Rattle.fm_machine.specs.State.{Fm}
 use Rattle.fm_code.specs.InstructionWords.{reg, push, pop as pop_of, mov}
 use Rattle.fm_code.specs.Templates.{prelude_code, temporaries_code, carry_code, mult2_carry_code}
@@ -11,8 +13,6 @@ use Rattle.fm_code.proofs.RunLaws.{RunsToView, executes, with_count, with_temp}
 use Rattle.fm_code.proofs.MoveLaws as moves
 use Rattle.fm_code.proofs.JumpLaws as jumps
 use Rattle.fm_code.proofs.ArithmeticLaws as words
-use Rattle.std.proofs.Math.IntN.{+ℤ_comm}
-use Rattle.fm_words.proofs.FlagsLaws.{bit_small}
 use Rattle.fm_code.proofs.NumberLaws.{same_ints, same_bools, lt_int, sum_number, difference_number, last_bit, or_bools, and_bools, sum_outside}
 use Rattle.fm_code.proofs.NumberLaws.{difference_outside, wrapped_sum, wrapped_difference, nat_sum, nat_sum_outside, nat_difference, nat_difference_outside}
 use Rattle.fm_code.proofs.NumberLaws.{is_zero, is_negative, is_positive, le_is, true_word, false_word}

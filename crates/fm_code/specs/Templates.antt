@@ -5,8 +5,8 @@ use Rattle.fm_words.specs.declared.operation.Op.{Op}
 use Rattle.fm_words.specs.declared.operation.Op.TheVariants.{Move, Inc, Add, Sub, Lsr, Xor, And}
 use Rattle.fm_words.specs.declared.condition.Cc.{Cc}
 use Rattle.fm_words.specs.declared.condition.Cc.TheVariants.{Zs, Cs}
-use Rattle.fm_code.specs.InstructionWords.{reg, at, push, pop, immediate, literal, literal_at, flag_z}
 use Rattle.fm_machine.specs.Masks.{all_flags}
+use Rattle.fm_code.specs.InstructionWords.{reg, at, push, pop, immediate, literal, literal_at, flag_z}
 use Rattle.fm_code.specs.InstructionWords.{flag_c, flags_cv, always, setting, when, mov, add, sub}
 
 -- the word of the literal `=end-k`, which is taken modulo 2^32

@@ -5,6 +5,7 @@ use Rattle.std.proofs.lemmas.Bool.{lt-ltb}
 use Rattle.std.proofs.lemmas.Nat.Bits.{bit_at-lt, bit_at-zero, same_from_bits_below}
 use Rattle.std.specs.Prelude.{map, min, get_or, is_some, unwrap_or, slice_index}
 use Rattle.std.specs.Int.{from_bool as bit_of, bit_at}
+use Rattle.fm_words.proofs.FlagsLaws.{bit_small}
 use Rattle.fm_machine.specs.State.{word_at, with_word}
 use Rattle.fm_circuit.specs.declared.wire.Wire.{Wire}
 use Rattle.fm_circuit.specs.declared.wire.Wire.TheVariants as w
@@ -15,7 +16,6 @@ use Rattle.fm_circuit.specs.Processor.{driver_of}
 use Rattle.fm_circuit.specs.Board.{cycle, cycle_with, cycles, on_board, registers, levels}
 use Rattle.fm_circuit.specs.Following.{AreWords}
 use Rattle.fm_circuit.specs.Sizes.{FitWidths, register_widths, input_widths}
-use Rattle.fm_words.proofs.FlagsLaws.{bit_small}
 use Rattle.fm_circuit.proofs.SettledLaws.{settled_on, only_settled}
 use Rattle.fm_circuit.proofs.SizeLaws.{driven_fits, settled_fits, sized, memory_fits}
 use Rattle.fm_circuit.proofs.WordsLaws.{word_found}

@@ -7,6 +7,7 @@ use Rattle.std.specs.Str.{bytes_eq}
 use Rattle.std.proofs.lemmas.List.{append-nil, drop_all, take_all, take_more, length-map}
 use Rattle.std.proofs.lemmas.Map.Keys.{IsDistinct-head, IsDistinct-tail, apart_from_distinct}
 use Rattle.std.proofs.lemmas.Slice.Eq.{bytes_eq-Decides}
+use Rattle.std.proofs.lemmas.Option.{slice_get_within}
 use Rattle.stack_text.proofs.Loops.{drop-item}
 use Rattle.stack_text.proofs.ResultLoops.{with_front}
 use Rattle.stack_text.specs.declared.shape.Shape.{Shape}
@@ -21,7 +22,6 @@ use Rattle.fm_loader.specs.Rules.{rule_number, Fault, FailsUnless}
 use Rattle.fm_loader.specs.Values.{mismatch, rule_broken, value_or_fault, found_in, is_named, slot_named, rule_of, fault_at, entry_fault, numbers_of}
 use Rattle.fm_loader.specs.Values.{numbers_for, value_with, value_for, all_found, HaveOwnNames}
 use Rattle.stack_text.specs.Results.{unless_fault}
-use Rattle.std.proofs.lemmas.Option.{slice_get_within}
 use Rattle.stack_text.proofs.SharedLaws.{bytes_apart}
 use Rattle.fm_loader.proofs.NameLaws.{named_same}
 

@@ -9,6 +9,7 @@ use Rattle.std.proofs.lemmas.Bool.{and_parts, and_from}
 use Rattle.std.proofs.lemmas.List.{length-map}
 use Rattle.std.proofs.lemmas.Map.Keys.{IsDistinct-tail, apart_from_distinct}
 use Rattle.std.proofs.lemmas.Slice.Eq.{bytes_eq-Decides}
+use Rattle.std.proofs.lemmas.Option.{slice_get_within}
 use Rattle.stack_text.specs.declared.text_fault.TextRule.{TextRule}
 use Rattle.stack_text.specs.declared.shape.Kind.TheVariants.{Integer, Boolean, Character}
 use Rattle.stack_text.specs.declared.shape.Shape.{Shape}
@@ -16,6 +17,7 @@ use Rattle.stack_text.specs.Trees.{Node, Nodes, atom, list, none, more, place_of
 use Rattle.stack_text.specs.TreeIn.{tree_in}
 use Rattle.stack_text.specs.Numerals.{is_digits, is_numeral, numeral_value}
 use Rattle.stack_text.specs.Values.{ValueOf, is_value}
+use Rattle.stack_text.specs.TreeNames.{name_of_tree}
 use Rattle.fm_image.specs.declared.slot.Slot.{Slot}
 use Rattle.fm_loader.specs.declared.parsed.Scalar.{Scalar}
 use Rattle.fm_loader.specs.declared.parsed.ParsedValue.{ParsedValue}
@@ -28,10 +30,8 @@ use Rattle.stack_text.specs.Options as options
 use Rattle.stack_text.specs.Results.{◌>>=◌, unless_fault}
 use Rattle.stack_text.proofs.ResultLaws.{bind_ok}
 use Rattle.stack_text.proofs.OptionLaws.{bind_some}
-use Rattle.std.proofs.lemmas.Option.{slice_get_within}
 use Rattle.stack_text.proofs.SharedLaws.{bytes_apart}
 use Rattle.fm_words.specs.Word.{is_int, signed_32}
-use Rattle.stack_text.specs.TreeNames.{name_of_tree}
 use Rattle.fm_loader.specs.Parsed.{character_of, scalar_of, scalar_at, scalars_of, parsed_value, pair_of, entry_of}
 use Rattle.fm_loader.specs.Values.{entry_at, entries_of, mismatch, rule_broken, slot_named, is_named, rule_of, fault_at, entry_fault, number_of, numbers_of}
 use Rattle.fm_loader.specs.Values.{numbers_for, value_with, value_for, found_in, all_found, values_at, values_on, values_in, HaveOwnNames}

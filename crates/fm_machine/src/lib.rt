@@ -1,7 +1,7 @@
 //! The FM9001 as a machine: sixteen registers, four flags and a window of memory.
 //!
 //! The processor is that of Brock, Hunt and Kaufmann, "The FM9001 Microprocessor Proof"
-//! (Computational Logic, Technical Report 86). `docs/languages/fm9001.md` says what a step does.
+//! (Computational Logic, Inc.). `docs/languages/fm9001.md` says what a step does.
 #![tactic(auto)]
 
 mod fault;

@@ -13,8 +13,8 @@ use Rattle.fm_machine.specs.Step.{then_on, found_word, read_word, with_increment
 use Rattle.fm_machine.specs.Step.{value_b, flags_set, store_at_if, store_at, store_result, effect_of_values, effect_of_rest, effect_of, fm_step}
 use Rattle.fm_machine.specs.declared.fault.Outside.{Outside}
 use Rattle.fm_machine.proofs.WindowLaws.{inside, length-with_word}
-use Rattle.fm_turns.specs.Windows.{widened_words, widened, IsBehind}
 use Rattle.fm_machine.proofs.StepLaws.{found_there}
+use Rattle.fm_turns.specs.Windows.{widened_words, widened, IsBehind}
 
 -- ---- words
 

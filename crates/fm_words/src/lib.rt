@@ -1,7 +1,7 @@
 //! The FM9001's words: its sixteen operations, its sixteen store conditions, and its instructions.
 //!
 //! The processor is that of Brock, Hunt and Kaufmann, "The FM9001 Microprocessor Proof"
-//! (Computational Logic, Technical Report 86). The numbers of the operations, of the conditions
+//! (Computational Logic, Inc.). The numbers of the operations, of the conditions
 //! and of the fields are this repository's, and `docs/languages/fm9001.md` lists them.
 #![tactic(auto)]
 

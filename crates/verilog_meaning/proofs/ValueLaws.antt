@@ -16,8 +16,8 @@ use Rattle.fm_circuit.specs.Circuit.{Kept, above, pin_of, pin_width, chosen, dri
 use Rattle.fm_circuit.specs.Sizes.{has_width, is_choice, is_sized, input_widths}
 use Rattle.fm_circuit.proofs.SizeLaws.{width_is, pin_fits}
 use Rattle.fm_verilog.specs.WireNames.{name_of}
-use Rattle.verilog_meaning.specs.Meaning.{Snapshot, size, value_of}
 use Rattle.fm_verilog.specs.VerilogText.{port_name}
+use Rattle.verilog_meaning.specs.Meaning.{Snapshot, size, value_of}
 use Rattle.verilog_meaning.specs.ProcessorModule.{pin_expression, rows_expression, widened, expression_of}
 
 -- what the wires carry in a snapshot

@@ -1,5 +1,5 @@
 -- The processor's circuit as a module of Verilog.
-use Rattle.std.specs.Prelude.{ℕ, zero, ◌+◌, List, [], ◌∷◌, ◌++◌, map, codes}
+use Rattle.std.specs.Prelude.{ℕ, ◌+◌, List, [], ◌∷◌, ◌++◌, map, codes}
 use Rattle.fm_circuit.specs.declared.wire.Wire as wires
 use Rattle.fm_circuit.specs.declared.circuit.Pin.{Pin}
 use Rattle.fm_circuit.specs.declared.circuit.Pin.TheVariants.{Whole, Bits, Constant}
@@ -9,8 +9,8 @@ use Rattle.fm_circuit.specs.Widths.{width_of, wires as all_wires}
 use Rattle.fm_circuit.specs.Circuit.{pin_width}
 use Rattle.fm_circuit.specs.Processor.{driver_of}
 use Rattle.fm_verilog.specs.WireNames.{name_of}
-use Rattle.verilog_meaning.specs.Syntax as v
 use Rattle.fm_verilog.specs.VerilogText.{port_name}
+use Rattle.verilog_meaning.specs.Syntax as v
 
 -- a pin
 abbrev pub pin_expression : Pin → v.Expression
