@@ -1,7 +1,6 @@
 -- Where `go` ends well, it ran the image of its source on values that fit.
-use Rattle.std.proofs.Common.{◌≡◌, ◌≤◌, ℕ, List, Option, Result, Ok, Err, IfOk, length, inl, inr, refl, sym, ap, ◌∙◌, subst, arith}
+use Rattle.std.proofs.Common.{◌≡◌, ◌≤◌, ℕ, List, Option, Result, Ok, Err, IfOk, length, refl, sym, ◌∙◌, subst, arith}
 use Rattle.std.specs.Prelude.{◌^◌}
-use Rattle.std.proofs.lemmas.Bool.{cases_lt}
 use Rattle.stack_text.specs.Values.{ValueOf}
 use Rattle.fm_loader.specs.Values.{values_in}
 use Rattle.gypsy_syntax.specs.Sources.{SourceOf}

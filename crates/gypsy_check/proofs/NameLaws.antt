@@ -1,6 +1,6 @@
 -- Names and their first positions.
 use Rattle.std.proofs.Common.{◌≡◌, ℕ, ◌<◌, List, [], ◌∷◌, ◌++◌, map, length, get_or, slice_get, bytes_eq}
-use Rattle.std.proofs.Common.{Bool, true, false, ◌||◌, true≢false, Option, Some, None, is_none, unwrap_or, refl, ap, sym, ◌∙◌}
+use Rattle.std.proofs.Common.{true, false, true≢false, Option, Some, None, is_none, unwrap_or, refl, ap, sym, ◌∙◌}
 use Rattle.std.proofs.lemmas.List.Quantifiers.{position-Some}
 use Rattle.std.proofs.lemmas.Slice.Eq.{bytes_eq-Decides}
 use Rattle.stack_text.specs.declared.name.Named.{Named}

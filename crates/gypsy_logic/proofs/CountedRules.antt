@@ -2,7 +2,7 @@
 -- instructions that were taken before. The rules of the predefined procedures serve both: `predef_after ▸ add_rule ..`.
 use Rattle.std.proofs.Common.{◌≡◌, ℕ, zero, suc, ◌+◌, ◌<◌, List, map, length, take, Bool, true, false, Some, None, refl, sym, ap, ◌∙◌, subst, slice_set, arith}
 use Rattle.std.proofs.Common.{◌⊎◌, inl, inr, ⊎_elim}
-use Rattle.std.specs.Prelude.{nat_lt, not, ◌&&◌, ◌==◌, if◌then◌else◌}
+use Rattle.std.specs.Prelude.{nat_lt, ◌==◌}
 use Rattle.stack_text.specs.Values.{ValueOf}
 use Rattle.gypsy_syntax.specs.declared.predef.Predef.{Predef}
 use Rattle.gypsy_syntax.specs.declared.predef.Predef.TheVariants as row
@@ -12,7 +12,6 @@ use Rattle.gypsy_syntax.specs.Predefined.{predef_effect}
 use Rattle.gypsy_syntax.specs.Effects.{Effect, Normal, Fault, Beyond, no_value, value_at, is_true_value}
 use Rattle.gypsy_space.specs.Costs.{Tally, spend, start_tally, count_of, leaving, main_spend}
 use Rattle.gypsy_space.specs.Needs.{StackSizes, main_used, with_call, has_room}
-use Rattle.gypsy_space.specs.declared.need.Lack.TheVariants.{Nothing, Temporary, Control}
 use Rattle.gypsy_semantics.specs.Calls.{CurrentCondition, has_cond, is_passed_on, values_of, target_of, copied_in, copied_out, main_start, main_formals}
 use Rattle.gypsy_semantics.specs.Calls.{main_way}
 use Rattle.gypsy_semantics.specs.Meaning.{Done, Unfinished, applied, evaluate}

@@ -28,7 +28,7 @@ tally n s = record { count = n; steps = s }
 same_tally : (n m s p : ℕ) → n ≡ m → s ≡ p → tally n s ≡ tally m p
 same_tally n m s p e f = ap (λ (i : ℕ). tally i s) e ∙ ap (tally m) f
 
--- what a spending spend_two is what it spend_two from nothing on
+-- what a spending spends is what it spends from nothing on
 spends_so_much : (i p : ℕ) (t : Tally) → spend i p t ≡ spend (spend i p start_tally).count (spend i p start_tally).steps t
 unfolding spend
 spends_so_much i p t = same_tally (t.count + i) (t.count + (0 + i)) (t.steps + p) (t.steps + (0 + p)) (omega arith) (omega arith)

@@ -140,6 +140,8 @@ test_there family.Int test.Pos h = (4, lit< tt, refl)
 test_there family.Int test.NotPos h = (5, lit< tt, refl)
 test_there family.Bool test.T h = (0, lit< tt, refl)
 test_there family.Bool test.F h = (1, lit< tt, refl)
+test_there family.Bitv test.AllZero h = (0, lit< tt, refl)
+test_there family.Bitv test.NotAllZero h = (1, lit< tt, refl)
 test_there f k h = cc
 
 test_taken : (a : Arguments) (k : TestKind) (to : Named) → IsNamed to → takes_test a k ≡ true → FitsArguments a (arg.Test k ∷ arg.Name to ∷ [])

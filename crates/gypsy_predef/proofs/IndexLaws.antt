@@ -34,13 +34,13 @@ module _ (here : Called) (o : ℕ) (body : ChecksIndex here o) (a b c : Word) (n
     (local : slice_get (a ∷ b ∷ c ∷ Int n ∷ Int (pos 0) ∷ []) o ≡ Some (Nat place)) (word : element stack place ≡ Some (Int z))
     (room : length stack + 2 ≤ here.s.temp) where
   -- the locals, before and after the index is kept
-  abbrev first : List Word
+  abbrev pub first : List Word
   first = a ∷ b ∷ c ∷ Int n ∷ Int (pos 0) ∷ []
 
   abbrev pub with_index : List Word
   with_index = a ∷ b ∷ c ∷ Int n ∷ Int z ∷ []
 
-  abbrev failed : PitonState
+  abbrev pub failed : PitonState
   failed = afterwards here stack (with_word areas 0 0 (Nat 1))
 
   fault_is : Steps here.s 3 7 (within here 16 with_index stack areas) failed

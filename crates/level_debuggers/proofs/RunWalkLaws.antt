@@ -13,7 +13,6 @@ use Rattle.piton_semantics.specs.Law.{Steps, none, more, advanced}
 use Rattle.piton_semantics.specs.StateView.{Seen, saturated, seen_after, seen_step}
 use Rattle.piton_semantics.specs.State.{Frame, PitonState}
 use Rattle.piton_semantics.specs.Step.{piton_step, step_cost}
-use Rattle.piton_semantics.specs.Views as views
 use Rattle.level_debuggers.specs.declared.watch.Event.{Event}
 use Rattle.level_debuggers.specs.FmLevels.{FmLevelOf, fm_after, fm_event}
 use Rattle.level_debuggers.specs.Levels.{LevelOf, Piton, Fm, lifted, next_of, stands_at}

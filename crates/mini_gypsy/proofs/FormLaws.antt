@@ -100,109 +100,84 @@ module _ (names : List (List ℕ)) (sorts : List Sort) (named : (i : ℕ) (s : S
       (values_fit 0 e fine.0.sorted (omega (arith, fine.0.shallow)))
       ((temporary_is_name Bool 0 (omega arith), (tt, statements_fit s fine.1), (tt, statements_fit t fine.2)), tt)
 
--- ---- nesting
+-- ---- nesting, and how many atoms and lists
 
 deepest_append : (xs ys : List StmtOf) → deepest (statements (xs ++ ys)) ≡ max (deepest (statements xs)) (deepest (statements ys))
 deepest_append [] ys = omega arith
 deepest_append (x ∷ xs) ys = let rest = deepest_append xs ys in omega (arith, rest)
 
-values_shallow : (names : List (List ℕ)) (k : ℕ) (e : Exp) → deepest (statements (value_parts names k e)) ≤ 1
-unfolding value_parts
-values_shallow names k (Variable s i) = omega arith
-values_shallow names k (Number n) = omega arith
-values_shallow names k (Truth b) = omega arith
-values_shallow names k (Before op e) =
-    let last = new_predef 0 (prefix_row op) (argument (temporary_name (prefix_sort op) k) ∷ argument (temporary_name (sort_of e) k) ∷ []) ∷ [] in
-    let first = values_shallow names k e in
-    omega (arith, deepest_append (value_parts names k e) last, first)
-values_shallow names k (Between op a b) =
-    let last = new_predef 0 (infix_row op) (argument (temporary_name (infix_sort op) k) ∷ argument (temporary_name (sort_of a) k)
-    ∷ argument (temporary_name (sort_of b) (suc k)) ∷ []) ∷ [] in
-    let first = values_shallow names k a in
-    let second = values_shallow names (suc k) b in
-    omega (
-      arith,
-      deepest_append (value_parts names k a) (value_parts names (suc k) b ++ last),
-      deepest_append (value_parts names (suc k) b) last,
-      first,
-      second,
-    )
-
-statements_shallow : (names : List (List ℕ)) (s : Stmt) → deepest (statements (statement_parts names s)) ≤ 1 + 4 * levels s
-unfolding statement_parts
-statements_shallow names Nothing = omega arith
-statements_shallow names (Then s t) =
-    let first = statements_shallow names s in
-    let second = statements_shallow names t in
-    omega (arith, deepest_append (statement_parts names s) (statement_parts names t), first, second)
-statements_shallow names (Assign i e) =
-    let first = values_shallow names 0 e in
-    omega (arith, deepest_append (value_parts names 0 e) (set_name (nth_name names i) (temporary_name (sort_of e) 0) ∷ []), first)
-statements_shallow names (While e s) =
-    let first = values_shallow names 0 e in
-    let second = statements_shallow names s in
-    omega (arith, deepest_append (value_parts names 0 e) (choice_parts (block_parts (statement_parts names s)) leave ∷ []), first, second)
-statements_shallow names (If e s t) =
-    let first = values_shallow names 0 e in
-    let second = statements_shallow names s in
-    let third = statements_shallow names t in
-    omega (
-      arith,
-      deepest_append (value_parts names 0 e)
-          (choice_parts (block_parts (statement_parts names s)) (block_parts (statement_parts names t)) ∷ []),
-      first,
-      second,
-      third,
-    )
-
--- ---- how many atoms and lists
-
 size_append : (xs ys : List StmtOf) → parts_size (statements (xs ++ ys)) ≡ parts_size (statements xs) + parts_size (statements ys)
 size_append [] ys = omega arith
 size_append (x ∷ xs) ys = let rest = size_append xs ys in omega (arith, rest)
 
-values_small : (names : List (List ℕ)) (k : ℕ) (e : Exp) → parts_size (statements (value_parts names k e)) ≤ 5 * size_of e
+-- these nest at most so deep, and have at most so many atoms and lists
+record AreSmall (xs : List StmtOf) (deep long : ℕ) : Type 0 where
+  shallow : deepest (statements xs) ≤ deep
+  short : parts_size (statements xs) ≤ long
+
+values_small : (names : List (List ℕ)) (k : ℕ) (e : Exp) → AreSmall (value_parts names k e) 1 (5 * size_of e)
 unfolding value_parts
-values_small names k (Variable s i) = omega arith
-values_small names k (Number n) = omega arith
-values_small names k (Truth b) = omega arith
+values_small names k (Variable s i) = record { shallow = omega arith; short = omega arith }
+values_small names k (Number n) = record { shallow = omega arith; short = omega arith }
+values_small names k (Truth b) = record { shallow = omega arith; short = omega arith }
 values_small names k (Before op e) =
     let last = new_predef 0 (prefix_row op) (argument (temporary_name (prefix_sort op) k) ∷ argument (temporary_name (sort_of e) k) ∷ []) ∷ [] in
     let first = values_small names k e in
-    omega (arith, size_append (value_parts names k e) last, first)
+    record {
+      shallow = omega (arith, deepest_append (value_parts names k e) last, first.shallow);
+      short = omega (arith, size_append (value_parts names k e) last, first.short);
+    }
 values_small names k (Between op a b) =
     let last = new_predef 0 (infix_row op) (argument (temporary_name (infix_sort op) k) ∷ argument (temporary_name (sort_of a) k)
     ∷ argument (temporary_name (sort_of b) (suc k)) ∷ []) ∷ [] in
     let first = values_small names k a in
     let second = values_small names (suc k) b in
-    omega (arith, size_append (value_parts names k a) (value_parts names (suc k) b ++ last), size_append (value_parts names (suc k) b) last, first, second)
+    let rest = value_parts names (suc k) b ++ last in
+    record {
+      shallow = omega (
+        arith,
+        deepest_append (value_parts names k a) rest,
+        deepest_append (value_parts names (suc k) b) last,
+        first.shallow,
+        second.shallow,
+      );
+      short = omega (arith, size_append (value_parts names k a) rest, size_append (value_parts names (suc k) b) last, first.short, second.short);
+    }
 
-statements_small : (names : List (List ℕ)) (s : Stmt) → parts_size (statements (statement_parts names s)) ≤ 20 * part_count s
+statements_small : (names : List (List ℕ)) (s : Stmt) → AreSmall (statement_parts names s) (1 + 4 * levels s) (20 * part_count s)
 unfolding statement_parts
-statements_small names Nothing = omega arith
+statements_small names Nothing = record { shallow = omega arith; short = omega arith }
 statements_small names (Then s t) =
     let first = statements_small names s in
     let second = statements_small names t in
-    omega (arith, size_append (statement_parts names s) (statement_parts names t), first, second)
+    record {
+      shallow = omega (arith, deepest_append (statement_parts names s) (statement_parts names t), first.shallow, second.shallow);
+      short = omega (arith, size_append (statement_parts names s) (statement_parts names t), first.short, second.short);
+    }
 statements_small names (Assign i e) =
+    let last = set_name (nth_name names i) (temporary_name (sort_of e) 0) ∷ [] in
     let first = values_small names 0 e in
-    omega (arith, size_append (value_parts names 0 e) (set_name (nth_name names i) (temporary_name (sort_of e) 0) ∷ []), first)
+    record {
+      shallow = omega (arith, deepest_append (value_parts names 0 e) last, first.shallow);
+      short = omega (arith, size_append (value_parts names 0 e) last, first.short);
+    }
 statements_small names (While e s) =
+    let last = choice_parts (block_parts (statement_parts names s)) leave ∷ [] in
     let first = values_small names 0 e in
     let second = statements_small names s in
-    omega (arith, size_append (value_parts names 0 e) (choice_parts (block_parts (statement_parts names s)) leave ∷ []), first, second)
+    record {
+      shallow = omega (arith, deepest_append (value_parts names 0 e) last, first.shallow, second.shallow);
+      short = omega (arith, size_append (value_parts names 0 e) last, first.short, second.short);
+    }
 statements_small names (If e s t) =
+    let last = choice_parts (block_parts (statement_parts names s)) (block_parts (statement_parts names t)) ∷ [] in
     let first = values_small names 0 e in
     let second = statements_small names s in
     let third = statements_small names t in
-    omega (
-      arith,
-      size_append (value_parts names 0 e)
-          (choice_parts (block_parts (statement_parts names s)) (block_parts (statement_parts names t)) ∷ []),
-      first,
-      second,
-      third,
-    )
+    record {
+      shallow = omega (arith, deepest_append (value_parts names 0 e) last, first.shallow, second.shallow, third.shallow);
+      short = omega (arith, size_append (value_parts names 0 e) last, first.short, second.short, third.short);
+    }
 
 -- ---- the whole
 
@@ -263,10 +238,10 @@ lowered_fits ds s lawful = record {
       body = (tt, statements_fit names (map (λ (d : Declared). d.sort) ds) (λ i r e. named_at ds i r (all_named ds lawful.names) e) s lawful.fine);
       few_variables = omega (arith, formals_count ds, temporaries_count, lawful.few);
       few_conds = omega arith;
-      shallow = let deep = statements_shallow names s in omega (arith, deep, lawful.shallow);
+      shallow = let small = statements_small names s in omega (arith, small.shallow, lawful.shallow);
     }
 
 pub lowered_small : (ds : List Declared) (s : Stmt) → IsLawful ds s → text_size (lowered ds s) ≤ 2 ^ 31
 lowered_small ds s lawful =
     let parts = statements_small (map (λ (d : Declared). d.name) ds) s in
-    omega (arith, sum_by-cons procedure_size (main_procedure ds s) [], parts, temporaries_small, formals_count ds, lawful.few, lawful.short)
+    omega (arith, sum_by-cons procedure_size (main_procedure ds s) [], parts.short, temporaries_small, formals_count ds, lawful.few, lawful.short)

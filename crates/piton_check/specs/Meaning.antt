@@ -1,5 +1,5 @@
 -- What the words, names and numbers of a system mean: positions of first declarations, and numbers in range.
-use Rattle.std.specs.Prelude.{ℕ, ◌^◌, ℤ, pos, negsuc, List, map, length, get_or, Option, Some, None, nat_lt, nat_le, if◌then◌else◌}
+use Rattle.std.specs.Prelude.{ℕ, ℤ, List, map, length, get_or, Option, Some, None, nat_lt, nat_le, if◌then◌else◌}
 use Rattle.std.specs.Option.{option_map}
 use Rattle.stack_text.specs.SharedLimits.{most_stack}
 use Rattle.fm_words.specs.Word.{signed_32, unsigned_32}

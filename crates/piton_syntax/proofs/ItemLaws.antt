@@ -1,9 +1,9 @@
 -- The items of a list by the first, and those that follow, as they are read and printed.
-use Rattle.std.proofs.Common.{◌≡◌, ◌≢◌, ◌<◌, ◌+◌, ℕ, List, [], ◌∷◌, ◌++◌, length, drop, get_or, map, refl, sym, ap, ◌∙◌, arith}
+use Rattle.std.proofs.Common.{◌≡◌, ◌≢◌, ◌<◌, ◌+◌, ℕ, Bool, true, false, List, [], ◌∷◌, ◌++◌, length, drop, get_or, map, refl, sym, ap, ◌∙◌, arith}
 use Rattle.std.specs.Prelude.{◌==◌, if◌then◌else◌, Result, Ok, Err}
-use Rattle.std.proofs.lemmas.Bool.{ne_eqb}
+use Rattle.std.proofs.lemmas.Bool.{eqb-true, eqb-false, ne_eqb}
 use Rattle.stack_text.specs.declared.breach.Breach.{Breach}
-use Rattle.stack_text.specs.Trees.{Node, more}
+use Rattle.stack_text.specs.Trees.{Node, none, more}
 use Rattle.stack_text.specs.TreeText.{spaced_text, tree_text}
 use Rattle.stack_text.specs.Views.TreeView.{node_of, nodes, nodes_of}
 use Rattle.stack_text.specs.Grammar.Judged.{Judged, ◌⊛◌}
@@ -12,12 +12,22 @@ use Rattle.stack_text.specs.Grammar.Reading.{Finds}
 use Rattle.stack_text.proofs.Loops.{drop-item}
 use Rattle.stack_text.proofs.PrintLaws.{apart_by}
 use Rattle.stack_text.specs.declared.tree.TextTree.{TextTree}
-use Rattle.stack_text.proofs.TreeListLaws.{rest, rest_is_drop}
+use Rattle.stack_text.proofs.TreeListLaws.{no_parts, rest, rest_is_drop}
 
-pub first_and_rest : (ts : List TextTree) (first : TextTree) → length ts ≢ 0 → first ≡ get_or ts 0 first
+first_and_rest : (ts : List TextTree) (first : TextTree) → length ts ≢ 0 → first ≡ get_or ts 0 first
     → nodes_of ts ≡ more (node_of first) (nodes_of (rest 1 ts))
 first_and_rest [] first ne is = absurd (ne refl)
 first_and_rest (t ∷ ts) first ne is = rw (is, rest_is_drop 1 (t ∷ ts)) refl
+
+-- a list that was found empty has no items
+pub no_items : (ts : List TextTree) {empty : Bool} → empty ≡ (length ts == 0) → empty ≡ true → nodes_of ts ≡ none
+no_items ts test is = no_parts ts (eqb-true (length ts) 0 (sym test ∙ is))
+
+-- one that was not has the first, which was matched, and the others
+pub first_item : (ts : List TextTree) (first : TextTree) {matched : TextTree} {node : Node} {empty : Bool} → empty ≡ (length ts == 0) → empty ≡ false
+    → first ≡ get_or ts 0 first → first ≡ matched → node_of matched ≡ node → nodes_of ts ≡ more node (nodes_of (rest 1 ts))
+first_item ts first test is_not is matches seen =
+    first_and_rest ts first (eqb-false (length ts) 0 (sym test ∙ is_not)) is ∙ ap (λ (n : Node). more n (nodes_of (rest 1 ts))) (ap node_of matches ∙ seen)
 
 -- an item is printed behind a space where it is not the first: it, and what is left, after what is there
 pub items_next : {X : Type 0} (tree : X → Node) (xs : List X) (n : ℕ) (x : X) (out apart text all : List ℕ) → n < length xs → x ≡ get_or xs n x

@@ -1,6 +1,6 @@
 -- What is found along the calls of an accepted program is its least certificate, or its first recursive procedure.
-use Rattle.std.proofs.Common.{◌≡◌, ℕ, zero, suc, ◌+◌, ◌*◌, ◌<◌, ◌≤◌, max, if◌then◌else◌, ◌==◌, List, [], ◌∷◌, ◌++◌, map, length, get_or, take, reverse, Bool}
-use Rattle.std.proofs.Common.{true, false, Option, Some, None, inl, inr, refl, ap, sym, ◌∙◌, subst, arith, eq-eqb}
+use Rattle.std.proofs.Common.{◌≡◌, ℕ, zero, suc, ◌+◌, ◌*◌, ◌<◌, ◌≤◌, max, List, [], ◌∷◌, ◌++◌, map, length, get_or, take, reverse, Bool}
+use Rattle.std.proofs.Common.{true, false, Option, Some, None, inl, inr, refl, ap, sym, ◌∙◌, subst, arith}
 use Rattle.std.proofs.lemmas.Bool.{cases_eq}
 use Rattle.std.proofs.lemmas.List.{length-map, length-reverse, length-take, reverse-append, reverse-reverse, take_all}
 use Rattle.std.proofs.lemmas.List.Elements.{All-nil, All-cons, All-head, All-tail, All-append, All-take, All-contains, Contains-push, Contains-append_left}
@@ -8,8 +8,6 @@ use Rattle.std.specs.List.{All, Contains}
 use Rattle.std.specs.Option.{unwrap_or}
 use Rattle.stack_text.specs.declared.shape.Shape.{Shape}
 use Rattle.stack_text.specs.Values.{ValueOf}
-use Rattle.gypsy_syntax.specs.declared.predef.Predef.{Predef}
-use Rattle.gypsy_syntax.specs.declared.predef.Predef.TheVariants as row
 use Rattle.gypsy_syntax.specs.Predefined.{predef_temp, predef_ctrl}
 use Rattle.gypsy_syntax.specs.Programs.{Proc, Program, no_proc, proc_at, body_of, shapes_of, conds_of}
 use Rattle.gypsy_syntax.specs.Programs.{Stmt, Skip, NoOp, Signal, Seq, Loop, If, Begin, Call, Apply}
@@ -96,9 +94,6 @@ module _ (q : Program) where
       ap (λ bs. with_bound bs p (run_bound_by ns bs (call_of (body_calls q) p) p)) old ∙ ap (with_bound (bounds_of_order q before) p) run
 
   -- No bound is large.
-
-  not_both : true ≡ false → ⊥
-  not_both e = cc
 
   pub small_words : (p : Proc) → ProcFits q p → local_words p + vars_of p ≤ 131072
   small_words p h =

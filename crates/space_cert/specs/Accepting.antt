@@ -1,5 +1,5 @@
 -- Whether a certificate covers a source, as the code judges it: by the source's names and by its needs.
-use Rattle.std.specs.Prelude.{ℕ, zero, suc, ◌+◌, nat_le, List, [], ◌∷◌, ◌++◌, map, length, Option, Some, None}
+use Rattle.std.specs.Prelude.{ℕ, zero, suc, ◌+◌, List, [], ◌∷◌, ◌++◌, map, length, Option, Some, None}
 use Rattle.std.specs.Prelude.{Bool, true, false, ◌&&◌, ◌==◌}
 use Rattle.std.specs.List.{list_all}
 use Rattle.gypsy_syntax.specs.Resolved.{position_of, procedure_names}

@@ -1,38 +1,26 @@
-use Rattle.std.proofs.Common.{[], length, refl, sym, ◌∙◌}
-use Rattle.std.proofs.lemmas.Bool.{eqb-false, eqb-true}
-use Rattle.stack_text.proofs.TreeListLaws.{no_parts}
+use Rattle.std.proofs.Common.{[], refl, sym, ◌∙◌}
 use Rattle.stack_text.proofs.TreeViewLaws.{node_of-atom, node_of-list}
-use Rattle.piton_syntax.proofs.ItemLaws.{first_and_rest}
+use Rattle.piton_syntax.proofs.ItemLaws.{no_items, first_item}
 use Rattle.piton_syntax.proofs.reading.instruction.instruction_at.Goals as goal
 
 pub returns-then-is_empty : goal.returns-then-is_empty
-returns-then-is_empty g c =
-    rw (
-      c.into.ensures,
-      c.no_instruction.ensures,
-      no_parts c.args.items.now
-          (eqb-true (length c.args.items.now) 0 (sym c.is_empty.ensures ∙ c.if-is_empty.true)),
-    ) ([], refl)
+returns-then-is_empty g c = rw (c.into.ensures, c.no_instruction.ensures, no_items c.args.items.now c.is_empty.ensures c.if-is_empty.true) ([], refl)
 
 pub returns-in-List : goal.returns-in-List
 returns-in-List g c =
     rw (
       c.into-in-List.ensures,
       c.no_instruction-in-List.ensures,
-      first_and_rest c.args.items.now c.index-items-0.result
-          (eqb-false (length c.args.items.now) 0 (sym c.is_empty.ensures ∙ c.if-is_empty.false)) c.index-items-0.is,
-      c.in-List.is,
-      node_of-list c.in-List.place c.in-List.items,
+      first_item c.args.items.now c.index-items-0.result c.is_empty.ensures c.if-is_empty.false c.index-items-0.is c.in-List.is
+          (node_of-list c.in-List.place c.in-List.items),
     )
     ([], refl)
 
 pub returns-then-is_label_word : goal.returns-then-is_label_word
 returns-then-is_label_word g c =
     rw (
-      first_and_rest c.args.items.now c.index-items-0.result (eqb-false (length c.args.items.now) 0 (sym c.is_empty.ensures ∙ c.if-is_empty.false))
-          c.index-items-0.is,
-      c.in-Atom.is,
-      node_of-atom c.in-Atom.place c.in-Atom.text,
+      first_item c.args.items.now c.index-items-0.result c.is_empty.ensures c.if-is_empty.false c.index-items-0.is c.in-Atom.is
+          (node_of-atom c.in-Atom.place c.in-Atom.text),
       sym c.is_label_word.ensures ∙ c.if-is_label_word.true,
     )
     c.labelled.ensures
@@ -40,10 +28,8 @@ returns-then-is_label_word g c =
 pub returns-else-is_label_word : goal.returns-else-is_label_word
 returns-else-is_label_word g c =
     rw (
-      first_and_rest c.args.items.now c.index-items-0.result (eqb-false (length c.args.items.now) 0 (sym c.is_empty.ensures ∙ c.if-is_empty.false))
-          c.index-items-0.is,
-      c.in-Atom.is,
-      node_of-atom c.in-Atom.place c.in-Atom.text,
+      first_item c.args.items.now c.index-items-0.result c.is_empty.ensures c.if-is_empty.false c.index-items-0.is c.in-Atom.is
+          (node_of-atom c.in-Atom.place c.in-Atom.text),
       sym c.is_label_word.ensures ∙ c.if-is_label_word.false,
     )
     c.unlabelled.ensures

@@ -1,33 +1,24 @@
-use Rattle.std.proofs.Common.{[], length, refl, sym, ◌∙◌}
-use Rattle.std.proofs.lemmas.Bool.{eqb-false, eqb-true}
+use Rattle.std.proofs.Common.{[], refl, sym}
 use Rattle.std.proofs.lemmas.Result.{err_from_is_err_and}
 use Rattle.stack_text.specs.Views.TreeView.{nodes_of}
 use Rattle.stack_text.proofs.PartLaws.{first_of_value}
-use Rattle.stack_text.proofs.TreeListLaws.{no_parts, rest}
+use Rattle.stack_text.proofs.TreeListLaws.{rest}
 use Rattle.stack_text.proofs.TreeViewLaws.{node_of-atom, node_of-list}
 use Rattle.piton_syntax.specs.Grammar.{item_of}
 use Rattle.piton_syntax.specs.Systems.{new_word}
-use Rattle.piton_syntax.proofs.ItemLaws.{first_and_rest}
+use Rattle.piton_syntax.proofs.ItemLaws.{no_items, first_item}
 use Rattle.piton_syntax.proofs.reading.word.word_at.Goals as goal
 
 pub returns-then-is_empty : goal.returns-then-is_empty
-returns-then-is_empty g c =
-    rw (
-      c.into.ensures,
-      c.no_word.ensures,
-      no_parts c.args.items.now
-          (eqb-true (length c.args.items.now) 0 (sym c.is_empty.ensures ∙ c.if-is_empty.true)),
-    ) ([], refl)
+returns-then-is_empty g c = rw (c.into.ensures, c.no_word.ensures, no_items c.args.items.now c.is_empty.ensures c.if-is_empty.true) ([], refl)
 
 pub returns-in-List : goal.returns-in-List
 returns-in-List g c =
     rw (
       c.into-in-List.ensures,
       c.no_word-in-List.ensures,
-      first_and_rest c.args.items.now c.index-items-0.result
-          (eqb-false (length c.args.items.now) 0 (sym c.is_empty.ensures ∙ c.if-is_empty.false)) c.index-items-0.is,
-      c.in-List.is,
-      node_of-list c.in-List.place c.in-List.items,
+      first_item c.args.items.now c.index-items-0.result c.is_empty.ensures c.if-is_empty.false c.index-items-0.is c.in-List.is
+          (node_of-list c.in-List.place c.in-List.items),
     )
     ([], refl)
 
@@ -37,10 +28,8 @@ returns-in_err-item-in-Atom g c =
     rw (
       p.1,
       p.2,
-      first_and_rest c.args.items.now c.index-items-0.result (eqb-false (length c.args.items.now) 0 (sym c.is_empty.ensures ∙ c.if-is_empty.false))
-          c.index-items-0.is,
-      c.in-Atom.is,
-      node_of-atom c.in-Atom.place c.in-Atom.text,
+      first_item c.args.items.now c.index-items-0.result c.is_empty.ensures c.if-is_empty.false c.index-items-0.is c.in-Atom.is
+          (node_of-atom c.in-Atom.place c.in-Atom.text),
       sym c.tag_named.ensures,
     )
     (first_of_value (g.H.Heap.may_refuse c.args.heap) c.in_err-item-in-Atom.field-0.0 (new_word c.args.place)
@@ -49,10 +38,8 @@ returns-in_err-item-in-Atom g c =
 pub returns-in_ok-item-in-Atom : goal.returns-in_ok-item-in-Atom
 returns-in_ok-item-in-Atom g c =
     rw (
-      first_and_rest c.args.items.now c.index-items-0.result (eqb-false (length c.args.items.now) 0 (sym c.is_empty.ensures ∙ c.if-is_empty.false))
-          c.index-items-0.is,
-      c.in-Atom.is,
-      node_of-atom c.in-Atom.place c.in-Atom.text,
+      first_item c.args.items.now c.index-items-0.result c.is_empty.ensures c.if-is_empty.false c.index-items-0.is c.in-Atom.is
+          (node_of-atom c.in-Atom.place c.in-Atom.text),
       sym c.tag_named.ensures,
       c.in_ok-item-in-Atom.ensures,
     )
