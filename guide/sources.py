@@ -6,6 +6,10 @@ from functools import cache
 from catalog import GUIDE
 
 LANGUAGE = GUIDE.parent / "docs/languages/gypsy.md"
+# The block under "Syntax", a form of a statement in it, and a row of the table of predefined procedures.
+SYNTAX = re.compile(r"^## Syntax\n.*?^```text\n(.*?)^```$", re.M | re.S)
+FORM = re.compile(r"^(?:statement)? +(\(([a-z-]+)\b.*\))$", re.M)
+ROW = re.compile(r"^\| (`mg-[^|]*) \| (`[^|]*) \| ([^|]*) \|", re.M)
 TOKEN = re.compile(rb";[^\n]*|[()]|[^\s();]+")
 TYPES = {"int": "integer", "bool": "boolean", "char": "character", "string": "(array character LENGTH)", "real": "integer", "float": "integer"}
 WHILE = "A while is a loop that is left: (loop (seq (mg-integer-le b y x) (if b (signal leave) (no-op)) ..)) goes on while x < y."
@@ -27,17 +31,13 @@ ELSEWHERE = {
 
 @cache
 def forms():
-    """The form of each statement, and what each predefined procedure takes, by their first words."""
-    known = {}
-    for line in LANGUAGE.read_text(encoding="utf-8").splitlines():
-        form = re.match(r"(?:statement)? +(\((no-op|signal|seq|loop|if|begin|call)\b.*\))$", line)
-        row = re.match(r"\| (`mg-[^|]*) \| (`[^|]*) \| ([^|]*) \|", line)
-        if form:
-            known.setdefault(form.group(2), form.group(1))
-        elif row:
-            literal = "; every argument is a variable" if row.group(3) == "none" else f"; {row.group(3)} is a literal"
-            for name in re.findall(r"`(mg-[a-z-]+)`", row.group(1)):
-                known.setdefault(name, f"({name} {row.group(2).split('`')[1]}){row.group(2).split('`', 2)[2]}{literal}")
+    """The form of each statement, by the block under "Syntax", and what each predefined procedure takes, by its row, by their first words."""
+    page = LANGUAGE.read_text(encoding="utf-8")
+    known = {head: form for form, head in FORM.findall(SYNTAX.search(page).group(1))}
+    for names, arguments, which in ROW.findall(page):
+        literal = "; every argument is a variable" if which == "none" else f"; {which} is a literal"
+        _, taken, kinds = arguments.split("`", 2)
+        known |= {name: f"({name} {taken}){kinds}{literal}" for name in re.findall(r"`(mg-[a-z-]+)`", names)}
     return known
 
 
