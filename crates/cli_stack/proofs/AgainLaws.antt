@@ -28,7 +28,7 @@ use Rattle.space_cert.specs.CertAgain.{CertificatesAreReadAgain}
 use Rattle.space_cert.specs.CertText.{bounds_in, certificate_text}
 use Rattle.space_cert.specs.Certified.{certified}
 use Rattle.space_cert.specs.Covers.{Bounds, Covers, IsAtMost, sizes_for}
-use Rattle.space_cert.specs.Least.{IsLeast, IsFirstRecursive}
+use Rattle.space_cert.specs.Least.{AreLeastBounds, IsFirstRecursive}
 use Rattle.space_cert.proofs.AcceptLaws.{covered_is}
 use Rattle.space_cert.proofs.CertAgainLaws.{certificates_again}
 use Rattle.space_cert.proofs.CertifiedLaws.{certified_is}
@@ -214,7 +214,8 @@ module _ (source certificate : List ℕ) (watches : List Watching) (files : File
       by_bounds s read (Ok bounds) is done =
           let q = program_of s in
           let accepted = source_is_accepted text (omega (arith, was.1)) s read in
-          let least : IsLeast q bounds = subst (λ (r : Result Bounds ℕ). MatchResult r (IsLeast q) (IsFirstRecursive q)) is (certified_is q accepted.fits) in
+          let least : AreLeastBounds q bounds =
+              subst (λ (r : Result Bounds ℕ). MatchResult r (AreLeastBounds q) (IsFirstRecursive q)) is (certified_is q accepted.fits) in
           let covers : Covers q bounds (sizes_for q bounds) = covers_main q bounds least in
           let reads = again s bounds accepted is in
           let written : List ℕ = certificate_text (procedure_names s) bounds in

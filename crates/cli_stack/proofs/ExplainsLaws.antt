@@ -47,7 +47,7 @@ use Rattle.level_debuggers.specs.Levels.{LevelOf, Fm, has_places, lifted, next_o
 use Rattle.level_debuggers.specs.FmLevels.{FmLevelOf, fm_after, word_lines}
 use Rattle.level_debuggers.specs.RunWalks.{MachinesArrive, MachinesWalk, WalksTo}
 use Rattle.level_debuggers.specs.ScriptSteps.{ArrivalsAreSaid, AskForSteps, GoesOn, SaysAfter, StepsAreSaid, TextStays, UpIsSaid, WordsAreSaid}
-use Rattle.level_debuggers.specs.ScriptSteps.{all_asked, steps_of, stepped_lines, until_line, up_line, line_of_words}
+use Rattle.level_debuggers.specs.ScriptSteps.{all_asked, steps_of_lines, stepped_lines, until_line, up_line, line_of_words}
 use Rattle.level_debuggers.specs.Steps as step
 use Rattle.level_debuggers.specs.Steps.{Over, Stops, Makes}
 use Rattle.level_debuggers.specs.Texts.{mark_text}
@@ -366,7 +366,7 @@ module _ (implement : BuiltImplements) (take : BuiltTakesValues) (moments : Buil
   -- so at a line of `up`
   up_says : (before after : List Line) (said text : List ℕ) (number : ℕ) (asks : Asks files script_name before (up_line number) after)
       (to : SaysTo level is.built.text (stack_sizes control temporary) is.values_text watches before said)
-      → up_text (walk (steps_of before to.run) to.run).level ≡ text → BeginsWith (answer_to debug watches files).text (said ++ text)
+      → up_text (walk (steps_of_lines before to.run) to.run).level ≡ text → BeginsWith (answer_to debug watches files).text (said ++ text)
   up_says before after said text number asks to same =
       let s : SessionOf = session_on to.run watches in
       let made : Followed = followed [] before s in
@@ -376,10 +376,10 @@ module _ (implement : BuiltImplements) (take : BuiltTakesValues) (moments : Buil
   -- where the processor stands behind the lines, so does the session
   stands_there : level ≡ Fm9001 → (before : List Line) (said : List ℕ) (state : fm.Fm)
       (to : SaysTo level is.built.text (stack_sizes control temporary) is.values_text watches before said)
-      → StandsAfter (steps_of before to.run) (loaded is.image is.values) is.image.final_pc state
-      → (walk (steps_of before to.run) to.run).level ≡ Fm record { image = is.image; state = state }
+      → StandsAfter (steps_of_lines before to.run) (loaded is.image is.values) is.image.final_pc state
+      → (walk (steps_of_lines before to.run) to.run).level ≡ Fm record { image = is.image; state = state }
   stands_there at before said state to stands =
-      let n : ℕ = steps_of before to.run in
+      let n : ℕ = steps_of_lines before to.run in
       let is_run : run_in Fm9001 is.built.text (stack_sizes control temporary) is.values_text ≡ Ok to.run
       = subst (λ (l : Level). run_in l is.built.text (stack_sizes control temporary) is.values_text ≡ Ok to.run) at to.begins in
       let begins : to.run ≡ image_run is.image is.values
@@ -390,7 +390,7 @@ module _ (implement : BuiltImplements) (take : BuiltTakesValues) (moments : Buil
   words_says : level ≡ Fm9001 → (before after : List Line) (said : List ℕ) (number address count : ℕ) (state : fm.Fm)
       (asks : Asks files script_name before (line_of_words number address count) after)
       (to : SaysTo level is.built.text (stack_sizes control temporary) is.values_text watches before said)
-      → StandsAfter (steps_of before to.run) (loaded is.image is.values) is.image.final_pc state
+      → StandsAfter (steps_of_lines before to.run) (loaded is.image is.values) is.image.final_pc state
       → BeginsWith (answer_to debug watches files).text (said ++ word_lines state address count)
   words_says at before after said number address count state asks to stands =
       let s : SessionOf = session_on to.run watches in
@@ -403,7 +403,7 @@ module _ (implement : BuiltImplements) (take : BuiltTakesValues) (moments : Buil
   until_says : (before after : List Line) (said : List ℕ) (number limit k : ℕ) (there : Place) (here : LevelOf)
       (asks : Asks files script_name before (until_line number there limit) after)
       (to : SaysTo level is.built.text (stack_sizes control temporary) is.values_text watches before said)
-      → (walk (steps_of before to.run) to.run).level ≡ here → has_places here there ≡ true → IsFirstArrival there k here → k ≤ limit
+      → (walk (steps_of_lines before to.run) to.run).level ≡ here → has_places here there ≡ true → IsFirstArrival there k here → k ≤ limit
       → BeginsWith (answer_to debug watches files).text (said ++ arrival_text (arrival.There k))
   until_says before after said number limit k there here asks to leads has first within =
       let s : SessionOf = session_on to.run watches in
@@ -415,7 +415,7 @@ module _ (implement : BuiltImplements) (take : BuiltTakesValues) (moments : Buil
   address_says : level ≡ Fm9001 → (before after : List Line) (said : List ℕ) (number address limit k : ℕ) (state there : fm.Fm)
       (asks : Asks files script_name before (until_line number (place.Number address) limit) after)
       (to : SaysTo level is.built.text (stack_sizes control temporary) is.values_text watches before said)
-      → StandsAfter (steps_of before to.run) (loaded is.image is.values) is.image.final_pc state
+      → StandsAfter (steps_of_lines before to.run) (loaded is.image is.values) is.image.final_pc state
       → IsFirst state address k there → Avoids state is.image.final_pc k → k ≤ limit
       → BeginsWith (answer_to debug watches files).text (said ++ arrival_text (arrival.There k))
   address_says at before after said number address limit k state there asks to stands first apart within =
@@ -430,17 +430,17 @@ module _ (implement : BuiltImplements) (take : BuiltTakesValues) (moments : Buil
   debug_explains : ExplainsRun level files script_name source_name values_name (stack_sizes control temporary) is watches (answer_to debug watches files)
   debug_explains = record {
     up = λ before after said number j g asks to stands steps.
-        let b = begun j (steps_of before to.run) g stands steps in
+        let b = begun j (steps_of_lines before to.run) g stands steps in
         let same : b.0.run ≡ to.run = run_same b.0.run to.run b.1 to.begins in
         up_says before after said (state_text is.source g) number asks to
-        (ap (λ (l : LevelOf). up_text (walk (steps_of before to.run) l).level) (sym same) ∙ b.0.says.says);
+        (ap (λ (l : LevelOf). up_text (walk (steps_of_lines before to.run) l).level) (sym same) ∙ b.0.says.says);
     up_at_end = λ before after said number j finals way spent asks to stands enough.
         up_says before after said (lines_of_reading is.image (meaning_shown is.source finals way)) number asks to
         (ended_text implement take ends walks source_name values_name control temporary files is level j
-        (steps_of before to.run) finals way spent to.run to.begins stands enough);
+        (steps_of_lines before to.run) finals way spent to.run to.begins stands enough);
     up_at_top = λ at before after said number asks to.
         up_says before after said gypsy_up number asks to
-        (top_says level at is.built.text (stack_sizes control temporary) is.values_text to.run (steps_of before to.run) to.begins);
+        (top_says level at is.built.text (stack_sizes control temporary) is.values_text to.run (steps_of_lines before to.run) to.begins);
     words = words_says;
     until = until_says;
     until_address = address_says;

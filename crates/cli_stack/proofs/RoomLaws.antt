@@ -31,7 +31,7 @@ use Rattle.space_cert.specs.Accepting.{is_covered}
 use Rattle.space_cert.specs.Certified.{certified}
 use Rattle.space_cert.specs.CertText.{bounds_in}
 use Rattle.space_cert.specs.Covers.{Bounds, sizes_for, Covers}
-use Rattle.space_cert.specs.Least.{IsLeast, IsFirstRecursive}
+use Rattle.space_cert.specs.Least.{AreLeastBounds, IsFirstRecursive}
 use Rattle.space_cert.specs.Never.{NeverSpaceError}
 use Rattle.space_cert.proofs.AcceptLaws.{covered_is}
 use Rattle.space_cert.proofs.CertifiedLaws.{certified_is}
@@ -173,7 +173,7 @@ module _ (implement : BuiltImplements) (take : BuiltTakesValues) (watches : List
       build_recursive fault.Memory h = cc
 
       by_certified : (source : SourceOf) → accepted_source text ≡ Ok source → ProgramFits (program_of source) → (found : Result Bounds ℕ)
-          → MatchResult found (IsLeast (program_of source)) (IsFirstRecursive (program_of source))
+          → MatchResult found (AreLeastBounds (program_of source)) (IsFirstRecursive (program_of source))
           → TellsNeed files name certificate (answer_with (set_file (Some (Certificate, certificate)) (bounds_stored source found)) (bounds_reply source found))
       by_certified source read fits (Ok bounds) least = record {
         done = λ h. record {

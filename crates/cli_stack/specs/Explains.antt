@@ -23,7 +23,7 @@ use Rattle.level_debuggers.specs.Arrivals.{IsFirstArrival}
 use Rattle.level_debuggers.specs.FmLevels.{word_lines}
 use Rattle.level_debuggers.specs.GypsyLevels.{gypsy_up}
 use Rattle.level_debuggers.specs.Levels.{LevelOf, has_places}
-use Rattle.level_debuggers.specs.ScriptSteps.{AskForSteps, all_asked, steps_of, stepped_lines}
+use Rattle.level_debuggers.specs.ScriptSteps.{AskForSteps, all_asked, steps_of_lines, stepped_lines}
 use Rattle.level_debuggers.specs.ScriptSteps.{until_line, up_line, line_of_words}
 use Rattle.level_debuggers.specs.Tallies.{Watching}
 use Rattle.level_debuggers.specs.Transcripts.{arrival_text}
@@ -91,12 +91,13 @@ pub record ExplainsRun (level : Level) (files : Files) (name source_name values_
   -- condition, and the variables
   pub up : (before after : List Line) (said : List ℕ) (number j : ℕ) (g : State) → Asks files name before (up_line number) after
       → (to : SaysTo level is.built.text sizes is.values_text watches before said)
-      → moment_from (program_of is.source) sizes is.values j ≡ Next g → steps_to level g ≡ Some (steps_of before to.run)
+      → moment_from (program_of is.source) sizes is.values j ≡ Next g → steps_to level g ≡ Some (steps_of_lines before to.run)
       → BeginsWith answer.text (said ++ state_text is.source g)
   -- where they lead as many as it takes to the end, or more: the report's condition and variables
   pub up_at_end : (before after : List Line) (said : List ℕ) (number j : ℕ) (finals : List ValueOf) (way : CurrentCondition) (spent : Tally)
       → Asks files name before (up_line number) after → (to : SaysTo level is.built.text sizes is.values_text watches before said)
-      → moment_from (program_of is.source) sizes is.values j ≡ Ended finals way spent → LeadsToEnd level spent (steps_of before to.run)
+      → moment_from (program_of is.source) sizes is.values j ≡ Ended finals way spent
+      → LeadsToEnd level spent (steps_of_lines before to.run)
       → BeginsWith answer.text (said ++ lines_of_reading is.image (meaning_shown is.source finals way))
   -- at the level of the source, whose listing has all of that, that there is nothing to read
   pub up_at_top : level ≡ Gypsy → (before after : List Line) (said : List ℕ) (number : ℕ) → Asks files name before (up_line number) after
@@ -106,19 +107,19 @@ pub record ExplainsRun (level : Level) (files : Files) (name source_name values_
   pub words : level ≡ Fm9001 → (before after : List Line) (said : List ℕ) (number address count : ℕ) (state : Fm)
       → Asks files name before (line_of_words number address count) after
       → (to : SaysTo level is.built.text sizes is.values_text watches before said)
-      → StandsAfter (steps_of before to.run) (loaded is.image is.values) is.image.final_pc state
+      → StandsAfter (steps_of_lines before to.run) (loaded is.image is.values) is.image.final_pc state
       → BeginsWith answer.text (said ++ word_lines state address count)
   -- to a line of `until`, where the run stands at the place first after k steps more, and that is not too far: that it has arrived
   pub until : (before after : List Line) (said : List ℕ) (number limit k : ℕ) (there : Place) (here : LevelOf)
       → Asks files name before (until_line number there limit) after
       → (to : SaysTo level is.built.text sizes is.values_text watches before said)
-      → (walk (steps_of before to.run) to.run).level ≡ here → has_places here there ≡ true → IsFirstArrival there k here → k ≤ limit
+      → (walk (steps_of_lines before to.run) to.run).level ≡ here → has_places here there ≡ true → IsFirstArrival there k here → k ≤ limit
       → BeginsWith answer.text (said ++ arrival_text (There k))
   -- so at the level of the processor, where its r15 is an address first after k instructions more, and the end does not come before
   pub until_address : level ≡ Fm9001 → (before after : List Line) (said : List ℕ) (number address limit k : ℕ) (state there : Fm)
       → Asks files name before (until_line number (Number address) limit) after
       → (to : SaysTo level is.built.text sizes is.values_text watches before said)
-      → StandsAfter (steps_of before to.run) (loaded is.image is.values) is.image.final_pc state
+      → StandsAfter (steps_of_lines before to.run) (loaded is.image is.values) is.image.final_pc state
       → IsFirst state address k there → Avoids state is.image.final_pc k → k ≤ limit
       → BeginsWith answer.text (said ++ arrival_text (There k))
   -- lines that ask for steps alone, as many as lead to a state, are carried out, and `stepped N` is said to each

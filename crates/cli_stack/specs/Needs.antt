@@ -12,7 +12,7 @@ use Rattle.gypsy_space.specs.Needs.{StackSizes, stack_sizes}
 use Rattle.gypsy_semantics.specs.Calls.{CurrentCondition}
 use Rattle.space_cert.specs.CertText.{certificate_text}
 use Rattle.space_cert.specs.Covers.{Bounds, sizes_for}
-use Rattle.space_cert.specs.Least.{IsLeast, IsFirstRecursive}
+use Rattle.space_cert.specs.Least.{AreLeastBounds, IsFirstRecursive}
 use Rattle.space_cert.specs.Never.{NeverSpaceError}
 use Rattle.stack_build.specs.Build.{accepted_source}
 use Rattle.command_line.specs.declared.command.Command.{Command}
@@ -56,7 +56,7 @@ pub record TellsSizes (files : Files) (name certificate : List ℕ) (answer : An
   pub sizes : StackSizes
   pub room : HasRoom files name sizes
   pub bounds : Bounds
-  pub least : IsLeast (program_of room.source) bounds
+  pub least : AreLeastBounds (program_of room.source) bounds
   pub enough : sizes ≡ sizes_for (program_of room.source) bounds
   pub text : answer.text ≡ sizes_text sizes
   pub stored : answer.output ≡ Some (certificate, certificate_text (procedure_names room.source) bounds)

@@ -13,7 +13,7 @@ use Rattle.fm_asm.specs.Lines.{Line, line_of}
 use Rattle.fm_asm.specs.Sources.{SourceOf, source_of, IsOfText}
 use Rattle.fm_asm.specs.Labels.{offset_of, repeats, line_breaches, breaches, line_words, words_of, final_word, start_word, first_value, final_in, start_in}
 use Rattle.fm_asm.specs.Printing.{plain_image}
-use Rattle.fm_asm.specs.Assembling.{judged}
+use Rattle.fm_asm.specs.Assembling.{image_unless}
 use Rattle.fm_asm.proofs.SoundLaws.{IsFit, source_fits}
 
 flat_map-map : {X Y Z : Type 0} (g : X → Y) (f : Y → List Z) (xs : List X) → flat_map f (map g xs) ≡ flat_map (λ x. f (g x)) xs
@@ -67,8 +67,8 @@ module _ (s : Source) (lines : List declared.Line) (known : List ℕ → Option 
 
 -- the least breach is the fault
 pub is_refused : (s : SourceOf) (best : Option Breach) (breach : Breach) → best ≡ Some breach → least (breaches s) ≡ best
-    → judged s (least (breaches s)) ≡ Err breach
-is_refused s best breach is e = ap (judged s) (e ∙ is)
+    → image_unless s (least (breaches s)) ≡ Err breach
+is_refused s best breach is e = ap (image_unless s) (e ∙ is)
 
 -- there is none, and the source is fit for an image
 pub is_fit : (s : SourceOf) (best : Option Breach) → IsOfText s → best ≡ None → least (breaches s) ≡ best → IsFit s
@@ -76,10 +76,10 @@ is_fit s best read none e = source_fits s read (none_least (breaches s) (e ∙ n
 
 pub is_built : (s : SourceOf) (best : Option Breach) (f x : ℕ) (ws trimmed : List ℕ) (image : ImageOf) → best ≡ None → least (breaches s) ≡ best
     → f ≡ final_in s.base (offset_of s.lines) s.lines → x ≡ start_in s.base (offset_of s.lines) s.lines → ws ≡ words_of s → trimmed ≡ without_trailing 0 ws
-    → image ≡ plain_image s.base s.size f x trimmed → judged s (least (breaches s)) ≡ Ok image
+    → image ≡ plain_image s.base s.size f x trimmed → image_unless s (least (breaches s)) ≡ Ok image
 is_built s best f x ws trimmed image none e ends begins words short is =
     let found : ImageOf → Result ImageOf Breach = λ i. Ok i in
-    ap (judged s) (e ∙ none)
+    ap (image_unless s) (e ∙ none)
     ∙ ap found (ap (λ (w : ℕ). plain_image s.base s.size w (start_in s.base (offset_of s.lines) s.lines) (without_trailing 0 (words_of s))) (sym ends)
     ∙ ap (λ (w : ℕ). plain_image s.base s.size f w (without_trailing 0 (words_of s))) (sym begins)
     ∙ ap (λ (vs : List ℕ). plain_image s.base s.size f x (without_trailing 0 vs)) (sym words)

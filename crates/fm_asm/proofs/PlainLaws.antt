@@ -12,7 +12,7 @@ use Rattle.fm_asm.specs.Cuts.{unless_trailing, without_trailing}
 use Rattle.fm_asm.specs.Sources.{SourceOf, source_in}
 use Rattle.fm_asm.specs.Labels.{breaches, words_of}
 use Rattle.fm_asm.specs.Printing.{is_zero, ends_in_zero, is_plain}
-use Rattle.fm_asm.specs.Assembling.{GivesAssembly, image_of, judged, assembly_of}
+use Rattle.fm_asm.specs.Assembling.{GivesAssembly, image_of, image_unless, assembly_of}
 
 no_zero : (w : ℕ) (ws : List ℕ) → ends_in_zero ws ≡ false → ends_in_zero (unless_trailing 0 w ws) ≡ false
 no_zero w [] h = by_test (w == 0) refl
@@ -38,13 +38,13 @@ pub assembled_is_plain : (text : List ℕ) (image : ImageOf) → assembly_of tex
 unfolding assembly_of
 assembled_is_plain text image h = by_source (source_in text) h
   where
-    by_least : (s : SourceOf) (o : Option Breach) → judged s o ≡ Ok image → is_plain image ≡ true
+    by_least : (s : SourceOf) (o : Option Breach) → image_unless s o ≡ Ok image → is_plain image ≡ true
     by_least s (Some fault) k = absurd cc
     by_least s None k =
         let same : image_of s ≡ image = ap (λ (r : Result ImageOf Breach). result_unwrap_or r image) k in
         ap is_plain (sym same) ∙ image_is_plain s
 
-    by_source : (r : Result SourceOf Breach) → (r >>= λ s. judged s (least (breaches s))) ≡ Ok image → is_plain image ≡ true
+    by_source : (r : Result SourceOf Breach) → (r >>= λ s. image_unless s (least (breaches s))) ≡ Ok image → is_plain image ≡ true
     by_source (Err fault) k = absurd cc
     by_source (Ok s) k = by_least s (least (breaches s)) k
 

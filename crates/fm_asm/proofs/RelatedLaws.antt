@@ -22,7 +22,7 @@ use Rattle.fm_asm.specs.Lines.{Line}
 use Rattle.fm_asm.specs.Sources.{due_after, SourceOf, source_in, IsOfText}
 use Rattle.fm_asm.specs.Labels.{is_labelled, offset_of, repeated, repeats, number_of, line_breaches, breaches, as_word, statement_words, words_of, final_in}
 use Rattle.fm_asm.specs.Labels.{start_in, is_outside}
-use Rattle.fm_asm.specs.Assembling.{GivesAssembly, image_of, judged, assembly_of}
+use Rattle.fm_asm.specs.Assembling.{GivesAssembly, image_of, image_unless, assembly_of}
 use Rattle.fm_asm.specs.Assembly.{statements_of, labels_of, are_distinct, statement_word, IsAssembly}
 use Rattle.fm_asm.proofs.SourceLaws.{dues}
 use Rattle.fm_asm.proofs.JudgingLaws.{words-lines, final_by, final-lines, start_by, start-lines, as_word-fits, word_total, is_good, is_fresh}
@@ -221,13 +221,13 @@ pub assembled_is_spelled : (text : List ℕ) (image : ImageOf) → assembly_of t
 unfolding assembly_of
 assembled_is_spelled text image h = by_source (source_in text) refl h
   where
-    by_least : (s : SourceOf) → source_in text ≡ Ok s → (o : Option Breach) → least (breaches s) ≡ o → judged s o ≡ Ok image → IsAssembly text image
+    by_least : (s : SourceOf) → source_in text ≡ Ok s → (o : Option Breach) → least (breaches s) ≡ o → image_unless s o ≡ Ok image → IsAssembly text image
     by_least s is (Some fault) e k = absurd cc
     by_least s is None e k =
         let same : image_of s ≡ image = ap (λ (r : Result ImageOf Breach). result_unwrap_or r image) k in
         subst (IsAssembly text) same (good_source text s is (none_least (breaches s) e))
 
-    by_source : (r : Result SourceOf Breach) → source_in text ≡ r → (r >>= λ s. judged s (least (breaches s))) ≡ Ok image → IsAssembly text image
+    by_source : (r : Result SourceOf Breach) → source_in text ≡ r → (r >>= λ s. image_unless s (least (breaches s))) ≡ Ok image → IsAssembly text image
     by_source (Err fault) is k = absurd cc
     by_source (Ok s) is k = by_least s is (least (breaches s)) refl k
 

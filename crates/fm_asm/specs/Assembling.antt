@@ -28,11 +28,11 @@ image_of s =
     plain_image s.base s.size (final_in s.base known s.lines) (start_in s.base known s.lines) (without_trailing 0 (words_of s))
 
 -- the image of a source without a breach, and else the least breach
-abbrev pub judged : SourceOf → Option Breach → Result ImageOf Breach
-judged s None = Ok (image_of s)
-judged s (Some fault) = Err fault
+abbrev pub image_unless : SourceOf → Option Breach → Result ImageOf Breach
+image_unless s None = Ok (image_of s)
+image_unless s (Some fault) = Err fault
 
 -- the image that a text is assembled to, or its least fault: place before rule, and rules 4 to 7 only where no line breaks rules 1
 -- to 3
 unfoldable pub assembly_of : List ℕ → Result ImageOf Breach
-assembly_of text = source_in text >>= λ s. judged s (least (breaches s))
+assembly_of text = source_in text >>= λ s. image_unless s (least (breaches s))

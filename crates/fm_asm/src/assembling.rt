@@ -13,7 +13,7 @@ ghost use Rattle.fm_asm.specs.Sources.{source_of, IsOfText};
 ghost use Rattle.fm_asm.specs.Labels.{breaches, as_word, statement_words, line_words, final_word, start_word, first_value};
 ghost use Rattle.fm_asm.specs.Printing.{is_plain, plain_image};
 ghost use Rattle.fm_asm.specs.Assembly.{IsAssembly};
-ghost use Rattle.fm_asm.specs.Assembling.{GivesAssembly, judged, assembly_of};
+ghost use Rattle.fm_asm.specs.Assembling.{GivesAssembly, image_unless, assembly_of};
 
 use crate::fault::AsmFault;
 use crate::judging::{judge, number_of};
@@ -167,7 +167,7 @@ fn image(
 fn judged(alloc: Global, source: &Source<'_, '_>) -> Result<Image, AsmFault>
     requires { IsOfText (source_of source.now) }
     ensures { GivesAssembly (λ image. image) result
-        (judged (source_of source.now) (least (breaches (source_of source.now)))) }
+        (image_unless (source_of source.now) (least (breaches (source_of source.now)))) }
 {
     let Source { base, size, lines } = source;
     let (base, size, lines) = (*base, *size, lines.as_slice());

@@ -18,8 +18,9 @@ use Rattle.gypsy_semantics.specs.Meaning.{Done, Unfinished, applied, evaluate}
 use Rattle.gypsy_semantics.specs.Counted.{CountedDone, uncounted, counted_main_end, counted_meaning}
 use Rattle.gypsy_semantics.proofs.CountLaws.{meaning-uncounted}
 use Rattle.gypsy_logic.specs.Ends.{Ends, Either, Given, opened, formals_of, passed, Means}
-use Rattle.gypsy_logic.specs.Counts.{RunsAfter, joined, call_count, return_count, end_count, predef_count, CountedCondition, CountedExit, EndsAfter, ThenAfter}
-use Rattle.gypsy_logic.specs.Counts.{JoinedAfter, HandledAfter, RoundAfter, AgainAfter, StandsAfter, PaidAfter, ReturnedAfter, CountedOutcomeOf, MeetsAfter}
+use Rattle.gypsy_logic.specs.Counts.{RunsAfter, join_count, call_count, return_count, end_count, predef_count, CountedCondition, CountedExit, EndsAfter}
+use Rattle.gypsy_logic.specs.Counts.{ThenAfter, JoinedAfter, HandledAfter, RoundAfter, AgainAfter, StandsAfter, PaidAfter, ReturnedAfter}
+use Rattle.gypsy_logic.specs.Counts.{CountedOutcomeOf, MeetsAfter}
 use Rattle.gypsy_logic.specs.Counts.{GivesAfter, MainEndsAfter, MeansAfter}
 use Rattle.gypsy_logic.proofs.CountedTableLaws.{takes_counts}
 use Rattle.gypsy_logic.proofs.Rules.{way_ended, copied_taken}
@@ -61,13 +62,13 @@ module _ {q : Program} {sizes u : StackSizes} where
   pub if_true_after : {place b : ℕ} {s w : Stmt} {x : List ValueOf} {k : ℕ} {Q : CountedExit} → is_true_value (value_at x b) ≡ true
       → EndsAfter q sizes u s x (k + 8) (JoinedAfter 2 Q) → EndsAfter q sizes u (If place b s w) x k Q
   if_true_after {place = place} {b = b} {s = s} {w = w} {x = x} {k = k} {Q = Q} e h =
-      ended_after (If place b s w) x h.vars k (8 + h.taken + joined h.way 2) (k + 8 + h.taken + joined h.way 2) h.way Q
+      ended_after (If place b s w) x h.vars k (8 + h.taken + join_count h.way 2) (k + 8 + h.taken + join_count h.way 2) h.way Q
       ((takes_counts q sizes).if_true place b s w u x h.vars h.way h.taken e h.runs) (omega arith) h.holds
 
   pub if_false_after : {place b : ℕ} {s w : Stmt} {x : List ValueOf} {k : ℕ} {Q : CountedExit} → is_true_value (value_at x b) ≡ false
       → EndsAfter q sizes u w x (k + 9) (JoinedAfter 1 Q) → EndsAfter q sizes u (If place b s w) x k Q
   if_false_after {place = place} {b = b} {s = s} {w = w} {x = x} {k = k} {Q = Q} e h =
-      ended_after (If place b s w) x h.vars k (9 + h.taken + joined h.way 1) (k + 9 + h.taken + joined h.way 1) h.way Q
+      ended_after (If place b s w) x h.vars k (9 + h.taken + join_count h.way 1) (k + 9 + h.taken + join_count h.way 1) h.way Q
       ((takes_counts q sizes).if_false place b s w u x h.vars h.way h.taken e h.runs) (omega arith) h.holds
 
   pub if_after : {place b : ℕ} {s w : Stmt} {x : List ValueOf} {k : ℕ} {Q : CountedExit}
@@ -90,7 +91,7 @@ module _ {q : Program} {sizes u : StackSizes} where
     where
       pick : (t : Bool) → has_cond c cs ≡ t → Either t (EndsAfter q sizes u w y (k + n + 3) (JoinedAfter 1 Q)) (Q y (Some c) (k + n))
           → EndsAfter q sizes u (Begin place s cs w) x k Q
-      pick true e l = ended_after (Begin place s cs w) x l.vars k (n + 3 + l.taken + joined l.way 1) (k + n + 3 + l.taken + joined l.way 1) l.way Q
+      pick true e l = ended_after (Begin place s cs w) x l.vars k (n + 3 + l.taken + join_count l.way 1) (k + n + 3 + l.taken + join_count l.way 1) l.way Q
           ((takes_counts q sizes).begin_handles place s cs w u x y l.vars c l.way n l.taken e r l.runs) (omega arith) l.holds
       pick false e l = record { vars = y; way = Some c; taken = n; runs = (takes_counts q sizes).begin_stops place s cs w u x y c n e r; holds = l }
 

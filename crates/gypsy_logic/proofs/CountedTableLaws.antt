@@ -16,7 +16,7 @@ use Rattle.gypsy_semantics.specs.Calls.{CurrentCondition, has_cond, is_leave, is
 use Rattle.gypsy_semantics.specs.Counted.{CountedOutcome, CountedDone, counted_then, counted_part, counted_either, counted_caught, counted_round_end}
 use Rattle.gypsy_semantics.specs.Counted.{counted_applied, counted_returned, counted_if_room, counted_evaluate}
 use Rattle.gypsy_logic.specs.Ends.{passed}
-use Rattle.gypsy_logic.specs.Counts.{RunsAfter, joined, call_count, return_count, predef_count}
+use Rattle.gypsy_logic.specs.Counts.{RunsAfter, join_count, call_count, return_count, predef_count}
 use Rattle.gypsy_logic.specs.CountedTable.{TakesCounts}
 use Rattle.gypsy_space.proofs.SpendLaws.{spend_two, spend_none}
 
@@ -35,7 +35,7 @@ spends_so_much i p t = same_tally (t.count + i) (t.count + (0 + i)) (t.steps + p
 
 -- a part that a join follows
 part_done : (x : List ValueOf) (c : CurrentCondition) (j p i r : ℕ) (t : Tally) → counted_part (CountedDone x c (spend i r t)) (spend j p)
-    ≡ CountedDone x c (spend (i + joined c j) (r + joined c p) t)
+    ≡ CountedDone x c (spend (i + join_count c j) (r + join_count c p) t)
 part_done x None j p i r t = ap (CountedDone x None) (spend_two j p i r t)
 part_done x (Some c) j p i r t = ap (CountedDone x (Some c)) (spend_none (spend i r t) ∙ spend_two 0 0 i r t)
 
@@ -72,21 +72,21 @@ module _ (q : Program) (sizes : StackSizes) where
   -- an arm: what is spent before it, and the join
   arm_done : (m : ℕ) (s : Stmt) (u : StackSizes) (x y : List ValueOf) (c : CurrentCondition) (n i p j k : ℕ) (r : RunsAfter q sizes u s x y c n)
       (t : Tally) → r.bound ≤ m → counted_part (counted_evaluate q sizes m s u x (spend i p t)) (spend j k)
-      ≡ CountedDone y c (spend (i + n + joined c j) (p + r.steps + joined c k) t)
+      ≡ CountedDone y c (spend (i + n + join_count c j) (p + r.steps + join_count c k) t)
   arm_done m s u x y c n i p j k r t le =
       ap (λ (o : CountedOutcome). counted_part o (spend j k)) (r.done m (spend i p t) le ∙ ap (CountedDone y c) (spend_two n r.steps i p t))
       ∙ part_done y c j k (i + n) (p + r.steps) t
 
   if_true : (place b : ℕ) (s w : Stmt) (u : StackSizes) (x y : List ValueOf) (c : CurrentCondition) (n : ℕ) → is_true_value (value_at x b) ≡ true
-      → RunsAfter q sizes u s x y c n → RunsAfter q sizes u (If place b s w) x y c (8 + n + joined c 2)
-  if_true place b s w u x y c n e r = from_bound (If place b s w) u x y c (8 + n + joined c 2) r.bound (3 + r.steps + joined c 2) (λ m t le.
+      → RunsAfter q sizes u s x y c n → RunsAfter q sizes u (If place b s w) x y c (8 + n + join_count c 2)
+  if_true place b s w u x y c n e r = from_bound (If place b s w) u x y c (8 + n + join_count c 2) r.bound (3 + r.steps + join_count c 2) (λ m t le.
       ap (λ (d : Bool). counted_either d (counted_part (counted_evaluate q sizes (suc m) s u x (spend 8 3 t)) (spend 2 2))
       (counted_part (counted_evaluate q sizes (suc m) w u x (spend 9 4 t)) (spend 1 1))) e
       ∙ arm_done (suc m) s u x y c n 8 3 2 2 r t (omega arith))
 
   if_false : (place b : ℕ) (s w : Stmt) (u : StackSizes) (x y : List ValueOf) (c : CurrentCondition) (n : ℕ) → is_true_value (value_at x b) ≡ false
-      → RunsAfter q sizes u w x y c n → RunsAfter q sizes u (If place b s w) x y c (9 + n + joined c 1)
-  if_false place b s w u x y c n e r = from_bound (If place b s w) u x y c (9 + n + joined c 1) r.bound (4 + r.steps + joined c 1) (λ m t le.
+      → RunsAfter q sizes u w x y c n → RunsAfter q sizes u (If place b s w) x y c (9 + n + join_count c 1)
+  if_false place b s w u x y c n e r = from_bound (If place b s w) u x y c (9 + n + join_count c 1) r.bound (4 + r.steps + join_count c 1) (λ m t le.
       ap (λ (d : Bool). counted_either d (counted_part (counted_evaluate q sizes (suc m) s u x (spend 8 3 t)) (spend 2 2))
       (counted_part (counted_evaluate q sizes (suc m) w u x (spend 9 4 t)) (spend 1 1))) e
       ∙ arm_done (suc m) w u x y c n 9 4 1 1 r t (omega arith))
@@ -137,9 +137,9 @@ module _ (q : Program) (sizes : StackSizes) where
 
   begin_handles : (place : ℕ) (s : Stmt) (cs : List ConditionOf) (w : Stmt) (u : StackSizes) (x y z : List ValueOf) (c : ConditionOf)
       (d : CurrentCondition) (n k : ℕ) → has_cond c cs ≡ true → RunsAfter q sizes u s x y (Some c) n → RunsAfter q sizes u w y z d k
-      → RunsAfter q sizes u (Begin place s cs w) x z d (n + 3 + k + joined d 1)
+      → RunsAfter q sizes u (Begin place s cs w) x z d (n + 3 + k + join_count d 1)
   begin_handles place s cs w u x y z c d n k e r l =
-      from_bound (Begin place s cs w) u x z d (n + 3 + k + joined d 1) (r.bound + l.bound) (r.steps + 2 + l.steps + joined d 1) (λ m t le.
+      from_bound (Begin place s cs w) u x z d (n + 3 + k + join_count d 1) (r.bound + l.bound) (r.steps + 2 + l.steps + join_count d 1) (λ m t le.
       guard_done m s cs w u x y c n true r t (omega arith) e
       ∙ ap (λ (a : Tally). counted_part (counted_evaluate q sizes (suc m) w u y a) (spend 1 1)) (spend_two 3 2 n r.steps t)
       ∙ arm_done (suc m) w u y z d k (n + 3) (r.steps + 2) 1 1 l t (omega arith))

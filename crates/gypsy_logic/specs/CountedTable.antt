@@ -12,7 +12,7 @@ use Rattle.gypsy_space.specs.Needs.{StackSizes, with_call, lack_of}
 use Rattle.gypsy_space.specs.declared.need.Lack.TheVariants.{Nothing, Temporary, Control}
 use Rattle.gypsy_semantics.specs.Calls.{CurrentCondition, has_cond, is_leave, values_of, target_of, copied_in, copied_out}
 use Rattle.gypsy_logic.specs.Ends.{passed}
-use Rattle.gypsy_logic.specs.Counts.{RunsAfter, joined, call_count, return_count, predef_count}
+use Rattle.gypsy_logic.specs.Counts.{RunsAfter, join_count, call_count, return_count, predef_count}
 
 -- the rows of a program, for stacks of these sizes
 pub record TakesCounts (q : Program) (sizes : StackSizes) : Type 0 where
@@ -26,10 +26,10 @@ pub record TakesCounts (q : Program) (sizes : StackSizes) : Type 0 where
       RunsAfter q sizes u a x y (Some c) n → RunsAfter q sizes u (Seq a b) x y (Some c) n
   pub if_true : (place b : ℕ) (s w : Stmt) (u : StackSizes) (x y : List ValueOf) (c : CurrentCondition) (n : ℕ) →
       is_true_value (value_at x b) ≡ true → RunsAfter q sizes u s x y c n →
-      RunsAfter q sizes u (If place b s w) x y c (count_of event.IfTrue + n + joined c (count_of event.JoinThen))
+      RunsAfter q sizes u (If place b s w) x y c (count_of event.IfTrue + n + join_count c (count_of event.JoinThen))
   pub if_false : (place b : ℕ) (s w : Stmt) (u : StackSizes) (x y : List ValueOf) (c : CurrentCondition) (n : ℕ) →
       is_true_value (value_at x b) ≡ false → RunsAfter q sizes u w x y c n →
-      RunsAfter q sizes u (If place b s w) x y c (count_of event.IfFalse + n + joined c (count_of event.JoinOne))
+      RunsAfter q sizes u (If place b s w) x y c (count_of event.IfFalse + n + join_count c (count_of event.JoinOne))
   pub loop_on : (place : ℕ) (s : Stmt) (u : StackSizes) (x y z : List ValueOf) (c : CurrentCondition) (n m : ℕ) →
       RunsAfter q sizes u s x y None n → RunsAfter q sizes u (Loop place s) y z c m →
       RunsAfter q sizes u (Loop place s) x z c (count_of event.LoopRound + n + count_of event.LoopBack + m)
@@ -43,7 +43,7 @@ pub record TakesCounts (q : Program) (sizes : StackSizes) : Type 0 where
       RunsAfter q sizes u s x y None n → RunsAfter q sizes u (Begin place s cs w) x y None (n + count_of event.GuardNormal)
   pub begin_handles : (place : ℕ) (s : Stmt) (cs : List ConditionOf) (w : Stmt) (u : StackSizes) (x y z : List ValueOf) (c : ConditionOf)
       (d : CurrentCondition) (n m : ℕ) → has_cond c cs ≡ true → RunsAfter q sizes u s x y (Some c) n → RunsAfter q sizes u w y z d m →
-      RunsAfter q sizes u (Begin place s cs w) x z d (n + count_of event.Caught + m + joined d (count_of event.JoinOne))
+      RunsAfter q sizes u (Begin place s cs w) x z d (n + count_of event.Caught + m + join_count d (count_of event.JoinOne))
   pub begin_stops : (place : ℕ) (s : Stmt) (cs : List ConditionOf) (w : Stmt) (u : StackSizes) (x y : List ValueOf) (c : ConditionOf)
       (n : ℕ) → has_cond c cs ≡ false → RunsAfter q sizes u s x y (Some c) n → RunsAfter q sizes u (Begin place s cs w) x y (Some c) n
   pub call_returns : (place p : ℕ) (xs : List ℕ) (cs : List ConditionOf) (u : StackSizes) (x y : List ValueOf) (c : CurrentCondition)

@@ -22,9 +22,9 @@ pub record RunsAfter (q : Program) (sizes u : StackSizes) (s : Stmt) (x y : List
 -- ---- what is counted beside the parts of a statement
 
 -- what follows a part in the normal condition alone
-abbrev pub joined : CurrentCondition → ℕ → ℕ
-joined None n = n
-joined (Some c) n = 0
+abbrev pub join_count : CurrentCondition → ℕ → ℕ
+join_count None n = n
+join_count (Some c) n = 0
 
 -- of a call with room, up to the body
 abbrev pub call_count : Program → ℕ → ℕ
@@ -76,7 +76,7 @@ ThenAfter Next Q y (Some c) n = Q y (Some c) n
 
 -- after an arm of `if` or of a handler, which a join follows
 abbrev pub JoinedAfter : ℕ → CountedExit → CountedExit
-JoinedAfter j Q y c n = Q y c (n + joined c j)
+JoinedAfter j Q y c n = Q y c (n + join_count c j)
 
 -- after the body of a handler
 abbrev pub HandledAfter : List ConditionOf → CountedCondition → CountedExit → CountedExit

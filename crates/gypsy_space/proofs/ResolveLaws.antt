@@ -11,29 +11,30 @@ use Rattle.gypsy_syntax.specs.Views.SourceView.{parts_of_list, stmt_of}
 use Rattle.gypsy_syntax.specs.Sources.{ProcOf, SourceOf}
 use Rattle.gypsy_space.specs.declared.program.Node.{Node}
 use Rattle.gypsy_space.specs.Nodes.{seen_statement, seen_statements}
-use Rattle.gypsy_space.specs.CallSites.{followed}
+use Rattle.gypsy_space.specs.CallSites.{sequenced}
 
-followed-push : (ns : List (Rc Node Global)) (n : Rc Node Global) (rest : Stmt) → followed (ns ++ n ∷ []) rest ≡ followed ns (Seq (seen_statement n.value) rest)
-followed-push [] n rest = refl
-followed-push (m ∷ ns) n rest = ap (Seq (seen_statement m.value)) (followed-push ns n rest)
+sequenced-push : (ns : List (Rc Node Global)) (n : Rc Node Global) (rest : Stmt)
+    → sequenced (ns ++ n ∷ []) rest ≡ sequenced ns (Seq (seen_statement n.value) rest)
+sequenced-push [] n rest = refl
+sequenced-push (m ∷ ns) n rest = ap (Seq (seen_statement m.value)) (sequenced-push ns n rest)
 
-followed-skip : (ns : List (Rc Node Global)) → followed ns Skip ≡ seen_statements ns
-followed-skip [] = refl
-followed-skip (n ∷ ns) = ap (Seq (seen_statement n.value)) (followed-skip ns)
+sequenced-skip : (ns : List (Rc Node Global)) → sequenced ns Skip ≡ seen_statements ns
+sequenced-skip [] = refl
+sequenced-skip (n ∷ ns) = ap (Seq (seen_statement n.value)) (sequenced-skip ns)
 
 module _ (s : SourceOf) (p : ProcOf) (ns : List (Rc Node Global)) (parts : List Text) (k : ℕ) (whole : Stmt)
-    (so_far : followed ns (statement_of_all s p (parts_of_list (drop k parts))) ≡ whole) where
+    (so_far : sequenced ns (statement_of_all s p (parts_of_list (drop k parts))) ≡ whole) where
   pub next_part : (n : Rc Node Global) (x : Text) → k < length parts → x ≡ get_or parts k x → seen_statement n.value ≡ statement_of s p (stmt_of x)
-      → followed (ns ++ n ∷ []) (statement_of_all s p (parts_of_list (drop (k + 1) parts))) ≡ whole
+      → sequenced (ns ++ n ∷ []) (statement_of_all s p (parts_of_list (drop (k + 1) parts))) ≡ whole
   next_part n x lt is e =
       let rest = statement_of_all s p (parts_of_list (drop (k + 1) parts)) in
-      followed-push ns n rest
-      ∙ ap (followed ns) (ap (λ (st : Stmt). Seq st rest) e ∙ ap (λ (xs : List Text). statement_of_all s p (parts_of_list xs))
+      sequenced-push ns n rest
+      ∙ ap (sequenced ns) (ap (λ (st : Stmt). Seq st rest) e ∙ ap (λ (xs : List Text). statement_of_all s p (parts_of_list xs))
       (sym (drop-item parts k x lt is)))
       ∙ so_far
 
   pub all_parts : length parts ≤ k → seen_statements ns ≡ whole
   all_parts past =
-      sym (followed-skip ns)
-      ∙ ap (λ (xs : List Text). followed ns (statement_of_all s p (parts_of_list xs))) (sym (drop_all k parts past))
+      sym (sequenced-skip ns)
+      ∙ ap (λ (xs : List Text). sequenced ns (statement_of_all s p (parts_of_list xs))) (sym (drop_all k parts past))
       ∙ so_far

@@ -15,6 +15,6 @@ pub record IsCallSite (place callee : ℕ) (xs : List ℕ) (cs : List ConditionO
   pub conds_are : map seen_cond site.conds.items ≡ cs
 
 -- statements in turn, and then what follows them
-abbrev pub followed : List (Rc Node Global) → Stmt → Stmt
-followed [] rest = rest
-followed (n ∷ ns) rest = Seq (seen_statement n.value) (followed ns rest)
+abbrev pub sequenced : List (Rc Node Global) → Stmt → Stmt
+sequenced [] rest = rest
+sequenced (n ∷ ns) rest = Seq (seen_statement n.value) (sequenced ns rest)

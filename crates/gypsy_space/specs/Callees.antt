@@ -14,5 +14,5 @@ names_of procs = map (λ p. p.name.name) procs
 abbrev pub KnowsPositions : Entries ℕ → List (List ℕ) → Type 0
 KnowsPositions table names = (name : List ℕ) → look_up table name ≡ place_among name names
 
-abbrev pub KnowsCallees : Callees → Type 0
-KnowsCallees callees = KnowsPositions callees.positions (procedure_names (source_of callees.source.now))
+abbrev pub KnowsProcedures : Callees → Type 0
+KnowsProcedures callees = KnowsPositions callees.positions (procedure_names (source_of callees.source.now))

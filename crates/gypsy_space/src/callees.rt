@@ -4,7 +4,7 @@ ghost use Rattle.std.specs.Prelude.{◌≡◌, ◌≤◌, IfOk, length};
 ghost use Rattle.gypsy_syntax.specs.Fits.{FitsForm};
 ghost use Rattle.gypsy_syntax.specs.Resolved.{position_of, procedure_names};
 ghost use Rattle.gypsy_syntax.specs.Views.SourceView.{source_of};
-ghost use Rattle.gypsy_space.specs.Callees.{KnowsCallees, KnowsPositions, names_of};
+ghost use Rattle.gypsy_space.specs.Callees.{KnowsProcedures, KnowsPositions, names_of};
 
 use gypsy_syntax::{Proc, Source};
 use name_tables::NameTable;
@@ -21,7 +21,7 @@ pub(crate) struct Callees<'a> {
 impl<'a> Callees<'a> {
     /// The position of a procedure, or 0 where none has the name.
     pub(crate) fn position(&self, name: &Name) -> u32
-        requires { KnowsCallees self.now }
+        requires { KnowsProcedures self.now }
         ensures { result ≡ position_of name.now (procedure_names (source_of self.now.source.now)) }
     {
         self.positions.get(name.bytes()).unwrap_or(0)
@@ -44,7 +44,7 @@ fn positions_of<'a>(alloc: Global, procs: &'a [Proc]) -> Result<NameTable<'a, u3
 pub(crate) fn callees_of<'a>(alloc: Global, source: &'a Source) -> Result<Callees<'a>, Memory>
     requires { FitsForm (source_of source.now) }
     ensures of { IfOk result (λ callees. callees.source.now ≡ source.now) }
-    ensures known { IfOk result KnowsCallees }
+    ensures known { IfOk result KnowsProcedures }
 {
     let positions = positions_of(alloc, source.procs.as_slice())?;
     Ok(Callees { source, positions })

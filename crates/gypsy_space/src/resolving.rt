@@ -16,7 +16,7 @@ ghost use Rattle.gypsy_syntax.specs.Views.SourceView.{arg_of, items_of_list, lit
 ghost use Rattle.gypsy_syntax.specs.Views.SourceView.{source_of, stmt_of};
 ghost use Rattle.gypsy_space.specs.Nodes.{held_names, held_shapes, held_values, seen_arg, seen_cond, seen_proc, seen_program, seen_statement, seen_statements};
 ghost use Rattle.gypsy_space.specs.Nodes.{declared_names, seen_proc_names};
-ghost use Rattle.gypsy_space.specs.Callees.{KnowsCallees};
+ghost use Rattle.gypsy_space.specs.Callees.{KnowsProcedures};
 ghost use Rattle.gypsy_space.specs.CallSites.{IsCallSite};
 ghost use Rattle.gypsy_space.specs.Resolvable.{ConstantFits, ConstantsFit, IsResolvable, LocalFits};
 ghost use Rattle.gypsy_check.specs.Accepted.{IsAccepted};
@@ -311,7 +311,7 @@ fn call_site(
     place: u32,
     call: CallText,
 ) -> Result<CallSite, Memory>
-    requires callees { KnowsCallees callees.now }
+    requires callees { KnowsProcedures callees.now }
     requires form { FitsProcedure (proc_of proc.now) }
     ensures { let procedures = procedure_names (source_of callees.now.source.now) in
         let callee = position_of call.entry.callee.now.name procedures in
@@ -337,7 +337,7 @@ fn call(
     actuals: &[Named],
     conds: &[Named],
 ) -> Result<Node, Memory>
-    requires callees { KnowsCallees callees.now }
+    requires callees { KnowsProcedures callees.now }
     requires form { FitsProcedure (proc_of proc.now) }
     ensures { let procedures = procedure_names (source_of callees.now.source.now) in
         let callee = position_of callee.now.name procedures in
@@ -375,7 +375,7 @@ fn application(
 /// A statement.
 #[cycle(statements)]
 fn statement(alloc: Global, callees: &Callees, proc: &Proc, stmt: &Stmt) -> Result<Node, Memory>
-    requires callees { KnowsCallees callees.now }
+    requires callees { KnowsProcedures callees.now }
     requires form { FitsProcedure (proc_of proc.now) }
     requires constants { ConstantsFit (stmt_of stmt.now) }
     ensures { IfOk result (λ n. seen_statement n
@@ -428,7 +428,7 @@ fn statement(alloc: Global, callees: &Callees, proc: &Proc, stmt: &Stmt) -> Resu
 /// A part of a statement, which is shared with the work that is made of it.
 #[cycle(statements)]
 fn shared(alloc: Global, callees: &Callees, proc: &Proc, stmt: &Stmt) -> Result<Rc<Node>, Memory>
-    requires callees { KnowsCallees callees.now }
+    requires callees { KnowsProcedures callees.now }
     requires form { FitsProcedure (proc_of proc.now) }
     requires constants { ConstantsFit (stmt_of stmt.now) }
     ensures { IfOk result (λ n. seen_statement n.value
@@ -446,7 +446,7 @@ fn statements(
     proc: &Proc,
     parts: &[Stmt],
 ) -> Result<Vec<Rc<Node>>, Memory>
-    requires callees { KnowsCallees callees.now }
+    requires callees { KnowsProcedures callees.now }
     requires form { FitsProcedure (proc_of proc.now) }
     requires constants { All (λ s. ConstantsFit (stmt_of s)) parts.now }
     ensures { IfOk result (λ ns. seen_statements ns.items
@@ -462,7 +462,7 @@ fn statements(
 
 /// A procedure.
 fn procedure(alloc: Global, callees: &Callees, proc: &Proc) -> Result<Procedure, Memory>
-    requires callees { KnowsCallees callees.now }
+    requires callees { KnowsProcedures callees.now }
     requires resolvable { IsResolvable (proc_of proc.now) }
     ensures procedure { IfOk result (λ p. seen_proc p
         ≡ procedure_of (source_of callees.now.source.now) (proc_of proc.now)) }
@@ -480,7 +480,7 @@ fn procedure(alloc: Global, callees: &Callees, proc: &Proc) -> Result<Procedure,
 
 /// Each procedure.
 fn procedures(alloc: Global, callees: &Callees) -> Result<Vec<Procedure>, Memory>
-    requires callees { KnowsCallees callees.now }
+    requires callees { KnowsProcedures callees.now }
     requires resolvable { All (λ p. IsResolvable (proc_of p)) callees.now.source.now.procs.items }
     ensures procedures { IfOk result (λ ps. map seen_proc ps.items
         ≡ map (procedure_of (source_of callees.now.source.now)) (source_of callees.now.source.now).procs) }

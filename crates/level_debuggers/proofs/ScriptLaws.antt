@@ -25,7 +25,7 @@ use Rattle.level_debuggers.specs.Taken.{taken, attached_with, detached_with}
 use Rattle.level_debuggers.specs.Walks.{SessionOf, walk, walk_on, ends_by, refused_after, stepped}
 use Rattle.level_debuggers.specs.Transcripts.{Said, Followed, arrival_end, arrival_text, arrived_said, attach_with, detach_with}
 use Rattle.level_debuggers.specs.Transcripts.{ends_with, follow_on, followed, rule_of_word, run_end, run_text, said_by, said_to, words_said}
-use Rattle.level_debuggers.specs.ScriptSteps.{AskForSteps, all_asked, steps_asked, steps_led, steps_of, stepped_lines}
+use Rattle.level_debuggers.specs.ScriptSteps.{AskForSteps, all_asked, steps_asked, steps_led, steps_of_lines, stepped_lines}
 use Rattle.level_debuggers.specs.ScriptSteps.{until_line, up_line, line_of_words}
 use Rattle.level_debuggers.specs.ScriptSteps.{ArrivalsAreSaid, GoesOn, ScriptsWalk, UpIsSaid, WordsAreSaid, StepsAreSaid, UpSaysMoment, TextStays}
 use Rattle.level_debuggers.proofs.ArrivalLaws.{is_first}
@@ -113,12 +113,12 @@ line_walks number (command.Until there limit) s =
 walks_by : (text : List ℕ) (said : Said) (e : Option ScriptEnd) (lines : List Line) (n : ℕ) (level : LevelOf) → (e ≡ Some end.Done → ⊥)
     → said.session.level ≡ (walk n level).level →
     ((text : List ℕ) (s : SessionOf) → (followed text lines s).end ≡ end.Done
-    → (followed text lines s).session.level ≡ (walk (steps_of lines s.level) s.level).level) →
+    → (followed text lines s).session.level ≡ (walk (steps_of_lines lines s.level) s.level).level) →
     (follow_on text said e (λ text s. followed text lines s)).end ≡ end.Done →
-    (follow_on text said e (λ text s. followed text lines s)).session.level ≡ (walk (n + steps_of lines (walk n level).level) level).level
+    (follow_on text said e (λ text s. followed text lines s)).session.level ≡ (walk (n + steps_of_lines lines (walk n level).level) level).level
 walks_by text said None lines n level goes here later done =
-    later (text ++ said.text) said.session done ∙ ap (λ (l : LevelOf). (walk (steps_of lines l) l).level) here
-    ∙ walk_level n (steps_of lines (walk n level).level) level
+    later (text ++ said.text) said.session done ∙ ap (λ (l : LevelOf). (walk (steps_of_lines lines l) l).level) here
+    ∙ walk_level n (steps_of_lines lines (walk n level).level) level
 walks_by text said (Some e) lines n level goes here later done = absurd (goes (ap (λ (x : ScriptEnd). Some x) done))
 
 pub scripts_walk : ScriptsWalk
@@ -202,7 +202,7 @@ arrivals_are_said text before after number limit k there s here done leads has f
 -- ---- lines that ask for steps
 
 -- they lead as far as they ask for together
-same_steps : (lines : List Line) (level : LevelOf) → AskForSteps lines → steps_of lines level ≡ all_asked lines
+same_steps : (lines : List Line) (level : LevelOf) → AskForSteps lines → steps_of_lines lines level ≡ all_asked lines
 same_steps [] level ask = refl
 same_steps (first ∷ lines) level ask =
     let here : steps_led first.command level ≡ steps_asked first.command = ap (λ (c : Command). steps_led c level) ask.0 in

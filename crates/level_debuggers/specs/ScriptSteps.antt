@@ -29,15 +29,15 @@ steps_led (command.Words address count) level = 0
 steps_led (command.Until there limit) level = until_steps there limit level
 
 -- how many lines lead it together, each from where the one before has led it
-abbrev pub steps_of : List Line → LevelOf → ℕ
-steps_of [] level = 0
-steps_of (first ∷ lines) level =
-    let n = steps_led first.command level in n + steps_of lines (walk n level).level
+abbrev pub steps_of_lines : List Line → LevelOf → ℕ
+steps_of_lines [] level = 0
+steps_of_lines (first ∷ lines) level =
+    let n = steps_led first.command level in n + steps_of_lines lines (walk n level).level
 
 -- Behind a script all of whose lines were carried out, the run stands where as many steps in one go lead it, of which no watch is told.
 abbrev pub ScriptsWalk : Type 0
 ScriptsWalk = (text : List ℕ) (lines : List Line) (s : SessionOf) → (followed text lines s).end ≡ end.Done →
-    (followed text lines s).session.level ≡ (walk (steps_of lines s.level) s.level).level
+    (followed text lines s).session.level ≡ (walk (steps_of_lines lines s.level) s.level).level
 
 -- a line of `up`
 abbrev pub up_line : ℕ → Line
@@ -48,7 +48,7 @@ abbrev pub UpIsSaid : Type 0
 UpIsSaid = (text : List ℕ) (before after : List Line) (number : ℕ) (s : SessionOf) → (followed text before s).end ≡ end.Done →
     let made = followed text before s in
     followed text (before ++ up_line number ∷ after) s
-    ≡ followed (made.text ++ up_text (walk (steps_of before s.level) s.level).level) after made.session
+    ≡ followed (made.text ++ up_text (walk (steps_of_lines before s.level) s.level).level) after made.session
 
 -- a line of `words`
 abbrev pub line_of_words : (number address count : ℕ) → Line
@@ -57,7 +57,7 @@ line_of_words number address count = record { line = number; command = command.W
 -- At a line of `words` it is the memory of the processor that the run has there.
 abbrev pub WordsAreSaid : Type 0
 WordsAreSaid = (text : List ℕ) (before after : List Line) (number address count : ℕ) (s : SessionOf) (run : FmLevelOf) →
-    (followed text before s).end ≡ end.Done → (walk (steps_of before s.level) s.level).level ≡ Fm run →
+    (followed text before s).end ≡ end.Done → (walk (steps_of_lines before s.level) s.level).level ≡ Fm run →
     let made = followed text before s in
     followed text (before ++ line_of_words number address count ∷ after) s
     ≡ followed (made.text ++ word_lines run.state address count) after made.session
@@ -69,7 +69,7 @@ until_line number there limit = record { line = number; command = command.Until 
 -- At a line of `until` the session goes on to the first arrival, where that is not too far, and says after how many steps it is.
 abbrev pub ArrivalsAreSaid : Type 0
 ArrivalsAreSaid = (text : List ℕ) (before after : List Line) (number limit k : ℕ) (there : Place) (s : SessionOf) (here : LevelOf) →
-    (followed text before s).end ≡ end.Done → (walk (steps_of before s.level) s.level).level ≡ here →
+    (followed text before s).end ≡ end.Done → (walk (steps_of_lines before s.level) s.level).level ≡ here →
     has_places here there ≡ true → IsFirstArrival there k here → k ≤ limit →
     let made = followed text before s in
     followed text (before ++ until_line number there limit ∷ after) s

@@ -22,7 +22,7 @@ use Rattle.mini_gypsy.specs.Lowered.{decl_of, temporary_local, locals_from, temp
 use Rattle.mini_gypsy.specs.Lowered.{block_parts, choice_parts, leave, main_procedure, lowered}
 use Rattle.mini_syntax.specs.Lawful.{nth_name}
 use Rattle.mini_syntax.specs.Names.{is_variable_name}
-use Rattle.mini_syntax.specs.Sorted.{depth, depths, IsSorted, AreFine}
+use Rattle.mini_syntax.specs.Sorted.{depth, depths, IsWellSorted, AreFine}
 use Rattle.mini_gypsy.specs.Steps.{prefix_row, infix_row}
 use Rattle.mini_syntax.specs.Operands.{sort_of, prefix_sort, infix_sort}
 use Rattle.mini_syntax.proofs.VariableLaws.{variable_is_name}
@@ -49,7 +49,7 @@ seq_fits [] x e = e
 seq_fits (y ∷ xs) x e = e
 
 module _ (names : List (List ℕ)) (sorts : List Sort) (named : (i : ℕ) (s : Sort) → slice_get sorts i ≡ Some s → IsTrue (is_name (nth_name names i))) where
-  values_fit : (k : ℕ) (e : Exp) → IsSorted sorts e → k + depth e ≤ depths → FitsStatements (statements (value_parts names k e))
+  values_fit : (k : ℕ) (e : Exp) → IsWellSorted sorts e → k + depth e ≤ depths → FitsStatements (statements (value_parts names k e))
   unfolding value_parts
   values_fit k (Variable s i) sorted small =
       (two_fit (argument (temporary_name s k)) (argument (nth_name names i)) (temporary_is_name s k (omega arith)) (named i s sorted), tt)

@@ -15,7 +15,7 @@ use Rattle.mini_syntax.specs.declared.sort.Sort.TheVariants.{Int, Bool}
 use Rattle.mini_syntax.specs.Language.{Exp, Variable, Number, Truth, Before, Between, Stmt, Nothing, Then, Assign, While, If}
 use Rattle.mini_gypsy.specs.Lowered.{temporary_name, argument, set_name, value_parts, statement_parts, block_parts, choice_parts, leave}
 use Rattle.mini_syntax.specs.Lawful.{nth_name}
-use Rattle.mini_syntax.specs.Sorted.{depth, IsSorted, AreFine}
+use Rattle.mini_syntax.specs.Sorted.{depth, IsWellSorted, AreFine}
 use Rattle.mini_gypsy.specs.Steps.{in_turn, temporary_at, prefix_row, infix_row, set_variable, value_steps, statement_steps, block_of, choice_of}
 use Rattle.mini_syntax.specs.Sorted.{depths}
 use Rattle.mini_syntax.specs.Operands.{sort_of, prefix_sort, infix_sort}
@@ -59,7 +59,8 @@ module _ (q : SourceOf) (p : ProcOf) (names : List (List ℕ)) (sorts : List Sor
   one_more : (s : StmtOf) (t : gypsy.Stmt) → statement_of q p s ≡ t → map (statement_of q p) (s ∷ []) ≡ t ∷ []
   one_more s t e = ap (λ (v : gypsy.Stmt). v ∷ []) e
 
-  pub values_are : (k : ℕ) (e : Exp) → IsSorted sorts e → k + depth e ≤ depths → map (statement_of q p) (value_parts names k e) ≡ value_steps (length names) k e
+  pub values_are : (k : ℕ) (e : Exp) → IsWellSorted sorts e → k + depth e ≤ depths
+      → map (statement_of q p) (value_parts names k e) ≡ value_steps (length names) k e
   unfolding value_parts value_steps
   values_are k (Variable s i) sorted small =
       one_more (set_name (temporary_name s k) (nth_name names i)) (set_variable (temporary_at (length names) s k) i)

@@ -34,7 +34,7 @@ use Rattle.mini_gypsy.specs.Lowered.{kind_of, decl_of, locals_from, temporary_na
 use Rattle.mini_gypsy.specs.Lowered.{choice_parts, leave, main_procedure, lowered}
 use Rattle.mini_syntax.specs.Lawful.{nth_name}
 use Rattle.mini_syntax.specs.Names.{is_variable_name}
-use Rattle.mini_syntax.specs.Sorted.{depth, IsSorted, AreFine}
+use Rattle.mini_syntax.specs.Sorted.{depth, IsWellSorted, AreFine}
 use Rattle.mini_gypsy.specs.Steps.{prefix_row, infix_row}
 use Rattle.mini_syntax.specs.Sorted.{depths}
 use Rattle.mini_syntax.specs.Operands.{sort_of, prefix_sort, infix_sort}
@@ -106,7 +106,8 @@ module _ (q : SourceOf) (p : ProcOf) where
   one_clean l s e = both_none (statement_breaches q p l s) [] e refl
 
   module _ (names : List (List ℕ)) (sorts : List Sort) (known : Knows names sorts p) where
-    values_clean : (l : std.Bool) (k : ℕ) (e : Exp) → IsSorted sorts e → k + depth e ≤ depths → parts_breaches q p l (statements (value_parts names k e)) ≡ []
+    values_clean : (l : std.Bool) (k : ℕ) (e : Exp) → IsWellSorted sorts e → k + depth e ≤ depths
+        → parts_breaches q p l (statements (value_parts names k e)) ≡ []
     unfolding value_parts
     values_clean l k (Variable s i) sorted small =
         one_clean l (set_name (temporary_name s k) (nth_name names i))

@@ -26,7 +26,7 @@ use Rattle.mini_gypsy.specs.Lowered.{choice_parts, leave, main_procedure, lowere
 use Rattle.mini_syntax.specs.Lawful.{nth_name}
 use Rattle.mini_syntax.specs.Lawful.{IsLawful}
 use Rattle.mini_syntax.specs.Names.{is_variable_name}
-use Rattle.mini_syntax.specs.Sorted.{IsSorted, AreFine}
+use Rattle.mini_syntax.specs.Sorted.{IsWellSorted, AreFine}
 use Rattle.mini_syntax.specs.Spelled.{exp_bytes, stmt_bytes, declared_bytes, program_bytes}
 use Rattle.mini_gypsy.specs.Steps.{prefix_row, infix_row}
 use Rattle.mini_syntax.specs.Operands.{sort_of, prefix_sort, infix_sort}
@@ -86,7 +86,7 @@ truth_length a true = omega (arith, three_atoms (predef_name row.MgSimpleConstan
 truth_length a false = omega (arith, three_atoms (predef_name row.MgSimpleConstantAssignment) a (codes "false"))
 
 module _ (names : List (List ℕ)) (sorts : List Sort) (some : (i : ℕ) (s : Sort) → slice_get sorts i ≡ Some s → 0 < length (nth_name names i)) where
-  values_length : (k : ℕ) (e : Exp) → IsSorted sorts e → parts_length (value_parts names k e) ≤ 60 * exp_bytes names e
+  values_length : (k : ℕ) (e : Exp) → IsWellSorted sorts e → parts_length (value_parts names k e) ≤ 60 * exp_bytes names e
   unfolding value_parts
   values_length k (Variable s i) sorted =
       let long = some i s sorted in

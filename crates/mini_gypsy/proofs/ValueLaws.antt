@@ -20,7 +20,7 @@ use Rattle.mini_syntax.specs.Operands.{prefix_takes, infix_takes}
 use Rattle.mini_syntax.specs.Language.{Exp, Variable, Before, Between}
 use Rattle.mini_syntax.specs.Language as language
 use Rattle.mini_gypsy.specs.Meant.{Worth, Number, Truth, Fault, prefix_worth, infix_worth, worth_in, expression_value, assigned}
-use Rattle.mini_syntax.specs.Sorted.{IsSorted, depth}
+use Rattle.mini_syntax.specs.Sorted.{IsWellSorted, depth}
 use Rattle.mini_gypsy.specs.Steps.{in_turn, temporary, temporary_at, prefix_row, infix_row, value_steps}
 use Rattle.mini_syntax.specs.Sorted.{depths}
 use Rattle.mini_syntax.specs.Operands.{sort_of, prefix_sort, infix_sort}
@@ -261,7 +261,7 @@ module _ (q : Program) (sizes u : StackSizes) (m n : ℕ) where
 
   -- an expression whose variables are there, at a depth that leaves enough
   pub values_put : (sorts : List Sort) (e : Exp) (k : ℕ) (d t : List ValueOf) → length d ≡ n → length t ≡ 2 * depths → k + depth e ≤ depths →
-      IsSorted sorts e → AreHeld sorts d → Puts (value_steps n k e) k (sort_of e) (expression_value e d) d t
+      IsWellSorted sorts e → AreHeld sorts d → Puts (value_steps n k e) k (sort_of e) (expression_value e d) d t
   unfolding value_steps expression_value predef_effect effect_by values_of
   values_put sorts (Variable s i) k d t count many small sorted held =
       let there = held_there sorts d i s held sorted in

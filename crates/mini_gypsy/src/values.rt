@@ -9,7 +9,7 @@ ghost use Rattle.mini_syntax.specs.declared.sort.Sort.TheVariants.{Bool, Int};
 ghost use Rattle.mini_gypsy.specs.Lowered.{argument, set_name, temporary_name, value_parts};
 ghost use Rattle.mini_syntax.specs.Lawful.{nth_name};
 ghost use Rattle.mini_syntax.specs.ProgramView.{exp_of};
-ghost use Rattle.mini_syntax.specs.Sorted.{depth as depth_of, IsSorted};
+ghost use Rattle.mini_syntax.specs.Sorted.{depth as depth_of, IsWellSorted};
 ghost use Rattle.mini_gypsy.specs.Steps.{infix_row, prefix_row};
 ghost use Rattle.mini_syntax.specs.Sorted.{depths};
 ghost use Rattle.mini_syntax.specs.Operands.{infix_sort, prefix_sort};
@@ -100,7 +100,7 @@ pub(crate) fn append_value(
     depth: u32,
     value: &Exp,
 ) -> Result<(), Memory>
-    requires sorted { IsSorted (map (λ d. d.sort) declared.now) (exp_of value.now) }
+    requires sorted { IsWellSorted (map (λ d. d.sort) declared.now) (exp_of value.now) }
     requires shallow { depth + depth_of (exp_of value.now) ≤ depths }
     ensures { let values = value_parts (map (λ d. d.name) declared.now) depth (exp_of value.now) in
         OnOk result (map stmt_of parts.new.items ≡ map stmt_of parts.old.items ++ values) }

@@ -29,7 +29,7 @@ use Rattle.mini_syntax.specs.Lawful.{AreApart, IsLawful, levels, part_count, nth
 use Rattle.mini_syntax.specs.Internal.Limits.{expression_operators}
 use Rattle.mini_syntax.specs.Internal.Limits.{form_blocks, block_blocks, forms_blocks, FormIsSmall, BlockIsSmall, FormsAreSmall, KeepsLimits}
 use Rattle.mini_syntax.specs.Names.{is_variable_name}
-use Rattle.mini_syntax.specs.Sorted.{depth, IsSorted, IsFine, AreFine}
+use Rattle.mini_syntax.specs.Sorted.{depth, IsWellSorted, IsFine, AreFine}
 use Rattle.mini_syntax.proofs.EmptyLaws.{two, three}
 
 -- ---- how deep an expression is
@@ -86,7 +86,7 @@ name_there ds name e =
 
 -- an expression is sorted, and its sort is known
 record Known (ds : List Declared) (s : Option Sort) (e : Exp) : Type 0 where
-  sorted : IsSorted (map (λ (d : Declared). d.sort) ds) e
+  sorted : IsWellSorted (map (λ (d : Declared). d.sort) ds) e
   sort : s ≡ Some (sort_of e)
 
 variable_known : (ds : List Declared) (name : List ℕ) → is_none (variable_named ds name) ≡ false →

@@ -18,16 +18,16 @@ depth (Before op e) = depth e
 depth (Between op a b) = max (depth a) (suc (depth b))
 
 -- each variable is declared with its sort, each number has 32 signed bits, and each operator takes its operands
-abbrev pub IsSorted : List Sort → Exp → Type 0
-IsSorted sorts (Variable sort i) = slice_get sorts i ≡ Some sort
-IsSorted sorts (Number n) = n < 2 ^ 31
-IsSorted sorts (Truth b) = Unit {0}
-IsSorted sorts (Before op e) = IsSorted sorts e × (prefix_takes op (sort_of e) ≡ true)
-IsSorted sorts (Between op a b) = IsSorted sorts a × IsSorted sorts b × (infix_takes op (sort_of a) (sort_of b) ≡ true)
+abbrev pub IsWellSorted : List Sort → Exp → Type 0
+IsWellSorted sorts (Variable sort i) = slice_get sorts i ≡ Some sort
+IsWellSorted sorts (Number n) = n < 2 ^ 31
+IsWellSorted sorts (Truth b) = Unit {0}
+IsWellSorted sorts (Before op e) = IsWellSorted sorts e × (prefix_takes op (sort_of e) ≡ true)
+IsWellSorted sorts (Between op a b) = IsWellSorted sorts a × IsWellSorted sorts b × (infix_takes op (sort_of a) (sort_of b) ≡ true)
 
 -- and it isn't too deep
 pub record IsFine (sorts : List Sort) (sort : Sort) (e : Exp) : Type 0 where
-  pub sorted : IsSorted sorts e
+  pub sorted : IsWellSorted sorts e
   pub same : sort_of e ≡ sort
   pub shallow : depth e ≤ depths
 

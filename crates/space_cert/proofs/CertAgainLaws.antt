@@ -14,7 +14,7 @@ use Rattle.space_cert.specs.Bounded.{is_bound, are_bounds}
 use Rattle.space_cert.specs.CertAgain.{CertificatesAreReadAgain}
 use Rattle.space_cert.specs.Certified.{is_reached, is_recursive, first_from, run_within, least_bound, bounds_from, unless_recursive, certified}
 use Rattle.space_cert.specs.Covers.{Bounds, IsAtMost, own_need, call_bound}
-use Rattle.space_cert.specs.Least.{IsLeast, IsFirstRecursive}
+use Rattle.space_cert.specs.Least.{AreLeastBounds, IsFirstRecursive}
 use Rattle.space_cert.specs.Reaches.{calls_of}
 use Rattle.space_cert.proofs.CertifiedLaws.{greatest_least, certified_is}
 use Rattle.space_cert.proofs.CertifyLaws.{small_words}
@@ -88,7 +88,8 @@ certificates_again source bs accepted is =
     let same : length q.procs ≡ length names = length-map source.procs (procedure_of source) ∙ sym (length-map source.procs (λ (p : ProcOf). p.name.name)) in
     let few : length q.procs ≤ 1000 = omega (arith, same, named) in
     let small : are_bounds bs ≡ true = ap are_bounds (sym (computed q bs is)) ∙ all_small q accepted.fits few (length q.procs) 0 in
-    let least : IsLeast q bs = subst (λ (r : Result Bounds ℕ). MatchResult r (IsLeast q) (IsFirstRecursive q)) is (certified_is q accepted.fits) in
+    let least : AreLeastBounds q bs =
+        subst (λ (r : Result Bounds ℕ). MatchResult r (AreLeastBounds q) (IsFirstRecursive q)) is (certified_is q accepted.fits) in
     record {
       short = printed_short names bs (are_names source accepted.form) named small;
       again = printed_reads names bs (are_names source accepted.form) named small (own_names source accepted.rules) (least.certificate.number ∙ same);

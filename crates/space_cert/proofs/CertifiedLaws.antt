@@ -14,7 +14,7 @@ use Rattle.space_cert.specs.declared.certifying.CertFault.{CertFault}
 use Rattle.space_cert.specs.declared.certifying.CertFault.TheVariants.{Recursive, Memory}
 use Rattle.space_cert.specs.Covers.{Bounds, as_words, bound_at, IsAtMost, own_need, call_bound, CoversCall, CoversRun, IsCertificate}
 use Rattle.space_cert.specs.Reaches.{Directly, Further, calls_of, IsReached, IsRecursive}
-use Rattle.space_cert.specs.Least.{IsLeast, IsFirstRecursive, IsCertFault, IsThere}
+use Rattle.space_cert.specs.Least.{AreLeastBounds, IsFirstRecursive, IsCertFault, IsThere}
 use Rattle.space_cert.specs.Order.{greater, call_words, greatest_call, run_bound}
 use Rattle.space_cert.specs.Certified.{reaches, is_reached, is_recursive, first_from, greatest_taken, run_within, least_bound, bounds_from, unless_recursive}
 use Rattle.space_cert.specs.Certified.{certified, recursive_of, GivesCertified}
@@ -290,7 +290,7 @@ module _ (q : Program) where
             });
       }
 
-      computed_least : IsLeast q computed
+      computed_least : AreLeastBounds q computed
       computed_least = record {
         certificate = computed_certificate;
         reached = λ p h. subst IsSome (sym (known p h)) refl;
@@ -312,12 +312,12 @@ module _ (q : Program) where
 
     -- 7. The answers.
 
-    pub certified_is : MatchResult (certified q) (IsLeast q) (IsFirstRecursive q)
+    pub certified_is : MatchResult (certified q) (AreLeastBounds q) (IsFirstRecursive q)
     unfolding certified
     certified_is = by_first (first_from (is_recursive q) (length q.procs) 0) refl
       where
         by_first : (o : Option ℕ) → first_from (is_recursive q) (length q.procs) 0 ≡ o
-            → MatchResult (unless_recursive o (bounds_from q (length q.procs) 0)) (IsLeast q) (IsFirstRecursive q)
+            → MatchResult (unless_recursive o (bounds_from q (length q.procs) 0)) (AreLeastBounds q) (IsFirstRecursive q)
         by_first None e = computed_least (λ p h. not_both
             (sym (recursive_true p h) ∙ none_found (is_recursive q) (length q.procs) 0 e p (omega arith) (omega (arith, recursive_below p h))))
         by_first (Some p) e =
@@ -338,12 +338,12 @@ same_bounds (b ∷ bs) (d ∷ ds) e h =
     let rest = same_bounds bs ds (omega (arith, e)) (λ p. h (suc p)) in
     λ i. first i ∷ rest i
 
-least_one : (q : Program) (bs ds : Bounds) → IsLeast q bs → IsLeast q ds → bs ≡ ds
+least_one : (q : Program) (bs ds : Bounds) → AreLeastBounds q bs → AreLeastBounds q ds → bs ≡ ds
 least_one q bs ds h g =
     same_bounds bs ds (h.certificate.number ∙ sym g.certificate.number)
     (λ p. one (get_or bs p None) (get_or ds p None) (λ b e. lower bs ds h g.certificate p b e) (λ d e. lower ds bs g h.certificate p d e) refl refl)
   where
-    lower : (bs ds : Bounds) → IsLeast q bs → IsCertificate q ds → (p : ℕ) (b : ℕ × ℕ) → get_or bs p None ≡ Some b
+    lower : (bs ds : Bounds) → AreLeastBounds q bs → IsCertificate q ds → (p : ℕ) (b : ℕ × ℕ) → get_or bs p None ≡ Some b
         → IsSomeAnd (bound_at ds p) (IsAtMost (as_words b))
     lower bs ds h cert p b e = h.least ds cert p (as_words b) (ap (option_map as_words) e)
 
@@ -361,12 +361,12 @@ least_one q bs ds h g =
 
 -- what the code finds is what is computed
 pub certified_gives : (q : Program) → ProgramFits q → (r : Result Certificate CertFault)
-    → MatchResult r (λ (c : Certificate). IsLeast q c.bounds.items) (IsCertFault q)
+    → MatchResult r (λ (c : Certificate). AreLeastBounds q c.bounds.items) (IsCertFault q)
     → GivesCertified (λ (c : Certificate). c.bounds.items) r (certified q)
 certified_gives q fits r h = by_both (certified q) (certified_is q fits) r h
   where
-    by_both : (v : Result Bounds ℕ) → MatchResult v (IsLeast q) (IsFirstRecursive q) → (r : Result Certificate CertFault)
-        → MatchResult r (λ (c : Certificate). IsLeast q c.bounds.items) (IsCertFault q)
+    by_both : (v : Result Bounds ℕ) → MatchResult v (AreLeastBounds q) (IsFirstRecursive q) → (r : Result Certificate CertFault)
+        → MatchResult r (λ (c : Certificate). AreLeastBounds q c.bounds.items) (IsCertFault q)
         → common.Gives recursive_of (λ (c : Certificate). c.bounds.items) r v
     by_both (Ok bs) g (Ok c) h = ap (λ b. Ok b) (least_one q bs c.bounds.items g h)
     by_both (Ok bs) g (Err (Recursive p)) h = absurd (never_recursive q p bs h.recursive g.certificate)

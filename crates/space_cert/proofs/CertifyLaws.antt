@@ -19,7 +19,7 @@ use Rattle.gypsy_space.proofs.SmallLaws.{words_of-append, length-words_of, great
 use Rattle.gypsy_syntax.proofs.PredefLaws.{low_temp, low_ctrl}
 use Rattle.space_cert.specs.Covers.{Bounds, no_bounds, bound_at, IsAtMost, callees, own_need, call_bound}
 use Rattle.space_cert.specs.Reaches.{Reaches, Directly, Further, Leads, calls_of, IsReached}
-use Rattle.space_cert.specs.Least.{IsLeast, IsFirstRecursive}
+use Rattle.space_cert.specs.Least.{AreLeastBounds, IsFirstRecursive}
 use Rattle.space_cert.specs.Order.{greater, call_words, greatest_call, run_bound, with_bound, bounds_of_order, call_bound_by, greatest_call_by, run_bound_by}
 use Rattle.space_cert.specs.Order.{bounds_by_needs, AreBounds}
 use Rattle.space_cert.specs.Internal.Search.{AreDone}
@@ -200,7 +200,7 @@ module _ (q : Program) where
     pub done_few : length done ≤ length q.procs
     done_few = omega (arith, found.few, length-map q.procs (λ (p : Proc). callees p.body))
 
-    pub found_least : first ≡ None → IsLeast q (bounds_of_order q done)
+    pub found_least : first ≡ None → AreLeastBounds q (bounds_of_order q done)
     found_least e = least_by q done (done_are.order e) done_below (all_of (IsReached q) done leads) found.main_there
 
     pub found_recursive : (r : ℕ) → first ≡ Some r → IsFirstRecursive q r
@@ -270,11 +270,11 @@ module _ (q : Program) (fits : ProgramFits q) (few : length q.procs ≤ 1000) (n
     pub all_small : AreBounds (bounds_by_needs ns (seen_calls calls) (reverse order))
     all_small = subst (λ o. AreBounds (bounds_by_needs ns (seen_calls calls) (reverse o))) whole (prefix_bounds (length order))
 
-    pub is_least : first ≡ None → IsLeast q (bounds_by_needs ns (seen_calls calls) (reverse order))
+    pub is_least : first ≡ None → AreLeastBounds q (bounds_by_needs ns (seen_calls calls) (reverse order))
     is_least e =
         let along : bounds_by_needs ns (seen_calls calls) (reverse order) ≡ bounds_of_order q (reverse order) =
         subst (λ o. bounds_by_needs ns (seen_calls calls) (reverse o) ≡ bounds_of_order q (reverse o)) whole (along_is (length order)) in
-        subst (IsLeast q) (sym along) (found_least q (reverse order) first found_by e)
+        subst (AreLeastBounds q) (sym along) (found_least q (reverse order) first found_by e)
 
     pub is_first : (r : ℕ) → first ≡ Some r → IsFirstRecursive q r
     is_first r e = found_recursive q (reverse order) first found_by r e

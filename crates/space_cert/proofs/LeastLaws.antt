@@ -10,7 +10,7 @@ use Rattle.gypsy_space.specs.Needs.{StackSizes, stack_sizes, local_words, vars_o
 use Rattle.space_cert.specs.Covers.{Bounds, no_bounds, as_words, bound_at, words_sum, IsAtMost, own_need, call_bound, CoversCall, CoversRun, IsCertificate}
 use Rattle.space_cert.specs.Covers.{sizes_for, Covers}
 use Rattle.space_cert.specs.Reaches.{Reaches, Directly, Further, calls_of, IsReached, IsRecursive}
-use Rattle.space_cert.specs.Least.{IsLeast}
+use Rattle.space_cert.specs.Least.{AreLeastBounds}
 use Rattle.space_cert.specs.Order.{IsOrder, greater, call_words, greatest_call, run_bound, with_bound, bounds_of_order}
 use Rattle.space_cert.proofs.CoversLaws.{main_within, some_there}
 use Rattle.space_cert.proofs.ContainsLaws.{contains_none, contains_first, contains_later, contains_cases}
@@ -248,7 +248,7 @@ module _ (q : Program) where
 
   -- the bounds along an order of what main reaches are the least certificate
   pub least_by : (order : List ℕ) → IsOrder (calls_of q) order → All (λ p. p < length q.procs) order → All (IsReached q) order → Contains order q.main
-      → IsLeast q (bounds_of_order q order)
+      → AreLeastBounds q (bounds_of_order q order)
   least_by order o lt reached main =
       let cert : IsCertificate q (bounds_of_order q order) =
       record { number = length_by order; main = known order o lt q.main main; each = covers order o lt } in
@@ -261,10 +261,10 @@ module _ (q : Program) where
 
   -- At main, and where there is recursion.
 
-  pub covers_main : (bs : Bounds) → IsLeast q bs → Covers q bs (sizes_for q bs)
+  pub covers_main : (bs : Bounds) → AreLeastBounds q bs → Covers q bs (sizes_for q bs)
   covers_main bs h = record { certificate = h.certificate; within = refl_at_most (sizes_for q bs) }
 
-  pub least_main : (bs ds : Bounds) (sizes : StackSizes) → IsLeast q bs → Covers q ds sizes → IsAtMost (sizes_for q bs) sizes
+  pub least_main : (bs ds : Bounds) (sizes : StackSizes) → AreLeastBounds q bs → Covers q ds sizes → IsAtMost (sizes_for q bs) sizes
   least_main bs ds sizes h covers = main (bound_at bs q.main) refl h.certificate.main
     where
       least_words : (b : StackSizes) (o : Option StackSizes) → bound_at ds q.main ≡ o → IsSomeAnd o (IsAtMost b) → IsAtMost (words_sum (main_used q) b) sizes

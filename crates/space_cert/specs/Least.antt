@@ -9,7 +9,7 @@ use Rattle.space_cert.specs.Covers.{Bounds, bound_at, IsAtMost, IsCertificate}
 use Rattle.space_cert.specs.Reaches.{IsReached, IsRecursive}
 
 -- what main reaches has bounds, which are the least that any certificate has; any other procedure has none
-pub record IsLeast (q : Program) (bs : Bounds) : Type 0 where
+pub record AreLeastBounds (q : Program) (bs : Bounds) : Type 0 where
   pub certificate : IsCertificate q bs
   pub reached : (p : ℕ) → IsReached q p → IsSome (bound_at bs p)
   pub others : (p : ℕ) → ¬ IsReached q p → bound_at bs p ≡ None

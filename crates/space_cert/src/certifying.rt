@@ -11,7 +11,7 @@ ghost use Rattle.gypsy_space.specs.Nodes.{seen_program, seen_statement, seen_sta
 ghost use Rattle.space_cert.specs.Covers.{as_words, callees};
 ghost use Rattle.space_cert.specs.Certified.{GivesCertified, certified};
 ghost use Rattle.space_cert.specs.Order.{AreBounds, bounds_by_needs, call_bound_by, run_bound_by};
-ghost use Rattle.space_cert.specs.Least.{IsCertFault, IsLeast, IsThere};
+ghost use Rattle.space_cert.specs.Least.{IsCertFault, AreLeastBounds, IsThere};
 ghost use Rattle.space_cert.specs.Internal.SearchView.{seen_calls};
 
 use crate::certificate::Certificate;
@@ -181,7 +181,7 @@ fn least_certificate(
     requires few { length program.now.procedures.items ≤ 1000 }
     requires needs { AreNeeds (seen_program program.now) needs.now.procedures.items }
     requires small { AreSmall needs.now.procedures.items }
-    ensures { MatchResult result (λ c. IsLeast (seen_program program.now) c.bounds.items)
+    ensures { MatchResult result (λ c. AreLeastBounds (seen_program program.now) c.bounds.items)
         (IsCertFault (seen_program program.now)) }
 {
     let calls = all_callees(alloc, program)?;
@@ -203,7 +203,7 @@ fn least_certificate(
 pub fn certify(alloc: Global, accepted: &Accepted, needs: &Needs) -> Result<Certificate, CertFault>
     requires needs { AreNeeds (program_of (source_of accepted.now)) needs.now.procedures.items }
     requires small { AreSmall needs.now.procedures.items }
-    ensures least { MatchResult result (λ c. IsLeast (program_of (source_of accepted.now)) c.bounds.items)
+    ensures least { MatchResult result (λ c. AreLeastBounds (program_of (source_of accepted.now)) c.bounds.items)
         (IsCertFault (program_of (source_of accepted.now))) }
     ensures there { IfErr result (IsThere (program_of (source_of accepted.now))) }
     // The same as a function of the source.

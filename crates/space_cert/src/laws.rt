@@ -13,7 +13,7 @@ ghost use Rattle.space_cert.specs.Accepting.{is_covered};
 ghost use Rattle.space_cert.specs.CertAgain.{CertificatesAreReadAgain};
 ghost use Rattle.space_cert.specs.Certified.{certified};
 ghost use Rattle.space_cert.specs.Larger.{CoveredRunsAreTheSame, LargerStacksChangeNothing};
-ghost use Rattle.space_cert.specs.Least.{IsFirstRecursive, IsLeast};
+ghost use Rattle.space_cert.specs.Least.{IsFirstRecursive, AreLeastBounds};
 ghost use Rattle.space_cert.specs.Never.{HasCallRoom, NeverSpaceError};
 ghost use Rattle.space_cert.specs.Reaches.{IsRecursive};
 
@@ -34,8 +34,8 @@ pub fn certificates_hold()
 /// The least certificate covers its program at the sizes that it is enough for, and no certificate does at a smaller size of
 /// either stack.
 pub fn least_at_main()
-    ensures covers { (q : Program) (bs : Bounds) → IsLeast q bs → Covers q bs (sizes_for q bs) }
-    ensures least { (q : Program) (bs ds : Bounds) (sizes : StackSizes) → IsLeast q bs → Covers q ds sizes →
+    ensures covers { (q : Program) (bs : Bounds) → AreLeastBounds q bs → Covers q bs (sizes_for q bs) }
+    ensures least { (q : Program) (bs ds : Bounds) (sizes : StackSizes) → AreLeastBounds q bs → Covers q ds sizes →
         IsAtMost (sizes_for q bs) sizes }
 {}
 
@@ -47,7 +47,8 @@ pub fn recursion_has_none()
 /// The certificate that is computed is the least one, and where there is none, the procedure that is told is the first recursive
 /// one. A certificate that is judged to cover a program does.
 pub fn computed_as_defined()
-    ensures certified { (q : Program) → ProgramFits q → MatchResult (certified q) (IsLeast q) (IsFirstRecursive q) }
+    ensures certified { (q : Program) → ProgramFits q →
+        MatchResult (certified q) (AreLeastBounds q) (IsFirstRecursive q) }
     ensures covered { (q : Program) (bs : Bounds) (sizes : StackSizes) → ProgramFits q →
         IsTrue (is_covered q bs sizes) ↔ Covers q bs sizes }
 {}

@@ -47,7 +47,7 @@ use Rattle.piton_linker.specs.Layouts.{trimmed}
 use Rattle.gypsy_codegen.proofs.StackLaws.{values_words}
 use Rattle.stack_build.specs.Formals.{formals_in, conditions_in, shown_formals, shown_conditions}
 use Rattle.stack_build.specs.Image.{slots_from, image_with}
-use Rattle.stack_build.specs.Internal.Showing.{AreShort, shapes_in, IsShowable}
+use Rattle.stack_build.specs.Internal.Showing.{HaveShortArrays, shapes_in, IsShowable}
 use Rattle.stack_build.proofs.Windows.{shorter}
 use Rattle.stack_build.proofs.MainLaws.{IsMain, main_is, zero_values}
 
@@ -129,7 +129,7 @@ names-slots_from a [] = refl
 names-slots_from a (d ∷ ds) = ap (λ (names : List (List ℕ)). d.name.name ∷ names) (names-slots_from (a - item_count (shape_of d.shape)) ds)
 
 -- slots from an address down fit a window that has all their items
-each_fits : (window : Window) (a : ℕ) (ds : List Decl) → list_all is_name (map (λ (d : Decl). d.name.name) ds) ≡ true → AreShort ds →
+each_fits : (window : Window) (a : ℕ) (ds : List Decl) → list_all is_name (map (λ (d : Decl). d.name.name) ds) ≡ true → HaveShortArrays ds →
     window.base + words_of (shapes_in ds) ≤ a + 1 → a < window.base + window.size → list_all (fits_window window) (slots_from a ds) ≡ true
 each_fits window a [] named few low high = refl
 each_fits window a (d ∷ ds) named few low high =
@@ -195,7 +195,7 @@ system_fits s ds conditions tables sound small shows fit_tables =
 
 -- ---- the image of a source
 
-shorts : (ds : List Decl) → Each (λ (s : Shape). s.length ≤ 4096) (shapes_in ds) → AreShort ds
+shorts : (ds : List Decl) → Each (λ (s : Shape). s.length ≤ 4096) (shapes_in ds) → HaveShortArrays ds
 shorts [] h = tt
 shorts (d ∷ ds) h = (h.0, shorts ds h.1)
 

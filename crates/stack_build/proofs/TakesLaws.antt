@@ -28,7 +28,7 @@ use Rattle.gypsy_space.specs.Needs.{StackSizes, stack_sizes}
 use Rattle.gypsy_codegen.specs.Generated.{generated_view}
 use Rattle.stack_build.specs.Formals.{formals_in, shown_formals, shown_conditions}
 use Rattle.stack_build.specs.Image.{slots_from, formal_slots, image_of}
-use Rattle.stack_build.specs.Internal.Showing.{AreShort, shapes_in, IsShowable}
+use Rattle.stack_build.specs.Internal.Showing.{HaveShortArrays, shapes_in, IsShowable}
 use Rattle.stack_build.specs.Implements.{FitsFormals}
 use Rattle.stack_build.proofs.ImageLimits.{names-slots_from, generated_shows}
 use Rattle.stack_build.proofs.MainLaws.{main_is}
@@ -98,7 +98,7 @@ takes_values s sizes base text values accepted image read = takes s _ text value
 shown_as : (s : SourceOf) → IsAccepted s → IsShowable (generated_view (program_of s) (stack_sizes 1 1) 0) (shown_formals s) (shown_conditions s)
 shown_as s accepted = generated_shows s (stack_sizes 1 1) 0 (generated_view (program_of s) (stack_sizes 1 1) 0) accepted refl
 
-pub formals_short : (s : SourceOf) → IsAccepted s → AreShort (shown_formals s)
+pub formals_short : (s : SourceOf) → IsAccepted s → HaveShortArrays (shown_formals s)
 formals_short s accepted = (shown_as s accepted).formals_short
 
 pub formals_own_names : (s : SourceOf) → IsAccepted s → HaveOwnNames (formal_slots s)

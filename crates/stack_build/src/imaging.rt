@@ -13,7 +13,7 @@ ghost use Rattle.gypsy_space.specs.Events.{AreNeeds};
 ghost use Rattle.gypsy_space.specs.Nodes.{declared_names, seen_proc_names, seen_program};
 ghost use Rattle.stack_build.specs.Image.{slots_from, linked_image, image_on};
 ghost use Rattle.stack_build.specs.Internal.Listing.{IsGenerated};
-ghost use Rattle.stack_build.specs.Internal.Showing.{AreShort};
+ghost use Rattle.stack_build.specs.Internal.Showing.{HaveShortArrays};
 
 use crate::shown::{formal_conditions, shown_formals};
 use crate::tables::tables;
@@ -83,7 +83,7 @@ fn shape_of(text: TypeText) -> Shape
 /// The formals, each with the address of its first item: the first at `address`, each further one below the items
 /// before it.
 pub fn slots_from(alloc: Global, address: u32, formals: &[Decl]) -> Result<Vec<Slot>, Memory>
-    requires { AreShort formals.now }
+    requires { HaveShortArrays formals.now }
     ensures { IfOk result (λ slots. slots.items ≡ slots_from address formals.now) }
 {
     let mut slots = Vec::new(alloc);

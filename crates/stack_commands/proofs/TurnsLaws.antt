@@ -37,8 +37,8 @@ use Rattle.stack_commands.specs.declared.turns.tasks.TasksFault.TheVariants.{Cou
 use Rattle.command_replies.specs.declared.reply.Verdict.TheVariants as verdict
 use Rattle.command_replies.specs.Replies.{reply_text, verdict_line}
 use Rattle.command_replies.specs.Commands.Run.{end_reply, run_reply}
-use Rattle.stack_commands.specs.Internal.Tasks.{fault_of, AreShort, AreReady}
-use Rattle.stack_commands.specs.Internal.Told.{told, told_of, told_from, has_ended, told_reply}
+use Rattle.stack_commands.specs.Internal.Tasks.{fault_of, TasksAreShort, AreReady}
+use Rattle.stack_commands.specs.Internal.Told.{told_task, told_of, told_from, has_ended, told_reply}
 use Rattle.stack_commands.specs.Commands.Turns.{few_enough, image_or_fault, images_from, word_count, small_enough, values_or_fault, tasks_from, tasks_of}
 use Rattle.stack_commands.specs.Commands.Turns.{last_round, round_line, task_text, tasks_text, is_end, tasks_verdict, tasks_reply}
 
@@ -86,7 +86,7 @@ module _ (implement : BuiltImplements) (take : BuiltTakesValues) (at_base : Buil
       → images_from sizes (i + 1) (base + image.size) sources ≡ Ok rest
       → AreBuilt sizes (base + image.size) sources rest
 
-  images_built : (i base : ℕ) (sources : List (List ℕ)) (images : List ImageOf) → AreShort sources → images_from sizes i base sources ≡ Ok images
+  images_built : (i base : ℕ) (sources : List (List ℕ)) (images : List ImageOf) → TasksAreShort sources → images_from sizes i base sources ≡ Ok images
       → base + length sources * 2 ^ 20 ≤ 2 ^ 31
       → AreBuilt sizes base sources images
   images_built i base [] images short made low =
@@ -186,7 +186,7 @@ module _ (implement : BuiltImplements) (take : BuiltTakesValues) (at_base : Buil
       let window : window_size (task ∷ others) ≡ Ok (total_size (task ∷ others)) = rw (low, high, adjoins, fits) refl in
       ap (λ (r : Result ℕ TurnsFault). started_in r (task ∷ others)) window
 
-  pub are_ready : (sources texts : List (List ℕ)) (tasks : List NewTask) → AreShort sources → tasks_of sizes sources texts ≡ Ok tasks → AreReady tasks
+  pub are_ready : (sources texts : List (List ℕ)) (tasks : List NewTask) → TasksAreShort sources → tasks_of sizes sources texts ≡ Ok tasks → AreReady tasks
   unfolding tasks_of
   are_ready sources texts tasks short made = by_count (eqb (length sources) 0 || ltb 8 (length sources)) refl made
     where
@@ -224,7 +224,7 @@ module _ (implement : BuiltImplements) (take : BuiltTakesValues) (at_base : Buil
 
   -- so they are where a call made them
   pub ready_from : {X : Type 0} (view : X → List NewTask) (sources texts : List (List ℕ)) (images small : List ImageOf) (result : Result X TasksFault)
-      → AreShort sources
+      → TasksAreShort sources
       → 1 ≤ length sources → length sources ≤ 8 → images_from sizes 0 0 sources ≡ Ok images → small_enough images ≡ Ok small
       → Gives fault_of view result (tasks_from texts 0 small)
       → IfOk result (λ x. AreReady (view x))
@@ -253,19 +253,19 @@ module _ (quotient : RoundIsQuotient) (turn budget : ℕ) (some : 1 ≤ turn) wh
       let within : 0 ≤ 0 * turn = omega arith in
       quotient turn 0 0 some within ∙ ap (λ n. div_ceil n turn) (sym none)
 
-  told_alone : (i : ℕ) (task : NewTask) → told budget i (state_at_end turn budget (whole_run budget task).run) task.image
+  told_alone : (i : ℕ) (task : NewTask) → told_task budget i (state_at_end turn budget (whole_run budget task).run) task.image
       (reading task.image (whole_run budget task).state) ≡ task_text turn budget i task
   unfolding run_reply
   told_alone i task = by (whole_run budget task).run
     where
       spent : (none : Bool) → eqb budget 0 ≡ none
           → let state : Task = if none then state.Running 0 else state.Spent budget (div_ceil budget turn) in
-          told budget i state task.image (reading task.image (whole_run budget task).state) ≡ round_line i (div_ceil budget turn)
+          told_task budget i state task.image (reading task.image (whole_run budget task).state) ≡ round_line i (div_ceil budget turn)
           ++ reply_text (end_reply task.image budget run.Spent (whole_run budget task).state)
       spent true e = ap (λ n. round_line i n ++ verdict_line (verdict.Unfinished budget)) (no_round (eqb-true budget 0 e))
       spent false e = refl
 
-      by : (r : Run) → told budget i (state_at_end turn budget r) task.image (reading task.image (whole_run budget task).state)
+      by : (r : Run) → told_task budget i (state_at_end turn budget r) task.image (reading task.image (whole_run budget task).state)
           ≡ round_line i (last_round turn budget r) ++ reply_text (end_reply task.image budget r (whole_run budget task).state)
       by (run.Ended count) =
           ap (λ (text : List ℕ). round_line i (div_ceil count turn) ++ text)
@@ -284,7 +284,7 @@ module _ (quotient : RoundIsQuotient) (turn budget : ℕ) (some : 1 ≤ turn) wh
 
   -- by the lists of how the tasks stand, of their images and of what is read
   told_lists : ℕ → List Task → List ImageOf → List ReadingOf → List ℕ
-  told_lists i (s ∷ states) (image ∷ images) (read ∷ reads) = told budget i s image read ++ told_lists (i + 1) states images reads
+  told_lists i (s ∷ states) (image ∷ images) (read ∷ reads) = told_task budget i s image read ++ told_lists (i + 1) states images reads
   told_lists i states images reads = []
 
   by_lists : (turns : TurnsOf) (i : ℕ) (contexts : List TaskContext) → told_from budget turns i contexts

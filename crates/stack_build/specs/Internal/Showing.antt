@@ -14,8 +14,8 @@ use Rattle.gypsy_syntax.specs.Programs.{words_of}
 use Rattle.gypsy_syntax.specs.Resolved.{shape_of}
 
 -- arrays of at most 4,096 items
-abbrev pub AreShort : List Decl → Type 0
-AreShort ds = Each (λ (d : Decl). (shape_of d.shape).length ≤ most_array) ds
+abbrev pub HaveShortArrays : List Decl → Type 0
+HaveShortArrays ds = Each (λ (d : Decl). (shape_of d.shape).length ≤ most_array) ds
 
 -- the shapes of the variables
 abbrev pub shapes_in : List Decl → List Shape
@@ -26,7 +26,7 @@ pub record IsShowable (system : SystemView) (ds : List Decl) (conditions : List 
   pub formals_named : list_all is_name (map (λ (d : Decl). d.name.name) ds) ≡ true
   pub formals_differ : IsDistinct bytes_eq (map (λ (d : Decl). d.name.name) ds)
   pub formals_few : length ds ≤ most_declared
-  pub formals_short : AreShort ds
+  pub formals_short : HaveShortArrays ds
   pub formals_stand : words_of (shapes_in ds) ≤ length system.stack
   pub conditions_named : list_all is_name conditions ≡ true
   pub conditions_differ : IsDistinct bytes_eq conditions

@@ -14,8 +14,8 @@ fault_of (Refused number verdict) = Some (Refused number verdict)
 fault_of (Large words) = Some (Large words)
 
 -- texts of at most 2^31 bytes
-abbrev pub AreShort : List (List ℕ) → Type 0
-AreShort texts = All (λ text. length text ≤ 2 ^ 31) texts
+abbrev pub TasksAreShort : List (List ℕ) → Type 0
+TasksAreShort texts = All (λ text. length text ≤ 2 ^ 31) texts
 
 -- the tasks can take turns, and none of them notices the others
 pub record AreReady (tasks : List NewTask) : Type 0 where

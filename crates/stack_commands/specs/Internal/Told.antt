@@ -35,12 +35,12 @@ end_text budget image read (Ended count round) = report_text image read count
 end_text budget image read (Spent count round) = verdict_line (verdict.Unfinished budget)
 end_text budget image read (Outside address count round) = verdict_line (verdict.Outside address count)
 
-abbrev pub told : ℕ → ℕ → Task → ImageOf → ReadingOf → List ℕ
-told budget i state image read = round_line i (round_in state) ++ end_text budget image read state
+abbrev pub told_task : ℕ → ℕ → Task → ImageOf → ReadingOf → List ℕ
+told_task budget i state image read = round_line i (round_in state) ++ end_text budget image read state
 
 -- the same of a task's context, among turns
 abbrev pub told_of : ℕ → TurnsOf → ℕ → TaskContext → List ℕ
-told_of budget turns i context = told budget i context.state context.image (reading context.image (own_machine turns context))
+told_of budget turns i context = told_task budget i context.state context.image (reading context.image (own_machine turns context))
 
 -- of all contexts, counted from i
 abbrev pub told_from : ℕ → TurnsOf → ℕ → List TaskContext → List ℕ

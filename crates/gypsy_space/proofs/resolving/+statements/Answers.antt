@@ -10,7 +10,7 @@ use Rattle.gypsy_syntax.specs.Views.SourceView.{arg_of, parts_of_list, proc_of, 
 use Rattle.gypsy_syntax.proofs.ViewLaws.{stmt_of-seq}
 use Rattle.gypsy_space.specs.declared.program.Node.{Node}
 use Rattle.gypsy_space.specs.Nodes.{seen_statements}
-use Rattle.gypsy_space.specs.CallSites.{followed}
+use Rattle.gypsy_space.specs.CallSites.{sequenced}
 use Rattle.gypsy_space.specs.Resolvable.{ConstantFits, ConstantsFit}
 use Rattle.gypsy_space.proofs.AcceptedLaws.{each_before, parts_fit}
 use Rattle.gypsy_space.proofs.NodeLaws.{seen_statement-seq}
@@ -57,7 +57,7 @@ statements-loop-part-preserved t c =
     let p = proc_of c.args.proc.now in
     let pushed : c.push.new.self.items ≡ c.loop-part.nodes.items ++ c.in_ok-node.node ∷ [] = search rules in
     let whole = statement_of_all s p (parts_of_list c.args.parts.now) in
-    subst (λ (ns : List (Rc Node Global)). followed ns (statement_of_all s p (parts_of_list (drop (c.loop-part.part-index + 1) c.args.parts.now)))
+    subst (λ (ns : List (Rc Node Global)). sequenced ns (statement_of_all s p (parts_of_list (drop (c.loop-part.part-index + 1) c.args.parts.now)))
     ≡ whole) (sym pushed)
     (next_part s p c.loop-part.nodes.items c.args.parts.now c.loop-part.part-index whole c.loop-part.invariant c.in_ok-node.node c.part-item.result
     c.loop-part-test.true c.part-item.is c.in_ok-node.ensures)

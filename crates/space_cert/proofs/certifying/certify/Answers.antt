@@ -5,7 +5,7 @@ use Rattle.gypsy_syntax.specs.Resolved.{procedure_of, program_of}
 use Rattle.gypsy_syntax.specs.Views.SourceView.{source_of}
 use Rattle.gypsy_space.specs.Nodes.{seen_proc}
 use Rattle.space_cert.specs.declared.certificate.Certificate.{Certificate}
-use Rattle.space_cert.specs.Least.{IsLeast, IsCertFault}
+use Rattle.space_cert.specs.Least.{AreLeastBounds, IsCertFault}
 use Rattle.space_cert.proofs.CertifiedLaws.{certified_gives, fault_there}
 use Rattle.space_cert.proofs.certifying.certify.Goals as goal
 
@@ -19,13 +19,13 @@ least_certificate-requires-clause-few c =
 pub returns-clause-there : goal.returns-clause-there
 returns-clause-there c =
     let q = program_of (source_of c.args.accepted.now) in
-    let same = subst (λ p. MatchResult c.least_certificate.result (λ (cert : Certificate). IsLeast p cert.bounds.items) (IsCertFault p))
+    let same = subst (λ p. MatchResult c.least_certificate.result (λ (cert : Certificate). AreLeastBounds p cert.bounds.items) (IsCertFault p))
     c.in_ok-program.ensures.program c.least_certificate.ensures in
-    fault_there q c.in_ok-program.ensures.accepted.fits (λ (cert : Certificate). IsLeast q cert.bounds.items) c.least_certificate.result same
+    fault_there q c.in_ok-program.ensures.accepted.fits (λ (cert : Certificate). AreLeastBounds q cert.bounds.items) c.least_certificate.result same
 
 pub returns-clause-exact : goal.returns-clause-exact
 returns-clause-exact c =
     let q = program_of (source_of c.args.accepted.now) in
-    let same = subst (λ p. MatchResult c.least_certificate.result (λ (cert : Certificate). IsLeast p cert.bounds.items) (IsCertFault p))
+    let same = subst (λ p. MatchResult c.least_certificate.result (λ (cert : Certificate). AreLeastBounds p cert.bounds.items) (IsCertFault p))
     c.in_ok-program.ensures.program c.least_certificate.ensures in
     certified_gives q c.in_ok-program.ensures.accepted.fits c.least_certificate.result same

@@ -2,7 +2,7 @@ use Rattle.std.proofs.Common.{◌≡◌, ◌<◌, ◌≤◌, length, reverse, ta
 use Rattle.std.proofs.lemmas.List.{length-map}
 use Rattle.std.specs.List.{All}
 use Rattle.gypsy_space.specs.Nodes.{seen_proc, seen_program}
-use Rattle.space_cert.specs.Least.{IsLeast}
+use Rattle.space_cert.specs.Least.{AreLeastBounds}
 use Rattle.space_cert.specs.Order.{AreBounds, bounds_by_needs}
 use Rattle.space_cert.specs.Internal.SearchState.{IsFound}
 use Rattle.space_cert.specs.Internal.SearchView.{AreCalls, seen_calls}
@@ -72,6 +72,6 @@ returns c =
     c.in_ok-bounds.ensures ∙ (λ i. bounds_by_needs c.args.needs.now.procedures.items (seen_calls (c.as_slice-2.ensures.value i))
     (reverse (c.as_slice-3.ensures.value i))) in
     let none : c.in_ok-order.order.recursive ≡ None = search rules in
-    subst (IsLeast (seen_program c.args.program.now)) (sym are)
+    subst (AreLeastBounds (seen_program c.args.program.now)) (sym are)
     (is_least (seen_program c.args.program.now) c.requires.fits few c.args.needs.now.procedures.items c.requires.needs c.in_ok-calls.calls.items
     c.in_ok-calls.ensures c.in_ok-order.order.procedures.items c.in_ok-order.order.recursive found none)

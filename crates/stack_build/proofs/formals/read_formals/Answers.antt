@@ -5,7 +5,7 @@ use Rattle.gypsy_syntax.specs.declared.proc.Source.{Source}
 use Rattle.gypsy_syntax.specs.Views.SourceView.{source_of}
 use Rattle.stack_build.specs.Formals.{shown_formals}
 use Rattle.stack_build.specs.Image.{slots_from, formal_slots}
-use Rattle.stack_build.specs.Internal.Showing.{AreShort}
+use Rattle.stack_build.specs.Internal.Showing.{HaveShortArrays}
 use Rattle.stack_build.proofs.TakesLaws.{formals_short, formals_own_names, fits_from}
 use Rattle.stack_build.proofs.formals.read_formals.Goals as goal
 
@@ -13,7 +13,7 @@ pub slots_from-requires : goal.slots_from-requires
 slots_from-requires c =
     let formals : c.shown_formals.result.now ≡ shown_formals (source_of c.args.accepted.now) =
     c.shown_formals.ensures ∙ ap (λ (s : Source). shown_formals (source_of s)) c.source-source.ensures.value in
-    subst AreShort (sym formals) (formals_short (source_of c.args.accepted.now) c.source-source.ensures.accepted)
+    subst HaveShortArrays (sym formals) (formals_short (source_of c.args.accepted.now) c.source-source.ensures.accepted)
 
 pub read_values-requires-clause-names : goal.read_values-requires-clause-names
 read_values-requires-clause-names c =

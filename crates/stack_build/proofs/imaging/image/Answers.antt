@@ -11,7 +11,7 @@ use Rattle.gypsy_syntax.specs.Sources.{SourceOf}
 use Rattle.gypsy_syntax.specs.Views.SourceView.{source_of}
 use Rattle.stack_build.specs.Formals.{shown_formals, shown_conditions}
 use Rattle.stack_build.specs.Image.{slots_from, source_tables}
-use Rattle.stack_build.specs.Internal.Showing.{AreShort}
+use Rattle.stack_build.specs.Internal.Showing.{HaveShortArrays}
 use Rattle.stack_build.proofs.ImageLimits.{placed_window, generated_shows}
 use Rattle.stack_build.proofs.PartsLaws.{areas_below, end_below, parts_are, parts_fit}
 use Rattle.stack_build.proofs.TableLaws.{tables_fit}
@@ -34,7 +34,7 @@ slots_from-requires c =
     let s : SourceOf = source_of c.args.accepted.now in
     let same : source_of c.source-source.result.now ≡ s = ap (λ (t : Source). source_of t) c.source-source.ensures.value in
     let formals : c.shown_formals.result.now ≡ shown_formals s = c.shown_formals.ensures ∙ ap shown_formals same in
-    subst AreShort (sym formals) (formals_short s c.source-source.ensures.accepted)
+    subst HaveShortArrays (sym formals) (formals_short s c.source-source.ensures.accepted)
 
 pub invariant_of-result : goal.invariant_of-result
 invariant_of-result c =
