@@ -266,20 +266,16 @@ def readings():
 # 5. The image of an assignment, for CTRL 7 and TEMP 3.
 
 SEVEN = (TOP / "examples/first/seven.gypsy").read_bytes()
+# A place or an address, how often, and the bytes, in a line of that example.
+LISTED = re.compile(r"^ *((?:0x)?[0-9a-f]+)  (?:(twelve|four) times )?((?:[0-9a-f]{2})+(?: (?:[0-9a-f]{2})+)*)  ", re.M)
 
 
 def documented():
-    """The bytes of the example in docs/languages/image-file.md: each place of the file with what stands there. The words have a table of their own."""
+    """The bytes of the example in docs/languages/image-file.md: each place of the file with what stands there. The words are listed by their addresses."""
     text = (TOP / "docs/languages/image-file.md").read_text().split("## An example, byte by byte")[1].split("\n## ")[0]
-    base, start, factor = 10, 0, 1
-    for line in text.splitlines():
-        cells = [it.strip() for it in line.strip("|").split("|")]
-        if cells[0] == "Address":
-            base, start, factor = 16, 135, 4
-        if re.fullmatch("(0x)?[0-9a-f]+", cells[0]) and "`" in cells[1]:
-            times = {"twelve": 12, "four": 4}.get(cells[1].split(" ")[0], 1)
-            content = bytes.fromhex("".join(re.findall("`([0-9a-f ]+)`", cells[1])))
-            yield start + factor * int(cells[0], base), content * times
+    for place, times, content in LISTED.findall(text):
+        start, base, factor = (135, 16, 4) if place.startswith("0x") else (0, 10, 1)
+        yield start + factor * int(place, base), bytes.fromhex(content) * {"twelve": 12, "four": 4}.get(times, 1)
 
 
 def fault_line(fault):
