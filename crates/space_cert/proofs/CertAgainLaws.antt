@@ -89,7 +89,7 @@ certificates_again source bs accepted is =
     let few : length q.procs ≤ 1000 = omega (arith, same, named) in
     let small : are_bounds bs ≡ true = ap are_bounds (sym (computed q bs is)) ∙ all_small q accepted.fits few (length q.procs) 0 in
     let least : AreLeastBounds q bs =
-        subst (λ (r : Result Bounds ℕ). MatchResult r (AreLeastBounds q) (IsFirstRecursive q)) is (certified_is q accepted.fits) in
+    subst (λ (r : Result Bounds ℕ). MatchResult r (AreLeastBounds q) (IsFirstRecursive q)) is (certified_is q accepted.fits) in
     record {
       short = printed_short names bs (are_names source accepted.form) named small;
       again = printed_reads names bs (are_names source accepted.form) named small (own_names source accepted.rules) (least.certificate.number ∙ same);
