@@ -19,7 +19,7 @@ returns-in-List g c =
 pub returns-in-Atom : goal.returns-in-Atom
 returns-in-Atom g c =
     rw (
-      first_item c.args.items.now c.index-items-0.result c.is_empty.ensures c.if-is_empty.false c.index-items-0.is c.in-Atom.is
-          (node_of-atom c.in-Atom.place c.in-Atom.text),
+    first_item c.args.items.now c.index-items-0.result c.is_empty.ensures c.if-is_empty.false c.index-items-0.is c.in-Atom.is
+    (node_of-atom c.in-Atom.place c.in-Atom.text)
     )
     c.called_at.ensures
