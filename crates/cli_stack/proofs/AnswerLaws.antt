@@ -1,7 +1,7 @@
 -- What answers mean, law by law.
 use Rattle.std.proofs.Common.{List, Option, Some, None, IfSome}
 use Rattle.stack_shelf.specs.Files.{Files}
-use Rattle.debug_moments.specs.SessionMoments.{BuiltSaysEnds, BuiltSaysMoments}
+use Rattle.cli_stack.specs.SessionMoments.{BuiltSaysEnds, BuiltSaysMoments}
 use Rattle.level_debuggers.specs.RunWalks.{MachinesArrive, MachinesWalk}
 use Rattle.level_debuggers.specs.ScriptSteps.{ArrivalsAreSaid, StepsAreSaid, TextStays, UpIsSaid, WordsAreSaid}
 use Rattle.level_debuggers.specs.Tallies.{Watching}

@@ -57,8 +57,8 @@ use Rattle.level_debuggers.specs.declared.script_end.ScriptEnd.TheVariants as en
 use Rattle.level_debuggers.specs.Tallies.{Watching}
 use Rattle.level_debuggers.specs.Transcripts.{Followed, arrival_text, followed}
 use Rattle.level_debuggers.specs.Walks.{SessionOf, stepped, walk, walk_on}
-use Rattle.debug_moments.proofs.EndLaws.{walk_past}
-use Rattle.debug_moments.specs.SessionMoments.{BothSay, BuiltSaysEnds, BuiltSaysMoments, image_run, state_text, steps_at, system_run}
+use Rattle.cli_stack.proofs.EndLaws.{walk_past}
+use Rattle.cli_stack.specs.SessionMoments.{BothSay, BuiltSaysEnds, BuiltSaysMoments, image_run, state_text, steps_at, system_run}
 use Rattle.command_line.specs.declared.command.Command.{Command}
 use Rattle.command_line.specs.declared.command.Command.TheVariants as command
 use Rattle.command_line.specs.declared.early_end.EarlyEnd.{EarlyEnd}

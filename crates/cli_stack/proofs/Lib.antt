@@ -5,6 +5,7 @@ pub mod AssemblesLaws
 pub mod BudgetLaws
 pub mod CompletesLaws
 pub mod DecidesLaws
+pub mod EndLaws
 pub mod ExplainsLaws
 pub mod GoLaws
 pub mod ImplementsLaws
@@ -23,7 +24,9 @@ pub mod PromisesLaws
 pub mod PutLaws
 pub mod RoleLaws
 pub mod RoomLaws
+pub mod SessionLaws
 pub mod SizeLaws
+pub mod StandingLaws
 pub mod TaskCountLaws
 pub mod TasksReadyLaws
 pub mod TellsLaws

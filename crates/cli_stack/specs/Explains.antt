@@ -28,7 +28,7 @@ use Rattle.level_debuggers.specs.ScriptSteps.{until_line, up_line, line_of_words
 use Rattle.level_debuggers.specs.Tallies.{Watching}
 use Rattle.level_debuggers.specs.Transcripts.{arrival_text}
 use Rattle.level_debuggers.specs.Walks.{walk}
-use Rattle.debug_moments.specs.SessionMoments.{state_text, steps_at}
+use Rattle.cli_stack.specs.SessionMoments.{state_text, steps_at}
 use Rattle.command_line.specs.declared.command.Command.{Command}
 use Rattle.command_line.specs.declared.command.Command.TheVariants.{Debug}
 use Rattle.command_line.specs.declared.role.Role.TheVariants.{Script}

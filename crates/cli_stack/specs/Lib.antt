@@ -17,6 +17,7 @@ pub mod Needs
 pub mod Lowers
 pub mod Decides
 pub mod Explains
+pub mod SessionMoments
 pub mod Turns
 pub mod Answer
 pub mod World

@@ -3,6 +3,7 @@
 
 mod driver;
 mod laws;
+mod moments;
 mod program;
 
 use command_line::exit_code;

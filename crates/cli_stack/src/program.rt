@@ -7,7 +7,7 @@ ghost use Rattle.cli_stack.specs.Promises.{Promises};
 ghost use Rattle.cli_stack.specs.RepliesTo.{devices_of};
 
 use crate::driver::{conclude, run_words};
-use debug_moments::moments_are_said;
+use crate::moments::moments_are_said;
 use fm_machine::Machine;
 use level_debuggers::{Watch, runs_walk, scripts_walk};
 use stack_build::{builds_implement, placed_are_words, runs_are_meant};

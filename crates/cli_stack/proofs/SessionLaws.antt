@@ -42,8 +42,8 @@ use Rattle.level_debuggers.specs.Steps as step
 use Rattle.level_debuggers.specs.Steps.{is_over}
 use Rattle.level_debuggers.specs.Texts.{mark_text}
 use Rattle.level_debuggers.specs.Walks.{walk}
-use Rattle.debug_moments.specs.SessionMoments.{BuiltSaysMoments, MachineSaysMoments, SystemSaysMoments, image_run, steps_at, system_run, state_text}
-use Rattle.debug_moments.proofs.StandingLaws.{state_shows}
+use Rattle.cli_stack.specs.SessionMoments.{BuiltSaysMoments, MachineSaysMoments, SystemSaysMoments, image_run, steps_at, system_run, state_text}
+use Rattle.cli_stack.proofs.StandingLaws.{state_shows}
 
 -- a run that has come there after so many steps, goes on from there, and says this there
 says_there : (n : ℕ) (level to : LevelOf) (text : List ℕ) → WalksTo n level to → is_over (next_of to) ≡ false → up_text to ≡ text → SaysAfter n level text

@@ -67,8 +67,8 @@ use Rattle.level_debuggers.specs.Steps as step
 use Rattle.level_debuggers.specs.Steps.{Makes, Over, Stops}
 use Rattle.level_debuggers.specs.Texts.{mark_text, no_mark}
 use Rattle.level_debuggers.specs.Walks.{walk, walk_on}
-use Rattle.debug_moments.specs.SessionMoments.{BuiltSaysEnds, system_run}
-use Rattle.debug_moments.proofs.StandingLaws.{condition_at}
+use Rattle.cli_stack.specs.SessionMoments.{BuiltSaysEnds, system_run}
+use Rattle.cli_stack.proofs.StandingLaws.{condition_at}
 use Rattle.stack_build.proofs.ImageLimits.{words_front}
 
 -- 1. A walk stays where a run is over.

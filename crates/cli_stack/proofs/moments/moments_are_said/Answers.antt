@@ -1,6 +1,6 @@
-use Rattle.debug_moments.proofs.EndLaws.{built_ends}
-use Rattle.debug_moments.proofs.SessionLaws.{built_says, machine_says, system_says}
-use Rattle.debug_moments.proofs.laws.moments_are_said.Goals as goal
+use Rattle.cli_stack.proofs.EndLaws.{built_ends}
+use Rattle.cli_stack.proofs.SessionLaws.{built_says, machine_says, system_says}
+use Rattle.cli_stack.proofs.moments.moments_are_said.Goals as goal
 
 pub returns-clause-machine : goal.returns-clause-machine
 returns-clause-machine c = machine_says c.moments_are_read.ensures.memory c.runs_walk.ensures.machines

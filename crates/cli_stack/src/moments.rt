@@ -1,6 +1,7 @@
-//! A law. The function does nothing: its clauses hold of all sources, sizes and values.
+//! A law: what a session of a source's run says at each moment of the source's step machine. The function does nothing: its
+//! clauses hold of all sources, sizes and values.
 
-ghost use Rattle.debug_moments.specs.SessionMoments.{BuiltSaysEnds, BuiltSaysMoments, MachineSaysMoments, SystemSaysMoments};
+ghost use Rattle.cli_stack.specs.SessionMoments.{BuiltSaysEnds, BuiltSaysMoments, MachineSaysMoments, SystemSaysMoments};
 
 /// Where the step machine of a source has come to a state, so has the run of a session of its Piton system, after exactly the
 /// counted steps, and that of the processor, after exactly the counted instructions: and what `up` says there is that state, the

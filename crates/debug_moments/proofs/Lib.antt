@@ -1,3 +1,0 @@
-pub mod StandingLaws
-pub mod SessionLaws
-pub mod EndLaws

@@ -1,2 +1,0 @@
--- what is promised
-pub mod SessionMoments
