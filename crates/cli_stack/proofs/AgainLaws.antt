@@ -215,7 +215,7 @@ module _ (source certificate : List ℕ) (watches : List Watching) (files : File
           let q = program_of s in
           let accepted = source_is_accepted text (omega (arith, was.1)) s read in
           let least : AreLeastBounds q bounds =
-              subst (λ (r : Result Bounds ℕ). MatchResult r (AreLeastBounds q) (IsFirstRecursive q)) is (certified_is q accepted.fits) in
+          subst (λ (r : Result Bounds ℕ). MatchResult r (AreLeastBounds q) (IsFirstRecursive q)) is (certified_is q accepted.fits) in
           let covers : Covers q bounds (sizes_for q bounds) = covers_main q bounds least in
           let reads = again s bounds accepted is in
           let written : List ℕ = certificate_text (procedure_names s) bounds in
