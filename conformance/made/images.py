@@ -267,13 +267,13 @@ def readings():
 
 SEVEN = (TOP / "examples/first/seven.gypsy").read_bytes()
 # A place or an address, how often, and the bytes, in a line of that example.
-LISTED = re.compile(r"^ *((?:0x)?[0-9a-f]+)  (?:(twelve|four) times )?((?:[0-9a-f]{2})+(?: (?:[0-9a-f]{2})+)*)  ", re.M)
+PIECE = re.compile(r"^ *((?:0x)?[0-9a-f]+)  (?:(twelve|four) times )?((?:[0-9a-f]{2})+(?: (?:[0-9a-f]{2})+)*)  ", re.M)
 
 
 def documented():
     """The bytes of the example in docs/languages/image-file.md: each place of the file with what stands there. The words are listed by their addresses."""
     text = (TOP / "docs/languages/image-file.md").read_text().split("## An example, byte by byte")[1].split("\n## ")[0]
-    for place, times, content in LISTED.findall(text):
+    for place, times, content in PIECE.findall(text):
         start, base, factor = (135, 16, 4) if place.startswith("0x") else (0, 10, 1)
         yield start + factor * int(place, base), bytes.fromhex(content) * {"twelve": 12, "four": 4}.get(times, 1)
 
