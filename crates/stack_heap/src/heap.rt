@@ -1,12 +1,14 @@
 //! What takes memory.
 
-ghost use Rattle.std.specs.Prelude.{◌≡◌, ℕ, ◌+◌, ◌≤◌, ◌∷◌, [], ◌++◌, length, replicate, not, vec_capacity, IfOk, OnOk, OnErr, is_ok, if◌then◌else◌};
+ghost use Rattle.std.specs.Prelude.{◌≡◌, ℕ, ◌+◌, ◌-◌, ◌≤◌, ◌∷◌, [], ◌++◌, length, replicate, take, not, vec_capacity, vec_len, IfOk, OnOk, OnErr, is_ok, if◌then◌else◌};
+ghost use Rattle.indexmap.specs.IndexMap.{insert_entry};
 ghost use Rattle.indexmap.specs.IndexSet.{contains, insert_key};
 ghost use Rattle.stack_heap.specs.Heaps.{IfOkUnless, RefusesWithin, room_after};
 
-use indexmap::IndexSet;
+use indexmap::{IndexMap, IndexSet};
 use std::alloc::{AllocError, AllocFailed, Global};
 use std::hash::Hash;
+use std::rc::Rc;
 
 /// What takes memory: each method is one call of the library, and fails only where the heap may refuse.
 pub trait Heap: Copy {
@@ -48,9 +50,42 @@ pub trait Heap: Copy {
         ensures room { OnErr result
             (RefusesWithin (may_refuse_room self) (room_after (length items.old.items + length more.now))) };
 
+    /// Appends the items of another vector, which then has none, or leaves both as they were.
+    fn append<T>(self, items: &mut Vec<T>, more: &mut Vec<T>) -> Result<(), AllocError>
+        ensures items { items.new.items
+            ≡ (if is_ok result then items.old.items ++ more.old.items else items.old.items) }
+        ensures refused { OnErr result (may_refuse self) }
+        ensures room { OnErr result
+            (RefusesWithin (may_refuse_room self) (room_after (length items.old.items + length more.old.items))) };
+
+    /// Makes room for so many items more, which are then appended without memory.
+    fn reserve<T>(self, items: &mut Vec<T>, more: usize) -> Result<(), AllocError>
+        ensures items { items.new.items ≡ items.old.items }
+        ensures len { vec_len items.new ≡ vec_len items.old }
+        ensures ok { OnOk result (vec_len items.new + more ≤ vec_capacity items.new) }
+        ensures refused { OnErr result (may_refuse self) }
+        ensures room { OnErr result
+            (RefusesWithin (may_refuse_room self) (room_after (length items.old.items + more))) };
+
+    /// Cuts the items to so many, or appends copies of one until they are; or leaves them as they were.
+    fn resize<T: Copy>(self, items: &mut Vec<T>, count: usize, item: T) -> Result<(), AllocError>
+        ensures items { items.new.items ≡ (if is_ok result
+            then take count items.old.items ++ replicate (count - vec_len items.old) item
+            else items.old.items) }
+        ensures refused { OnErr result (may_refuse self) }
+        ensures room { OnErr result (RefusesWithin (may_refuse_room self) (room_after count)) };
+
     /// A value in a box.
     fn boxed<T>(self, value: T) -> Result<Box<T>, AllocFailed<T>>
         ensures value { IfOkUnless (may_refuse self) result (λ made. made.value ≡ value) };
+
+    /// A value that is shared.
+    fn shared<T>(self, value: T) -> Result<Rc<T>, AllocFailed<T>>
+        ensures value { IfOkUnless (may_refuse self) result (λ made. made.value ≡ value) };
+
+    /// The same shared value again, which takes no memory: refused where it is shared too often to be counted.
+    fn shared_again<T: Drop>(self, value: &Rc<T>) -> Result<Rc<T>, AllocError>
+        ensures value { IfOkUnless (may_refuse self) result (λ again. again.value ≡ value.now.value) };
 
     /// Enters a value into a set, and says whether it is new.
     fn insert<T: Eq + Hash + Drop>(
@@ -60,6 +95,17 @@ pub trait Heap: Copy {
     ) -> Result<bool, AllocFailed<T>>
         ensures new { IfOkUnless (may_refuse self) result (λ new. new ≡ not (contains T.eq set.old value)) }
         ensures keys { OnOk result (set.new.keys ≡ insert_key T.eq set.old.keys value) };
+
+    /// Enters a value with its key into a table, or leaves the entries as they were.
+    fn insert_pair<K: Eq + Hash + Drop, V>(
+        self,
+        table: &mut IndexMap<K, V>,
+        key: K,
+        value: V,
+    ) -> Result<Option<V>, AllocFailed<(K, V)>>
+        ensures entries { OnOk result (table.new.entries ≡ insert_entry K.eq table.old.entries key value) }
+        ensures stays { OnErr result (table.new.entries ≡ table.old.entries) }
+        ensures refused { OnErr result (may_refuse self) };
 
     /// Who may refuse room may refuse.
     ghost refuses: { (heap : Self) (count : ℕ) → may_refuse_room heap count → may_refuse heap };
@@ -97,8 +143,28 @@ impl Heap for Global {
         items.extend_from_slice(more)
     }
 
+    fn append<T>(self, items: &mut Vec<T>, more: &mut Vec<T>) -> Result<(), AllocError> {
+        items.append(more)
+    }
+
+    fn reserve<T>(self, items: &mut Vec<T>, more: usize) -> Result<(), AllocError> {
+        items.reserve(more)
+    }
+
+    fn resize<T: Copy>(self, items: &mut Vec<T>, count: usize, item: T) -> Result<(), AllocError> {
+        items.resize(count, item)
+    }
+
     fn boxed<T>(self, value: T) -> Result<Box<T>, AllocFailed<T>> {
         Box::new(self, value)
+    }
+
+    fn shared<T>(self, value: T) -> Result<Rc<T>, AllocFailed<T>> {
+        Rc::new(self, value)
+    }
+
+    fn shared_again<T: Drop>(self, value: &Rc<T>) -> Result<Rc<T>, AllocError> {
+        value.clone()
     }
 
     fn insert<T: Eq + Hash + Drop>(
@@ -107,5 +173,14 @@ impl Heap for Global {
         value: T,
     ) -> Result<bool, AllocFailed<T>> {
         set.insert(value)
+    }
+
+    fn insert_pair<K: Eq + Hash + Drop, V>(
+        self,
+        table: &mut IndexMap<K, V>,
+        key: K,
+        value: V,
+    ) -> Result<Option<V>, AllocFailed<(K, V)>> {
+        table.insert(key, value)
     }
 }
