@@ -1,11 +1,13 @@
 //! A table of names.
 
-ghost use Rattle.std.specs.Prelude.{◌≡◌, ℕ, List, [], IfOk, OnOk, OnErr, is_some};
+ghost use Rattle.std.specs.Prelude.{◌≡◌, ℕ, List, [], OnOk, OnErr, is_some};
 ghost use Rattle.std.specs.Str.{bytes_eq};
+ghost use Rattle.stack_heap.specs.Heaps.{IfOkUnless};
 ghost use Rattle.stack_text.specs.Options.{first_or};
 ghost use Rattle.name_tables.specs.Entries.{look_up};
 
 use indexmap::IndexMap;
+use stack_heap::Heap;
 use stack_text::Memory;
 use std::alloc::Global;
 use std::marker::Model;
@@ -49,9 +51,15 @@ impl<'a, V: Copy> NameTable<'a, V> {
     ///
     /// # Errors
     ///
-    /// `Memory` where there is none for a new name; the table is then as it was.
-    pub fn enter(&mut self, name: &'a [u8], value: V) -> Result<bool, Memory>
-        ensures known { IfOk result (λ is_known. is_known ≡ is_some (look_up self.old name.now)) }
+    /// `Memory` where the heap refuses it for a new name; the table is then as it was.
+    pub fn enter<H: Heap>(
+        &mut self,
+        heap: H,
+        name: &'a [u8],
+        value: V,
+    ) -> Result<bool, Memory>
+        ensures known { IfOkUnless (H.may_refuse heap) result
+            (λ is_known. is_known ≡ is_some (look_up self.old name.now)) }
         ensures entered { OnOk result ((other : List ℕ) →
             look_up self.new other ≡ first_or (look_up self.old other) (bytes_eq other name.now) value) }
         ensures stays { OnErr result (self.new ≡ self.old) }
@@ -59,7 +67,7 @@ impl<'a, V: Copy> NameTable<'a, V> {
         if self.values.contains_key(name) {
             return Ok(true);
         }
-        self.values.insert(name, value)?;
+        heap.insert_pair(&mut self.values, name, value)?;
         Ok(false)
     }
 }

@@ -90,12 +90,12 @@ impl Name {
     }
 
     /// The name, with 0 for its place.
-    pub fn unplaced(&self) -> Result<Named, Memory>
-        ensures { IfOk result (λ named. named ≡ unplaced self.now) }
+    pub fn unplaced<H: Heap>(&self, heap: H) -> Result<Named, Memory>
+        ensures { IfOkUnless (H.may_refuse heap) result (λ named. named ≡ unplaced self.now) }
     {
         Ok(Named {
             place: 0,
-            name: self.clone()?,
+            name: self.copied(heap)?,
         })
     }
 }
