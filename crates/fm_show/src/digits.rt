@@ -1,17 +1,36 @@
-//! Words in hexadecimal digits.
+//! Numbers and words in digits.
 
-ghost use Rattle.std.specs.Prelude.{◌≡◌, IfOk, string_bytes};
+ghost use Rattle.std.specs.Prelude.{◌≡◌, ◌++◌};
+ghost use Rattle.stack_heap.specs.Heaps.{OnOkUnless};
 ghost use Rattle.fm_show.specs.Digits.{hex_digits};
 
+use itoa::{Buffer, Integer};
+use stack_heap::Heap;
 use stack_text::Memory;
-use std::alloc::Global;
 
 /// A word, or an address, in eight hexadecimal digits: lower-case letters, the highest digit first.
+#[tactic(auto, unfolding(crate::specs::Digits::hex_digits))]
+pub fn hex_digits(word: u32) -> [u8; 8]
+    ensures { result ≡ hex_digits word }
+{
+    let mut digits = [0; 8];
+    match hex::encode_to_slice(word.to_be_bytes(), &mut digits) {
+        Ok(()) => digits,
+        Err(_) => unreachable!(),
+    }
+}
+
+/// Appends a number in decimal digits, after a `-` where it is negative.
 ///
 /// The only error is out of memory.
-#[tactic(auto, unfolding(crate::specs::Digits::hex_digits))]
-pub fn hex_digits(alloc: Global, word: u32) -> Result<String, Memory>
-    ensures { IfOk result (λ digits. string_bytes digits ≡ hex_digits word) }
+pub fn push_number<N: Integer, H: Heap>(
+    heap: H,
+    text: &mut Vec<u8>,
+    number: N,
+) -> Result<(), Memory>
+    ensures { OnOkUnless (H.may_refuse heap) result (text.new.items ≡ text.old.items ++ N.text number) }
 {
-    Ok(hex::encode(alloc, word.to_be_bytes())?)
+    let mut digits = Buffer::new();
+    heap.extend_from_slice(text, digits.format(number).as_bytes())?;
+    Ok(())
 }

@@ -1,13 +1,14 @@
 //! Instructions as text.
 
-ghost use Rattle.std.specs.Prelude.{◌≡◌, ◌↔◌, ℕ, IfOk, Some};
+ghost use Rattle.std.specs.Prelude.{◌≡◌, ◌↔◌, ℕ, ◌++◌, ◌∷◌, []};
+ghost use Rattle.stack_heap.specs.Heaps.{IfOkUnless, OnOkUnless};
 ghost use Rattle.fm_words.specs.Encoding.{significant};
-ghost use Rattle.fm_show.specs.Disassembly.{operation_name, condition_name, condition_text, flags_text, place_text, operand_text, instruction_text, disassembly_text};
+ghost use Rattle.fm_show.specs.Disassembly.{operation_name, condition_name, condition_text, shown_if, flags_text, register_name, place_text, operand_text, instruction_text, disassembly_text};
 
+use crate::digits::push_number;
 use fm_words::{Cc, Flags, Instr, Mode, Op, OperandA, decode};
+use stack_heap::Heap;
 use stack_text::Memory;
-use std::alloc::Global;
-use std::fmt;
 
 /// The instruction that a word is, as text: the operation, the store condition in brackets unless
 /// it is always, the flags to set in braces unless there are none, a space, the second operand, a
@@ -16,39 +17,34 @@ use std::fmt;
 /// Two words have one text exactly where they are one but for the bits that decoding passes over.
 /// The only error is out of memory.
 #[tactic(auto, using(crate::proofs::LosslessLaws::lossless))]
-pub fn disassemble(alloc: Global, word: u32) -> Result<Vec<u8>, Memory>
-    ensures text { IfOk result (λ text. text.items ≡ disassembly_text word) }
+pub fn disassemble<H: Heap>(heap: H, word: u32) -> Result<Vec<u8>, Memory>
+    ensures text { IfOkUnless (H.may_refuse heap) result (λ text. text.items ≡ disassembly_text word) }
     ensures lossless { (other : ℕ)
         → (disassembly_text word ≡ disassembly_text other) ↔ (significant word ≡ significant other) }
 {
-    let text = Line(decode(word)).to_string(alloc)?;
-    Ok(text.into_bytes())
+    let mut text = Vec::new(heap.handle());
+    push_instruction(heap, &mut text, decode(word))?;
+    Ok(text)
 }
 
-/// A whole instruction.
-#[derive(Clone, Copy)]
-struct Line(Instr);
-
-impl fmt::Display for Line {
-    ghost output = { λ line. Some (instruction_text line.0) };
-
-    #[tactic(auto, unfolding(crate::specs::Disassembly::instruction_text))]
-    fn fmt<W: fmt::Write>(&self, f: &mut fmt::Formatter<W>) -> fmt::Result {
-        let Instr {
-            op,
-            cc,
-            set,
-            mode_b,
-            reg_b,
-            a,
-        } = self.0;
-        let operation = name_of_operation(op);
-        let condition = Condition(cc);
-        let flags = FlagSet(set);
-        let target = Place(mode_b, reg_b);
-        let source = Operand(a);
-        write!(f, "{operation}{condition}{flags} {target},{source}")
-    }
+/// Appends the text of an instruction.
+#[tactic(auto, unfolding(crate::specs::Disassembly::instruction_text))]
+pub(crate) fn push_instruction<H: Heap>(
+    heap: H,
+    text: &mut Vec<u8>,
+    instruction: Instr,
+) -> Result<(), Memory>
+    ensures { OnOkUnless (H.may_refuse heap) result
+        (text.new.items ≡ text.old.items ++ instruction_text instruction) }
+{
+    heap.extend_from_slice(text, name_of_operation(instruction.op).as_bytes())?;
+    push_condition(heap, text, instruction.cc)?;
+    push_set_flags(heap, text, instruction.set)?;
+    heap.push(text, b' ')?;
+    push_place(heap, text, instruction.mode_b, instruction.reg_b)?;
+    heap.push(text, b',')?;
+    push_operand(heap, text, instruction.a)?;
+    Ok(())
 }
 
 /// The name of an operation, as `MOVE`.
@@ -99,73 +95,92 @@ pub fn name_of_condition(cc: Cc) -> &'static str
     }
 }
 
-/// A store condition in brackets, and nothing where it is always.
-#[derive(Clone, Copy)]
-struct Condition(Cc);
-
-impl fmt::Display for Condition {
-    ghost output = { λ condition. Some (condition_text condition.0) };
-
-    fn fmt<W: fmt::Write>(&self, f: &mut fmt::Formatter<W>) -> fmt::Result {
-        match self.0 {
-            Cc::Al => Ok(()),
-            cc => {
-                let name = name_of_condition(cc);
-                write!(f, "[{name}]")
-            }
+/// Appends a store condition in brackets, and nothing where it is always.
+fn push_condition<H: Heap>(heap: H, text: &mut Vec<u8>, condition: Cc) -> Result<(), Memory>
+    ensures { OnOkUnless (H.may_refuse heap) result (text.new.items ≡ text.old.items ++ condition_text condition) }
+{
+    match condition {
+        Cc::Al => Ok(()),
+        condition => {
+            heap.push(text, b'[')?;
+            heap.extend_from_slice(text, name_of_condition(condition).as_bytes())?;
+            Ok(heap.push(text, b']')?)
         }
     }
 }
 
-/// The flags that an instruction sets, in braces, and nothing where there are none.
-#[derive(Clone, Copy)]
-struct FlagSet(Flags);
+/// Appends the flags that an instruction sets, in braces, and nothing where there are none.
+fn push_set_flags<H: Heap>(heap: H, text: &mut Vec<u8>, flags: Flags) -> Result<(), Memory>
+    ensures { OnOkUnless (H.may_refuse heap) result (text.new.items ≡ text.old.items ++ flags_text flags) }
+{
+    let Flags { c, v, n, z } = flags;
+    if !(c || v || n || z) {
+        return Ok(());
+    }
+    heap.push(text, b'{')?;
+    push_if(heap, text, c, b'c')?;
+    push_if(heap, text, v, b'v')?;
+    push_if(heap, text, n, b'n')?;
+    push_if(heap, text, z, b'z')?;
+    Ok(heap.push(text, b'}')?)
+}
 
-impl fmt::Display for FlagSet {
-    ghost output = { λ flags. Some (flags_text flags.0) };
+/// Appends the letter of a flag where it is set.
+fn push_if<H: Heap>(heap: H, text: &mut Vec<u8>, is_set: bool, letter: u8) -> Result<(), Memory>
+    ensures { OnOkUnless (H.may_refuse heap) result
+        (text.new.items ≡ text.old.items ++ shown_if is_set (letter ∷ [])) }
+{
+    if is_set {
+        heap.push(text, letter)?;
+    }
+    Ok(())
+}
 
-    fn fmt<W: fmt::Write>(&self, f: &mut fmt::Formatter<W>) -> fmt::Result {
-        let Flags { c, v, n, z } = self.0;
-        if !(c || v || n || z) {
-            return Ok(());
+/// Appends the name of a register, as `r3`.
+pub(crate) fn push_register_name<H: Heap>(
+    heap: H,
+    text: &mut Vec<u8>,
+    r: usize,
+) -> Result<(), Memory>
+    ensures { OnOkUnless (H.may_refuse heap) result (text.new.items ≡ text.old.items ++ register_name r) }
+{
+    heap.push(text, b'r')?;
+    push_number(heap, text, r)
+}
+
+/// Appends a register, or the memory that it names.
+fn push_place<H: Heap>(heap: H, text: &mut Vec<u8>, mode: Mode, reg: u8) -> Result<(), Memory>
+    ensures { OnOkUnless (H.may_refuse heap) result (text.new.items ≡ text.old.items ++ place_text mode reg) }
+{
+    match mode {
+        Mode::Register => push_register_name(heap, text, reg as usize),
+        Mode::Indirect => {
+            heap.push(text, b'(')?;
+            push_register_name(heap, text, reg as usize)?;
+            Ok(heap.push(text, b')')?)
         }
-        let c = if c { "c" } else { "" };
-        let v = if v { "v" } else { "" };
-        let n = if n { "n" } else { "" };
-        let z = if z { "z" } else { "" };
-        write!(f, "{{{c}{v}{n}{z}}}")
+        Mode::PreDecrement => {
+            heap.extend_from_slice(text, b"-(")?;
+            push_register_name(heap, text, reg as usize)?;
+            Ok(heap.push(text, b')')?)
+        }
+        Mode::PostIncrement => {
+            heap.push(text, b'(')?;
+            push_register_name(heap, text, reg as usize)?;
+            Ok(heap.extend_from_slice(text, b")+")?)
+        }
     }
 }
 
-/// A register, or the memory that it names.
-#[derive(Clone, Copy)]
-struct Place(Mode, u8);
-
-impl fmt::Display for Place {
-    ghost output = { λ place. Some (place_text place.0 place.1) };
-
-    fn fmt<W: fmt::Write>(&self, f: &mut fmt::Formatter<W>) -> fmt::Result {
-        let Place(mode, r) = *self;
-        match mode {
-            Mode::Register => write!(f, "r{r}"),
-            Mode::Indirect => write!(f, "(r{r})"),
-            Mode::PreDecrement => write!(f, "-(r{r})"),
-            Mode::PostIncrement => write!(f, "(r{r})+"),
+/// Appends the first operand.
+fn push_operand<H: Heap>(heap: H, text: &mut Vec<u8>, operand: OperandA) -> Result<(), Memory>
+    ensures { OnOkUnless (H.may_refuse heap) result (text.new.items ≡ text.old.items ++ operand_text operand) }
+{
+    match operand {
+        OperandA::Immediate(number) => {
+            heap.push(text, b'#')?;
+            push_number(heap, text, number)
         }
-    }
-}
-
-/// The first operand.
-#[derive(Clone, Copy)]
-struct Operand(OperandA);
-
-impl fmt::Display for Operand {
-    ghost output = { λ operand. Some (operand_text operand.0) };
-
-    fn fmt<W: fmt::Write>(&self, f: &mut fmt::Formatter<W>) -> fmt::Result {
-        match self.0 {
-            OperandA::Immediate(number) => write!(f, "#{number}"),
-            OperandA::Place { mode, reg } => Place(mode, reg).fmt(f),
-        }
+        OperandA::Place { mode, reg } => push_place(heap, text, mode, reg),
     }
 }

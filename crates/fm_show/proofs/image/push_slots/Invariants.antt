@@ -5,4 +5,4 @@ use Rattle.fm_show.proofs.image.push_slots.Given as goal
 
 -- the lines so far and those of what is left are those of all
 abbrev pub invariant-loop-slot : goal.invariant-loop-slot
-invariant-loop-slot l = l.text.items ++ flat_map slot_line (drop l.slot-index l.slots) ≡ l.initial.text.items ++ flat_map slot_line l.slots
+invariant-loop-slot g l = l.text.items ++ flat_map slot_line (drop l.slot-index l.slots) ≡ l.initial.text.items ++ flat_map slot_line l.slots

@@ -4,4 +4,4 @@ use Rattle.fm_show.proofs.listing.push_registers.Given as goal
 
 -- the lines so far and those of what is left are those of all
 abbrev pub invariant-loop-r : goal.invariant-loop-r
-invariant-loop-r l = l.text.items ++ numbered_lines register_line l.r (drop l.r l.registers) ≡ l.initial.text.items ++ register_lines l.registers
+invariant-loop-r g l = l.text.items ++ numbered_lines register_line l.r (drop l.r l.registers) ≡ l.initial.text.items ++ register_lines l.registers
