@@ -33,10 +33,11 @@ module _ (number : ℕ) (line : List ℕ) (lines left : List (List ℕ)) (before
       cases (Ok rest) = refl
       cases (Err fault) = refl
 
-  -- the next line has a fault, where `None` is out of memory
-  pub next_fails : (fault : Option ScriptFault) → common.Fails fault (line_read number line) → common.Fails fault all
-  next_fails None e = tt
-  next_fails (Some fault) e = sym (opened (Err fault) e)
+  -- the next line has a fault, where `None` is out of memory, for which there is a reason
+  pub next_fails : (refused : Type 0) (fault : Option ScriptFault) → common.FailsUnless refused fault (line_read number line)
+      → common.FailsUnless refused fault all
+  next_fails refused None e = e
+  next_fails refused (Some fault) e = sym (opened (Err fault) e)
 
 -- no line is left
 pub all_read : (number : ℕ) (left : List (List ℕ)) (before : List Line) (all : Result (List Line) ScriptFault)

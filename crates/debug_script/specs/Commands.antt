@@ -25,6 +25,11 @@ use Rattle.debug_script.specs.declared.command.WatchWord.TheVariants as watch
 abbrev pub words_of : List ℕ → List (List ℕ)
 words_of line = slice_split (λ byte. byte == 32) line
 
+-- the words of what is left of a line
+abbrev pub words_left : Option (List ℕ) → List (List ℕ)
+words_left None = []
+words_left (Some line) = words_of line
+
 unfoldable pub verb_of : List ℕ → Option Verb
 verb_of word =
     if bytes_eq word (codes "step") then Some verb.Step
@@ -107,9 +112,9 @@ abbrev pub rule_of : LineFault → Option ScriptRule
 rule_of (fault.Rule rule) = Some rule
 rule_of fault.Memory = None
 
--- exactly what the definition gives, unless memory ran out
-abbrev pub GivesCommand : Result Command LineFault → Result Command ScriptRule → Type 0
-GivesCommand result value = common.Gives rule_of (λ (c : Command). c) result value
+-- exactly what the definition gives, unless memory was refused
+abbrev pub GivesCommandUnless : Type 0 → Result Command LineFault → Result Command ScriptRule → Type 0
+GivesCommandUnless refused result value = common.GivesUnless refused rule_of (λ (c : Command). c) result value
 
-abbrev pub GivesPlace : Result Place LineFault → Result Place ScriptRule → Type 0
-GivesPlace result value = common.Gives rule_of (λ (p : Place). p) result value
+abbrev pub GivesPlaceUnless : Type 0 → Result Place LineFault → Result Place ScriptRule → Type 0
+GivesPlaceUnless refused result value = common.GivesUnless refused rule_of (λ (p : Place). p) result value

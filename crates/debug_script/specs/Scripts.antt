@@ -16,9 +16,9 @@ abbrev pub fault_of : ScriptFault → Option ScriptFault
 fault_of Memory = None
 fault_of fault = Some fault
 
--- exactly what the definition gives, unless memory ran out
-abbrev pub GivesScript : {X Y : Type 0} → (X → Y) → Result X ScriptFault → Result Y ScriptFault → Type 0
-GivesScript view result value = common.Gives fault_of view result value
+-- exactly what the definition gives, unless memory was refused
+abbrev pub GivesScriptUnless : {X Y : Type 0} → Type 0 → (X → Y) → Result X ScriptFault → Result Y ScriptFault → Type 0
+GivesScriptUnless refused view result value = common.GivesUnless refused fault_of view result value
 
 -- a command, or the rule that its line breaks, with the line's number
 abbrev pub numbered : ℕ → Result Command ScriptRule → Result (Option Line) ScriptFault

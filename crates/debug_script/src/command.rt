@@ -1,13 +1,13 @@
 //! Commands.
 
 ghost use Rattle.std.specs.Prelude.{◌≡◌, ◌∷◌, map};
-ghost use Rattle.debug_script.specs.Commands.{GivesCommand, GivesPlace, command_by, command_of, count_of, number_of, place_of, until_instruction, until_number};
+ghost use Rattle.debug_script.specs.Commands.{GivesCommandUnless, GivesPlaceUnless, command_by, command_of, count_of, number_of, place_of, until_instruction, until_number};
 ghost use Rattle.debug_script.specs.Commands.{verb_of, watch_of, words_command};
 ghost use Rattle.debug_script.specs.declared.command.Verb.TheVariants as verb;
 
 use crate::fault::{LineFault, ScriptRule};
+use stack_heap::Heap;
 use stack_text::{MOST_STEPS, Name, is_digits, read_name, read_numeral};
-use std::alloc::Global;
 
 /// The most words of memory that a line asks for.
 const MOST_WORDS: u32 = 4_096;
@@ -146,10 +146,10 @@ fn words_command(address: &[u8], count: &[u8]) -> Result<Command, ScriptRule>
 }
 
 /// The place in a program that two words name.
-fn place_of(alloc: Global, program: &[u8], place: &[u8]) -> Result<Place, LineFault>
-    ensures { GivesPlace result (place_of program.now place.now) }
+fn place_of<H: Heap>(heap: H, program: &[u8], place: &[u8]) -> Result<Place, LineFault>
+    ensures { GivesPlaceUnless (H.may_refuse heap) result (place_of program.now place.now) }
 {
-    let Some(program) = read_name(alloc, program)? else {
+    let Some(program) = read_name(heap, program)? else {
         return Err(LineFault::Rule(ScriptRule::Argument));
     };
     Ok(Place::Instruction {
@@ -171,16 +171,16 @@ fn until_number(number: &[u8], limit: &[u8]) -> Result<Command, ScriptRule>
 }
 
 /// The command of `until` with an instruction as its place.
-fn until_instruction(
-    alloc: Global,
+fn until_instruction<H: Heap>(
+    heap: H,
     program: &[u8],
     number: &[u8],
     limit: &[u8],
 ) -> Result<Command, LineFault>
-    ensures { GivesCommand result (until_instruction program.now number.now limit.now) }
+    ensures { GivesCommandUnless (H.may_refuse heap) result (until_instruction program.now number.now limit.now) }
 {
     Ok(Command::Until {
-        place: place_of(alloc, program, number)?,
+        place: place_of(heap, program, number)?,
         limit: count_of(limit)?,
     })
 }
@@ -196,38 +196,40 @@ fn words_from(address: &[u8], rest: &[&[u8]]) -> Result<Command, ScriptRule>
 }
 
 /// The command of `until`, by its first two words and what stands behind those.
-fn until_both(
-    alloc: Global,
+fn until_both<H: Heap>(
+    heap: H,
     first: &[u8],
     second: &[u8],
     rest: &[&[u8]],
 ) -> Result<Command, LineFault>
-    ensures { GivesCommand result (command_by verb.Until (first.now ∷ second.now ∷ map (λ word. word.now) rest.now)) }
+    ensures { GivesCommandUnless (H.may_refuse heap) result
+        (command_by verb.Until (first.now ∷ second.now ∷ map (λ word. word.now) rest.now)) }
 {
     match rest {
         [] => Ok(until_number(first, second)?),
-        [limit] => until_instruction(alloc, first, second, limit),
+        [limit] => until_instruction(heap, first, second, limit),
         _ => Err(LineFault::Rule(ScriptRule::WordCount)),
     }
 }
 
 /// The command of `until`, by its first word and what stands behind that.
-fn until_from(alloc: Global, first: &[u8], rest: &[&[u8]]) -> Result<Command, LineFault>
-    ensures { GivesCommand result (command_by verb.Until (first.now ∷ map (λ word. word.now) rest.now)) }
+fn until_from<H: Heap>(heap: H, first: &[u8], rest: &[&[u8]]) -> Result<Command, LineFault>
+    ensures { GivesCommandUnless (H.may_refuse heap) result
+        (command_by verb.Until (first.now ∷ map (λ word. word.now) rest.now)) }
 {
     match rest {
-        [second, rest @ ..] => until_both(alloc, first, second, rest),
+        [second, rest @ ..] => until_both(heap, first, second, rest),
         [] => Err(LineFault::Rule(ScriptRule::WordCount)),
     }
 }
 
 /// The command of words, or the rule that they break.
-pub(crate) fn command_of(alloc: Global, words: &[&[u8]]) -> Result<Command, LineFault>
-    ensures { GivesCommand result (command_of (map (λ word. word.now) words.now)) }
+pub(crate) fn command_of<H: Heap>(heap: H, words: &[&[u8]]) -> Result<Command, LineFault>
+    ensures { GivesCommandUnless (H.may_refuse heap) result (command_of (map (λ word. word.now) words.now)) }
 {
     match words {
         [verb, arguments @ ..] => match verb_of(verb) {
-            Some(verb) => command_by(alloc, verb, arguments),
+            Some(verb) => command_by(heap, verb, arguments),
             None => Err(LineFault::Rule(ScriptRule::UnknownCommand)),
         },
         [] => Err(LineFault::Rule(ScriptRule::UnknownCommand)),
@@ -235,8 +237,8 @@ pub(crate) fn command_of(alloc: Global, words: &[&[u8]]) -> Result<Command, Line
 }
 
 /// The command of a verb and the words behind it.
-fn command_by(alloc: Global, verb: Verb, arguments: &[&[u8]]) -> Result<Command, LineFault>
-    ensures { GivesCommand result (command_by verb (map (λ word. word.now) arguments.now)) }
+fn command_by<H: Heap>(heap: H, verb: Verb, arguments: &[&[u8]]) -> Result<Command, LineFault>
+    ensures { GivesCommandUnless (H.may_refuse heap) result (command_by verb (map (λ word. word.now) arguments.now)) }
 {
     match (verb, arguments) {
         (Verb::Step, [count]) => Ok(Command::Step {
@@ -251,7 +253,7 @@ fn command_by(alloc: Global, verb: Verb, arguments: &[&[u8]]) -> Result<Command,
             watch: watch_of(watch)?,
         }),
         (Verb::Words, [address, rest @ ..]) => Ok(words_from(address, rest)?),
-        (Verb::Until, [first, rest @ ..]) => until_from(alloc, first, rest),
+        (Verb::Until, [first, rest @ ..]) => until_from(heap, first, rest),
         _ => Err(LineFault::Rule(ScriptRule::WordCount)),
     }
 }

@@ -1,13 +1,13 @@
 //! Scripts.
 
 ghost use Rattle.std.specs.Prelude.{◌≤◌, ◌^◌, length};
-ghost use Rattle.debug_script.specs.Scripts.{GivesScript, line_read, script_of};
+ghost use Rattle.debug_script.specs.Scripts.{GivesScriptUnless, line_read, script_of};
 
 use crate::command::Command;
 use crate::fault::{LineFault, ScriptFault};
 use crate::line::command_in;
 use bstr::ByteSlice;
-use std::alloc::Global;
+use stack_heap::Heap;
 
 /// A line of a script that is not empty.
 #[derive(Debug, Drop, PartialEq, Eq)]
@@ -20,13 +20,13 @@ pub struct Line {
 
 /// What a line gives: nothing where it is empty, or else its command, with the line's number.
 #[tactic(auto, unfolding(crate::specs::Scripts::line_read))]
-fn read_line(alloc: Global, number: u32, line: &[u8]) -> Result<Option<Line>, ScriptFault>
-    ensures { GivesScript (λ read. read) result (line_read number line.now) }
+fn read_line<H: Heap>(heap: H, number: u32, line: &[u8]) -> Result<Option<Line>, ScriptFault>
+    ensures { GivesScriptUnless (H.may_refuse heap) (λ read. read) result (line_read number line.now) }
 {
     if line.is_empty() {
         return Ok(None);
     }
-    match command_in(alloc, line) {
+    match command_in(heap, line) {
         Ok(command) => Ok(Some(Line {
             line: number,
             command,
@@ -48,16 +48,16 @@ fn read_line(alloc: Global, number: u32, line: &[u8]) -> Result<Option<Line>, Sc
 ///
 /// The fault of the first line that has one, by the first rule in the order 6, 1, 2, 3 that the line breaks; or out of
 /// memory.
-pub fn read_script(alloc: Global, text: &[u8]) -> Result<Vec<Line>, ScriptFault>
+pub fn read_script<H: Heap>(heap: H, text: &[u8]) -> Result<Vec<Line>, ScriptFault>
     requires { length text.now ≤ 2 ^ 31 }
-    ensures { GivesScript (λ lines. lines.items) result (script_of text.now) }
+    ensures { GivesScriptUnless (H.may_refuse heap) (λ lines. lines.items) result (script_of text.now) }
 {
-    let mut lines = Vec::new(alloc);
+    let mut lines = Vec::new(heap.handle());
     let mut number = 0;
     for line in text.lines() {
         number += 1;
-        if let Some(read) = read_line(alloc, number, line)? {
-            lines.push(read)?;
+        if let Some(read) = read_line(heap, number, line)? {
+            heap.push(&mut lines, read)?;
         }
     }
     Ok(lines)

@@ -1,0 +1,73 @@
+-- Words of a line, one after the other.
+use Rattle.std.proofs.Common.{◌≡◌, Bor, ◌+◌, ◌-◌, ◌<◌, ◌≤◌, ◌==◌, ℕ, suc, List, [], ◌∷◌, ◌++◌, length, take, drop, map}
+use Rattle.std.proofs.Common.{Bool, true, false, cond, Option, Some, None, refl, sym, ap, subst, ◌∙◌, append-nil, append_assoc, arith}
+use Rattle.std.specs.Prelude.{IfSome}
+use Rattle.std.specs.List.{position, position_or_len}
+use Rattle.std.specs.Option.{option_copied}
+use Rattle.std.proofs.lemmas.Bool.{ltb-false}
+use Rattle.std.proofs.lemmas.List.{length-drop, map-append, take_all}
+use Rattle.std.proofs.lemmas.List.Quantifiers.{position-Some}
+use Rattle.std.proofs.lemmas.List.Splits.{slice_split_none, slice_split_first}
+use Rattle.std.proofs.lemmas.List.Sums.{position_or_len_is, fails_before_first}
+use Rattle.debug_script.specs.Commands.{words_left, words_of}
+
+abbrev is_space : ℕ → Bool
+is_space byte = byte == 32
+
+-- the first space ends the first word, and what stands behind it is left
+pub first_of_more : (line : List ℕ) (at : ℕ) → Some at ≡ position is_space line
+    → words_of line ≡ take at line ∷ words_of (take (length line - (at + 1)) (drop (at + 1) line))
+first_of_more line at found =
+    let there = position-Some is_space line at 0 (sym found) in
+    let inside : at < length line = there.0 in
+    let place : position_or_len is_space line ≡ at = position_or_len_is is_space line at 0 (omega arith) there.2 (λ _. there.1) in
+    let whole : take (length line - (at + 1)) (drop (at + 1) line) ≡ drop (at + 1) line =
+    take_all (length line - (at + 1)) (drop (at + 1) line) (omega (arith, length-drop (at + 1) line)) in
+    slice_split_first is_space line 0 (omega arith)
+    ∙ ap (λ n. take n line ∷ words_of (drop (n + 1) line)) place
+    ∙ ap (λ (left : List ℕ). take at line ∷ words_of left) (sym whole)
+
+none_past : (b : Bool) (n : ℕ) → None ≡ cond b (Some n) None → b ≡ false
+none_past true n e = absurd cc
+none_past false n e = refl
+
+-- a line without a space is one word
+pub only_word : (line : List ℕ) → None ≡ position is_space line → words_of line ≡ line ∷ []
+only_word line none =
+    let past : length line ≤ position_or_len is_space line = ltb-false (position_or_len is_space line) (length line) (none_past _ _ none) in
+    slice_split_none is_space line (λ k d lt. fails_before_first is_space line k d (omega arith))
+
+-- what is left is shorter after each word
+abbrev pub left_measure : Option (Bor (List ℕ)) → ℕ
+left_measure None = 0
+left_measure (Some line) = suc (length line.now)
+
+pub smaller : (left behind : Option (Bor (List ℕ))) (line : Bor (List ℕ)) → left ≡ Some line → IfSome behind (λ b. length b.now < length line.now)
+    → left_measure behind < left_measure left
+smaller left behind line is shorter =
+    subst (λ (l : Option (Bor (List ℕ))). left_measure behind < left_measure l) (sym is) (by_behind behind shorter)
+  where
+    by_behind : (behind : Option (Bor (List ℕ))) → IfSome behind (λ b. length b.now < length line.now) → left_measure behind < suc (length line.now)
+    by_behind None shorter = omega arith
+    by_behind (Some b) shorter = omega (arith, shorter)
+
+-- a word more is read
+pub next_word : (words more : List (Bor (List ℕ))) (left behind : Option (Bor (List ℕ))) (line word : Bor (List ℕ)) (all : List (List ℕ)) → left ≡ Some line
+    → more ≡ words ++ word ∷ [] → words_of line.now ≡ word.now ∷ words_left (option_copied behind)
+    → map (λ w. w.now) words ++ words_left (option_copied left) ≡ all → map (λ w. w.now) more ++ words_left (option_copied behind) ≡ all
+next_word words more left behind line word all is pushed first so_far =
+    let rest = words_left (option_copied behind) in
+    ap (λ (ws : List (Bor (List ℕ))). map (λ (w : Bor (List ℕ)). w.now) ws ++ rest) pushed
+    ∙ ap (λ (ws : List (List ℕ)). ws ++ rest) (map-append (λ (w : Bor (List ℕ)). w.now) words (word ∷ []))
+    ∙ append_assoc (map (λ (w : Bor (List ℕ)). w.now) words) (word.now ∷ []) rest
+    ∙ ap (λ (ws : List (List ℕ)). map (λ (w : Bor (List ℕ)). w.now) words ++ ws) (sym first)
+    ∙ ap (λ (l : Option (Bor (List ℕ))). map (λ (w : Bor (List ℕ)). w.now) words ++ words_left (option_copied l)) (sym is)
+    ∙ so_far
+
+-- no word is left
+pub all_words : (words : List (Bor (List ℕ))) (left : Option (Bor (List ℕ))) (all : List (List ℕ)) → left ≡ None
+    → map (λ w. w.now) words ++ words_left (option_copied left) ≡ all → map (λ w. w.now) words ≡ all
+all_words words left all none so_far =
+    sym (append-nil (map (λ (w : Bor (List ℕ)). w.now) words))
+    ∙ ap (λ (l : Option (Bor (List ℕ))). map (λ (w : Bor (List ℕ)). w.now) words ++ words_left (option_copied l)) (sym none)
+    ∙ so_far
