@@ -1,15 +1,16 @@
 //! Running an image on values, and reading its memory at the end.
 
-ghost use Rattle.std.specs.Prelude.{◌≡◌, ◌≤◌, ◌^◌, length, IfOk};
-ghost use Rattle.fm_loader.specs.Rules.{GivesValues};
+ghost use Rattle.std.specs.Prelude.{◌≡◌, ◌≤◌, ◌^◌, length};
+ghost use Rattle.stack_heap.specs.Heaps.{IfOkUnless};
+ghost use Rattle.fm_loader.specs.Rules.{GivesValuesUnless};
 ghost use Rattle.display_maps.specs.Endings.{ending_of, run_on};
 
 use crate::reading::{Reading, read_up};
 use fm_image::Image;
 use fm_loader::{ValuesFault, load, read_image_values};
 use fm_machine::{Machine, Run};
+use stack_heap::Heap;
 use stack_text::Memory;
-use std::alloc::Global;
 
 /// How a run of an image ends.
 #[derive(Debug, Drop)]
@@ -24,12 +25,12 @@ pub enum Ending {
 
 /// What is told of a run that ended so.
 #[tactic(auto, unfolding(crate::specs::Endings::ending_of))]
-fn ending_of(alloc: Global, image: &Image, end: Run, machine: &Machine) -> Result<Ending, Memory>
-    ensures { IfOk result (λ ending. ending ≡ ending_of image.now end machine.now.state) }
+fn ending_of<H: Heap>(heap: H, image: &Image, end: Run, machine: &Machine) -> Result<Ending, Memory>
+    ensures { IfOkUnless (H.may_refuse heap) result (λ ending. ending ≡ ending_of image.now end machine.now.state) }
 {
     match end {
         Run::Ended { count } => {
-            let reading = read_up(alloc, machine, image)?;
+            let reading = read_up(heap, machine, image)?;
             Ok(Ending::Finished { count, reading })
         }
         Run::Spent => Ok(Ending::Unfinished),
@@ -44,17 +45,17 @@ fn ending_of(alloc: Global, image: &Image, end: Run, machine: &Machine) -> Resul
 ///
 /// The rule that the text of the values breaks, with its place; or out of memory.
 #[tactic(auto, unfolding(crate::specs::Endings::run_on))]
-pub fn run_on(
-    alloc: Global,
+pub fn run_on<H: Heap>(
+    heap: H,
     image: &Image,
     values: &[u8],
     budget: u64,
 ) -> Result<Ending, ValuesFault>
     requires { length values.now ≤ 2 ^ 31 }
-    ensures { GivesValues (λ ending. ending) result (run_on image.now values.now budget) }
+    ensures { GivesValuesUnless (H.may_refuse heap) (λ ending. ending) result (run_on image.now values.now budget) }
 {
-    let values = read_image_values(alloc, values, image)?;
-    let mut machine = load(alloc, image, &values)?;
+    let values = read_image_values(heap, values, image)?;
+    let mut machine = load(heap, image, &values)?;
     let end = machine.run(budget, image.final_pc);
-    Ok(ending_of(alloc, image, end, &machine)?)
+    Ok(ending_of(heap, image, end, &machine)?)
 }

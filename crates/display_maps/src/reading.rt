@@ -1,6 +1,7 @@
 //! Memory read as a condition and variables.
 
-ghost use Rattle.std.specs.Prelude.{◌≡◌, map, IfOk};
+ghost use Rattle.std.specs.Prelude.{◌≡◌, map};
+ghost use Rattle.stack_heap.specs.Heaps.{IfOkUnless};
 ghost use Rattle.std.specs.List.{find};
 ghost use Rattle.std.specs.Option.{option_map};
 ghost use Rattle.std.specs.Str.{bytes_eq};
@@ -10,8 +11,8 @@ ghost use Rattle.display_maps.specs.Reading.{word_or_zero, condition_of, item_of
 use crate::shown::{Shown, condition_of, item_of};
 use fm_image::{Image, Slot};
 use fm_machine::Machine;
+use stack_heap::Heap;
 use stack_text::{Memory, Name};
-use std::alloc::Global;
 use std::marker::Model;
 
 /// What the memory of an image's machine says.
@@ -71,48 +72,55 @@ fn word_or_zero(machine: &Machine, address: u32) -> u32
 }
 
 /// The condition that the word at an address says.
-fn condition_read(
+fn condition_read<H: Heap>(
+    heap: H,
     machine: &Machine,
     names: &[Name],
     address: Option<u32>,
 ) -> Result<Option<Shown>, Memory>
-    ensures { IfOk result (λ condition.
+    ensures { IfOkUnless (H.may_refuse heap) result (λ condition.
         condition ≡ option_map (λ a. condition_of names.now (word_or_zero machine.now.state a)) address) }
 {
     match address {
-        Some(address) => Ok(Some(condition_of(names, word_or_zero(machine, address))?)),
+        Some(address) => {
+            let word = word_or_zero(machine, address);
+            Ok(Some(condition_of(heap, names, word)?))
+        }
         None => Ok(None),
     }
 }
 
 /// The items of a variable, from its address downwards.
-fn items_of(alloc: Global, machine: &Machine, slot: &Slot) -> Result<Vec<Shown>, Memory>
-    ensures { IfOk result (λ items. items.items
+fn items_of<H: Heap>(heap: H, machine: &Machine, slot: &Slot) -> Result<Vec<Shown>, Memory>
+    ensures { IfOkUnless (H.may_refuse heap) result (λ items. items.items
         ≡ map (item_of slot.now.shape.kind)
         (words_down machine.now.state slot.now.address (item_count slot.now.shape))) }
 {
-    let mut items = Vec::new(alloc);
+    let mut items = Vec::new(heap.handle());
     let mut address = slot.address;
     for _ in 0..slot.shape.item_count() {
-        items.push(item_of(slot.shape.kind, word_or_zero(machine, address)))?;
+        heap.push(
+            &mut items,
+            item_of(slot.shape.kind, word_or_zero(machine, address)),
+        )?;
         address = address.saturating_sub(1);
     }
     Ok(items)
 }
 
 /// The variables, each by its name and its items.
-fn variables(
-    alloc: Global,
+fn variables<H: Heap>(
+    heap: H,
     machine: &Machine,
     slots: &[Slot],
 ) -> Result<Vec<(Name, Vec<Shown>)>, Memory>
-    ensures { IfOk result (λ variables.
+    ensures { IfOkUnless (H.may_refuse heap) result (λ variables.
         map (λ item. (item.0, item.1.items)) variables.items ≡ map (variable_of machine.now.state) slots.now) }
 {
-    let mut variables = Vec::new(alloc);
+    let mut variables = Vec::new(heap.handle());
     for slot in slots {
-        let items = items_of(alloc, machine, slot)?;
-        variables.push((slot.name.clone()?, items))?;
+        let items = items_of(heap, machine, slot)?;
+        heap.push(&mut variables, (slot.name.copied(heap)?, items))?;
     }
     Ok(variables)
 }
@@ -120,11 +128,11 @@ fn variables(
 /// What memory says: the condition, where the image has a condition word, and the variables.
 ///
 /// The machine has the window of the image. In another window an address that is not there reads as 0.
-pub fn read_up(alloc: Global, machine: &Machine, image: &Image) -> Result<Reading, Memory>
-    ensures { IfOk result (λ read. read ≡ reading image.now machine.now.state) }
+pub fn read_up<H: Heap>(heap: H, machine: &Machine, image: &Image) -> Result<Reading, Memory>
+    ensures { IfOkUnless (H.may_refuse heap) result (λ read. read ≡ reading image.now machine.now.state) }
 {
     Ok(Reading {
-        condition: condition_read(machine, &image.conditions, image.condition_address)?,
-        items: variables(alloc, machine, &image.slots)?,
+        condition: condition_read(heap, machine, &image.conditions, image.condition_address)?,
+        items: variables(heap, machine, &image.slots)?,
     })
 }

@@ -1,6 +1,7 @@
 //! Memory read at a mark.
 
 ghost use Rattle.std.specs.Prelude.{◌≡◌, map, slice_get, None, IfOk, IfErr};
+ghost use Rattle.stack_heap.specs.Heaps.{IfOkUnless};
 ghost use Rattle.std.specs.Option.{option_map};
 ghost use Rattle.display_maps.specs.ReadingAt.{items_below, items_at, variables_at, mark_there, condition_word, read_in, read_from, reading_at, read_variable, reading_at_text};
 ghost use Rattle.display_maps.specs.Variable.{variable_of_line};
@@ -9,8 +10,9 @@ use crate::printing::{Variable, push_lines};
 use crate::shown::{Shown, condition_of, item_of, push};
 use fm_image::{Image, Mark, ProcInfo, VarInfo};
 use fm_machine::Machine;
+use fm_show::push_number;
+use stack_heap::Heap;
 use stack_text::{Memory, Name, Shape};
-use std::alloc::Global;
 use std::marker::Model;
 
 /// Where a run of an image stands, and what can be read there: each word where it is there.
@@ -103,19 +105,19 @@ impl<'a, 'b> Standing for MachineAt<'a, 'b> {
 }
 
 /// The items of a shape, the first of them so far below the last word, where all of them are there.
-fn items_below<S: Standing>(
-    alloc: Global,
+fn items_below<S: Standing, H: Heap>(
+    heap: H,
     run: &S,
     index: u32,
     shape: Shape,
 ) -> Result<Option<Vec<Shown>>, Memory>
-    ensures { IfOk result (λ items.
+    ensures { IfOkUnless (H.may_refuse heap) result (λ items.
         option_map (λ read. read.items) items ≡ items_below (S.standing run.now) index shape) }
 {
-    let mut items = Vec::new(alloc);
+    let mut items = Vec::new(heap.handle());
     for place in 0..shape.item_count() as u64 {
         match run.below(u64::from(index) + place) {
-            Some(word) => items.push(item_of(shape.kind, word))?,
+            Some(word) => heap.push(&mut items, item_of(shape.kind, word))?,
             None => return Ok(None),
         }
     }
@@ -123,34 +125,37 @@ fn items_below<S: Standing>(
 }
 
 /// The items of a variable, where all of them are there.
-fn items_at<S: Standing>(
-    alloc: Global,
+fn items_at<S: Standing, H: Heap>(
+    heap: H,
     run: &S,
     variable: &VarInfo,
 ) -> Result<Option<Vec<Shown>>, Memory>
-    ensures { IfOk result (λ items.
+    ensures { IfOkUnless (H.may_refuse heap) result (λ items.
         option_map (λ read. read.items) items ≡ items_at (S.standing run.now) variable.now) }
 {
     match run.local(variable.offset) {
-        Some(index) => items_below(alloc, run, index, variable.shape),
+        Some(index) => items_below(heap, run, index, variable.shape),
         None => Ok(None),
     }
 }
 
 /// The variables, where all that they need is there.
-fn variables_at<S: Standing>(
-    alloc: Global,
+fn variables_at<S: Standing, H: Heap>(
+    heap: H,
     run: &S,
     variables: &[VarInfo],
 ) -> Result<Option<Vec<(Name, Shape, Vec<Shown>)>>, Memory>
-    ensures { IfOk result (λ read.
+    ensures { IfOkUnless (H.may_refuse heap) result (λ read.
         option_map (λ all. map (λ item. (item.0, item.1, item.2.items)) all.items) read
         ≡ variables_at (S.standing run.now) variables.now) }
 {
-    let mut read = Vec::new(alloc);
+    let mut read = Vec::new(heap.handle());
     for variable in variables {
-        match items_at(alloc, run, variable)? {
-            Some(items) => read.push((variable.name.clone()?, variable.shape, items))?,
+        match items_at(heap, run, variable)? {
+            Some(items) => {
+                let name = variable.name.copied(heap)?;
+                heap.push(&mut read, (name, variable.shape, items))?;
+            }
             None => return Ok(None),
         }
     }
@@ -195,22 +200,23 @@ fn condition_word<S: Standing>(run: &S, address: Option<u32>) -> Option<u32>
 }
 
 /// What is read at a mark in a procedure.
-fn read_in<S: Standing>(
-    alloc: Global,
+fn read_in<S: Standing, H: Heap>(
+    heap: H,
     run: &S,
     word: u32,
     mark: Mark,
     procedure: &ProcInfo,
 ) -> Result<Option<ReadingAt>, Memory>
-    ensures { IfOk result (λ read. read ≡ read_in (S.standing run.now) word mark procedure.now) }
+    ensures { IfOkUnless (H.may_refuse heap) result
+        (λ read. read ≡ read_in (S.standing run.now) word mark procedure.now) }
 {
-    let Some(items) = variables_at(alloc, run, &procedure.variables)? else {
+    let Some(items) = variables_at(heap, run, &procedure.variables)? else {
         return Ok(None);
     };
     Ok(Some(ReadingAt {
-        procedure: procedure.name.clone()?,
+        procedure: procedure.name.copied(heap)?,
         place: mark.place,
-        condition: condition_of(&procedure.conditions, word)?,
+        condition: condition_of(heap, &procedure.conditions, word)?,
         items,
     }))
 }
@@ -220,12 +226,12 @@ fn read_in<S: Standing>(
 ///
 /// The only error is out of memory.
 #[tactic(auto, unfolding(crate::specs::ReadingAt::read_from))]
-pub fn read_from<S: Standing>(
-    alloc: Global,
+pub fn read_from<S: Standing, H: Heap>(
+    heap: H,
     run: &S,
     image: &Image,
 ) -> Result<Option<ReadingAt>, Memory>
-    ensures { IfOk result (λ read. read ≡ read_from image.now (S.standing run.now)) }
+    ensures { IfOkUnless (H.may_refuse heap) result (λ read. read ≡ read_from image.now (S.standing run.now)) }
 {
     let Some(mark) = mark_there(image, run.address()) else {
         return Ok(None);
@@ -236,7 +242,7 @@ pub fn read_from<S: Standing>(
     let Some(word) = condition_word(run, image.condition_address) else {
         return Ok(None);
     };
-    read_in(alloc, run, word, mark, procedure)
+    read_in(heap, run, word, mark, procedure)
 }
 
 /// What the memory of an image's machine says where the machine stands at a mark: the active procedure, the place in the
@@ -244,27 +250,32 @@ pub fn read_from<S: Standing>(
 /// word, and where a word that this needs lies outside the window.
 ///
 /// The only error is out of memory.
-pub fn read_at(alloc: Global, machine: &Machine, image: &Image) -> Result<Option<ReadingAt>, Memory>
-    ensures { IfOk result (λ read. read ≡ reading_at image.now machine.now.state) }
+pub fn read_at<H: Heap>(
+    heap: H,
+    machine: &Machine,
+    image: &Image,
+) -> Result<Option<ReadingAt>, Memory>
+    ensures { IfOkUnless (H.may_refuse heap) result (λ read. read ≡ reading_at image.now machine.now.state) }
 {
-    read_from(alloc, &MachineAt { image, machine }, image)
+    read_from(heap, &MachineAt { image, machine }, image)
 }
 
 /// The variables of a reading, as they are printed.
-fn variables_of<'a>(
-    alloc: Global,
+fn variables_of<'a, H: Heap>(
+    heap: H,
     items: &'a [(Name, Shape, Vec<Shown>)],
 ) -> Result<Vec<Variable<'a>>, Memory>
-    ensures { IfOk result (λ variables. map variable_of_line variables.items
+    ensures { IfOkUnless (H.may_refuse heap) result (λ variables. map variable_of_line variables.items
         ≡ map read_variable (map (λ item. (item.0, item.1, item.2.items)) items.now)) }
 {
-    let mut variables = Vec::new(alloc);
+    let mut variables = Vec::new(heap.handle());
     for item in items {
-        variables.push(Variable {
+        let variable = Variable {
             name: &item.0,
             shape: item.1,
             items: &item.2,
-        })?;
+        };
+        heap.push(&mut variables, variable)?;
     }
     Ok(variables)
 }
@@ -272,16 +283,16 @@ fn variables_of<'a>(
 /// A reading as lines: `in PROCEDURE at PLACE`, `condition` with the condition, and each variable as `NAME = VALUE`.
 ///
 /// Each variable has as many items as its shape. The only error is out of memory.
-pub fn report_at(alloc: Global, reading: &ReadingAt) -> Result<Vec<u8>, Memory>
-    ensures { IfOk result (λ text. text.items ≡ reading_at_text reading.now) }
+pub fn report_at<H: Heap>(heap: H, reading: &ReadingAt) -> Result<Vec<u8>, Memory>
+    ensures { IfOkUnless (H.may_refuse heap) result (λ text. text.items ≡ reading_at_text reading.now) }
 {
-    let place = reading.place;
-    let rest = format!(in alloc; " at {place}\n")?;
-    let variables = variables_of(alloc, &reading.items)?;
-    let mut text = Vec::new(alloc);
-    push(&mut text, "in ")?;
-    text.extend_from_slice(reading.procedure.bytes())?;
-    push(&mut text, rest.as_str())?;
-    push_lines(alloc, &mut text, Some(&reading.condition), &variables)?;
+    let variables = variables_of(heap, &reading.items)?;
+    let mut text = Vec::new(heap.handle());
+    push(heap, &mut text, "in ")?;
+    heap.extend_from_slice(&mut text, reading.procedure.bytes())?;
+    push(heap, &mut text, " at ")?;
+    push_number(heap, &mut text, reading.place)?;
+    push(heap, &mut text, "\n")?;
+    push_lines(heap, &mut text, Some(&reading.condition), &variables)?;
     Ok(text)
 }

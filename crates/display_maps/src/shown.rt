@@ -1,12 +1,14 @@
 //! What a word of memory says.
 
-ghost use Rattle.std.specs.Prelude.{◌≡◌, ◌≤◌, ◌-◌, ◌++◌, slice_get, IfOk, OnOk};
+ghost use Rattle.std.specs.Prelude.{◌≡◌, ◌≤◌, ◌-◌, ◌++◌, slice_get};
+ghost use Rattle.stack_heap.specs.Heaps.{IfOkUnless, OnOkUnless};
 ghost use Rattle.display_maps.specs.Reading.{named_or_odd, condition_of, item_of};
 ghost use Rattle.display_maps.specs.Report.{shown_text};
 
+use fm_show::push_number;
 use fm_words::signed_of;
+use stack_heap::Heap;
 use stack_text::{Kind, Memory, Name};
-use std::alloc::Global;
 
 /// A word of memory, as a condition or an item of some type.
 #[derive(Debug, Drop)]
@@ -30,26 +32,29 @@ pub enum Shown {
 }
 
 /// The named condition of a number, where there is one.
-fn named_or_odd(names: &[Name], word: u32) -> Result<Shown, Memory>
+fn named_or_odd<H: Heap>(heap: H, names: &[Name], word: u32) -> Result<Shown, Memory>
     requires { 3 ≤ word }
-    ensures { IfOk result (λ shown. shown ≡ named_or_odd (slice_get names.now (word - 3)) word) }
+    ensures { IfOkUnless (H.may_refuse heap) result
+        (λ shown. shown ≡ named_or_odd (slice_get names.now (word - 3)) word) }
 {
     match names.get(word as usize - 3) {
-        Some(name) => Ok(Shown::Named(name.clone()?)),
+        Some(name) => Ok(Shown::Named(name.copied(heap)?)),
         None => Ok(Shown::Odd(word)),
     }
 }
 
 /// The condition that a condition word says, where an image has these named conditions.
+///
+/// The only error is out of memory.
 #[tactic(auto, unfolding(crate::specs::Reading::condition_of))]
-pub fn condition_of(names: &[Name], word: u32) -> Result<Shown, Memory>
-    ensures { IfOk result (λ shown. shown ≡ condition_of names.now word) }
+pub fn condition_of<H: Heap>(heap: H, names: &[Name], word: u32) -> Result<Shown, Memory>
+    ensures { IfOkUnless (H.may_refuse heap) result (λ shown. shown ≡ condition_of names.now word) }
 {
     match word {
         0 => Ok(Shown::Leave),
         1 => Ok(Shown::Routine),
         2 => Ok(Shown::Normal),
-        _ => named_or_odd(names, word),
+        _ => named_or_odd(heap, names, word),
     }
 }
 
@@ -76,31 +81,38 @@ pub fn item_of(kind: Kind, word: u32) -> Shown
 }
 
 impl Shown {
-    ghost use Rattle.std.specs.Prelude.{◌≡◌, ◌++◌, OnOk};
+    ghost use Rattle.std.specs.Prelude.{◌≡◌, ◌++◌};
+    ghost use Rattle.stack_heap.specs.Heaps.{OnOkUnless};
     ghost use Rattle.display_maps.specs.Report.{shown_text};
 
     /// Appends its text: the word or the name of a condition, `-7`, `true`, `#65`, or `?9` for a word that is odd.
     #[tactic(auto, unfolding(crate::specs::Report::shown_text))]
-    pub(crate) fn push_text(&self, alloc: Global, text: &mut Vec<u8>) -> Result<(), Memory>
-        ensures { OnOk result (text.new.items ≡ text.old.items ++ shown_text self.now) }
+    pub(crate) fn push_text<H: Heap>(&self, heap: H, text: &mut Vec<u8>) -> Result<(), Memory>
+        ensures { OnOkUnless (H.may_refuse heap) result (text.new.items ≡ text.old.items ++ shown_text self.now) }
     {
         match self {
-            Shown::Normal => push(text, "normal"),
-            Shown::Routine => push(text, "routineerror"),
-            Shown::Leave => push(text, "leave"),
-            Shown::Named(name) => Ok(text.extend_from_slice(name.bytes())?),
-            Shown::Number(number) => push(text, format!(in alloc; "{number}")?.as_str()),
-            Shown::Truth(true) => push(text, "true"),
-            Shown::Truth(false) => push(text, "false"),
-            Shown::Code(code) => push(text, format!(in alloc; "#{code}")?.as_str()),
-            Shown::Odd(word) => push(text, format!(in alloc; "?{word}")?.as_str()),
+            Shown::Normal => push(heap, text, "normal"),
+            Shown::Routine => push(heap, text, "routineerror"),
+            Shown::Leave => push(heap, text, "leave"),
+            Shown::Named(name) => Ok(heap.extend_from_slice(text, name.bytes())?),
+            Shown::Number(number) => push_number(heap, text, *number),
+            Shown::Truth(true) => push(heap, text, "true"),
+            Shown::Truth(false) => push(heap, text, "false"),
+            Shown::Code(code) => {
+                push(heap, text, "#")?;
+                push_number(heap, text, *code)
+            }
+            Shown::Odd(word) => {
+                push(heap, text, "?")?;
+                push_number(heap, text, *word)
+            }
         }
     }
 }
 
 /// Appends a word.
-pub(crate) fn push(text: &mut Vec<u8>, word: &str) -> Result<(), Memory>
-    ensures { OnOk result (text.new.items ≡ text.old.items ++ word.now) }
+pub(crate) fn push<H: Heap>(heap: H, text: &mut Vec<u8>, word: &str) -> Result<(), Memory>
+    ensures { OnOkUnless (H.may_refuse heap) result (text.new.items ≡ text.old.items ++ word.now) }
 {
-    Ok(text.extend_from_slice(word.as_bytes())?)
+    Ok(heap.extend_from_slice(text, word.as_bytes())?)
 }
