@@ -1,10 +1,11 @@
 -- What is read of a task's own window.
 use Rattle.std.proofs.Common.{◌≡◌, ℕ, zero, suc, ◌+◌, ◌-◌, ◌<◌, ◌≤◌, List, [], ◌∷◌, length, take, drop, get_or, map, replicate, Some, refl, sym, ap, subst, ◌∙◌}
 use Rattle.std.proofs.Common.{arith}
-use Rattle.std.specs.Prelude.{All, slice_get}
+use Rattle.std.specs.Prelude.{All, slice_get, Result, Ok, Err}
 use Rattle.std.specs.Option.{option_map}
 use Rattle.std.proofs.lemmas.List.{length-replicate, length-map}
 use Rattle.std.proofs.lemmas.Option.{slice_get-map, slice_get-get_or}
+use Rattle.stack_heap.specs.Heaps.{IfOkUnless}
 use Rattle.fm_words.specs.declared.condition.Flags.{Flags}
 use Rattle.fm_machine.specs.State.{Fm, zeroed}
 use Rattle.fm_image.specs.declared.slot.Slot.{Slot}
@@ -20,6 +21,12 @@ use Rattle.fm_turns.specs.OwnMachines.{own_machine}
 use Rattle.fm_turns.specs.Readings.{readings_of}
 use Rattle.fm_turns.proofs.CopyLaws.{length-words_in}
 use Rattle.fm_turns.proofs.LoadedLaws.{stored_whole}
+
+-- what is so of a result gives what follows from it
+pub unless_weaker : {X E : Type 0} (refused : Type 0) (result : Result X E) (P Q : X → Type 0) → ((x : X) → P x → Q x) → IfOkUnless refused result P
+    → IfOkUnless refused result Q
+unless_weaker refused (Ok x) P Q follows is = follows x is
+unless_weaker refused (Err e) P Q follows is = is
 
 -- ---- memory alone is read
 

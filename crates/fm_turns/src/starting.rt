@@ -1,6 +1,7 @@
 //! How tasks begin.
 
 ghost use Rattle.std.specs.Prelude.{◌≡◌, ◌+◌, ◌≤◌, ◌<◌, ◌^◌, ◌==◌, length, map, All, IfOk, OnOk, IsTrue, false};
+ghost use Rattle.stack_heap.specs.Heaps.{IfOkUnless};
 ghost use Rattle.fm_machine.specs.State.{is_refused};
 ghost use Rattle.fm_loader.specs.Loaded.{Fits, with_words};
 ghost use Rattle.fm_turns.specs.Starting.{new_task, new_tasks, AllFit, machine_of, context_of, first_base, adjoin};
@@ -13,8 +14,8 @@ use fm_image::Image;
 use fm_loader::load;
 use fm_machine::Machine;
 use fm_words::MOST_WINDOW;
+use stack_heap::Heap;
 use stack_text::{MOST_TASKS, Memory, Value};
-use std::alloc::Global;
 
 /// The most words of the window of all.
 const MOST_WORDS: u64 = MOST_WINDOW as u64;
@@ -101,14 +102,15 @@ pub(crate) fn window_size(tasks: &[(Image, Vec<Value>)]) -> Result<u32, TurnsFau
 }
 
 /// Loads a task into a machine of its own, and copies its words into that of all.
-fn load_task(
-    alloc: Global,
+fn load_task<H: Heap>(
+    heap: H,
     machine: &mut Machine,
     task: (Image, Vec<Value>),
 ) -> Result<TaskContext, Memory>
     requires fits { Fits task.0.slots task.1.items }
     requires above { machine.old.state.base ≤ task.0.base }
-    ensures context { IfOk result (λ context. context ≡ context_of task.0 (machine_of (new_task task.0 task.1.items))) }
+    ensures context { IfOkUnless (H.may_refuse heap) result
+        (λ context. context ≡ context_of task.0 (machine_of (new_task task.0 task.1.items))) }
     ensures memory { OnOk result (machine.new.state ≡ record machine.old.state {
       memory = with_words
           machine.old.state.base task.0.base (machine_of (new_task task.0 task.1.items)).memory
@@ -116,28 +118,28 @@ fn load_task(
     }) }
 {
     let (image, values) = task;
-    let own = load(alloc, &image, values.as_slice())?;
+    let own = load(heap, &image, values.as_slice())?;
     copy_window(&own, machine, image.base, image.size);
     Ok(TaskContext::new(image, &own))
 }
 
 /// Loads each task, copies its words into the machine of all, and gives what each has to itself.
-pub(crate) fn load_tasks(
-    alloc: Global,
+pub(crate) fn load_tasks<H: Heap>(
+    heap: H,
     machine: &mut Machine,
     tasks: Vec<(Image, Vec<Value>)>,
 ) -> Result<Vec<TaskContext>, Memory>
     requires fit { AllFit (new_tasks tasks.items) }
     requires above { All (λ task. machine.old.state.base ≤ task.image.base) (new_tasks tasks.items) }
-    ensures contexts { IfOk result (λ contexts. contexts.items
+    ensures contexts { IfOkUnless (H.may_refuse heap) result (λ contexts. contexts.items
         ≡ map (λ task. context_of task.image (machine_of task)) (new_tasks tasks.items)) }
     ensures memory { OnOk result (machine.new.state ≡ record machine.old.state {
       memory = with_tasks machine.old.state.base (new_tasks tasks.items) machine.old.state.memory;
     }) }
 {
-    let mut contexts = Vec::new(alloc);
+    let mut contexts = Vec::new(heap.handle());
     for task in tasks {
-        contexts.push(load_task(alloc, machine, task)?)?;
+        heap.push(&mut contexts, load_task(heap, machine, task)?)?;
     }
     Ok(contexts)
 }

@@ -1,8 +1,9 @@
 //! Tasks that take turns.
 
 ghost use Rattle.std.specs.Prelude.{◌≡◌, ◌≤◌, ◌<◌, ℕ, length, map, slice_get, Some, IfOk, false};
+ghost use Rattle.stack_heap.specs.Heaps.{IfOkUnless};
 ghost use Rattle.std.specs.List.{list_any};
-ghost use Rattle.stack_text.specs.Gives.{Gives};
+ghost use Rattle.stack_text.specs.Gives.{GivesUnless};
 ghost use Rattle.fm_machine.specs.State.{is_refused, zeroed};
 ghost use Rattle.display_maps.specs.Reading.{reading};
 ghost use Rattle.fm_turns.specs.Windows.{words_in};
@@ -21,8 +22,8 @@ use crate::turning::go_round;
 use display_maps::{Reading, read_up};
 use fm_image::Image;
 use fm_machine::{Machine, NewFault};
+use stack_heap::Heap;
 use stack_text::{Memory, Value};
-use std::alloc::Global;
 use std::marker::Model;
 
 /// Images that take turns in one memory, each with registers and flags of its own.
@@ -57,11 +58,11 @@ impl Model for Turns {
 }
 
 /// A machine of zeros.
-fn machine(alloc: Global, base: u32, size: u32) -> Result<Machine, Memory>
+fn machine<H: Heap>(heap: H, base: u32, size: u32) -> Result<Machine, Memory>
     requires { is_refused base size ≡ false }
-    ensures { IfOk result (λ machine. machine.state ≡ zeroed base size) }
+    ensures { IfOkUnless (H.may_refuse heap) result (λ machine. machine.state ≡ zeroed base size) }
 {
-    match Machine::new(alloc, base, size) {
+    match Machine::new(heap, base, size) {
         Ok(machine) => Ok(machine),
         Err(NewFault::Memory) => Err(Memory),
         Err(NewFault::Size) => unreachable!(),
@@ -69,15 +70,16 @@ fn machine(alloc: Global, base: u32, size: u32) -> Result<Machine, Memory>
 }
 
 /// What the words of an image's window say, read in a machine of its own.
-fn read_window(alloc: Global, machine: &Machine, image: &Image) -> Result<Reading, Memory>
+fn read_window<H: Heap>(heap: H, machine: &Machine, image: &Image) -> Result<Reading, Memory>
     requires { IsPart machine.now.state.base (length machine.now.state.memory) image.now }
-    ensures { IfOk result (λ read. read ≡ reading image.now (record (zeroed image.now.base image.now.size) {
-      memory = words_in image.now.base image.now.size machine.now.state;
-    })) }
+    ensures { IfOkUnless (H.may_refuse heap) result
+        (λ read. read ≡ reading image.now (record (zeroed image.now.base image.now.size) {
+          memory = words_in image.now.base image.now.size machine.now.state;
+        })) }
 {
-    let mut own = self::machine(alloc, image.base, image.size)?;
+    let mut own = self::machine(heap, image.base, image.size)?;
     copy_window(machine, &mut own, image.base, image.size);
-    read_up(alloc, &own, image)
+    read_up(heap, &own, image)
 }
 
 /// Whether a task runs.
@@ -100,18 +102,19 @@ impl Turns {
     ///
     /// In this order: `Count`, exactly where there are not 1 to 8 tasks; `Apart`, exactly where a window doesn't begin
     /// where the one before it ends; `Size`, exactly where the windows have more than 2^20 words together. Out of memory
-    /// may come at any point.
-    pub fn new(alloc: Global, tasks: Vec<(Image, Vec<Value>)>) -> Result<Turns, TurnsFault>
+    /// comes only where the heap may refuse memory.
+    pub fn new<H: Heap>(heap: H, tasks: Vec<(Image, Vec<Value>)>) -> Result<Turns, TurnsFault>
         requires { AllFit (new_tasks tasks.items) }
-        ensures turns { Gives fault_of (λ turns. turns) result (started (new_tasks tasks.items)) }
+        ensures turns { GivesUnless (H.may_refuse heap) fault_of (λ turns. turns) result
+            (started (new_tasks tasks.items)) }
         ensures images { IfOk result (λ turns. images_of turns ≡ map (λ task. task.0) tasks.items) }
         // A round with any budget may follow.
         ensures within { IfOk result (λ turns. (budget : ℕ) → AreWithin budget turns.contexts) }
     {
         let size = window_size(tasks.as_slice())?;
         let base = first_base(tasks.as_slice());
-        let mut machine = machine(alloc, base, size)?;
-        let contexts = load_tasks(alloc, &mut machine, tasks)?;
+        let mut machine = machine(heap, base, size)?;
+        let contexts = load_tasks(heap, &mut machine, tasks)?;
         Ok(Turns {
             machine,
             rounds: 0,
@@ -176,12 +179,12 @@ impl Turns {
     /// # Errors
     ///
     /// Out of memory.
-    pub fn read(&self, alloc: Global, i: u32) -> Result<Reading, Memory>
+    pub fn read<H: Heap>(&self, heap: H, i: u32) -> Result<Reading, Memory>
         requires { i < length self.now.contexts }
-        ensures { IfOk result (λ read. slice_get (readings_of self.now) i ≡ Some read) }
+        ensures { IfOkUnless (H.may_refuse heap) result (λ read. slice_get (readings_of self.now) i ≡ Some read) }
     {
         match self.contexts.get(i as usize) {
-            Some(context) => read_window(alloc, &self.machine, &context.image),
+            Some(context) => read_window(heap, &self.machine, &context.image),
             None => unreachable!(),
         }
     }

@@ -8,7 +8,7 @@ use Rattle.fm_turns.proofs.LoadedLaws.{loaded_size, context_copied}
 use Rattle.fm_turns.proofs.starting.load_task.Goals as goal
 
 pub copy_window-requires-clause-above : goal.copy_window-requires-clause-above
-copy_window-requires-clause-above c =
+copy_window-requires-clause-above g c =
     let task : NewTask = new_task c.args.task.0 c.args.task.1.items in
     let own : c.in_ok-own.own.state ≡ machine_of task = c.in_ok-own.ensures.value ∙ ap (loaded c.args.task.0) c.as_slice.ensures.value in
     let base : c.in_ok-own.own.state.base ≡ task.image.base = ap (λ (s : Fm). s.base) own in
@@ -18,10 +18,10 @@ copy_window-requires-clause-above c =
     omega arith
 
 pub copy_window-requires-clause-few : goal.copy_window-requires-clause-few
-copy_window-requires-clause-few c = let below = (sized _ c.image.invariant).below in omega (arith, below)
+copy_window-requires-clause-few g c = let below = (sized _ c.image.invariant).below in omega (arith, below)
 
 pub returns-clause-memory : goal.returns-clause-memory
-returns-clause-memory c =
+returns-clause-memory g c =
     let task : NewTask = new_task c.args.task.0 c.args.task.1.items in
     let own : c.in_ok-own.own.state ≡ machine_of task = c.in_ok-own.ensures.value ∙ ap (loaded c.args.task.0) c.as_slice.ensures.value in
     context_copied task c.image.inside.base c.image.inside.size c.in_ok-own.own.state c.args.machine.now.state c.copy_window.new.to.state

@@ -7,12 +7,12 @@ use Rattle.fm_turns.proofs.StartingLaws.{next_holds, rest_hold, contexts_next, m
 use Rattle.fm_turns.proofs.starting.load_tasks.Goals as goal
 
 pub load_task-requires-clause-fits : goal.load_task-requires-clause-fits
-load_task-requires-clause-fits c =
+load_task-requires-clause-fits g c =
     next_holds c.loop-task.task-iterator.rest.items c.next.new.self.rest.items c.in-Some.task (λ task. new_task task.0 task.1.items)
     (λ task. Fits task.image.slots task.values) c.in-Some.ensures.steps.0 c.loop-task.invariant.fit
 
 pub load_task-requires-clause-above : goal.load_task-requires-clause-above
-load_task-requires-clause-above c =
+load_task-requires-clause-above g c =
     let base : c.loop-task.machine.state.base ≡ c.args.machine.now.state.base = ap (λ (s : Fm). s.base) c.loop-task.invariant.same in
     let above : c.args.machine.now.state.base ≤ c.in-Some.task.0.base
     = next_holds c.loop-task.task-iterator.rest.items c.next.new.self.rest.items c.in-Some.task (λ task. new_task task.0 task.1.items)
@@ -20,7 +20,7 @@ load_task-requires-clause-above c =
     omega arith
 
 pub loop-task-preserved : goal.loop-task-preserved
-loop-task-preserved c =
+loop-task-preserved g c =
     let base : ℕ = c.args.machine.now.state.base in
     let task : NewTask = new_task c.in-Some.task.0 c.in-Some.task.1.items in
     let base_is : c.loop-task.machine.state.base ≡ base = ap (λ (s : Fm). s.base) c.loop-task.invariant.same in
@@ -30,7 +30,7 @@ loop-task-preserved c =
     { memory = with_words b task.image.base (machine_of task).memory c.loop-task.machine.state.memory }) base_is in
     record {
       contexts = contexts_next c.loop-task.task-iterator.rest.items c.next.new.self.rest.items c.in-Some.task (λ task. new_task task.0 task.1.items)
-          c.loop-task.contexts.items c.push.new.self.items _ c.in-Some.ensures.steps.0
+          c.loop-task.contexts.items c.push.new.items.items _ c.in-Some.ensures.steps.0
           (c.in_ok-push.ensures.items ∙ ap (λ (x : TaskContext). c.loop-task.contexts.items ++ x ∷ []) c.in_ok-load_task.ensures.context)
           c.loop-task.invariant.contexts;
       memory = memory_next c.loop-task.task-iterator.rest.items c.next.new.self.rest.items c.in-Some.task (λ task. new_task task.0 task.1.items) base

@@ -5,7 +5,7 @@ use Rattle.fm_turns.proofs.starting.load_tasks.Given as goal
 
 -- what is done and what is left make of memory what all make of it, and so with what is each task's own
 abbrev pub invariant-loop-task : goal.invariant-loop-task
-invariant-loop-task l = record {
+invariant-loop-task g l = record {
   contexts : l.contexts.items ++ map (λ task. context_of task.image (machine_of task)) (new_tasks l.task-iterator.rest.items)
       ≡ map (λ task. context_of task.image (machine_of task)) (new_tasks l.fn.tasks.items);
   memory : with_tasks l.initial.machine.state.base (new_tasks l.task-iterator.rest.items) l.machine.state.memory

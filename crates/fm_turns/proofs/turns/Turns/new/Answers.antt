@@ -6,12 +6,12 @@ use Rattle.fm_turns.proofs.StartingLaws.{window_known}
 use Rattle.fm_turns.proofs.turns.Turns.new.Goals as goal
 
 pub machine-requires : goal.machine-requires
-machine-requires c =
+machine-requires g c =
     window_known c.args.tasks.items c.as_slice.result.now c.as_slice-2.result.now (λ task. new_task task.0 task.1.items) c.in_ok-size.size
     c.first_base-base.result c.in_ok-size.ensures.window c.as_slice.ensures.value c.first_base-base.ensures c.as_slice-2.ensures.value
 
 pub load_tasks-requires-clause-above : goal.load_tasks-requires-clause-above
-load_tasks-requires-clause-above c =
+load_tasks-requires-clause-above g c =
     let size = size_known c.args.tasks.items c.as_slice.result.now (λ task. new_task task.0 task.1.items) c.in_ok-size.size c.in_ok-size.ensures.value
     c.as_slice.ensures.value in
     let base = base_known c.args.tasks.items c.as_slice-2.result.now (λ task. new_task task.0 task.1.items) c.first_base-base.result
@@ -20,7 +20,7 @@ load_tasks-requires-clause-above c =
     (ap (λ (s : Fm). s.base) c.in_ok-machine.ensures ∙ base)
 
 pub invariant_of-result : goal.invariant_of-result
-invariant_of-result c =
+invariant_of-result g c =
     let tasks : List NewTask = new_tasks c.args.tasks.items in
     let size = size_known c.args.tasks.items c.as_slice.result.now (λ task. new_task task.0 task.1.items) c.in_ok-size.size c.in_ok-size.ensures.value
     c.as_slice.ensures.value in
@@ -32,7 +32,7 @@ invariant_of-result c =
     starts_as_parts tasks c.in_ok-size.size c.load_tasks.new.machine.state c.in_ok-contexts.contexts.items size made c.in_ok-contexts.ensures.contexts
 
 pub returns-clause-turns : goal.returns-clause-turns
-returns-clause-turns c =
+returns-clause-turns g c =
     let tasks : List NewTask = new_tasks c.args.tasks.items in
     let size = size_known c.args.tasks.items c.as_slice.result.now (λ task. new_task task.0 task.1.items) c.in_ok-size.size c.in_ok-size.ensures.value
     c.as_slice.ensures.value in
@@ -44,8 +44,8 @@ returns-clause-turns c =
     started_all tasks c.in_ok-size.size c.load_tasks.new.machine.state c.in_ok-contexts.contexts.items size made c.in_ok-contexts.ensures.contexts
 
 pub returns-clause-within : goal.returns-clause-within
-returns-clause-within c budget = contexts_begin_within budget (new_tasks c.args.tasks.items) c.in_ok-contexts.contexts.items c.in_ok-contexts.ensures.contexts
+returns-clause-within g c budget = contexts_begin_within budget (new_tasks c.args.tasks.items) c.in_ok-contexts.contexts.items c.in_ok-contexts.ensures.contexts
 
 pub returns-clause-images : goal.returns-clause-images
-returns-clause-images c =
+returns-clause-images g c =
     images_begin c.args.tasks.items (λ task. new_task task.0 task.1.items) c.in_ok-contexts.contexts.items c.in_ok-contexts.ensures.contexts
