@@ -12,7 +12,7 @@ use Rattle.fm_asm.specs.Cuts.{unless_trailing, without_trailing}
 use Rattle.fm_asm.specs.Sources.{SourceOf, source_in}
 use Rattle.fm_asm.specs.Labels.{breaches, words_of}
 use Rattle.fm_asm.specs.Printing.{is_zero, ends_in_zero, is_plain}
-use Rattle.fm_asm.specs.Assembling.{GivesAssembly, image_of, image_unless, assembly_of}
+use Rattle.fm_asm.specs.Assembling.{GivesAssemblyUnless, image_of, image_unless, assembly_of}
 
 no_zero : (w : ℕ) (ws : List ℕ) → ends_in_zero ws ≡ false → ends_in_zero (unless_trailing 0 w ws) ≡ false
 no_zero w [] h = by_test (w == 0) refl
@@ -48,6 +48,7 @@ assembled_is_plain text image h = by_source (source_in text) h
     by_source (Err fault) k = absurd cc
     by_source (Ok s) k = by_least s (least (breaches s)) k
 
-pub plain_if : (text : List ℕ) (r : Result ImageOf AsmFault) → GivesAssembly (λ image. image) r (assembly_of text) → IfOk r (λ image. IsTrue (is_plain image))
-plain_if text (Ok image) h = assembled_is_plain text image h
-plain_if text (Err e) h = tt
+pub plain_if : (refused : Type 0) (text : List ℕ) (r : Result ImageOf AsmFault) → GivesAssemblyUnless refused (λ image. image) r (assembly_of text)
+    → IfOk r (λ image. IsTrue (is_plain image))
+plain_if refused text (Ok image) h = assembled_is_plain text image h
+plain_if refused text (Err e) h = tt

@@ -3,6 +3,7 @@ use Rattle.std.proofs.Common.{◌≡◌, ℕ, zero, suc, ◌+◌, ◌-◌, ◌^�
 use Rattle.std.proofs.Common.{take, get_or, Option, Some, None, Ok, is_none, refl, sym, ap, subst, ◌∙◌, arith, codes, append_assoc, nat_lt, leb-true, lt-ltb}
 use Rattle.std.proofs.Common.{ltb-true, eqb-true}
 use Rattle.std.specs.Prelude.{pos, replicate, slice_index, slice_get, IsTrue, IsOk, Result, Err, IfOk, OnOk}
+use Rattle.stack_heap.specs.Heaps.{IfOkUnless}
 use Rattle.stack_text.specs.declared.memory.Memory.{Memory}
 use Rattle.std.specs.Fmt.{decimal}
 use Rattle.std.specs.Int.{w32, to_be_bytes}
@@ -399,12 +400,12 @@ printed_spells image plain limits small words =
     }
 
 -- and so do bytes that are that text
-pub spelled_where : {X : Type 0} (items : X → List ℕ) (r : Result X Memory) (image : ImageOf) → IsTrue (is_plain image) → OnOk r (IsTrue (is_image image))
-    → IfOk r (λ x. items x ≡ assembly_text image) → OnOk r (start_of image < 2 ^ 32) → OnOk r (IsTrue (are_words image.words))
-    → IfOk r (λ x. IsAssembly (items x) image)
-spelled_where items (Ok x) image plain limits is small words =
+pub spelled_where : {X : Type 0} (refused : Type 0) (items : X → List ℕ) (r : Result X Memory) (image : ImageOf) → IsTrue (is_plain image)
+    → OnOk r (IsTrue (is_image image)) → IfOkUnless refused r (λ x. items x ≡ assembly_text image) → OnOk r (start_of image < 2 ^ 32)
+    → OnOk r (IsTrue (are_words image.words)) → IfOk r (λ x. IsAssembly (items x) image)
+spelled_where refused items (Ok x) image plain limits is small words =
     subst (λ (text : List ℕ). IsAssembly text image) (sym is) (printed_spells image plain limits small words)
-spelled_where items (Err e) image plain limits is small words = tt
+spelled_where refused items (Err e) image plain limits is small words = tt
 
 -- and so it is assembled to that image again
 pub printed_is_assembled : (image : ImageOf) → IsTrue (is_plain image) → IsTrue (is_image image) → start_of image < 2 ^ 32

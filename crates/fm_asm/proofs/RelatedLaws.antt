@@ -22,7 +22,7 @@ use Rattle.fm_asm.specs.Lines.{Line}
 use Rattle.fm_asm.specs.Sources.{due_after, SourceOf, source_in, IsOfText}
 use Rattle.fm_asm.specs.Labels.{is_labelled, offset_of, repeated, repeats, number_of, line_breaches, breaches, as_word, statement_words, words_of, final_in}
 use Rattle.fm_asm.specs.Labels.{start_in, is_outside}
-use Rattle.fm_asm.specs.Assembling.{GivesAssembly, image_of, image_unless, assembly_of}
+use Rattle.fm_asm.specs.Assembling.{GivesAssemblyUnless, image_of, image_unless, assembly_of}
 use Rattle.fm_asm.specs.Assembly.{statements_of, labels_of, are_distinct, statement_word, IsAssembly}
 use Rattle.fm_asm.proofs.SourceLaws.{dues}
 use Rattle.fm_asm.proofs.JudgingLaws.{words-lines, final_by, final-lines, start_by, start-lines, as_word-fits, word_total, is_good, is_fresh}
@@ -231,9 +231,10 @@ assembled_is_spelled text image h = by_source (source_in text) refl h
     by_source (Err fault) is k = absurd cc
     by_source (Ok s) is k = by_least s is (least (breaches s)) refl k
 
-pub spelled_if : (text : List ℕ) (r : Result ImageOf AsmFault) → GivesAssembly (λ image. image) r (assembly_of text) → IfOk r (λ image. IsAssembly text image)
-spelled_if text (Ok image) h = assembled_is_spelled text image h
-spelled_if text (Err e) h = tt
+pub spelled_if : (refused : Type 0) (text : List ℕ) (r : Result ImageOf AsmFault) → GivesAssemblyUnless refused (λ image. image) r (assembly_of text)
+    → IfOk r (λ image. IsAssembly text image)
+spelled_if refused text (Ok image) h = assembled_is_spelled text image h
+spelled_if refused text (Err e) h = tt
 
 -- a text spells at most one image
 pub one_image : (text : List ℕ) (image other : ImageOf) → IsAssembly text image → IsAssembly text other → image ≡ other

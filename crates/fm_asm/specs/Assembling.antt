@@ -17,9 +17,9 @@ abbrev pub fault_of : AsmFault → Option Breach
 fault_of (Refused rule place) = Some (record { rule = rule; place = place })
 fault_of Memory = None
 
--- exactly what the definition gives, unless memory ran out
-abbrev pub GivesAssembly : {X Y : Type 0} → (X → Y) → Result X AsmFault → Result Y Breach → Type 0
-GivesAssembly view result value = common.Gives fault_of view result value
+-- exactly what the definition gives, unless memory was refused
+abbrev pub GivesAssemblyUnless : {X Y : Type 0} → Type 0 → (X → Y) → Result X AsmFault → Result Y Breach → Type 0
+GivesAssemblyUnless refused view result value = common.GivesUnless refused fault_of view result value
 
 -- the image of a source
 abbrev pub image_of : SourceOf → ImageOf

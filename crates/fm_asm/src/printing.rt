@@ -1,6 +1,7 @@
 //! Plain images, and their assembly text.
 
 ghost use Rattle.std.specs.Prelude.{◌≡◌, ◌<◌, ◌^◌, ◌++◌, IfOk, IsTrue, OnOk, slice_index};
+ghost use Rattle.stack_heap.specs.Heaps.{IfOkUnless, OnOkUnless};
 ghost use Rattle.std.specs.List.{flat_map};
 ghost use Rattle.fm_image.specs.Limits.{is_image};
 ghost use Rattle.fm_image.specs.Spelling.{are_words};
@@ -8,10 +9,10 @@ ghost use Rattle.fm_asm.specs.Printing.{are_clear, has_no_names, has_no_tables, 
 ghost use Rattle.fm_asm.specs.Assembly.{IsAssembly};
 
 use fm_image::{Image, MARKED_VERSION};
-use fm_show::{disassemble, hex_digits};
+use fm_show::{disassemble, hex_digits, push_number};
 use fm_words::{Flags, decode, encode};
+use stack_heap::Heap;
 use stack_text::Memory;
-use std::alloc::Global;
 
 /// Whether no flag is set.
 fn are_clear(flags: Flags) -> bool
@@ -75,18 +76,21 @@ fn start_of(registers: &[u32]) -> u32
 }
 
 /// The four lines of the header.
-fn header(alloc: Global, image: &Image) -> Result<Vec<u8>, Memory>
-    ensures text { IfOk result (λ text. text.items ≡ header_text image.now) }
+fn header<H: Heap>(heap: H, image: &Image) -> Result<Vec<u8>, Memory>
+    ensures text { IfOkUnless (H.may_refuse heap) result (λ text. text.items ≡ header_text image.now) }
     ensures start { OnOk result (start_of image.now < 2 ^ 32) }
 {
-    let base = image.base;
-    let size = image.size;
-    let final_pc = image.final_pc;
     let start = start_of(&image.registers);
-    let text = format!(in alloc;
-        ".base {base}\n.size {size}\n.final {final_pc}\n.start {start}\n"
-    )?;
-    Ok(text.into_bytes())
+    let mut text = heap.copied(b".base ")?;
+    push_number(heap, &mut text, image.base)?;
+    heap.extend_from_slice(&mut text, b"\n.size ")?;
+    push_number(heap, &mut text, image.size)?;
+    heap.extend_from_slice(&mut text, b"\n.final ")?;
+    push_number(heap, &mut text, image.final_pc)?;
+    heap.extend_from_slice(&mut text, b"\n.start ")?;
+    push_number(heap, &mut text, start)?;
+    heap.push(&mut text, b'\n')?;
+    Ok(text)
 }
 
 /// Whether no bit of a word is passed over when it is decoded.
@@ -98,40 +102,41 @@ fn is_exact(word: u32) -> bool
 
 /// Appends the line of a word: its instruction, or its hexadecimal digits.
 #[tactic(auto, unfolding(crate::specs::Printing::word_text))]
-fn push_word(alloc: Global, text: &mut Vec<u8>, word: u32) -> Result<(), Memory>
-    ensures line { OnOk result (text.new.items ≡ text.old.items ++ word_line word) }
+fn push_word<H: Heap>(heap: H, text: &mut Vec<u8>, word: u32) -> Result<(), Memory>
+    ensures line { OnOkUnless (H.may_refuse heap) result (text.new.items ≡ text.old.items ++ word_line word) }
     ensures fits { word < 2 ^ 32 }
 {
     if is_exact(word) {
-        text.extend_from_slice(disassemble(alloc, word)?.as_slice())?;
+        heap.extend_from_slice(text, disassemble(heap, word)?.as_slice())?;
     } else {
-        text.extend_from_slice(b".word 0x")?;
-        text.extend_from_slice(hex_digits(alloc, word)?.as_bytes())?;
+        heap.extend_from_slice(text, b".word 0x")?;
+        heap.extend_from_slice(text, &hex_digits(word))?;
     }
-    Ok(text.push(b'\n')?)
+    Ok(heap.push(text, b'\n')?)
 }
 
 /// Appends the lines of words.
-fn push_words(alloc: Global, text: &mut Vec<u8>, words: &[u32]) -> Result<(), Memory>
-    ensures lines { OnOk result (text.new.items ≡ text.old.items ++ flat_map word_line words.now) }
+fn push_words<H: Heap>(heap: H, text: &mut Vec<u8>, words: &[u32]) -> Result<(), Memory>
+    ensures lines { OnOkUnless (H.may_refuse heap) result
+        (text.new.items ≡ text.old.items ++ flat_map word_line words.now) }
     ensures fit { OnOk result (IsTrue (are_words words.now)) }
 {
     for word in words {
-        push_word(alloc, text, *word)?;
+        push_word(heap, text, *word)?;
     }
     Ok(())
 }
 
 /// The assembly text of an image, that its numbers have 32 bits, and that it keeps the limits of images.
 #[tactic(auto, unfolding(crate::specs::Printing::assembly_text))]
-fn printed(alloc: Global, image: &Image) -> Result<Vec<u8>, Memory>
-    ensures text { IfOk result (λ text. text.items ≡ assembly_text image.now) }
+fn printed<H: Heap>(heap: H, image: &Image) -> Result<Vec<u8>, Memory>
+    ensures text { IfOkUnless (H.may_refuse heap) result (λ text. text.items ≡ assembly_text image.now) }
     ensures start { OnOk result (start_of image.now < 2 ^ 32) }
     ensures words { OnOk result (IsTrue (are_words image.now.words)) }
     ensures limits { OnOk result (IsTrue (is_image image.now)) }
 {
-    let mut text = header(alloc, image)?;
-    push_words(alloc, &mut text, &image.words)?;
+    let mut text = header(heap, image)?;
+    push_words(heap, &mut text, &image.words)?;
     Ok(text)
 }
 
@@ -140,11 +145,11 @@ fn printed(alloc: Global, image: &Image) -> Result<Vec<u8>, Memory>
 /// image of it again.
 ///
 /// The only error is out of memory.
-pub fn print_asm(alloc: Global, image: &Image) -> Result<Vec<u8>, Memory>
+pub fn print_asm<H: Heap>(heap: H, image: &Image) -> Result<Vec<u8>, Memory>
     requires { IsTrue (is_plain image.now) }
-    ensures text { IfOk result (λ text. text.items ≡ assembly_text image.now) }
+    ensures text { IfOkUnless (H.may_refuse heap) result (λ text. text.items ≡ assembly_text image.now) }
     // The text spells the image.
     ensures spells { IfOk result (λ text. IsAssembly text.items image.now) }
 {
-    printed(alloc, image)
+    printed(heap, image)
 }

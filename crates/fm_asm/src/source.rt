@@ -1,19 +1,20 @@
 //! Sources: the lines of a text, one after the other.
 
-ghost use Rattle.std.specs.Prelude.{◌≡◌, ◌<◌, ◌^◌, ◌++◌, length, map, option_map, OnOk};
+ghost use Rattle.std.specs.Prelude.{◌≡◌, ◌<◌, ◌^◌, ◌++◌, length, map, option_map};
+ghost use Rattle.stack_heap.specs.Heaps.{OnOkUnless};
 ghost use Rattle.stack_text.specs.Gives as common;
 ghost use Rattle.fm_asm.specs.Statements.{statement_of};
 ghost use Rattle.fm_asm.specs.Lines.{said_of, line_of, says_something};
 ghost use Rattle.fm_asm.specs.Sources.{said_of_line, line_read, word_count, kept, source_of, source_in};
-ghost use Rattle.fm_asm.specs.Assembling.{GivesAssembly};
+ghost use Rattle.fm_asm.specs.Assembling.{GivesAssemblyUnless};
 
 use crate::cuts::cut;
 use crate::due::{Due, due_after_line, window_of};
 use crate::fault::AsmFault;
 use crate::line::{Line, Said, said_in, text_of};
 use crate::statement::Statement;
+use stack_heap::Heap;
 use stack_text::{Memory, is_plain_line};
-use std::alloc::Global;
 
 /// A text whose lines are all of a form.
 #[derive(Drop)]
@@ -70,21 +71,25 @@ fn is_kept(said: Said<'_, '_>) -> bool
 }
 
 /// Appends a line, unless it says nothing.
-fn push_line<'l, 's>(
+fn push_line<'l, 's, H: Heap>(
+    heap: H,
     lines: &mut Vec<Line<'l, 's>>,
     place: u32,
     offset: u32,
     said: Said<'l, 's>,
 ) -> Result<(), Memory>
     ensures { let more = kept (record { place = place; offset = offset; said = said_of said.entry }) in
-        OnOk result (map line_of lines.new.items ≡ map line_of lines.old.items ++ more) }
+        OnOkUnless (H.may_refuse heap) result (map line_of lines.new.items ≡ map line_of lines.old.items ++ more) }
 {
     if is_kept(said) {
-        lines.push(Line {
-            place,
-            offset,
-            said,
-        })?;
+        heap.push(
+            lines,
+            Line {
+                place,
+                offset,
+                said,
+            },
+        )?;
     }
     Ok(())
 }
@@ -94,11 +99,11 @@ fn push_line<'l, 's>(
 /// # Errors
 ///
 /// The first fault of a line's form, or a statement of the header that is missing at the end; or out of memory.
-pub(crate) fn source_in(alloc: Global, text: &[u8]) -> Result<Source<'_, '_>, AsmFault>
+pub(crate) fn source_in<H: Heap>(heap: H, text: &[u8]) -> Result<Source<'_, '_>, AsmFault>
     requires { length text.now < 2 ^ 32 }
-    ensures { GivesAssembly source_of result (source_in text.now) }
+    ensures { GivesAssemblyUnless (H.may_refuse heap) source_of result (source_in text.now) }
 {
-    let mut lines = Vec::new(alloc);
+    let mut lines = Vec::new(heap.handle());
     let mut due = Due::Base;
     let mut offset: usize = 0;
     let mut rest = Some(text);
@@ -109,7 +114,7 @@ pub(crate) fn source_in(alloc: Global, text: &[u8]) -> Result<Source<'_, '_>, As
             Ok(read) => read,
             Err(rule) => return Err(AsmFault::Refused { rule, place }),
         };
-        push_line(&mut lines, place, offset as u32, said)?;
+        push_line(heap, &mut lines, place, offset as u32, said)?;
         offset += word_count(said.statement);
         due = next;
         rest = after;
