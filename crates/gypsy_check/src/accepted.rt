@@ -4,12 +4,12 @@ ghost use Rattle.std.specs.Prelude.{◌≡◌, IfErr, IfOk};
 ghost use Rattle.gypsy_syntax.specs.GypsyReading.{KeepsForm};
 ghost use Rattle.gypsy_syntax.specs.Views.SourceView.{source_of};
 ghost use Rattle.gypsy_check.specs.Accepted.{IsAccepted};
-ghost use Rattle.gypsy_check.specs.GypsyChecking.{IsLeast};
+ghost use Rattle.gypsy_check.specs.GypsyChecking.{IsLeastUnless};
 
 use crate::fault::CheckFault;
 use crate::procedures::check_source;
 use gypsy_syntax::Source;
-use std::alloc::Global;
+use stack_heap::Heap;
 use std::marker::Model;
 
 /// A source that keeps the form and breaks no static rule.
@@ -54,14 +54,14 @@ impl Accepted {
 ///
 /// The least breach, place before rule, of all that there are; or out of memory. The time is linear in the text, but for
 /// names that were picked so that they meet in a hash table, whose seed is fixed.
-pub fn check(alloc: Global, source: Source) -> Result<Accepted, CheckFault>
+pub fn check<H: Heap>(heap: H, source: Source) -> Result<Accepted, CheckFault>
     requires { KeepsForm (source_of source) }
     ensures accepted { IfOk result (λ accepted. IsAccepted (source_of accepted)) }
     ensures kept { IfOk result (λ accepted. accepted ≡ source) }
-    ensures least { IfErr result (IsLeast (source_of source)) }
+    ensures least { IfErr result (IsLeastUnless (H.may_refuse heap) (source_of source)) }
 {
     let mut best = None;
-    check_source(alloc, &mut best, &source)?;
+    check_source(heap, &mut best, &source)?;
     match best {
         None => Ok(Accepted { source }),
         Some(breach) => Err(CheckFault::Violation {

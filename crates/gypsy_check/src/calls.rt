@@ -1,6 +1,7 @@
 //! Calls of procedures.
 
-ghost use Rattle.std.specs.Prelude.{◌≡◌, is_none, OnOk, Some};
+ghost use Rattle.std.specs.Prelude.{◌≡◌, is_none, Some};
+ghost use Rattle.stack_heap.specs.Heaps.{OnOkUnless};
 ghost use Rattle.stack_text.specs.Breaches.{Notes};
 ghost use Rattle.gypsy_syntax.specs.Views.SourceView.{proc_of, source_of};
 ghost use Rattle.gypsy_syntax.specs.Resolved.{procedure_named};
@@ -13,8 +14,8 @@ use crate::names::check_repeats;
 use crate::scope::Scope;
 use crate::variables::{check_actuals, check_all_declared};
 use gypsy_syntax::Proc;
+use stack_heap::Heap;
 use stack_text::{Breach, Memory, Name, Named, note_if};
-use std::alloc::Global;
 
 /// A call, as its statement has it.
 #[derive(Clone, Copy)]
@@ -50,16 +51,17 @@ fn check_callee_name(best: &mut Option<Breach>, callees: &Callees, callee: &Name
 }
 
 /// Notes each data actual that isn't declared, or stands earlier in the list.
-fn check_actual_names(
-    alloc: Global,
+fn check_actual_names<H: Heap>(
+    heap: H,
     best: &mut Option<Breach>,
     scope: &Scope,
     actuals: &[Named],
 ) -> Result<(), Memory>
-    ensures { OnOk result (Notes best.old (actual_name_breaches (proc_of scope.now) actuals.now) best.new) }
+    ensures { OnOkUnless (H.may_refuse heap) result
+        (Notes best.old (actual_name_breaches (proc_of scope.now) actuals.now) best.new) }
 {
     check_all_declared(best, scope, actuals);
-    check_repeats(alloc, best, 20, actuals)?;
+    check_repeats(heap, best, 20, actuals)?;
     Ok(())
 }
 
@@ -109,8 +111,8 @@ fn check_callee_if_any(best: &mut Option<Breach>, callees: &Callees, scope: &Sco
 }
 
 /// Notes the breaches of a call.
-pub(crate) fn check_call(
-    alloc: Global,
+pub(crate) fn check_call<H: Heap>(
+    heap: H,
     best: &mut Option<Breach>,
     callees: &Callees,
     scope: &Scope,
@@ -120,10 +122,11 @@ pub(crate) fn check_call(
     requires { KnowsCallees callees.now }
     ensures { let breaches = call_breaches (source_of callees.now.source.now) (proc_of scope.now) in_loop in
         let with_data = breaches call.entry.callee.now call.entry.actuals_place call.entry.actuals.now in
-        OnOk result (Notes best.old (with_data call.entry.conds_place call.entry.conds.now) best.new) }
+        OnOkUnless (H.may_refuse heap) result
+        (Notes best.old (with_data call.entry.conds_place call.entry.conds.now) best.new) }
 {
     check_callee_name(best, callees, call.callee);
-    check_actual_names(alloc, best, scope, call.actuals)?;
+    check_actual_names(heap, best, scope, call.actuals)?;
     check_all_raised(best, scope, in_loop, call.conds);
     check_callee_if_any(best, callees, scope, call);
     Ok(())

@@ -1,6 +1,7 @@
 //! Conditions: those that are declared, signalled, given and handled.
 
-ghost use Rattle.std.specs.Prelude.{◌≡◌, OnOk};
+ghost use Rattle.std.specs.Prelude.{◌≡◌};
+ghost use Rattle.stack_heap.specs.Heaps.{OnOkUnless};
 ghost use Rattle.std.specs.List.{flat_map};
 ghost use Rattle.stack_text.specs.Breaches.{Notes};
 ghost use Rattle.gypsy_syntax.specs.Resolved.{is_leave_name, is_routine_name, is_space_name};
@@ -9,8 +10,8 @@ ghost use Rattle.gypsy_check.specs.Rules.{condition_breaches, handled_breaches, 
 
 use crate::names::check_repeats;
 use crate::scope::Scope;
+use stack_heap::Heap;
 use stack_text::{Breach, Memory, Name, Named, note_if};
-use std::alloc::Global;
 
 /// Whether it is the condition that ends a loop.
 fn is_leave(name: &Name) -> bool
@@ -101,15 +102,16 @@ fn check_all_handled(best: &mut Option<Breach>, scope: &Scope, conds: &[Named])
 }
 
 /// Notes each condition of a handler that isn't declared, or stands earlier in the list.
-pub(crate) fn check_handlers(
-    alloc: Global,
+pub(crate) fn check_handlers<H: Heap>(
+    heap: H,
     best: &mut Option<Breach>,
     scope: &Scope,
     conds: &[Named],
 ) -> Result<(), Memory>
-    ensures { OnOk result (Notes best.old (handlers_breaches (proc_of scope.now) conds.now) best.new) }
+    ensures { OnOkUnless (H.may_refuse heap) result
+        (Notes best.old (handlers_breaches (proc_of scope.now) conds.now) best.new) }
 {
     check_all_handled(best, scope, conds);
-    check_repeats(alloc, best, 13, conds)?;
+    check_repeats(heap, best, 13, conds)?;
     Ok(())
 }

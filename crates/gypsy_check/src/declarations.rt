@@ -1,6 +1,7 @@
 //! What a procedure declares.
 
-ghost use Rattle.std.specs.Prelude.{◌≡◌, ◌+◌, ◌≤◌, ◌++◌, nat_lt, map, min, IfOk, OnOk};
+ghost use Rattle.std.specs.Prelude.{◌≡◌, ◌+◌, ◌≤◌, ◌++◌, nat_lt, map, min, OnOk};
+ghost use Rattle.stack_heap.specs.Heaps.{IfOkUnless};
 ghost use Rattle.std.specs.List.{flat_map};
 ghost use Rattle.stack_text.specs.Breaches.{Notes};
 ghost use Rattle.gypsy_syntax.specs.Resolved.{variable_types};
@@ -17,8 +18,8 @@ use crate::values::check_locals;
 use gypsy_syntax::{Decl, Local, Proc, TypeText};
 use indexmap::IndexSet;
 use name_tables::NameTable;
+use stack_heap::Heap;
 use stack_text::{Breach, MOST_STACK, Memory, note_if};
-use std::alloc::Global;
 
 /// Notes the type of each formal whose length is out of range.
 fn check_formal_types(best: &mut Option<Breach>, formals: &[Decl])
@@ -47,15 +48,15 @@ fn check_types(best: &mut Option<Breach>, proc: &Proc)
 }
 
 /// The types of the variables by their names; the breaches of their declarations are noted.
-pub(crate) fn declared_variables<'a>(
-    alloc: Global,
+pub(crate) fn declared_variables<'a, H: Heap>(
+    heap: H,
     best: &mut Option<Breach>,
     proc: &'a Proc,
 ) -> Result<NameTable<'a, TypeText>, Memory>
-    ensures known { IfOk result (λ variables. KnowsTypes variables (declared proc.now)) }
+    ensures known { IfOkUnless (H.may_refuse heap) result (λ variables. KnowsTypes variables (declared proc.now)) }
     ensures noted { OnOk result (Notes best.old (variable_breaches (proc_of proc.now)) best.new) }
 {
-    let variables = variables_of(alloc, best, proc.formals.as_slice(), proc.locals.as_slice())?;
+    let variables = variables_of(heap, best, proc.formals.as_slice(), proc.locals.as_slice())?;
     check_types(best, proc);
     check_locals(best, proc.locals.as_slice());
     Ok(variables)
@@ -70,16 +71,17 @@ fn check_all_conditions(best: &mut Option<Breach>, proc: &Proc)
 }
 
 /// The names of the conditions; the breaches of their declarations are noted.
-pub(crate) fn declared_conditions<'a>(
-    alloc: Global,
+pub(crate) fn declared_conditions<'a, H: Heap>(
+    heap: H,
     best: &mut Option<Breach>,
     proc: &'a Proc,
 ) -> Result<IndexSet<&'a [u8]>, Memory>
-    ensures known { IfOk result (λ conds. KnowsNames conds (proc.now.conds.items ++ proc.now.local_conds.items)) }
+    ensures known { IfOkUnless (H.may_refuse heap) result
+        (λ conds. KnowsNames conds (proc.now.conds.items ++ proc.now.local_conds.items)) }
     ensures noted { OnOk result (Notes best.old (condition_name_breaches (proc_of proc.now)) best.new) }
 {
     let conds = conditions_of(
-        alloc,
+        heap,
         best,
         proc.conds.as_slice(),
         proc.local_conds.as_slice(),

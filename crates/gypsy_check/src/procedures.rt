@@ -1,6 +1,7 @@
 //! Procedures and sources.
 
-ghost use Rattle.std.specs.Prelude.{◌≡◌, OnOk};
+ghost use Rattle.std.specs.Prelude.{◌≡◌};
+ghost use Rattle.stack_heap.specs.Heaps.{OnOkUnless};
 ghost use Rattle.std.specs.List.{flat_map};
 ghost use Rattle.stack_text.specs.Breaches.{Notes};
 ghost use Rattle.gypsy_syntax.specs.Views.SourceView.{proc_of, source_of};
@@ -14,41 +15,42 @@ use crate::declarations::{check_words, declared_conditions, declared_variables};
 use crate::scope::Scope;
 use crate::statements::check_statement;
 use gypsy_syntax::{Keyword, Proc, Source, keyword_named};
+use stack_heap::Heap;
 use stack_text::{Breach, Memory, Name, note_if};
-use std::alloc::Global;
 
 /// Notes the breaches of a procedure.
-fn check_procedure(
-    alloc: Global,
+fn check_procedure<H: Heap>(
+    heap: H,
     best: &mut Option<Breach>,
     callees: &Callees,
     proc: &Proc,
 ) -> Result<(), Memory>
     requires { KnowsCallees callees.now }
     ensures { let breaches = procedure_breaches (source_of callees.now.source.now) (proc_of proc.now) in
-        OnOk result (Notes best.old breaches best.new) }
+        OnOkUnless (H.may_refuse heap) result (Notes best.old breaches best.new) }
 {
-    let variables = declared_variables(alloc, best, proc)?;
-    let conds = declared_conditions(alloc, best, proc)?;
+    let variables = declared_variables(heap, best, proc)?;
+    let conds = declared_conditions(heap, best, proc)?;
     check_words(best, proc);
     let scope = Scope::new(proc, variables, conds);
-    check_statement(alloc, best, callees, &scope, false, &proc.body)?;
+    check_statement(heap, best, callees, &scope, false, &proc.body)?;
     Ok(())
 }
 
 /// The same of each procedure.
-fn check_procedures(
-    alloc: Global,
+fn check_procedures<H: Heap>(
+    heap: H,
     best: &mut Option<Breach>,
     callees: &Callees,
     procs: &[Proc],
 ) -> Result<(), Memory>
     requires { KnowsCallees callees.now }
     ensures { let breaches = procedure_breaches (source_of callees.now.source.now) in
-        OnOk result (Notes best.old (flat_map (λ p. breaches (proc_of p)) procs.now) best.new) }
+        OnOkUnless (H.may_refuse heap) result
+        (Notes best.old (flat_map (λ p. breaches (proc_of p)) procs.now) best.new) }
 {
     for proc in procs {
-        check_procedure(alloc, best, callees, proc)?;
+        check_procedure(heap, best, callees, proc)?;
     }
     Ok(())
 }
@@ -87,16 +89,16 @@ fn check_main(best: &mut Option<Breach>, callees: &Callees)
 }
 
 /// Notes all breaches of a source.
-pub(crate) fn check_source(
-    alloc: Global,
+pub(crate) fn check_source<H: Heap>(
+    heap: H,
     best: &mut Option<Breach>,
     source: &Source,
 ) -> Result<(), Memory>
-    ensures { OnOk result (Notes best.old (violations (source_of source.now)) best.new) }
+    ensures { OnOkUnless (H.may_refuse heap) result (Notes best.old (violations (source_of source.now)) best.new) }
 {
-    let callees = callees_of(alloc, best, source)?;
+    let callees = callees_of(heap, best, source)?;
     check_main(best, &callees);
     check_names(best, source.procs.as_slice());
-    check_procedures(alloc, best, &callees, source.procs.as_slice())?;
+    check_procedures(heap, best, &callees, source.procs.as_slice())?;
     Ok(())
 }

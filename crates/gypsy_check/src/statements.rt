@@ -1,6 +1,6 @@
 //! Statements.
 
-ghost use Rattle.std.specs.Prelude.{OnOk};
+ghost use Rattle.stack_heap.specs.Heaps.{OnOkUnless};
 ghost use Rattle.std.specs.List.{flat_map};
 ghost use Rattle.stack_text.specs.Breaches.{Notes};
 ghost use Rattle.gypsy_syntax.specs.Views.SourceView.{proc_of, source_of, stmt_of};
@@ -14,13 +14,13 @@ use crate::predefs::check_predef;
 use crate::scope::Scope;
 use crate::variables::check_test;
 use gypsy_syntax::Stmt;
+use stack_heap::Heap;
 use stack_text::{Breach, Memory};
-use std::alloc::Global;
 
 /// Notes the breaches of a statement, inside a loop or not.
 #[cycle(statements)]
-pub(crate) fn check_statement(
-    alloc: Global,
+pub(crate) fn check_statement<H: Heap>(
+    heap: H,
     best: &mut Option<Breach>,
     callees: &Callees,
     scope: &Scope,
@@ -29,17 +29,17 @@ pub(crate) fn check_statement(
 ) -> Result<(), Memory>
     requires { KnowsCallees callees.now }
     ensures { let breaches = statement_breaches (source_of callees.now.source.now) (proc_of scope.now) in_loop in
-        OnOk result (Notes best.old (breaches (stmt_of stmt.now)) best.new) }
+        OnOkUnless (H.may_refuse heap) result (Notes best.old (breaches (stmt_of stmt.now)) best.new) }
 {
     match stmt {
         Stmt::NoOp { .. } => {}
         Stmt::Signal { cond, .. } => check_raised(best, scope, in_loop, cond),
-        Stmt::Seq { parts, .. } => check_parts(alloc, best, callees, scope, in_loop, parts)?,
-        Stmt::Loop { body, .. } => check_statement(alloc, best, callees, scope, true, body)?,
+        Stmt::Seq { parts, .. } => check_parts(heap, best, callees, scope, in_loop, parts)?,
+        Stmt::Loop { body, .. } => check_statement(heap, best, callees, scope, true, body)?,
         Stmt::If { test, yes, no, .. } => {
             check_test(best, scope, test);
-            check_statement(alloc, best, callees, scope, in_loop, yes)?;
-            check_statement(alloc, best, callees, scope, in_loop, no)?;
+            check_statement(heap, best, callees, scope, in_loop, yes)?;
+            check_statement(heap, best, callees, scope, in_loop, no)?;
         }
         Stmt::Begin {
             body,
@@ -47,9 +47,9 @@ pub(crate) fn check_statement(
             arm,
             ..
         } => {
-            check_statement(alloc, best, callees, scope, in_loop, body)?;
-            check_handlers(alloc, best, scope, conds.as_slice())?;
-            check_statement(alloc, best, callees, scope, in_loop, arm)?;
+            check_statement(heap, best, callees, scope, in_loop, body)?;
+            check_handlers(heap, best, scope, conds.as_slice())?;
+            check_statement(heap, best, callees, scope, in_loop, arm)?;
         }
         Stmt::Call {
             callee,
@@ -66,7 +66,7 @@ pub(crate) fn check_statement(
                 conds_place: *conds_place,
                 conds: conds.as_slice(),
             };
-            check_call(alloc, best, callees, scope, in_loop, call)?;
+            check_call(heap, best, callees, scope, in_loop, call)?;
         }
         Stmt::Predef { place, which, args } => check_predef(best, scope, *place, *which, args),
     }
@@ -75,8 +75,8 @@ pub(crate) fn check_statement(
 
 /// The same of each statement.
 #[cycle(statements)]
-fn check_parts(
-    alloc: Global,
+fn check_parts<H: Heap>(
+    heap: H,
     best: &mut Option<Breach>,
     callees: &Callees,
     scope: &Scope,
@@ -85,10 +85,11 @@ fn check_parts(
 ) -> Result<(), Memory>
     requires { KnowsCallees callees.now }
     ensures { let breaches = statement_breaches (source_of callees.now.source.now) (proc_of scope.now) in_loop in
-        OnOk result (Notes best.old (flat_map (λ s. breaches (stmt_of s)) parts.now) best.new) }
+        OnOkUnless (H.may_refuse heap) result
+        (Notes best.old (flat_map (λ s. breaches (stmt_of s)) parts.now) best.new) }
 {
     for part in parts {
-        check_statement(alloc, best, callees, scope, in_loop, part)?;
+        check_statement(heap, best, callees, scope, in_loop, part)?;
     }
     Ok(())
 }

@@ -6,7 +6,7 @@ use Rattle.gypsy_check.proofs.FitsLaws.{source_fits}
 use Rattle.gypsy_check.proofs.accepted.check.Goals as goal
 
 pub invariant_of-result : goal.invariant_of-result
-invariant_of-result c =
+invariant_of-result g c =
     record {
       form = c.requires;
       rules = none_least (violations (source_of c.args.source)) (sym c.in_ok-check_source.ensures ∙ c.in-None.is);
@@ -14,7 +14,7 @@ invariant_of-result c =
     }
 
 pub returns-in-None-clause-accepted : goal.returns-in-None-clause-accepted
-returns-in-None-clause-accepted c =
+returns-in-None-clause-accepted g c =
     record {
       form = c.requires;
       rules = none_least (violations (source_of c.args.source)) (sym c.in_ok-check_source.ensures ∙ c.in-None.is);

@@ -9,7 +9,7 @@ use Rattle.gypsy_check.proofs.CalleeLaws.{known_next, known_name}
 use Rattle.gypsy_check.proofs.callees.declare_all.Goals as goal
 
 pub loop-proc-preserved : goal.loop-proc-preserved
-loop-proc-preserved c =
+loop-proc-preserved g c =
     let one = c.proc-item.result in
     let procs = c.args.procs.now in
     let i = c.loop-proc.proc-index in
@@ -24,7 +24,7 @@ loop-proc-preserved c =
     }
 
 pub returns-clause-noted : goal.returns-clause-noted
-returns-clause-noted c =
+returns-clause-noted g c =
     c.loop-proc.invariant.noted
     ∙ ap (λ (ps : List Proc). lesser_of c.args.best.now (least (repeats 1 [] (map (λ (p : Proc). p.name) ps))))
     (take_all c.loop-proc.proc-index c.args.procs.now c.loop-proc-test.false)

@@ -7,7 +7,7 @@ use Rattle.gypsy_check.specs.Rules.{raised_breaches, callee_breaches, callee_nam
 use Rattle.gypsy_check.proofs.calls.check_call.Goals as goal
 
 pub returns : goal.returns
-returns c =
+returns g c =
     let s = source_of c.args.callees.now.source.now in
     let p = proc_of c.args.scope.now in
     let call = c.args.call in

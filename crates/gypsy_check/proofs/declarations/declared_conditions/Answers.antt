@@ -8,7 +8,7 @@ use Rattle.gypsy_check.proofs.NoteLaws.{noted}
 use Rattle.gypsy_check.proofs.declarations.declared_conditions.Goals as goal
 
 pub returns-clause-noted : goal.returns-clause-noted
-returns-clause-noted c =
+returns-clause-noted g c =
     let p = proc_of c.args.proc.now in
     notes_more c.args.best.now c.conditions_of.new.best c.check_all_conditions.new.best (repeats 5 [] (conditions_of p))
     (flat_map condition_breaches (conditions_of p))

@@ -12,7 +12,7 @@ use Rattle.gypsy_check.proofs.NoteLaws.{noted, flat_over, local_names_over}
 use Rattle.gypsy_check.proofs.declarations.declared_variables.Goals as goal
 
 pub returns-clause-noted : goal.returns-clause-noted
-returns-clause-noted c =
+returns-clause-noted g c =
     let raw = c.args.proc.now in
     let p = proc_of raw in
     let f0 = c.args.best.now in

@@ -4,7 +4,7 @@ use Rattle.gypsy_check.proofs.RepeatLaws.{known_more, noted_more, list_more}
 use Rattle.gypsy_check.proofs.names.check_repeats.Goals as goal
 
 pub loop-name-preserved : goal.loop-name-preserved
-loop-name-preserved c =
+loop-name-preserved g c =
     let one = c.name-item.result in
     let more = list_more [] c.args.names.now c.loop-name.name-index one c.loop-name-test.true c.name-item.is in
     record {

@@ -6,7 +6,7 @@ use Rattle.gypsy_check.proofs.names.check_repeats.Given as goal
 
 -- the names so far
 abbrev pub invariant-loop-name : goal.invariant-loop-name
-invariant-loop-name l = record {
+invariant-loop-name g l = record {
   known : KnowsNames l.earlier (take l.name-index l.names);
   noted : Notes l.fn.best (repeats l.rule [] (take l.name-index l.names)) l.best;
 }

@@ -4,7 +4,7 @@ use Rattle.gypsy_check.proofs.RepeatLaws.{known_more, noted_more, list_more}
 use Rattle.gypsy_check.proofs.names.conditions_of.Goals as goal
 
 pub loop-cond-preserved : goal.loop-cond-preserved
-loop-cond-preserved c =
+loop-cond-preserved g c =
     let one = c.cond-item.result in
     let more = list_more [] c.args.conds.now c.loop-cond.cond-index one c.loop-cond-test.true c.cond-item.is in
     record {
@@ -16,7 +16,7 @@ loop-cond-preserved c =
     }
 
 pub loop-local-preserved : goal.loop-local-preserved
-loop-local-preserved c =
+loop-local-preserved g c =
     let one = c.local-item.result in
     let more = list_more c.args.conds.now c.args.local_conds.now c.loop-local.local-index one c.loop-local-test.true c.local-item.is in
     record {

@@ -11,7 +11,7 @@ use Rattle.gypsy_check.proofs.VariableLaws.{types_next, repeats_next, names_of}
 use Rattle.gypsy_check.proofs.names.variables_of.Goals as goal
 
 pub loop-formal-preserved : goal.loop-formal-preserved
-loop-formal-preserved c =
+loop-formal-preserved g c =
     let one = c.formal-item.result in
     let before = take c.loop-formal.formal-index c.args.formals.now in
     let after = take (c.loop-formal.formal-index + 1) c.args.formals.now in
@@ -24,7 +24,7 @@ loop-formal-preserved c =
     }
 
 pub loop-local-preserved : goal.loop-local-preserved
-loop-local-preserved c =
+loop-local-preserved g c =
     let one = c.local-item.result in
     let before = c.args.formals.now ++ map (λ (l : Local). l.decl) (take c.loop-local.local-index c.args.locals.now) in
     let after = c.args.formals.now ++ map (λ (l : Local). l.decl) (take (c.loop-local.local-index + 1) c.args.locals.now) in
@@ -37,7 +37,7 @@ loop-local-preserved c =
     }
 
 pub returns-clause-noted : goal.returns-clause-noted
-returns-clause-noted c =
+returns-clause-noted g c =
     c.loop-local.invariant.noted
     ∙ ap (λ (ns : List Named). lesser_of c.args.best.now (least (repeats 4 [] ns)))
     (names_of c.args.formals.now (take c.loop-local.local-index c.args.locals.now))

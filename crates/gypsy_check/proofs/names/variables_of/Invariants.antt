@@ -8,14 +8,14 @@ use Rattle.gypsy_check.proofs.names.variables_of.Given as goal
 
 -- the formals so far
 abbrev pub invariant-loop-formal : goal.invariant-loop-formal
-invariant-loop-formal l = record {
+invariant-loop-formal g l = record {
   known : KnowsTypes l.variables (take l.formal-index l.formals);
   noted : Notes l.fn.best (repeats 4 [] (map (λ (d : Decl). d.name) (take l.formal-index l.formals))) l.best;
 }
 
 -- the formals, and the locals so far
 abbrev pub invariant-loop-local : goal.invariant-loop-local
-invariant-loop-local l = record {
+invariant-loop-local g l = record {
   known : KnowsTypes l.variables (l.formals ++ map (λ (x : Local). x.decl) (take l.local-index l.locals));
   noted : Notes l.fn.best (repeats 4 [] (map (λ (d : Decl). d.name) (l.formals ++ map (λ (x : Local). x.decl) (take l.local-index l.locals)))) l.best;
 }

@@ -7,7 +7,7 @@ use Rattle.gypsy_check.proofs.NoteLaws.{noted}
 use Rattle.gypsy_check.proofs.procedures.check_procedure.Goals as goal
 
 pub returns : goal.returns
-returns c =
+returns g c =
     let s = source_of c.args.callees.now.source.now in
     let p = proc_of c.args.proc.now in
     let f0 = c.args.best.now in

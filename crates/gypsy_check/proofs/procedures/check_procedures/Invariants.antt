@@ -8,5 +8,5 @@ use Rattle.gypsy_check.proofs.procedures.check_procedures.Given as goal
 
 -- those so far
 abbrev pub invariant-loop-proc : goal.invariant-loop-proc
-invariant-loop-proc l =
+invariant-loop-proc g l =
     Notes l.fn.best (flat_map (λ (p : Proc). procedure_breaches (source_of l.callees.source.now) (proc_of p)) (take l.proc-index l.procs)) l.best

@@ -13,7 +13,7 @@ use Rattle.gypsy_check.proofs.procedures.check_source.Goals as goal
 
 pub returns : goal.returns
 unfolding violations
-returns c =
+returns g c =
     let raw = c.args.source.now in
     let s = source_of raw in
     let f0 = c.args.best.now in

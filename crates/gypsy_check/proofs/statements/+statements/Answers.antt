@@ -10,13 +10,13 @@ use Rattle.gypsy_check.proofs.NoteLaws.{noted, statement_breaks, seq_each}
 use Rattle.gypsy_check.proofs.statements.+statements.Goals as goal
 
 pub check_parts-loop-part-preserved : goal.check_parts-loop-part-preserved
-check_parts-loop-part-preserved t c =
+check_parts-loop-part-preserved g t c =
     notes_next (statement_breaks (source_of c.args.callees.now.source.now) (proc_of c.args.scope.now) c.args.in_loop) c.args.parts.now
     c.loop-part.part-index c.part-item.result c.args.best.now c.loop-part.best c.check_statement.new.best
     c.loop-part-test.true c.part-item.is c.loop-part.invariant c.in_ok-check_statement.ensures
 
 pub check_statement-returns-in_ok-check_parts-in-Seq : goal.check_statement-returns-in_ok-check_parts-in-Seq
-check_statement-returns-in_ok-check_parts-in-Seq t c =
+check_statement-returns-in_ok-check_parts-in-Seq g t c =
     let s = source_of c.args.callees.now.source.now in
     let p = proc_of c.args.scope.now in
     let g : Stmt → List Breach = statement_breaks s p c.args.in_loop in
@@ -25,7 +25,7 @@ check_statement-returns-in_ok-check_parts-in-Seq t c =
     ∙ ap (noted c.args.best.now) (sym (seq_each s p c.args.in_loop c.in-Seq.place c.in-Seq.parts) ∙ ap g (sym c.in-Seq.is))
 
 pub check_statement-returns-in_ok-check_statement-in-If-2 : goal.check_statement-returns-in_ok-check_statement-in-If-2
-check_statement-returns-in_ok-check_statement-in-If-2 t c =
+check_statement-returns-in_ok-check_statement-in-If-2 g t c =
     let p = proc_of c.args.scope.now in
     let g : Stmt → List Breach = statement_breaks (source_of c.args.callees.now.source.now) p c.args.in_loop in
     let f0 = c.args.best.now in
@@ -40,7 +40,7 @@ check_statement-returns-in_ok-check_statement-in-If-2 t c =
     ∙ ap (λ b. noted f0 (g b)) (sym c.in-If.is)
 
 pub check_statement-returns-in_ok-check_statement-in-Begin-2 : goal.check_statement-returns-in_ok-check_statement-in-Begin-2
-check_statement-returns-in_ok-check_statement-in-Begin-2 t c =
+check_statement-returns-in_ok-check_statement-in-Begin-2 g t c =
     let p = proc_of c.args.scope.now in
     let g : Stmt → List Breach = statement_breaks (source_of c.args.callees.now.source.now) p c.args.in_loop in
     let f0 = c.args.best.now in
