@@ -1,6 +1,7 @@
 //! The procedures of a source, found by their names.
 
 ghost use Rattle.std.specs.Prelude.{◌≡◌, ◌≤◌, IfOk, length};
+ghost use Rattle.stack_heap.specs.Heaps.{IfOkUnless};
 ghost use Rattle.gypsy_syntax.specs.Fits.{FitsForm};
 ghost use Rattle.gypsy_syntax.specs.Resolved.{position_of, procedure_names};
 ghost use Rattle.gypsy_syntax.specs.Views.SourceView.{source_of};
@@ -8,8 +9,8 @@ ghost use Rattle.gypsy_space.specs.Callees.{KnowsProcedures, KnowsPositions, nam
 
 use gypsy_syntax::{Proc, Source};
 use name_tables::NameTable;
+use stack_heap::Heap;
 use stack_text::{Memory, Name};
-use std::alloc::Global;
 
 /// A source, with the position of the first procedure of each name.
 #[derive(Drop)]
@@ -29,23 +30,23 @@ impl<'a> Callees<'a> {
 }
 
 /// The position of the first procedure of each name.
-fn positions_of<'a>(alloc: Global, procs: &'a [Proc]) -> Result<NameTable<'a, u32>, Memory>
+fn positions_of<'a, H: Heap>(heap: H, procs: &'a [Proc]) -> Result<NameTable<'a, u32>, Memory>
     requires { length procs.now ≤ 1000 }
-    ensures { IfOk result (λ positions. KnowsPositions positions (names_of procs.now)) }
+    ensures { IfOkUnless (H.may_refuse heap) result (λ positions. KnowsPositions positions (names_of procs.now)) }
 {
-    let mut positions = NameTable::new(alloc);
+    let mut positions = NameTable::new(heap.handle());
     for (index, proc) in procs.iter().enumerate() {
-        positions.enter(proc.name.name.bytes(), index as u32)?;
+        positions.enter(heap, proc.name.name.bytes(), index as u32)?;
     }
     Ok(positions)
 }
 
 /// The procedures of a source, found by their names.
-pub(crate) fn callees_of<'a>(alloc: Global, source: &'a Source) -> Result<Callees<'a>, Memory>
+pub(crate) fn callees_of<'a, H: Heap>(heap: H, source: &'a Source) -> Result<Callees<'a>, Memory>
     requires { FitsForm (source_of source.now) }
-    ensures of { IfOk result (λ callees. callees.source.now ≡ source.now) }
+    ensures of { IfOkUnless (H.may_refuse heap) result (λ callees. callees.source.now ≡ source.now) }
     ensures known { IfOk result KnowsProcedures }
 {
-    let positions = positions_of(alloc, source.procs.as_slice())?;
+    let positions = positions_of(heap, source.procs.as_slice())?;
     Ok(Callees { source, positions })
 }

@@ -1,6 +1,7 @@
 //! What statements and procedures need.
 
 ghost use Rattle.std.specs.Prelude.{◌≡◌, ◌+◌, ◌^◌, ◌*◌, ◌≤◌, ◌<◌, IfOk, map, length};
+ghost use Rattle.stack_heap.specs.Heaps.{IfOkUnless};
 ghost use Rattle.gypsy_syntax.specs.Programs.{proc_at, words_of};
 ghost use Rattle.gypsy_syntax.specs.Resolved.{program_of};
 ghost use Rattle.gypsy_syntax.specs.Views.SourceView.{source_of};
@@ -14,8 +15,8 @@ use crate::need::{Need, Needs};
 use crate::program::{Argument, CallSite, Node, Program};
 use crate::resolving::resolve;
 use gypsy_check::Accepted;
+use stack_heap::Heap;
 use stack_text::{Memory, Name, Value};
-use std::alloc::Global;
 use std::rc::Rc;
 
 /// Sums are exact up to this number, 2^60, and stay there. No source that keeps the form comes so far.
@@ -198,34 +199,37 @@ fn need_of(program: &Program, procedure: u32) -> Need
 }
 
 /// What each procedure needs, with sums that are exact up to 2^60.
-fn needs_of(alloc: Global, program: &Program) -> Result<Needs, Memory>
+fn needs_of<H: Heap>(heap: H, program: &Program) -> Result<Needs, Memory>
     requires { length program.now.procedures.items ≤ 2 ^ 32 }
-    ensures exact { IfOk result (λ n. AreCapped (seen_program program.now) n.procedures.items) }
+    ensures exact { IfOkUnless (H.may_refuse heap) result
+        (λ n. AreCapped (seen_program program.now) n.procedures.items) }
     ensures small { IfOk result (λ n. AreSmall n.procedures.items) }
 {
-    let mut procedures = Vec::new(alloc);
+    let mut procedures = Vec::new(heap.handle());
     for index in 0..program.procedures.len() {
-        procedures.push(need_of(program, index as u32))?;
+        heap.push(&mut procedures, need_of(program, index as u32))?;
     }
     Ok(Needs { procedures })
 }
 
 /// What each procedure of an accepted source needs.
-pub fn needs(alloc: Global, accepted: &Accepted) -> Result<Needs, Memory>
-    ensures exact { IfOk result (λ n. AreNeeds (program_of (source_of accepted.now)) n.procedures.items) }
+pub fn needs<H: Heap>(heap: H, accepted: &Accepted) -> Result<Needs, Memory>
+    ensures exact { IfOkUnless (H.may_refuse heap) result
+        (λ n. AreNeeds (program_of (source_of accepted.now)) n.procedures.items) }
     ensures small { IfOk result (λ n. AreSmall n.procedures.items) }
 {
-    let program = resolve(alloc, accepted)?;
-    needs_with(alloc, accepted, &program)
+    let program = resolve(heap, accepted)?;
+    needs_with(heap, accepted, &program)
 }
 
 /// The same, for callers that have the program of the source.
-pub fn needs_with(alloc: Global, _accepted: &Accepted, program: &Program) -> Result<Needs, Memory>
+pub fn needs_with<H: Heap>(heap: H, _accepted: &Accepted, program: &Program) -> Result<Needs, Memory>
     requires program { seen_program program.now ≡ program_of (source_of _accepted.now) }
     requires accepted { IsAccepted (source_of _accepted.now) }
-    ensures exact { IfOk result (λ n. AreNeeds (program_of (source_of _accepted.now)) n.procedures.items) }
+    ensures exact { IfOkUnless (H.may_refuse heap) result
+        (λ n. AreNeeds (program_of (source_of _accepted.now)) n.procedures.items) }
     ensures small { IfOk result (λ n. AreSmall n.procedures.items) }
 {
-    let needs = needs_of(alloc, program)?;
+    let needs = needs_of(heap, program)?;
     Ok(needs)
 }

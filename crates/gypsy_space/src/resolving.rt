@@ -1,6 +1,7 @@
 //! The program that an accepted source is: names become positions.
 
 ghost use Rattle.std.specs.Prelude.{◌≡◌, All, IfOk, IsTrue, map};
+ghost use Rattle.stack_heap.specs.Heaps.{IfOkUnless};
 ghost use Rattle.std.specs.Option.{unwrap_or};
 ghost use Rattle.std.specs.List.{list_all, position};
 ghost use Rattle.std.specs.Str.{bytes_eq};
@@ -26,8 +27,8 @@ use crate::callees::{Callees, callees_of};
 use crate::program::{Application, Argument, CallSite, Condition, Node, Procedure, Program};
 use gypsy_check::Accepted;
 use gypsy_syntax::{Arg, Decl, Literal, Local, Predef, Proc, Stmt, TypeText};
+use stack_heap::Heap;
 use stack_text::{Kind, Memory, Name, Named, Shape, Value};
-use std::alloc::Global;
 use std::rc::Rc;
 
 /// Where the first formal of a name is.
@@ -112,25 +113,26 @@ fn condition(proc: &Proc, name: &Named) -> Condition
 }
 
 /// Each variable.
-fn variables(alloc: Global, proc: &Proc, names: &[Named]) -> Result<Vec<u32>, Memory>
+fn variables<H: Heap>(heap: H, proc: &Proc, names: &[Named]) -> Result<Vec<u32>, Memory>
     requires { FitsProcedure (proc_of proc.now) }
-    ensures { IfOk result (λ vs. vs.items ≡ map (variable_of (proc_of proc.now)) names.now) }
+    ensures { IfOkUnless (H.may_refuse heap) result (λ vs. vs.items ≡ map (variable_of (proc_of proc.now)) names.now) }
 {
-    let mut variables = Vec::new(alloc);
+    let mut variables = Vec::new(heap.handle());
     for name in names {
-        variables.push(variable(proc, name))?;
+        heap.push(&mut variables, variable(proc, name))?;
     }
     Ok(variables)
 }
 
 /// Each condition.
-fn conditions(alloc: Global, proc: &Proc, names: &[Named]) -> Result<Vec<Condition>, Memory>
+fn conditions<H: Heap>(heap: H, proc: &Proc, names: &[Named]) -> Result<Vec<Condition>, Memory>
     requires { FitsProcedure (proc_of proc.now) }
-    ensures { IfOk result (λ cs. map seen_cond cs.items ≡ map (cond_of (proc_of proc.now)) names.now) }
+    ensures { IfOkUnless (H.may_refuse heap) result
+        (λ cs. map seen_cond cs.items ≡ map (cond_of (proc_of proc.now)) names.now) }
 {
-    let mut conditions = Vec::new(alloc);
+    let mut conditions = Vec::new(heap.handle());
     for name in names {
-        conditions.push(condition(proc, name))?;
+        heap.push(&mut conditions, condition(proc, name))?;
     }
     Ok(conditions)
 }
@@ -178,34 +180,35 @@ fn item(literal: &Literal) -> i32
 }
 
 /// The items that the literals of a list stand for.
-fn list_items(alloc: Global, literals: &[Literal]) -> Result<Vec<i32>, Memory>
+fn list_items<H: Heap>(heap: H, literals: &[Literal]) -> Result<Vec<i32>, Memory>
     requires { All (λ l. IsTrue (is_in_range kinds.Integer (item_of (literal_of l)))) literals.now }
-    ensures { IfOk result (λ v. v.items ≡ items_of_all (items_of_list literals.now)) }
+    ensures { IfOkUnless (H.may_refuse heap) result (λ v. v.items ≡ items_of_all (items_of_list literals.now)) }
 {
-    let mut items = Vec::new(alloc);
+    let mut items = Vec::new(heap.handle());
     for literal in literals {
-        items.push(item(literal))?;
+        heap.push(&mut items, item(literal))?;
     }
     Ok(items)
 }
 
 /// The items of the value that a literal stands for.
-fn items(alloc: Global, literal: &Literal) -> Result<Vec<i32>, Memory>
+fn items<H: Heap>(heap: H, literal: &Literal) -> Result<Vec<i32>, Memory>
     requires { IsTrue (list_all (is_in_range kinds.Integer) (value_items (literal_of literal.now))) }
-    ensures { IfOk result (λ v. v.items ≡ value_items (literal_of literal.now)) }
+    ensures { IfOkUnless (H.may_refuse heap) result (λ v. v.items ≡ value_items (literal_of literal.now)) }
 {
     match literal {
-        Literal::List { place: _, items } => list_items(alloc, items),
-        simple => Ok(vec![in alloc; item(simple)]?),
+        Literal::List { place: _, items } => list_items(heap, items),
+        simple => Ok(heap.copied(&[item(simple)])?),
     }
 }
 
 /// The value of a shape that a literal stands for.
-fn value(alloc: Global, shape: Shape, literal: &Literal) -> Result<Value, Memory>
+fn value<H: Heap>(heap: H, shape: Shape, literal: &Literal) -> Result<Value, Memory>
     requires { ValueFits record { shape = shape; items = value_items (literal_of literal.now) } }
-    ensures { IfOk result (λ v. v ≡ record { shape = shape; items = value_items (literal_of literal.now) }) }
+    ensures { IfOkUnless (H.may_refuse heap) result
+        (λ v. v ≡ record { shape = shape; items = value_items (literal_of literal.now) }) }
 {
-    match Value::new(shape, items(alloc, literal)?) {
+    match Value::new(shape, items(heap, literal)?) {
         Some(value) => Ok(value),
         None => unreachable!(),
     }
@@ -227,10 +230,11 @@ fn kind(literal: &Literal) -> Kind
 }
 
 /// An argument of a predefined call.
-fn argument(alloc: Global, proc: &Proc, arg: &Arg) -> Result<Argument, Memory>
+fn argument<H: Heap>(heap: H, proc: &Proc, arg: &Arg) -> Result<Argument, Memory>
     requires form { FitsProcedure (proc_of proc.now) }
     requires constant { ConstantFits (arg_of arg.now) }
-    ensures { IfOk result (λ a. seen_arg a ≡ argument_of (proc_of proc.now) (arg_of arg.now)) }
+    ensures { IfOkUnless (H.may_refuse heap) result
+        (λ a. seen_arg a ≡ argument_of (proc_of proc.now) (arg_of arg.now)) }
 {
     match arg {
         Arg::Variable(name) => Ok(Argument::Variable(variable(proc, name))),
@@ -239,58 +243,63 @@ fn argument(alloc: Global, proc: &Proc, arg: &Arg) -> Result<Argument, Memory>
                 kind: kind(literal),
                 length: 0,
             };
-            Ok(Argument::Constant(value(alloc, shape, literal)?))
+            Ok(Argument::Constant(value(heap, shape, literal)?))
         }
     }
 }
 
 /// Each argument.
-fn arguments(alloc: Global, proc: &Proc, args: &[Arg]) -> Result<Vec<Argument>, Memory>
+fn arguments<H: Heap>(heap: H, proc: &Proc, args: &[Arg]) -> Result<Vec<Argument>, Memory>
     requires form { FitsProcedure (proc_of proc.now) }
     requires constants { All (λ a. ConstantFits (arg_of a)) args.now }
-    ensures { IfOk result (λ r. map seen_arg r.items ≡ map (argument_of (proc_of proc.now)) (map arg_of args.now)) }
+    ensures { IfOkUnless (H.may_refuse heap) result
+        (λ r. map seen_arg r.items ≡ map (argument_of (proc_of proc.now)) (map arg_of args.now)) }
 {
-    let mut arguments = Vec::new(alloc);
+    let mut arguments = Vec::new(heap.handle());
     for arg in args {
-        arguments.push(argument(alloc, proc, arg)?)?;
+        heap.push(&mut arguments, argument(heap, proc, arg)?)?;
     }
     Ok(arguments)
 }
 
 /// Each formal, with its name.
-fn formals(alloc: Global, decls: &[Decl]) -> Result<Vec<(Name, Shape)>, Memory>
+fn formals<H: Heap>(heap: H, decls: &[Decl]) -> Result<Vec<(Name, Shape)>, Memory>
     requires { All (λ d. IsTrue (has_length d.shape.length)) decls.now }
-    ensures shapes { IfOk result (λ r. held_shapes r.items ≡ map (λ d. shape_of d.shape) decls.now) }
+    ensures shapes { IfOkUnless (H.may_refuse heap) result
+        (λ r. held_shapes r.items ≡ map (λ d. shape_of d.shape) decls.now) }
     ensures names { IfOk result (λ r. held_names r.items ≡ map (λ d. d.name.name) decls.now) }
 {
-    let mut formals = Vec::new(alloc);
+    let mut formals = Vec::new(heap.handle());
     for decl in decls {
-        formals.push((decl.name.name.clone()?, shape(decl.shape)))?;
+        let name = decl.name.name.copied(heap)?;
+        heap.push(&mut formals, (name, shape(decl.shape)))?;
     }
     Ok(formals)
 }
 
 /// Each local, with its name and its initial value.
-fn locals(alloc: Global, locals: &[Local]) -> Result<Vec<(Name, Value)>, Memory>
+fn locals<H: Heap>(heap: H, locals: &[Local]) -> Result<Vec<(Name, Value)>, Memory>
     requires { All (λ l. LocalFits (local_of l)) locals.now }
-    ensures values { IfOk result (λ r. held_values r.items ≡ map local_value (map local_of locals.now)) }
+    ensures values { IfOkUnless (H.may_refuse heap) result
+        (λ r. held_values r.items ≡ map local_value (map local_of locals.now)) }
     ensures names { IfOk result (λ r. held_names r.items ≡ map (λ l. l.decl.name.name) (map local_of locals.now)) }
 {
-    let mut values = Vec::new(alloc);
+    let mut values = Vec::new(heap.handle());
     for local in locals {
-        let value = value(alloc, shape(local.decl.shape), &local.value)?;
-        values.push((local.decl.name.name.clone()?, value))?;
+        let value = value(heap, shape(local.decl.shape), &local.value)?;
+        let name = local.decl.name.name.copied(heap)?;
+        heap.push(&mut values, (name, value))?;
     }
     Ok(values)
 }
 
 /// The names of conditions.
-fn names(alloc: Global, conds: &[Named]) -> Result<Vec<Name>, Memory>
-    ensures { IfOk result (λ r. r.items ≡ map (λ n. n.name) conds.now) }
+fn names<H: Heap>(heap: H, conds: &[Named]) -> Result<Vec<Name>, Memory>
+    ensures { IfOkUnless (H.may_refuse heap) result (λ r. r.items ≡ map (λ n. n.name) conds.now) }
 {
-    let mut names = Vec::new(alloc);
+    let mut names = Vec::new(heap.handle());
     for cond in conds {
-        names.push(cond.name.clone()?)?;
+        heap.push(&mut names, cond.name.copied(heap)?)?;
     }
     Ok(names)
 }
@@ -304,8 +313,8 @@ struct CallText<'a> {
 }
 
 /// A call of a procedure.
-fn call_site(
-    alloc: Global,
+fn call_site<H: Heap>(
+    heap: H,
     callees: &Callees,
     proc: &Proc,
     place: u32,
@@ -316,20 +325,20 @@ fn call_site(
     ensures { let procedures = procedure_names (source_of callees.now.source.now) in
         let callee = position_of call.entry.callee.now.name procedures in
         let actuals = map (variable_of (proc_of proc.now)) call.entry.actuals.now in
-        IfOk result (λ site. IsCallSite place callee actuals
+        IfOkUnless (H.may_refuse heap) result (λ site. IsCallSite place callee actuals
         (map (cond_of (proc_of proc.now)) call.entry.conds.now) site) }
 {
     Ok(CallSite {
         place,
         callee: callees.position(&call.callee.name),
-        actuals: variables(alloc, proc, call.actuals)?,
-        conds: conditions(alloc, proc, call.conds)?,
+        actuals: variables(heap, proc, call.actuals)?,
+        conds: conditions(heap, proc, call.conds)?,
     })
 }
 
 /// A call of a procedure, as a node.
-fn call(
-    alloc: Global,
+fn call<H: Heap>(
+    heap: H,
     callees: &Callees,
     proc: &Proc,
     place: u32,
@@ -343,20 +352,20 @@ fn call(
         let callee = position_of callee.now.name procedures in
         let actuals = map (variable_of (proc_of proc.now)) actuals.now in
         let conds = map (cond_of (proc_of proc.now)) conds.now in
-        IfOk result (λ n. seen_statement n ≡ Call place callee actuals conds) }
+        IfOkUnless (H.may_refuse heap) result (λ n. seen_statement n ≡ Call place callee actuals conds) }
 {
     let text = CallText {
         callee,
         actuals,
         conds,
     };
-    let site = call_site(alloc, callees, proc, place, text)?;
-    Ok(Node::Call(Rc::new(alloc, site)?))
+    let site = call_site(heap, callees, proc, place, text)?;
+    Ok(Node::Call(heap.shared(site)?))
 }
 
 /// A predefined call, as a node.
-fn application(
-    alloc: Global,
+fn application<H: Heap>(
+    heap: H,
     proc: &Proc,
     place: u32,
     which: Predef,
@@ -365,31 +374,31 @@ fn application(
     requires form { FitsProcedure (proc_of proc.now) }
     requires constants { All (λ a. ConstantFits (arg_of a)) args.now }
     ensures { let arguments = map (argument_of (proc_of proc.now)) (map arg_of args.now) in
-        IfOk result (λ n. seen_statement n ≡ Apply place which arguments) }
+        IfOkUnless (H.may_refuse heap) result (λ n. seen_statement n ≡ Apply place which arguments) }
 {
-    let args = arguments(alloc, proc, args)?;
+    let args = arguments(heap, proc, args)?;
     let application = Application { place, which, args };
-    Ok(Node::Apply(Rc::new(alloc, application)?))
+    Ok(Node::Apply(heap.shared(application)?))
 }
 
 /// A statement.
 #[cycle(statements)]
-fn statement(alloc: Global, callees: &Callees, proc: &Proc, stmt: &Stmt) -> Result<Node, Memory>
+fn statement<H: Heap>(heap: H, callees: &Callees, proc: &Proc, stmt: &Stmt) -> Result<Node, Memory>
     requires callees { KnowsProcedures callees.now }
     requires form { FitsProcedure (proc_of proc.now) }
     requires constants { ConstantsFit (stmt_of stmt.now) }
-    ensures { IfOk result (λ n. seen_statement n
+    ensures { IfOkUnless (H.may_refuse heap) result (λ n. seen_statement n
         ≡ statement_of (source_of callees.now.source.now) (proc_of proc.now) (stmt_of stmt.now)) }
 {
     match stmt {
         Stmt::NoOp { place } => Ok(Node::NoOp(*place)),
         Stmt::Signal { place, cond } => Ok(Node::Signal(*place, condition(proc, cond))),
         Stmt::Seq { parts, .. } => {
-            let nodes = statements(alloc, callees, proc, parts.as_slice())?;
-            Ok(Node::Seq(Rc::new(alloc, nodes)?))
+            let nodes = statements(heap, callees, proc, parts.as_slice())?;
+            Ok(Node::Seq(heap.shared(nodes)?))
         }
         Stmt::Loop { place, body } => {
-            Ok(Node::Loop(*place, shared(alloc, callees, proc, body)?))
+            Ok(Node::Loop(*place, shared(heap, callees, proc, body)?))
         }
         Stmt::If {
             place,
@@ -397,8 +406,8 @@ fn statement(alloc: Global, callees: &Callees, proc: &Proc, stmt: &Stmt) -> Resu
             yes,
             no,
         } => {
-            let yes = shared(alloc, callees, proc, yes)?;
-            let no = shared(alloc, callees, proc, no)?;
+            let yes = shared(heap, callees, proc, yes)?;
+            let no = shared(heap, callees, proc, no)?;
             Ok(Node::If(*place, variable(proc, test), yes, no))
         }
         Stmt::Begin {
@@ -407,9 +416,9 @@ fn statement(alloc: Global, callees: &Callees, proc: &Proc, stmt: &Stmt) -> Resu
             conds,
             arm,
         } => {
-            let body = shared(alloc, callees, proc, body)?;
-            let conds = Rc::new(alloc, conditions(alloc, proc, conds.as_slice())?)?;
-            let arm = shared(alloc, callees, proc, arm)?;
+            let body = shared(heap, callees, proc, body)?;
+            let conds = heap.shared(conditions(heap, proc, conds.as_slice())?)?;
+            let arm = shared(heap, callees, proc, arm)?;
             Ok(Node::Begin(*place, body, conds, arm))
         }
         Stmt::Call {
@@ -418,30 +427,30 @@ fn statement(alloc: Global, callees: &Callees, proc: &Proc, stmt: &Stmt) -> Resu
             actuals,
             conds,
             ..
-        } => call(alloc, callees, proc, *place, callee, actuals, conds),
+        } => call(heap, callees, proc, *place, callee, actuals, conds),
         Stmt::Predef { place, which, args } => {
-            application(alloc, proc, *place, *which, args.as_slice())
+            application(heap, proc, *place, *which, args.as_slice())
         }
     }
 }
 
 /// A part of a statement, which is shared with the work that is made of it.
 #[cycle(statements)]
-fn shared(alloc: Global, callees: &Callees, proc: &Proc, stmt: &Stmt) -> Result<Rc<Node>, Memory>
+fn shared<H: Heap>(heap: H, callees: &Callees, proc: &Proc, stmt: &Stmt) -> Result<Rc<Node>, Memory>
     requires callees { KnowsProcedures callees.now }
     requires form { FitsProcedure (proc_of proc.now) }
     requires constants { ConstantsFit (stmt_of stmt.now) }
-    ensures { IfOk result (λ n. seen_statement n.value
+    ensures { IfOkUnless (H.may_refuse heap) result (λ n. seen_statement n.value
         ≡ statement_of (source_of callees.now.source.now) (proc_of proc.now) (stmt_of stmt.now)) }
 {
-    let node = statement(alloc, callees, proc, stmt)?;
-    Ok(Rc::new(alloc, node)?)
+    let node = statement(heap, callees, proc, stmt)?;
+    Ok(heap.shared(node)?)
 }
 
 /// The parts of a sequence.
 #[cycle(statements)]
-fn statements(
-    alloc: Global,
+fn statements<H: Heap>(
+    heap: H,
     callees: &Callees,
     proc: &Proc,
     parts: &[Stmt],
@@ -449,62 +458,63 @@ fn statements(
     requires callees { KnowsProcedures callees.now }
     requires form { FitsProcedure (proc_of proc.now) }
     requires constants { All (λ s. ConstantsFit (stmt_of s)) parts.now }
-    ensures { IfOk result (λ ns. seen_statements ns.items
+    ensures { IfOkUnless (H.may_refuse heap) result (λ ns. seen_statements ns.items
         ≡ statement_of_all (source_of callees.now.source.now) (proc_of proc.now) (parts_of_list parts.now)) }
 {
-    let mut nodes = Vec::new(alloc);
+    let mut nodes = Vec::new(heap.handle());
     for part in parts {
-        let node = shared(alloc, callees, proc, part)?;
-        nodes.push(node)?;
+        let node = shared(heap, callees, proc, part)?;
+        heap.push(&mut nodes, node)?;
     }
     Ok(nodes)
 }
 
 /// A procedure.
-fn procedure(alloc: Global, callees: &Callees, proc: &Proc) -> Result<Procedure, Memory>
+fn procedure<H: Heap>(heap: H, callees: &Callees, proc: &Proc) -> Result<Procedure, Memory>
     requires callees { KnowsProcedures callees.now }
     requires resolvable { IsResolvable (proc_of proc.now) }
-    ensures procedure { IfOk result (λ p. seen_proc p
+    ensures procedure { IfOkUnless (H.may_refuse heap) result (λ p. seen_proc p
         ≡ procedure_of (source_of callees.now.source.now) (proc_of proc.now)) }
     ensures names { IfOk result (λ p. seen_proc_names p ≡ declared_names (proc_of proc.now)) }
 {
     Ok(Procedure {
         place: proc.place,
-        formals: formals(alloc, proc.formals.as_slice())?,
-        locals: locals(alloc, proc.locals.as_slice())?,
-        conds: names(alloc, proc.conds.as_slice())?,
-        local_conds: names(alloc, proc.local_conds.as_slice())?,
-        body: shared(alloc, callees, proc, &proc.body)?,
+        formals: formals(heap, proc.formals.as_slice())?,
+        locals: locals(heap, proc.locals.as_slice())?,
+        conds: names(heap, proc.conds.as_slice())?,
+        local_conds: names(heap, proc.local_conds.as_slice())?,
+        body: shared(heap, callees, proc, &proc.body)?,
     })
 }
 
 /// Each procedure.
-fn procedures(alloc: Global, callees: &Callees) -> Result<Vec<Procedure>, Memory>
+fn procedures<H: Heap>(heap: H, callees: &Callees) -> Result<Vec<Procedure>, Memory>
     requires callees { KnowsProcedures callees.now }
     requires resolvable { All (λ p. IsResolvable (proc_of p)) callees.now.source.now.procs.items }
-    ensures procedures { IfOk result (λ ps. map seen_proc ps.items
+    ensures procedures { IfOkUnless (H.may_refuse heap) result (λ ps. map seen_proc ps.items
         ≡ map (procedure_of (source_of callees.now.source.now)) (source_of callees.now.source.now).procs) }
     ensures names { IfOk result (λ ps. map seen_proc_names ps.items
         ≡ map declared_names (source_of callees.now.source.now).procs) }
 {
     let source = callees.source;
-    let mut procedures = Vec::new(alloc);
+    let mut procedures = Vec::new(heap.handle());
     for proc in source.procs.as_slice() {
-        procedures.push(procedure(alloc, callees, proc)?)?;
+        heap.push(&mut procedures, procedure(heap, callees, proc)?)?;
     }
     Ok(procedures)
 }
 
 /// The program that a source is, with the names of the source's variables and conditions.
-pub fn resolve(alloc: Global, accepted: &Accepted) -> Result<Program, Memory>
-    ensures program { IfOk result (λ q. seen_program q ≡ program_of (source_of accepted.now)) }
+pub fn resolve<H: Heap>(heap: H, accepted: &Accepted) -> Result<Program, Memory>
+    ensures program { IfOkUnless (H.may_refuse heap) result
+        (λ q. seen_program q ≡ program_of (source_of accepted.now)) }
     ensures names { IfOk result (λ q. map seen_proc_names q.procedures.items
         ≡ map declared_names (source_of accepted.now).procs) }
     ensures accepted { IfOk result (λ _. IsAccepted (source_of accepted.now)) }
 {
     let source = accepted.source();
-    let callees = callees_of(alloc, source)?;
-    let procedures = procedures(alloc, &callees)?;
+    let callees = callees_of(heap, source)?;
+    let procedures = procedures(heap, &callees)?;
     Ok(Program {
         main: callees.position(&source.main.name),
         procedures,

@@ -6,11 +6,11 @@ use Rattle.gypsy_space.proofs.CalleeLaws.{place_next}
 use Rattle.gypsy_space.proofs.callees.positions_of.Goals as goal
 
 pub loop-index-init : goal.loop-index-init
-loop-index-init c = λ name.
+loop-index-init g c = λ name.
     let none : look_up c.new-positions.result name ≡ None = search rules in none ∙ sym (place_nil name)
 
 pub loop-index-preserved : goal.loop-index-preserved
-loop-index-preserved c = λ other.
+loop-index-preserved g c = λ other.
     let i = c.loop-index.index in
     let one = c.index-procs-index.result in
     c.in_ok-enter.ensures.entered other

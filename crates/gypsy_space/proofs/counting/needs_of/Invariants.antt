@@ -3,4 +3,4 @@ use Rattle.gypsy_space.specs.StatementNeeds.{AreFirst}
 use Rattle.gypsy_space.proofs.counting.needs_of.Given as goal
 
 abbrev pub invariant-loop-index : goal.invariant-loop-index
-invariant-loop-index l = AreFirst (seen_program l.program) l.index l.procedures.items
+invariant-loop-index g l = AreFirst (seen_program l.program) l.index l.procedures.items

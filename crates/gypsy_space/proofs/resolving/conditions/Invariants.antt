@@ -5,4 +5,5 @@ use Rattle.gypsy_space.specs.Nodes.{seen_cond}
 use Rattle.gypsy_space.proofs.resolving.conditions.Given as goal
 
 abbrev pub invariant-loop-name : goal.invariant-loop-name
-invariant-loop-name l = map seen_cond l.conditions.items ++ map (cond_of (proc_of l.proc)) (drop l.name-index l.names) ≡ map (cond_of (proc_of l.proc)) l.names
+invariant-loop-name g l = map seen_cond l.conditions.items ++ map (cond_of (proc_of l.proc)) (drop l.name-index l.names)
+    ≡ map (cond_of (proc_of l.proc)) l.names

@@ -11,7 +11,7 @@ use Rattle.gypsy_space.proofs.AcceptedLaws.{InRange, items_in}
 use Rattle.gypsy_space.proofs.resolving.items.Goals as goal
 
 pub list_items-requires : goal.list_items-requires
-list_items-requires c =
+list_items-requires g c =
     let items = c.in-List.items.items in
     let k : literal_of c.args.literal.now ≡ array c.in-List.place (items_of_list items) =
     ap literal_of c.in-List.is ∙ literal_of-list c.in-List.place c.in-List.items in
@@ -20,7 +20,7 @@ list_items-requires c =
     All-same InRange c.deref.result.now items c.deref.ensures.value (items_in items range)
 
 pub returns-in-List : goal.returns-in-List
-returns-in-List c =
+returns-in-List g c =
     let k : literal_of c.args.literal.now ≡ array c.in-List.place (items_of_list c.in-List.items.items) =
     ap literal_of c.in-List.is ∙ literal_of-list c.in-List.place c.in-List.items in
     rw k (rw c.deref.ensures.value at c.list_items.ensures)

@@ -7,12 +7,12 @@ use Rattle.gypsy_space.proofs.AcceptedLaws.{each_before, source_form, source_res
 use Rattle.gypsy_space.proofs.resolving.resolve.Goals as goal
 
 pub callees_of-requires : goal.callees_of-requires
-callees_of-requires c =
+callees_of-requires g c =
     source_form (source_of c.source-source.result.now)
     (subst (λ (s : Source). IsAccepted (source_of s)) (sym c.source-source.ensures.value) c.source-source.ensures.accepted)
 
 pub procedures-requires-clause-resolvable : goal.procedures-requires-clause-resolvable
-procedures-requires-clause-resolvable c =
+procedures-requires-clause-resolvable g c =
     let source = c.in_ok-callees.callees.source.now in
     let accepted = subst (λ (s : Source). IsAccepted (source_of s)) (sym (c.in_ok-callees.ensures.of ∙ c.source-source.ensures.value))
     c.source-source.ensures.accepted in

@@ -4,4 +4,4 @@ use Rattle.gypsy_syntax.specs.Views.SourceView.{proc_of}
 use Rattle.gypsy_space.proofs.resolving.variables.Given as goal
 
 abbrev pub invariant-loop-name : goal.invariant-loop-name
-invariant-loop-name l = l.variables.items ++ map (variable_of (proc_of l.proc)) (drop l.name-index l.names) ≡ map (variable_of (proc_of l.proc)) l.names
+invariant-loop-name g l = l.variables.items ++ map (variable_of (proc_of l.proc)) (drop l.name-index l.names) ≡ map (variable_of (proc_of l.proc)) l.names
