@@ -1,6 +1,7 @@
 //! The bodies of procedures.
 
-ghost use Rattle.std.specs.Prelude.{◌≡◌, IfOk, map, [], ◌∷◌};
+ghost use Rattle.std.specs.Prelude.{◌≡◌, map, [], ◌∷◌};
+ghost use Rattle.stack_heap.specs.Heaps.{IfOkUnless};
 ghost use Rattle.gypsy_syntax.specs.Made.{new_predef, new_seq};
 ghost use Rattle.gypsy_syntax.specs.Sources.{no_op};
 ghost use Rattle.gypsy_syntax.specs.Views.SourceView.{arg_of, stmt_of};
@@ -8,8 +9,8 @@ ghost use Rattle.gypsy_gen.specs.Parts.{body_of, argument, body};
 
 use crate::parts::Variable;
 use gypsy_syntax::{Arg, Predef, Stmt};
+use stack_heap::Heap;
 use stack_text::{Memory, Named};
-use std::alloc::Global;
 
 /// What a procedure does to its formal with its local.
 #[derive(Clone, Copy, Debug, PartialEq, Eq)]
@@ -36,24 +37,25 @@ pub(crate) fn body_of(state: u32) -> Body
 }
 
 /// Variables as arguments.
-fn arguments(alloc: Global, variables: &[Variable]) -> Result<Vec<Arg>, Memory>
-    ensures { IfOk result (λ args. map arg_of args.items ≡ map argument variables.now) }
+fn arguments<H: Heap>(heap: H, variables: &[Variable]) -> Result<Vec<Arg>, Memory>
+    ensures { IfOkUnless (H.may_refuse heap) result (λ args. map arg_of args.items ≡ map argument variables.now) }
 {
-    let mut args = Vec::new(alloc);
+    let mut args = Vec::new(heap.handle());
     for variable in variables {
-        args.push(Arg::Variable(Named::unplaced(alloc, variable.name())?))?;
+        heap.push(&mut args, Arg::Variable(Named::unplaced(heap, variable.name())?))?;
     }
     Ok(args)
 }
 
 /// A statement of a predefined procedure.
-fn predef(alloc: Global, which: Predef, variables: &[Variable]) -> Result<Stmt, Memory>
-    ensures { IfOk result (λ statement. stmt_of statement ≡ new_predef 0 which (map argument variables.now)) }
+fn predef<H: Heap>(heap: H, which: Predef, variables: &[Variable]) -> Result<Stmt, Memory>
+    ensures { IfOkUnless (H.may_refuse heap) result
+        (λ statement. stmt_of statement ≡ new_predef 0 which (map argument variables.now)) }
 {
     Ok(Stmt::Predef {
         place: 0,
         which,
-        args: arguments(alloc, variables)?,
+        args: arguments(heap, variables)?,
     })
 }
 
@@ -65,42 +67,43 @@ pub(crate) fn sequence(parts: Vec<Stmt>) -> Stmt
 }
 
 /// The no-op, and then a statement.
-fn after_no_op(alloc: Global, statement: Stmt) -> Result<Stmt, Memory>
-    ensures { IfOk result (λ made. stmt_of made ≡ new_seq 0 (no_op 0 ∷ stmt_of statement ∷ [])) }
+fn after_no_op<H: Heap>(heap: H, statement: Stmt) -> Result<Stmt, Memory>
+    ensures { IfOkUnless (H.may_refuse heap) result
+        (λ made. stmt_of made ≡ new_seq 0 (no_op 0 ∷ stmt_of statement ∷ [])) }
 {
-    let mut parts = Vec::new(alloc);
-    parts.push(Stmt::NoOp { place: 0 })?;
-    parts.push(statement)?;
+    let mut parts = Vec::new(heap.handle());
+    heap.push(&mut parts, Stmt::NoOp { place: 0 })?;
+    heap.push(&mut parts, statement)?;
     Ok(sequence(parts))
 }
 
 /// The statement that a body is.
-pub(crate) fn statement(alloc: Global, kind: Body) -> Result<Stmt, Memory>
-    ensures { IfOk result (λ statement. stmt_of statement ≡ body kind) }
+pub(crate) fn statement<H: Heap>(heap: H, kind: Body) -> Result<Stmt, Memory>
+    ensures { IfOkUnless (H.may_refuse heap) result (λ statement. stmt_of statement ≡ body kind) }
 {
     match kind {
         Body::Add => predef(
-            alloc,
+            heap,
             Predef::MgIntegerAdd,
             &[Variable::X, Variable::X, Variable::C],
         ),
         Body::Subtract => predef(
-            alloc,
+            heap,
             Predef::MgIntegerSubtract,
             &[Variable::X, Variable::X, Variable::C],
         ),
         Body::Minus => predef(
-            alloc,
+            heap,
             Predef::MgIntegerUnaryMinus,
             &[Variable::X, Variable::X],
         ),
         Body::Assign => {
             let assigned = predef(
-                alloc,
+                heap,
                 Predef::MgSimpleVariableAssignment,
                 &[Variable::X, Variable::C],
             )?;
-            after_no_op(alloc, assigned)
+            after_no_op(heap, assigned)
         }
     }
 }

@@ -1,6 +1,7 @@
 //! A large source.
 
 ghost use Rattle.std.specs.Prelude.{◌≡◌, ◌≤◌, ◌*◌, ◌+◌, ◌-◌, ◌%◌, IfOk, map, [], ◌∷◌};
+ghost use Rattle.stack_heap.specs.Heaps.{IfOkUnless};
 ghost use Rattle.gypsy_syntax.specs.GypsyReading.{KeepsForm};
 ghost use Rattle.gypsy_syntax.specs.Views.SourceView.{proc_of, source_of, stmt_of};
 ghost use Rattle.gypsy_check.specs.Rules.{violations};
@@ -9,8 +10,8 @@ ghost use Rattle.gypsy_gen.specs.Large.{next_state, procedure, calls_from, main_
 use crate::body::{body_of, sequence, statement};
 use crate::parts::{call, formals, locals, procedure_name};
 use gypsy_syntax::{Proc, Source, Stmt, plain_form};
+use stack_heap::Heap;
 use stack_text::{Memory, Named};
-use std::alloc::Global;
 
 /// The state of the generator after this one.
 #[tactic(auto, unfolding(crate::specs::Large::next_state))]
@@ -21,59 +22,60 @@ fn next_state(state: u32) -> u32
 }
 
 /// A procedure, by its number and the state of the generator.
-fn procedure(alloc: Global, index: u32, state: u32) -> Result<Proc, Memory>
-    ensures { IfOk result (λ made. proc_of made ≡ procedure index state) }
+fn procedure<H: Heap>(heap: H, index: u32, state: u32) -> Result<Proc, Memory>
+    ensures { IfOkUnless (H.may_refuse heap) result (λ made. proc_of made ≡ procedure index state) }
 {
     Ok(Proc {
         place: 0,
-        name: procedure_name(alloc, index)?,
-        formals: formals(alloc)?,
-        conds: Vec::new(alloc),
-        locals: locals(alloc, state % 1000)?,
-        local_conds: Vec::new(alloc),
-        body: statement(alloc, body_of(state))?,
+        name: procedure_name(heap, index)?,
+        formals: formals(heap)?,
+        conds: Vec::new(heap.handle()),
+        locals: locals(heap, state % 1000)?,
+        local_conds: Vec::new(heap.handle()),
+        body: statement(heap, body_of(state))?,
     })
 }
 
 /// The calls of procedures, in turn.
-fn calls(alloc: Global, size: u32) -> Result<Vec<Stmt>, Memory>
+fn calls<H: Heap>(heap: H, size: u32) -> Result<Vec<Stmt>, Memory>
     requires { size ≤ 900 }
-    ensures { IfOk result (λ parts. map stmt_of parts.items ≡ calls_from 1 size) }
+    ensures { IfOkUnless (H.may_refuse heap) result (λ parts. map stmt_of parts.items ≡ calls_from 1 size) }
 {
-    let mut parts = Vec::new(alloc);
+    let mut parts = Vec::new(heap.handle());
     for index in 1..size + 1 {
-        parts.push(call(alloc, index)?)?;
+        heap.push(&mut parts, call(heap, index)?)?;
     }
     Ok(parts)
 }
 
 /// The main procedure.
-fn main_procedure(alloc: Global, size: u32) -> Result<Proc, Memory>
+fn main_procedure<H: Heap>(heap: H, size: u32) -> Result<Proc, Memory>
     requires { size ≤ 900 }
-    ensures { IfOk result (λ made. proc_of made ≡ main_procedure size) }
+    ensures { IfOkUnless (H.may_refuse heap) result (λ made. proc_of made ≡ main_procedure size) }
 {
     Ok(Proc {
         place: 0,
-        name: Named::unplaced(alloc, b"main".as_slice())?,
-        formals: formals(alloc)?,
-        conds: Vec::new(alloc),
-        locals: Vec::new(alloc),
-        local_conds: Vec::new(alloc),
-        body: sequence(calls(alloc, size)?),
+        name: Named::unplaced(heap, b"main".as_slice())?,
+        formals: formals(heap)?,
+        conds: Vec::new(heap.handle()),
+        locals: Vec::new(heap.handle()),
+        local_conds: Vec::new(heap.handle()),
+        body: sequence(calls(heap, size)?),
     })
 }
 
 /// The main procedure and all others.
-fn procedures(alloc: Global, number: u32, size: u32) -> Result<Vec<Proc>, Memory>
+fn procedures<H: Heap>(heap: H, number: u32, size: u32) -> Result<Vec<Proc>, Memory>
     requires { size ≤ 900 }
-    ensures { IfOk result (λ procs. map proc_of procs.items ≡ main_procedure size ∷ procedures_from 1 number size) }
+    ensures { IfOkUnless (H.may_refuse heap) result
+        (λ procs. map proc_of procs.items ≡ main_procedure size ∷ procedures_from 1 number size) }
 {
-    let mut procs = Vec::new(alloc);
-    procs.push(main_procedure(alloc, size)?)?;
+    let mut procs = Vec::new(heap.handle());
+    heap.push(&mut procs, main_procedure(heap, size)?)?;
     let mut state = number;
     for index in 1..size + 1 {
         state = next_state(state);
-        procs.push(procedure(alloc, index, state)?)?;
+        heap.push(&mut procs, procedure(heap, index, state)?)?;
     }
     Ok(procs)
 }
@@ -82,17 +84,17 @@ fn procedures(alloc: Global, number: u32, size: u32) -> Result<Vec<Proc>, Memory
 /// depends on the number.
 ///
 /// It keeps the form and breaks no static rule. The size is 1 to 900. The only error is out of memory.
-pub fn large(alloc: Global, number: u32, size: u32) -> Result<Source, Memory>
+pub fn large<H: Heap>(heap: H, number: u32, size: u32) -> Result<Source, Memory>
     requires low { 1 ≤ size }
     requires high { size ≤ 900 }
-    ensures source { IfOk result (λ source. source_of source ≡ large_of number size) }
+    ensures source { IfOkUnless (H.may_refuse heap) result (λ source. source_of source ≡ large_of number size) }
     ensures form { IfOk result (λ source. KeepsForm (source_of source)) }
     ensures rules { IfOk result (λ source. violations (source_of source) ≡ []) }
 {
     plain_form();
     Ok(Source {
         place: 0,
-        main: Named::unplaced(alloc, b"main".as_slice())?,
-        procs: procedures(alloc, number, size)?,
+        main: Named::unplaced(heap, b"main".as_slice())?,
+        procs: procedures(heap, number, size)?,
     })
 }

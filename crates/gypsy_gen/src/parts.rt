@@ -1,14 +1,16 @@
 //! Names and declarations.
 
-ghost use Rattle.std.specs.Prelude.{◌≡◌, IfOk, map, [], ◌∷◌};
+ghost use Rattle.std.specs.Prelude.{◌≡◌, map, [], ◌∷◌};
+ghost use Rattle.stack_heap.specs.Heaps.{IfOkUnless};
 ghost use Rattle.gypsy_syntax.specs.Made.{new_decl, new_simple};
 ghost use Rattle.stack_text.specs.Grammar.Printed.{unplaced};
 ghost use Rattle.gypsy_syntax.specs.Views.SourceView.{local_of, stmt_of};
 ghost use Rattle.gypsy_gen.specs.Parts.{name_of, procedure_name, formal, local, call_of};
 
 use gypsy_syntax::{Decl, Literal, Local, Stmt, TypeText};
+use itoa::Buffer;
+use stack_heap::Heap;
 use stack_text::{Kind, Memory, Named};
-use std::alloc::Global;
 
 /// A variable of a procedure: its formal `x` or its local `c`.
 #[derive(Clone, Copy, Debug, PartialEq, Eq)]
@@ -35,19 +37,22 @@ impl Variable {
 
 /// The name of a procedure.
 #[tactic(auto, using(crate::proofs::NameLaws::procedure_named))]
-pub(crate) fn procedure_name(alloc: Global, index: u32) -> Result<Named, Memory>
-    ensures { IfOk result (λ n. n ≡ unplaced (procedure_name index)) }
+pub(crate) fn procedure_name<H: Heap>(heap: H, index: u32) -> Result<Named, Memory>
+    ensures { IfOkUnless (H.may_refuse heap) result (λ n. n ≡ unplaced (procedure_name index)) }
 {
-    let name = format!(in alloc; "p{index}")?;
-    Named::unplaced(alloc, name.as_bytes())
+    let mut digits = Buffer::new();
+    let mut name = heap.copied(b"p".as_slice())?;
+    heap.extend_from_slice(&mut name, digits.format(index).as_bytes())?;
+    Named::unplaced(heap, name.as_slice())
 }
 
 /// A variable that is an integer.
-fn declared(alloc: Global, variable: Variable) -> Result<Decl, Memory>
-    ensures { IfOk result (λ d. d ≡ new_decl (unplaced (name_of variable)) (new_simple 0 Kind.Integer)) }
+fn declared<H: Heap>(heap: H, variable: Variable) -> Result<Decl, Memory>
+    ensures { IfOkUnless (H.may_refuse heap) result
+        (λ d. d ≡ new_decl (unplaced (name_of variable)) (new_simple 0 Kind.Integer)) }
 {
     Ok(Decl {
-        name: Named::unplaced(alloc, variable.name())?,
+        name: Named::unplaced(heap, variable.name())?,
         shape: TypeText {
             place: 0,
             kind: Kind::Integer,
@@ -57,42 +62,41 @@ fn declared(alloc: Global, variable: Variable) -> Result<Decl, Memory>
 }
 
 /// The formals of each procedure.
-pub(crate) fn formals(alloc: Global) -> Result<Vec<Decl>, Memory>
-    ensures { IfOk result (λ formals. formals.items ≡ formal ∷ []) }
+pub(crate) fn formals<H: Heap>(heap: H) -> Result<Vec<Decl>, Memory>
+    ensures { IfOkUnless (H.may_refuse heap) result (λ formals. formals.items ≡ formal ∷ []) }
 {
-    let mut formals = Vec::new(alloc);
-    formals.push(declared(alloc, Variable::X)?)?;
+    let mut formals = Vec::new(heap.handle());
+    heap.push(&mut formals, declared(heap, Variable::X)?)?;
     Ok(formals)
 }
 
 /// The local with this value.
-pub(crate) fn locals(alloc: Global, number: u32) -> Result<Vec<Local>, Memory>
-    ensures { IfOk result (λ locals. map local_of locals.items ≡ local number ∷ []) }
+pub(crate) fn locals<H: Heap>(heap: H, number: u32) -> Result<Vec<Local>, Memory>
+    ensures { IfOkUnless (H.may_refuse heap) result (λ locals. map local_of locals.items ≡ local number ∷ []) }
 {
-    let mut locals = Vec::new(alloc);
-    locals.push(Local {
-        decl: declared(alloc, Variable::C)?,
-        value: Literal::Integer {
-            place: 0,
-            number: i128::from(number),
-        },
-    })?;
+    let mut locals = Vec::new(heap.handle());
+    let decl = declared(heap, Variable::C)?;
+    let value = Literal::Integer {
+        place: 0,
+        number: i128::from(number),
+    };
+    heap.push(&mut locals, Local { decl, value })?;
     Ok(locals)
 }
 
 /// The call of a procedure.
-pub(crate) fn call(alloc: Global, index: u32) -> Result<Stmt, Memory>
-    ensures { IfOk result (λ statement. stmt_of statement ≡ call_of index) }
+pub(crate) fn call<H: Heap>(heap: H, index: u32) -> Result<Stmt, Memory>
+    ensures { IfOkUnless (H.may_refuse heap) result (λ statement. stmt_of statement ≡ call_of index) }
 {
-    let callee = procedure_name(alloc, index)?;
-    let mut actuals = Vec::new(alloc);
-    actuals.push(Named::unplaced(alloc, Variable::X.name())?)?;
+    let callee = procedure_name(heap, index)?;
+    let mut actuals = Vec::new(heap.handle());
+    heap.push(&mut actuals, Named::unplaced(heap, Variable::X.name())?)?;
     Ok(Stmt::Call {
         place: 0,
         callee,
         actuals_place: 0,
         actuals,
         conds_place: 0,
-        conds: Vec::new(alloc),
+        conds: Vec::new(heap.handle()),
     })
 }

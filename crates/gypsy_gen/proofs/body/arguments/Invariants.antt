@@ -4,4 +4,4 @@ use Rattle.gypsy_gen.specs.Parts.{argument}
 use Rattle.gypsy_gen.proofs.body.arguments.Given as goal
 
 abbrev pub invariant-loop-variable : goal.invariant-loop-variable
-invariant-loop-variable l = map arg_of l.args.items ≡ map argument (take l.variable-index l.variables)
+invariant-loop-variable g l = map arg_of l.args.items ≡ map argument (take l.variable-index l.variables)

@@ -11,7 +11,7 @@ use Rattle.gypsy_gen.proofs.RuleLaws.{large_clean}
 use Rattle.gypsy_gen.proofs.making.large.Goals as goal
 
 pub returns-clause-form : goal.returns-clause-form
-returns-clause-form c =
+returns-clause-form g c =
     let s = large_of c.args.number c.args.size in
     let small : node_count (tree_of s) ≤ 2 ^ 31 = omega (arith, c.plain_form.ensures.counted s, large_small c.args.number c.args.size c.requires.high) in
     let main : c.in_ok-unplaced.field-0 ≡ unplaced (codes "main") = c.in_ok-unplaced.ensures ∙ ap unplaced c.as_slice.ensures in
@@ -19,7 +19,7 @@ returns-clause-form c =
     (c.plain_form.ensures.keeps s (large_fits c.args.number c.args.size c.requires.low c.requires.high) small)
 
 pub returns-clause-rules : goal.returns-clause-rules
-returns-clause-rules c =
+returns-clause-rules g c =
     let main : c.in_ok-unplaced.field-0 ≡ unplaced (codes "main") = c.in_ok-unplaced.ensures ∙ ap unplaced c.as_slice.ensures in
     (λ i. violations record { place = 0; main = main i; procs = c.in_ok-procedures.ensures i })
     ∙ large_clean c.args.number c.args.size c.requires.high
