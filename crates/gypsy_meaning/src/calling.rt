@@ -1,6 +1,7 @@
 //! What a step does where a procedure is called.
 
 ghost use Rattle.std.specs.Prelude.{◌≡◌, ◌<◌, ◌≤◌, ◌+◌, [], ◌∷◌, List, IfErr, IfOk, drop, length};
+ghost use Rattle.stack_heap.specs.Heaps.{IfOkUnless};
 ghost use Rattle.gypsy_syntax.specs.Programs.{body_of, proc_at};
 ghost use Rattle.gypsy_space.specs.Events.{AreNeeds, AreSmall, lack_by, need_at};
 ghost use Rattle.gypsy_space.specs.Needs.{stack_sizes};
@@ -20,8 +21,8 @@ use crate::running::{Frame, Meaning};
 use crate::starting::{body_at, locals_at, names_at};
 use crate::turn::Advance;
 use gypsy_space::{CallSite, Condition, CostEvent, Lack, Needs, Program};
-use stack_text::{Name, Value};
-use std::alloc::{AllocError, Global};
+use stack_heap::Heap;
+use stack_text::{Memory, Name, Value};
 use std::mem;
 use std::rc::Rc;
 
@@ -35,17 +36,18 @@ pub struct Start {
 }
 
 /// The callee of a call at its start, before the actuals are moved into its formals: its locals, and its body to be done.
-pub fn callee_start(
-    alloc: Global,
+pub fn callee_start<H: Heap>(
+    heap: H,
     program: &Program,
     names: &[Names],
     site: &CallSite,
-) -> Result<Start, AllocError>
+) -> Result<Start, Memory>
     requires callee { site.now.callee < length program.now.procedures.items }
     requires there { site.now.callee < length names.now }
     requires sized { let callee = proc_at (seen_program program.now) site.now.callee in
         length (variables_of names.now site.now.callee) ≡ length site.now.actuals.items + length callee.locals }
-    ensures locals { IfOk result (λ start. drop (length site.now.actuals.items) (held_values start.variables.items)
+    ensures locals { IfOkUnless (H.may_refuse heap) result
+        (λ start. drop (length site.now.actuals.items) (held_values start.variables.items)
         ≡ (proc_at (seen_program program.now) site.now.callee).locals) }
     ensures names { IfOk result (λ start. held_names start.variables.items
         ≡ variables_of names.now site.now.callee) }
@@ -54,31 +56,32 @@ pub fn callee_start(
 {
     let callee = site.callee;
     let variables = callee_variables(
-        alloc,
+        heap,
         names_at(names, callee),
         site.actuals.len(),
         locals_at(program, callee),
     )?;
-    let work = Work::begun(alloc, body_at(program, callee))?;
+    let work = Work::begun(heap, body_at(program, callee))?;
     Ok(Start { variables, work })
 }
 
 impl Meaning {
     /// Puts the active procedure to those that wait, at this call, which is on top of its work. Its actuals are moved into
     /// the callee's formals, and the callee's variables and work are then the active ones.
-    fn wait(
+    fn wait<H: Heap>(
         &mut self,
+        heap: H,
         callee: Vec<(Name, Value)>,
         work: Work,
         site: Rc<CallSite>,
-    ) -> Result<(), AllocError>
+    ) -> Result<(), Memory>
         requires few { length site.value.actuals.items ≤ length callee.items }
         requires lent { AreLent (length self.old.variables.items) site.value.actuals.items }
-        ensures done { IfOk result (λ u. (below : List Item) →
+        ensures done { IfOkUnless (H.may_refuse heap) result (λ u. (below : List Item) →
             work_of self.old.work ≡ call_top site.value ∷ below → Waits self.old callee work below site self.new) }
         ensures unchanged { IfErr result (λ e. IsUnchanged self.old self.new) }
     {
-        self.waiting.reserve(1)?;
+        heap.reserve(&mut self.waiting, 1)?;
         let mut variables = callee;
         lend(&mut self.variables, site.actuals.as_slice(), &mut variables);
         let mut work = work;
@@ -108,26 +111,26 @@ impl Meaning {
     }
 
     /// Makes the step of a call without room, which costs this event: spaceerror is raised.
-    fn raise_space(&mut self, needs: &Needs, event: CostEvent) -> Result<(), AllocError>
+    fn raise_space<H: Heap>(&mut self, heap: H, needs: &Needs, event: CostEvent) -> Result<(), Memory>
         requires small { AreSmall needs.now.procedures.items }
         requires plain { IsPlain event }
         requires turn { RaisesSpace self.old event }
-        ensures done { IfOk result (λ u. Moves self.old self.new) }
+        ensures done { IfOkUnless (H.may_refuse heap) result (λ u. Moves self.old self.new) }
         ensures unchanged { IfErr result (λ e. IsUnchanged self.old self.new) }
     {
-        let caught = self.work.raise_below(Condition::Space)?;
+        let caught = self.work.raise_below(heap, Condition::Space)?;
         let advance = Advance { event, caught };
         self.advance(needs, advance);
         Ok(())
     }
 
     /// Makes the step of a call with room.
-    fn enter_call(
+    fn enter_call<H: Heap>(
         &mut self,
-        alloc: Global,
+        heap: H,
         needs: &Needs,
         site: Rc<CallSite>,
-    ) -> Result<(), AllocError>
+    ) -> Result<(), Memory>
         requires small { AreSmall needs.now.procedures.items }
         requires needs { AreNeeds (seen_program self.old.program) needs.now.procedures.items }
         requires callee { site.value.callee < length self.old.program.procedures.items }
@@ -141,7 +144,7 @@ impl Meaning {
         requires room { let need = need_at needs.now.procedures.items site.value.callee in
             let used = stack_sizes self.old.used_ctrl self.old.used_temp in
             lack_by need (stack_sizes self.old.ctrl self.old.temp) used ≡ lack.Nothing }
-        ensures done { IfOk result (λ u. Moves self.old self.new) }
+        ensures done { IfOkUnless (H.may_refuse heap) result (λ u. Moves self.old self.new) }
         ensures unchanged { IfErr result (λ e. IsUnchanged self.old self.new) }
     {
         let callee = site.callee;
@@ -149,12 +152,12 @@ impl Meaning {
         let _temp = self.temp;
         let _ctrl = self.ctrl;
         let Start { variables, work } = callee_start(
-            alloc,
+            heap,
             &self.program,
             self.names.as_slice(),
             &site,
         )?;
-        self.wait(variables, work, site)?;
+        self.wait(heap, variables, work, site)?;
         self.procedure = callee;
         self.use_words(needs, callee);
         self.pay(needs.cost(CostEvent::Call { callee }));
@@ -162,12 +165,12 @@ impl Meaning {
     }
 
     /// Makes the step of a call, with room or without.
-    pub(crate) fn make_call(
+    pub(crate) fn make_call<H: Heap>(
         &mut self,
-        alloc: Global,
+        heap: H,
         needs: &Needs,
         site: Rc<CallSite>,
-    ) -> Result<(), AllocError>
+    ) -> Result<(), Memory>
         requires small { AreSmall needs.now.procedures.items }
         requires needs { AreNeeds (seen_program self.old.program) needs.now.procedures.items }
         requires callee { site.value.callee < length self.old.program.procedures.items }
@@ -178,7 +181,7 @@ impl Meaning {
         requires lent { AreLent (length self.old.variables.items) site.value.actuals.items }
         requires turn { IsCall site.value (work_of self.old.work) }
         requires held { IsHeld self.old }
-        ensures done { IfOk result (λ u. Moves self.old self.new) }
+        ensures done { IfOkUnless (H.may_refuse heap) result (λ u. Moves self.old self.new) }
         ensures unchanged { IfErr result (λ e. IsUnchanged self.old self.new) }
     {
         match needs.lack(
@@ -188,9 +191,9 @@ impl Meaning {
             self.temp,
             self.ctrl,
         ) {
-            Lack::Nothing => self.enter_call(alloc, needs, site),
-            Lack::Temporary => self.raise_space(needs, CostEvent::LackTemporary),
-            Lack::Control => self.raise_space(needs, CostEvent::LackControl),
+            Lack::Nothing => self.enter_call(heap, needs, site),
+            Lack::Temporary => self.raise_space(heap, needs, CostEvent::LackTemporary),
+            Lack::Control => self.raise_space(heap, needs, CostEvent::LackControl),
         }
     }
 }

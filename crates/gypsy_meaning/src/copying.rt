@@ -1,6 +1,7 @@
 //! Variables that go into a call, and come back from it.
 
 ghost use Rattle.std.specs.Prelude.{◌≡◌, ◌≤◌, ◌<◌, ◌+◌, ◌++◌, IfOk, OnOk, drop, length, map, slice_set};
+ghost use Rattle.stack_heap.specs.Heaps.{IfOkUnless, OnOkUnless};
 ghost use Rattle.gypsy_syntax.specs.Effects.{value_at};
 ghost use Rattle.gypsy_space.specs.Nodes.{held_names, held_values};
 ghost use Rattle.gypsy_meaning.specs.Internal.Entering.{AreLent};
@@ -8,49 +9,50 @@ ghost use Rattle.gypsy_semantics.specs.Calls.{copied_out};
 
 use crate::effects::simple_value;
 use crate::writing::write;
-use stack_text::{Kind, Name, Value};
-use std::alloc::{AllocError, Global};
+use stack_heap::Heap;
+use stack_text::{Kind, Memory, Name, Value};
 use std::mem;
 
 /// Copies of a name and a value.
-pub fn named_copy(name: &Name, value: &Value) -> Result<(Name, Value), AllocError>
-    ensures { IfOk result (λ v. v ≡ (name.now, value.now)) }
+pub fn named_copy<H: Heap>(heap: H, name: &Name, value: &Value) -> Result<(Name, Value), Memory>
+    ensures { IfOkUnless (H.may_refuse heap) result (λ v. v ≡ (name.now, value.now)) }
 {
-    Ok((name.clone()?, value.clone()?))
+    Ok((name.copied(heap)?, value.copied(heap)?))
 }
 
 /// A variable with this name, before its value is moved into it.
-fn unfilled(alloc: Global, name: &Name) -> Result<(Name, Value), AllocError>
-    ensures { IfOk result (λ v. v.0 ≡ name.now) }
+fn unfilled<H: Heap>(heap: H, name: &Name) -> Result<(Name, Value), Memory>
+    ensures { IfOkUnless (H.may_refuse heap) result (λ v. v.0 ≡ name.now) }
 {
-    Ok((name.clone()?, simple_value(alloc, Kind::Integer, 0)?))
+    Ok((name.copied(heap)?, simple_value(heap, Kind::Integer, 0)?))
 }
 
 /// Variables with these names, before their values are moved into them.
-fn unfilled_all(alloc: Global, names: &[Name]) -> Result<Vec<(Name, Value)>, AllocError>
-    ensures { IfOk result (λ r. held_names r.items ≡ names.now) }
+fn unfilled_all<H: Heap>(heap: H, names: &[Name]) -> Result<Vec<(Name, Value)>, Memory>
+    ensures { IfOkUnless (H.may_refuse heap) result (λ r. held_names r.items ≡ names.now) }
 {
-    let mut all = Vec::new(alloc);
+    let mut all = Vec::new(heap.handle());
     for name in names {
-        all.push(unfilled(alloc, name)?)?;
+        heap.push(&mut all, unfilled(heap, name)?)?;
     }
     Ok(all)
 }
 
 /// Appends locals with their initial values, under these names.
-pub fn append_locals(
+pub fn append_locals<H: Heap>(
+    heap: H,
     all: &mut Vec<(Name, Value)>,
     names: &[Name],
     locals: &[(Name, Value)],
-) -> Result<(), AllocError>
+) -> Result<(), Memory>
     requires { length names.now ≡ length locals.now }
-    ensures values { OnOk result (held_values all.new.items
+    ensures values { OnOkUnless (H.may_refuse heap) result (held_values all.new.items
         ≡ held_values all.old.items ++ held_values locals.now) }
     ensures names { OnOk result (held_names all.new.items ≡ held_names all.old.items ++ names.now) }
 {
     for (place, name) in names.iter().enumerate() {
         match locals.get(place) {
-            Some((_, value)) => all.push(named_copy(name, value)?)?,
+            Some((_, value)) => heap.push(all, named_copy(heap, name, value)?)?,
             None => unreachable!(),
         }
     }
@@ -59,18 +61,19 @@ pub fn append_locals(
 
 /// The callee's variables under these names: so many formals, before the actuals are moved into them, and the locals with
 /// their initial values.
-pub fn callee_variables(
-    alloc: Global,
+pub fn callee_variables<H: Heap>(
+    heap: H,
     names: &[Name],
     formals: usize,
     locals: &[(Name, Value)],
-) -> Result<Vec<(Name, Value)>, AllocError>
+) -> Result<Vec<(Name, Value)>, Memory>
     requires { length names.now ≡ formals + length locals.now }
-    ensures locals { IfOk result (λ r. drop formals (held_values r.items) ≡ held_values locals.now) }
+    ensures locals { IfOkUnless (H.may_refuse heap) result
+        (λ r. drop formals (held_values r.items) ≡ held_values locals.now) }
     ensures names { IfOk result (λ r. held_names r.items ≡ names.now) }
 {
-    let mut all = unfilled_all(alloc, &names[..formals])?;
-    append_locals(&mut all, &names[formals..], locals)?;
+    let mut all = unfilled_all(heap, &names[..formals])?;
+    append_locals(heap, &mut all, &names[formals..], locals)?;
     Ok(all)
 }
 

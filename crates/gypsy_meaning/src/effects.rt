@@ -1,6 +1,7 @@
 //! What predefined calls do.
 
-ghost use Rattle.std.specs.Prelude.{◌≡◌, ◌<◌, ◌*ℤ◌, ◌∷◌, [], IfOk, IsTrue, MatchOption, length, slice_set};
+ghost use Rattle.std.specs.Prelude.{◌≡◌, ◌<◌, ◌*ℤ◌, ◌∷◌, [], IsTrue, MatchOption, length, slice_set};
+ghost use Rattle.stack_heap.specs.Heaps.{IfOkUnless};
 ghost use Rattle.stack_text.specs.Values.{is_item};
 ghost use Rattle.gypsy_syntax.specs.Programs.{simple};
 ghost use Rattle.gypsy_syntax.specs.Effects as effect;
@@ -11,8 +12,8 @@ ghost use Rattle.gypsy_meaning.specs.Internal.PredefinedEffects.{Suits, effect_o
 use crate::turn::item_of;
 use gypsy_space::Argument;
 use gypsy_syntax::Predef;
-use stack_text::{Kind, Name, Shape, Value};
-use std::alloc::{AllocError, Global};
+use stack_heap::Heap;
+use stack_text::{Kind, Memory, Name, Shape, Value};
 
 /// The value that a predefined call writes, or how it fails.
 #[derive(Drop)]
@@ -76,11 +77,11 @@ fn truth_at(variables: &[(Name, Value)], args: &[Argument], index: usize) -> boo
 }
 
 /// A value of a simple kind with this item, which is of the kind.
-pub fn simple_value(alloc: Global, kind: Kind, item: i32) -> Result<Value, AllocError>
+pub fn simple_value<H: Heap>(heap: H, kind: Kind, item: i32) -> Result<Value, Memory>
     requires { IsTrue (is_item kind item) }
-    ensures { IfOk result (λ v. v ≡ record { shape = simple kind; items = item ∷ [] }) }
+    ensures { IfOkUnless (H.may_refuse heap) result (λ v. v ≡ record { shape = simple kind; items = item ∷ [] }) }
 {
-    let items = vec![in alloc; item]?;
+    let items = heap.copied(&[item])?;
     match Value::new(Shape { kind, length: 0 }, items) {
         Some(value) => Ok(value),
         None => unreachable!(),
@@ -88,26 +89,26 @@ pub fn simple_value(alloc: Global, kind: Kind, item: i32) -> Result<Value, Alloc
 }
 
 /// A copy of an argument's value.
-fn argument(
-    alloc: Global,
+fn argument<H: Heap>(
+    heap: H,
     variables: &[(Name, Value)],
     args: &[Argument],
     index: usize,
-) -> Result<Value, AllocError>
-    ensures { IfOk result (λ v. v ≡ argument_at (held_values variables.now) args.now index) }
+) -> Result<Value, Memory>
+    ensures { IfOkUnless (H.may_refuse heap) result (λ v. v ≡ argument_at (held_values variables.now) args.now index) }
 {
     match lent(variables, args, index) {
-        Some(value) => value.clone(),
-        None => simple_value(alloc, Kind::Integer, 0),
+        Some(value) => value.copied(heap),
+        None => simple_value(heap, Kind::Integer, 0),
     }
 }
 
 /// A number, where 32 signed bits have it.
-fn number(alloc: Global, number: i64) -> Result<OwnedEffect, AllocError>
-    ensures { IfOk result (λ e. effect_of e ≡ number_effect number) }
+fn number<H: Heap>(heap: H, number: i64) -> Result<OwnedEffect, Memory>
+    ensures { IfOkUnless (H.may_refuse heap) result (λ e. effect_of e ≡ number_effect number) }
 {
     if -2_147_483_648 <= number && number <= 2_147_483_647 {
-        Ok(OwnedEffect::Normal(simple_value(alloc, Kind::Integer, number as i32)?))
+        Ok(OwnedEffect::Normal(simple_value(heap, Kind::Integer, number as i32)?))
     } else {
         Ok(OwnedEffect::Fault)
     }
@@ -120,25 +121,25 @@ fn product(left: i32, right: i32) -> i64
     left as i64 * right as i64
 }
 
-fn truth(alloc: Global, truth: bool) -> Result<OwnedEffect, AllocError>
-    ensures { IfOk result (λ e. effect_of e ≡ effect.Normal (truth_value truth)) }
+fn truth<H: Heap>(heap: H, truth: bool) -> Result<OwnedEffect, Memory>
+    ensures { IfOkUnless (H.may_refuse heap) result (λ e. effect_of e ≡ effect.Normal (truth_value truth)) }
 {
     if truth {
-        Ok(OwnedEffect::Normal(simple_value(alloc, Kind::Boolean, 1)?))
+        Ok(OwnedEffect::Normal(simple_value(heap, Kind::Boolean, 1)?))
     } else {
-        Ok(OwnedEffect::Normal(simple_value(alloc, Kind::Boolean, 0)?))
+        Ok(OwnedEffect::Normal(simple_value(heap, Kind::Boolean, 0)?))
     }
 }
 
 /// The item at an index.
-fn indexed(alloc: Global, array: &Value, index: i32) -> Result<OwnedEffect, AllocError>
-    ensures { IfOk result (λ e. effect_of e ≡ indexed array.now index) }
+fn indexed<H: Heap>(heap: H, array: &Value, index: i32) -> Result<OwnedEffect, Memory>
+    ensures { IfOkUnless (H.may_refuse heap) result (λ e. effect_of e ≡ indexed array.now index) }
 {
     if index < 0 {
         return Ok(OwnedEffect::Fault);
     }
     match array.items.get(index as usize) {
-        Some(item) => Ok(OwnedEffect::Normal(simple_value(alloc, array.shape.kind, *item)?)),
+        Some(item) => Ok(OwnedEffect::Normal(simple_value(heap, array.shape.kind, *item)?)),
         None => Ok(OwnedEffect::Beyond),
     }
 }
@@ -152,12 +153,13 @@ fn set_item(items: &mut Vec<i32>, place: usize, item: i32)
 }
 
 /// A copy of an array with another item at a place.
-fn with_item(alloc: Global, array: &Value, place: usize, item: i32) -> Result<Value, AllocError>
+fn with_item<H: Heap>(heap: H, array: &Value, place: usize, item: i32) -> Result<Value, Memory>
     requires place { place < length array.now.items }
     requires item { IsTrue (is_item array.now.shape.kind item) }
-    ensures { IfOk result (λ v. v ≡ record { shape = array.now.shape; items = slice_set array.now.items place item }) }
+    ensures { IfOkUnless (H.may_refuse heap) result
+        (λ v. v ≡ record { shape = array.now.shape; items = slice_set array.now.items place item }) }
 {
-    let mut items = Vec::from_slice(alloc, array.items.as_slice())?;
+    let mut items = heap.copied(array.items.as_slice())?;
     set_item(&mut items, place, item);
     match Value::new(array.shape, items) {
         Some(value) => Ok(value),
@@ -166,9 +168,9 @@ fn with_item(alloc: Global, array: &Value, place: usize, item: i32) -> Result<Va
 }
 
 /// The array with another item at an index.
-fn stored(alloc: Global, array: &Value, index: i32, item: i32) -> Result<OwnedEffect, AllocError>
+fn stored<H: Heap>(heap: H, array: &Value, index: i32, item: i32) -> Result<OwnedEffect, Memory>
     requires { IsTrue (is_item array.now.shape.kind item) }
-    ensures { IfOk result (λ e. effect_of e ≡ stored array.now index item) }
+    ensures { IfOkUnless (H.may_refuse heap) result (λ e. effect_of e ≡ stored array.now index item) }
 {
     if index < 0 {
         return Ok(OwnedEffect::Fault);
@@ -177,89 +179,91 @@ fn stored(alloc: Global, array: &Value, index: i32, item: i32) -> Result<OwnedEf
     if place >= array.items.len() {
         return Ok(OwnedEffect::Beyond);
     }
-    Ok(OwnedEffect::Normal(with_item(alloc, array, place, item)?))
+    Ok(OwnedEffect::Normal(with_item(heap, array, place, item)?))
 }
 
 /// The item of an array argument.
-fn index_array(
-    alloc: Global,
+fn index_array<H: Heap>(
+    heap: H,
     variables: &[(Name, Value)],
     args: &[Argument],
-) -> Result<OwnedEffect, AllocError>
+) -> Result<OwnedEffect, Memory>
     ensures { let value = argument_at (held_values variables.now) args.now in
-        IfOk result (λ e. effect_of e ≡ indexed (value 1) (item_of_value (value 2))) }
+        IfOkUnless (H.may_refuse heap) result (λ e. effect_of e ≡ indexed (value 1) (item_of_value (value 2))) }
 {
     let index = item_at(variables, args, 2);
     match lent(variables, args, 1) {
-        Some(array) => indexed(alloc, array, index),
-        None => indexed(alloc, &simple_value(alloc, Kind::Integer, 0)?, index),
+        Some(array) => indexed(heap, array, index),
+        None => indexed(heap, &simple_value(heap, Kind::Integer, 0)?, index),
     }
 }
 
 /// An array argument with another item.
-fn store_in_array(
-    alloc: Global,
+fn store_in_array<H: Heap>(
+    heap: H,
     variables: &[(Name, Value)],
     args: &[Argument],
-) -> Result<OwnedEffect, AllocError>
+) -> Result<OwnedEffect, Memory>
     requires { let value = argument_at (held_values variables.now) args.now in
         IsTrue (is_item (value 0).shape.kind (item_of_value (value 2))) }
     ensures { let value = argument_at (held_values variables.now) args.now in
-        IfOk result (λ e. effect_of e ≡ stored (value 0) (item_of_value (value 1)) (item_of_value (value 2))) }
+        IfOkUnless (H.may_refuse heap) result
+        (λ e. effect_of e ≡ stored (value 0) (item_of_value (value 1)) (item_of_value (value 2))) }
 {
     let index = item_at(variables, args, 1);
     let item = item_at(variables, args, 2);
     match lent(variables, args, 0) {
-        Some(array) => stored(alloc, array, index, item),
-        None => stored(alloc, &simple_value(alloc, Kind::Integer, 0)?, index, item),
+        Some(array) => stored(heap, array, index, item),
+        None => stored(heap, &simple_value(heap, Kind::Integer, 0)?, index, item),
     }
 }
 
 /// What a predefined call does.
 #[tactic(auto, unfolding(crate::specs::Internal::PredefinedEffects::applied_effect, gypsy_syntax::specs::Predefined::effect_by, crate::specs::Internal::PredefinedEffects::Suits))]
-pub fn apply(
-    alloc: Global,
+pub fn apply<H: Heap>(
+    heap: H,
     which: Predef,
     variables: &[(Name, Value)],
     args: &[Argument],
-) -> Result<OwnedEffect, AllocError>
+) -> Result<OwnedEffect, Memory>
     requires { Suits which (held_values variables.now) args.now }
-    ensures { IfOk result (λ e. effect_of e ≡ applied_effect which (held_values variables.now) args.now) }
+    ensures { IfOkUnless (H.may_refuse heap) result
+        (λ e. effect_of e ≡ applied_effect which (held_values variables.now) args.now) }
 {
     match which {
         Predef::MgSimpleVariableAssignment | Predef::MgSimpleConstantAssignment => {
-            Ok(OwnedEffect::Normal(argument(alloc, variables, args, 1)?))
+            Ok(OwnedEffect::Normal(argument(heap, variables, args, 1)?))
         }
         Predef::MgSimpleVariableEq | Predef::MgSimpleConstantEq => truth(
-            alloc,
+            heap,
             item_at(variables, args, 1) == item_at(variables, args, 2),
         ),
         Predef::MgIntegerLe => truth(
-            alloc,
+            heap,
             item_at(variables, args, 1) <= item_at(variables, args, 2),
         ),
-        Predef::MgIntegerUnaryMinus => number(alloc, -(item_at(variables, args, 1) as i64)),
+        Predef::MgIntegerUnaryMinus => number(heap, -(item_at(variables, args, 1) as i64)),
         Predef::MgIntegerAdd => number(
-            alloc,
+            heap,
             item_at(variables, args, 1) as i64 + item_at(variables, args, 2) as i64,
         ),
         Predef::MgIntegerSubtract => number(
-            alloc,
+            heap,
             item_at(variables, args, 1) as i64 - item_at(variables, args, 2) as i64,
         ),
         Predef::MgBooleanOr => truth(
-            alloc,
+            heap,
             truth_at(variables, args, 1) | truth_at(variables, args, 2),
         ),
         Predef::MgBooleanAnd => truth(
-            alloc,
+            heap,
             truth_at(variables, args, 1) & truth_at(variables, args, 2),
         ),
-        Predef::MgBooleanNot => truth(alloc, !truth_at(variables, args, 1)),
-        Predef::MgIndexArray => index_array(alloc, variables, args),
-        Predef::MgArrayElementAssignment => store_in_array(alloc, variables, args),
+        Predef::MgBooleanNot => truth(heap, !truth_at(variables, args, 1)),
+        Predef::MgIndexArray => index_array(heap, variables, args),
+        Predef::MgArrayElementAssignment => store_in_array(heap, variables, args),
         Predef::MgIntegerMultiply => number(
-            alloc,
+            heap,
             product(item_at(variables, args, 1), item_at(variables, args, 2)),
         ),
     }

@@ -1,6 +1,7 @@
 //! A run from its start, step by step.
 
 ghost use Rattle.std.specs.Prelude.{◌≡◌, ◌≤◌, ℕ, List, IfErr, IfNone, IfOk, IfSome};
+ghost use Rattle.stack_heap.specs.Heaps.{IfOkUnless};
 ghost use Rattle.stack_text.specs.Values.{ValueOf};
 ghost use Rattle.gypsy_syntax.specs.Programs.{proc_at};
 ghost use Rattle.gypsy_syntax.specs.Resolved.{program_of};
@@ -25,8 +26,8 @@ use crate::starting::{copied, main_activation, words};
 use gypsy_check::Accepted;
 use gypsy_semantics::{MeanRun, Moved};
 use gypsy_space::{Needs, resolve};
+use stack_heap::Heap;
 use stack_text::{Memory, Value};
-use std::alloc::Global;
 
 impl Meaning {
     /// A run of a source at its start, from these values of main's formals and with stacks of these sizes. It keeps a
@@ -35,8 +36,8 @@ impl Meaning {
     /// # Errors
     ///
     /// Out of memory.
-    pub fn start(
-        alloc: Global,
+    pub fn start<H: Heap>(
+        heap: H,
         accepted: &Accepted,
         needs: &Needs,
         values: &[Value],
@@ -48,15 +49,15 @@ impl Meaning {
         requires values { let q = program_of (source_of accepted.now) in VarsFit (proc_at q q.main).formals values.now }
         requires sizes { Suffices (program_of (source_of accepted.now)) (stack_sizes ctrl temp) }
         ensures opening { let q = program_of (source_of accepted.now) in
-            IfOk result (λ m. seen m ≡ opening q (stack_sizes ctrl temp) values.now) }
+            IfOkUnless (H.may_refuse heap) result (λ m. seen m ≡ opening q (stack_sizes ctrl temp) values.now) }
         ensures belongs { IfOk result (BelongsTo (source_of accepted.now) needs.now.procedures.items) }
     {
-        let program = resolve(alloc, accepted)?;
-        let names = names_of(alloc, accepted.source())?;
-        let Start { variables, work } = main_activation(alloc, &program, names.as_slice(), values)?;
+        let program = resolve(heap, accepted)?;
+        let names = names_of(heap, accepted.source())?;
+        let Start { variables, work } = main_activation(heap, &program, names.as_slice(), values)?;
         let used_temp = words(variables.as_slice());
         let used_ctrl = variables.len() as u64 + 2;
-        let values = copied(alloc, values)?;
+        let values = copied(heap, values)?;
         Ok(Meaning {
             procedure: program.main,
             program,
@@ -69,7 +70,7 @@ impl Meaning {
             work,
             used_temp,
             used_ctrl,
-            waiting: Vec::new(alloc),
+            waiting: Vec::new(heap.handle()),
             steps: 0,
             counted: 0,
             cost: 0,
@@ -83,8 +84,8 @@ impl Meaning {
     /// # Errors
     ///
     /// Out of memory.
-    pub fn try_start(
-        alloc: Global,
+    pub fn try_start<H: Heap>(
+        heap: H,
         accepted: &Accepted,
         needs: &Needs,
         values: &[Value],
@@ -94,16 +95,17 @@ impl Meaning {
         requires needs { AreNeeds (program_of (source_of accepted.now)) needs.now.procedures.items }
         requires small { AreSmall needs.now.procedures.items }
         ensures opening { let q = program_of (source_of accepted.now) in
-            IfOk result (λ o. IfSome o (λ m. seen m ≡ opening q (stack_sizes ctrl temp) values.now)) }
+            IfOkUnless (H.may_refuse heap) result
+        (λ o. IfSome o (λ m. seen m ≡ opening q (stack_sizes ctrl temp) values.now)) }
         ensures belongs { IfOk result (λ o. IfSome o (BelongsTo (source_of accepted.now) needs.now.procedures.items)) }
         ensures none { IfOk result (λ o. IfNone o
             (CanStart (program_of (source_of accepted.now)) values.now (stack_sizes ctrl temp) → ⊥)) }
     {
-        let program = resolve(alloc, accepted)?;
+        let program = resolve(heap, accepted)?;
         if !can_start(&program, needs, values, ctrl, temp) {
             return Ok(None);
         }
-        let meaning = Meaning::start(alloc, accepted, needs, values, ctrl, temp)?;
+        let meaning = Meaning::start(heap, accepted, needs, values, ctrl, temp)?;
         Ok(Some(meaning))
     }
 
@@ -112,14 +114,14 @@ impl Meaning {
     /// # Errors
     ///
     /// Out of memory; all that is shown is as before.
-    pub fn step(
+    pub fn step<H: Heap>(
         &mut self,
-        alloc: Global,
+        heap: H,
         accepted: &Accepted,
         needs: &Needs,
     ) -> Result<Moved, Memory>
         requires { BelongsTo (source_of accepted.now) needs.now.procedures.items self.old }
-        ensures answer { IfOk result (λ moved. moved ≡ answer_of (seen self.old)) }
+        ensures answer { IfOkUnless (H.may_refuse heap) result (λ moved. moved ≡ answer_of (seen self.old)) }
         ensures left { IfOk result (λ moved. seen self.new ≡ left_of (seen self.old)) }
         ensures unchanged { IfErr result (λ e. seen self.new ≡ seen self.old) }
         ensures belongs { BelongsTo (source_of accepted.now) needs.now.procedures.items self.new }
@@ -127,7 +129,7 @@ impl Meaning {
         if self.ended() {
             return Ok(Moved::Ended);
         }
-        let moved = self.move_on(alloc, needs)?;
+        let moved = self.move_on(heap, needs)?;
         Ok(moved)
     }
 
@@ -137,15 +139,15 @@ impl Meaning {
     /// # Errors
     ///
     /// Out of memory; the steps that were made stand.
-    pub fn run(
+    pub fn run<H: Heap>(
         &mut self,
-        alloc: Global,
+        heap: H,
         accepted: &Accepted,
         needs: &Needs,
         limit: u64,
     ) -> Result<MeanRun, Memory>
         requires { BelongsTo (source_of accepted.now) needs.now.procedures.items self.old }
-        ensures ran { IfOk result
+        ensures ran { IfOkUnless (H.may_refuse heap) result
             (λ run. meaning_run limit (seen self.old) ≡ record { run = run; seen = seen self.new }) }
         ensures made { IfErr result (λ e. (k : ℕ) × (k ≤ limit) × (seen self.new ≡ after k (seen self.old))) }
         ensures agrees { IfOk result (RunAgrees (seen self.new)) }
@@ -154,26 +156,26 @@ impl Meaning {
             (j : ℕ) × ((most : ℕ) → j ≤ most → IsEnd (meaning_run most v) x c) }
         ensures belongs { BelongsTo (source_of accepted.now) needs.now.procedures.items self.new }
     {
-        let run = self.make_steps(alloc, accepted, needs, limit)?;
+        let run = self.make_steps(heap, accepted, needs, limit)?;
         Ok(run)
     }
 
     /// At most `limit` steps.
-    fn make_steps(
+    fn make_steps<H: Heap>(
         &mut self,
-        alloc: Global,
+        heap: H,
         accepted: &Accepted,
         needs: &Needs,
         limit: u64,
     ) -> Result<MeanRun, Memory>
         requires { BelongsTo (source_of accepted.now) needs.now.procedures.items self.old }
-        ensures ran { IfOk result
+        ensures ran { IfOkUnless (H.may_refuse heap) result
             (λ run. meaning_run limit (seen self.old) ≡ record { run = run; seen = seen self.new }) }
         ensures made { IfErr result (λ e. (k : ℕ) × (k ≤ limit) × (seen self.new ≡ after k (seen self.old))) }
         ensures belongs { BelongsTo (source_of accepted.now) needs.now.procedures.items self.new }
     {
         for _made in 0..limit {
-            match self.step(alloc, accepted, needs)? {
+            match self.step(heap, accepted, needs)? {
                 Moved::Moved => {}
                 Moved::Ended => return Ok(MeanRun::Ended),
             }

@@ -1,13 +1,14 @@
 //! The names that are shown.
 
-ghost use Rattle.std.specs.Prelude.{◌≡◌, ◌++◌, IfOk, OnOk, map};
+ghost use Rattle.std.specs.Prelude.{◌≡◌, ◌++◌, map};
+ghost use Rattle.stack_heap.specs.Heaps.{IfOkUnless, OnOkUnless};
 ghost use Rattle.gypsy_syntax.specs.Views.SourceView.{local_of, proc_of, source_of};
 ghost use Rattle.gypsy_meaning.specs.Views.Named.{proc_names, seen_names, shown_names, unnamed};
 
 use gypsy_semantics::Current;
 use gypsy_syntax::{Decl, Local, Proc, Source};
-use stack_text::{Name, Named};
-use std::alloc::{AllocError, Global};
+use stack_heap::Heap;
+use stack_text::{Memory, Name, Named};
 
 /// The names of a procedure.
 #[derive(Drop)]
@@ -45,43 +46,46 @@ impl Unnamed {
     }
 }
 
-fn append_formals(names: &mut Vec<Name>, formals: &[Decl]) -> Result<(), AllocError>
-    ensures { OnOk result (names.new.items ≡ names.old.items ++ map (λ d. d.name.name) formals.now) }
+fn append_formals<H: Heap>(heap: H, names: &mut Vec<Name>, formals: &[Decl]) -> Result<(), Memory>
+    ensures { OnOkUnless (H.may_refuse heap) result
+        (names.new.items ≡ names.old.items ++ map (λ d. d.name.name) formals.now) }
 {
     for decl in formals {
-        names.push(decl.name.name.clone()?)?;
+        heap.push(names, decl.name.name.copied(heap)?)?;
     }
     Ok(())
 }
 
-fn append_locals(names: &mut Vec<Name>, locals: &[Local]) -> Result<(), AllocError>
-    ensures { OnOk result (names.new.items ≡ names.old.items ++ map (λ l. l.decl.name.name) (map local_of locals.now)) }
+fn append_locals<H: Heap>(heap: H, names: &mut Vec<Name>, locals: &[Local]) -> Result<(), Memory>
+    ensures { OnOkUnless (H.may_refuse heap) result
+        (names.new.items ≡ names.old.items ++ map (λ l. l.decl.name.name) (map local_of locals.now)) }
 {
     for local in locals {
-        names.push(local.decl.name.name.clone()?)?;
+        heap.push(names, local.decl.name.name.copied(heap)?)?;
     }
     Ok(())
 }
 
-fn append_conditions(conditions: &mut Vec<Current>, names: &[Named]) -> Result<(), AllocError>
-    ensures { OnOk result (conditions.new.items ≡ conditions.old.items ++ shown_names (map (λ n. n.name) names.now)) }
+fn append_conditions<H: Heap>(heap: H, conditions: &mut Vec<Current>, names: &[Named]) -> Result<(), Memory>
+    ensures { OnOkUnless (H.may_refuse heap) result
+        (conditions.new.items ≡ conditions.old.items ++ shown_names (map (λ n. n.name) names.now)) }
 {
     for name in names {
-        conditions.push(Current::Named(name.name.clone()?))?;
+        heap.push(conditions, Current::Named(name.name.copied(heap)?))?;
     }
     Ok(())
 }
 
 /// The names of a procedure.
-fn procedure_names(alloc: Global, proc: &Proc) -> Result<Names, AllocError>
-    ensures { IfOk result (λ n. seen_names n ≡ proc_names (proc_of proc.now)) }
+fn procedure_names<H: Heap>(heap: H, proc: &Proc) -> Result<Names, Memory>
+    ensures { IfOkUnless (H.may_refuse heap) result (λ n. seen_names n ≡ proc_names (proc_of proc.now)) }
 {
-    let mut variables = Vec::new(alloc);
-    append_formals(&mut variables, proc.formals.as_slice())?;
-    append_locals(&mut variables, proc.locals.as_slice())?;
-    let mut conditions = Vec::new(alloc);
-    append_conditions(&mut conditions, proc.conds.as_slice())?;
-    append_conditions(&mut conditions, proc.local_conds.as_slice())?;
+    let mut variables = Vec::new(heap.handle());
+    append_formals(heap, &mut variables, proc.formals.as_slice())?;
+    append_locals(heap, &mut variables, proc.locals.as_slice())?;
+    let mut conditions = Vec::new(heap.handle());
+    append_conditions(heap, &mut conditions, proc.conds.as_slice())?;
+    append_conditions(heap, &mut conditions, proc.local_conds.as_slice())?;
     Ok(Names {
         variables,
         conditions,
@@ -89,12 +93,13 @@ fn procedure_names(alloc: Global, proc: &Proc) -> Result<Names, AllocError>
 }
 
 /// The names of each procedure.
-pub fn names_of(alloc: Global, source: &Source) -> Result<Vec<Names>, AllocError>
-    ensures { IfOk result (λ r. map seen_names r.items ≡ map proc_names (source_of source.now).procs) }
+pub fn names_of<H: Heap>(heap: H, source: &Source) -> Result<Vec<Names>, Memory>
+    ensures { IfOkUnless (H.may_refuse heap) result
+        (λ r. map seen_names r.items ≡ map proc_names (source_of source.now).procs) }
 {
-    let mut names = Vec::new(alloc);
+    let mut names = Vec::new(heap.handle());
     for proc in source.procs.as_slice() {
-        names.push(procedure_names(alloc, proc)?)?;
+        heap.push(&mut names, procedure_names(heap, proc)?)?;
     }
     Ok(names)
 }

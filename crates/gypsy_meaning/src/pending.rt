@@ -1,6 +1,7 @@
 //! The work that an activation has still to do, as a stack that steps change.
 
 ghost use Rattle.std.specs.Prelude.{◌≡◌, ◌∷◌, ◌++◌, [], ℕ, List, IfErr, IfOk, IfSome, IfNone, take, length, ◌-◌};
+ghost use Rattle.stack_heap.specs.Heaps.{IfOkUnless};
 ghost use Rattle.stack_text.specs.Values.{ValueOf};
 ghost use Rattle.gypsy_space.specs.Costs.{Tally};
 ghost use Rattle.gypsy_space.specs.Nodes.{held_values, seen_cond, seen_statement};
@@ -12,8 +13,8 @@ ghost use Rattle.gypsy_meaning.specs.Views.Work.{caught_spend, item_of, work_of}
 use crate::turn::{Turn, next_turn};
 use crate::work::{Item, open, raise, settled};
 use gypsy_space::{Condition, Node};
-use stack_text::{Name, Value};
-use std::alloc::{AllocError, Global};
+use stack_heap::Heap;
+use stack_text::{Memory, Name, Value};
 use std::marker::Model;
 use std::mem;
 use std::rc::Rc;
@@ -43,15 +44,16 @@ impl Model for Work {
 }
 
 /// Keeps so many items, and moves what was made on them.
-fn change(items: &mut Vec<Item>, kept: usize, added: &mut Vec<Item>) -> Result<(), AllocError>
-    ensures done { IfOk result (λ u. items.new.items ≡ take kept items.old.items ++ added.old.items) }
+fn change<H: Heap>(heap: H, items: &mut Vec<Item>, kept: usize, added: &mut Vec<Item>) -> Result<(), Memory>
+    ensures done { IfOkUnless (H.may_refuse heap) result
+        (λ u. items.new.items ≡ take kept items.old.items ++ added.old.items) }
     ensures unchanged { IfErr result (λ e. items.new.items ≡ items.old.items) }
 {
     if added.is_empty() {
         items.truncate(kept);
         return Ok(());
     }
-    items.reserve(added.len())?;
+    heap.reserve(items, added.len())?;
     items.truncate(kept);
     match items.append(added) {
         Ok(()) => Ok(()),
@@ -68,14 +70,14 @@ fn below_top(items: &[Item]) -> usize
 
 impl Work {
     /// The work of a body that begins: the body on no other work, opened.
-    pub fn begun(alloc: Global, body: &Rc<Node>) -> Result<Work, AllocError>
-        ensures { IfOk result (λ w. work_of w ≡ open_on (seen_statement body.now.value) []) }
+    pub fn begun<H: Heap>(heap: H, body: &Rc<Node>) -> Result<Work, Memory>
+        ensures { IfOkUnless (H.may_refuse heap) result (λ w. work_of w ≡ open_on (seen_statement body.now.value) []) }
     {
-        let mut items = Vec::new(alloc);
-        let _opened = open(body, &mut items)?;
+        let mut items = Vec::new(heap.handle());
+        let _opened = open(heap, body, &mut items)?;
         Ok(Work {
             items,
-            added: Vec::new(alloc),
+            added: Vec::new(heap.handle()),
         })
     }
 
@@ -106,72 +108,75 @@ impl Work {
     }
 
     /// Opens the top.
-    pub fn settle(&mut self) -> Result<(), AllocError>
-        ensures done { IfOk result (λ u. work_of self.new ≡ settle (work_of self.old)) }
+    pub fn settle<H: Heap>(&mut self, heap: H) -> Result<(), Memory>
+        ensures done { IfOkUnless (H.may_refuse heap) result (λ u. work_of self.new ≡ settle (work_of self.old)) }
         ensures unchanged { IfErr result (λ e. self.new ≡ self.old) }
     {
         self.added.clear();
         let items = self.items.as_slice();
-        let kept = settled(items, items.len(), &mut self.added)?;
-        change(&mut self.items, kept, &mut self.added)?;
+        let kept = settled(heap, items, items.len(), &mut self.added)?;
+        change(heap, &mut self.items, kept, &mut self.added)?;
         Ok(())
     }
 
     /// Takes the top off, and opens what is then the top.
-    pub fn settle_below(&mut self) -> Result<(), AllocError>
-        ensures done { IfOk result (λ u. (i : machine.Item) (w : List machine.Item) →
+    pub fn settle_below<H: Heap>(&mut self, heap: H) -> Result<(), Memory>
+        ensures done { IfOkUnless (H.may_refuse heap) result (λ u. (i : machine.Item) (w : List machine.Item) →
             work_of self.old ≡ i ∷ w → work_of self.new ≡ settle w) }
         ensures unchanged { IfErr result (λ e. self.new ≡ self.old) }
     {
         self.added.clear();
         let items = self.items.as_slice();
-        let kept = settled(items, below_top(items), &mut self.added)?;
-        change(&mut self.items, kept, &mut self.added)?;
+        let kept = settled(heap, items, below_top(items), &mut self.added)?;
+        change(heap, &mut self.items, kept, &mut self.added)?;
         Ok(())
     }
 
     /// Raises a condition above this work, and tells whether it was caught.
-    pub fn raise(&mut self, cond: Condition) -> Result<bool, AllocError>
-        ensures done { IfOk result (λ caught. (p : ℕ) (x : List ValueOf) (fs : List Frame) (t : Tally) →
+    pub fn raise<H: Heap>(&mut self, heap: H, cond: Condition) -> Result<bool, Memory>
+        ensures done { IfOkUnless (H.may_refuse heap) result
+        (λ caught. (p : ℕ) (x : List ValueOf) (fs : List Frame) (t : Tally) →
             raise (seen_cond cond) p x (work_of self.old) fs t
             ≡ machine.At p x (work_of self.new) fs (caught_spend caught t)) }
         ensures unchanged { IfErr result (λ e. self.new ≡ self.old) }
     {
         self.added.clear();
         let items = self.items.as_slice();
-        let raised = raise(cond, items, items.len(), &mut self.added)?;
-        change(&mut self.items, raised.kept, &mut self.added)?;
+        let raised = raise(heap, cond, items, items.len(), &mut self.added)?;
+        change(heap, &mut self.items, raised.kept, &mut self.added)?;
         Ok(raised.caught)
     }
 
     /// Takes the top off, raises a condition, and tells whether it was caught.
-    pub fn raise_below(&mut self, cond: Condition) -> Result<bool, AllocError>
-        ensures done { IfOk result (λ caught. (i : machine.Item) (w : List machine.Item) → work_of self.old ≡ i ∷ w →
+    pub fn raise_below<H: Heap>(&mut self, heap: H, cond: Condition) -> Result<bool, Memory>
+        ensures done { IfOkUnless (H.may_refuse heap) result
+        (λ caught. (i : machine.Item) (w : List machine.Item) → work_of self.old ≡ i ∷ w →
             (p : ℕ) (x : List ValueOf) (fs : List Frame) (t : Tally) →
             raise (seen_cond cond) p x w fs t ≡ machine.At p x (work_of self.new) fs (caught_spend caught t)) }
         ensures unchanged { IfErr result (λ e. self.new ≡ self.old) }
     {
         self.added.clear();
         let items = self.items.as_slice();
-        let raised = raise(cond, items, below_top(items), &mut self.added)?;
-        change(&mut self.items, raised.kept, &mut self.added)?;
+        let raised = raise(heap, cond, items, below_top(items), &mut self.added)?;
+        change(heap, &mut self.items, raised.kept, &mut self.added)?;
         Ok(raised.caught)
     }
 
     /// What a step does with this work. Where it changes the work alone, the work is changed.
-    pub fn turn(&mut self, variables: &[(Name, Value)]) -> Result<Turn, AllocError>
-        ensures done { IfOk result (IsTurn (held_values variables.now) (work_of self.old) (λ k. work_of self.new)) }
+    pub fn turn<H: Heap>(&mut self, heap: H, variables: &[(Name, Value)]) -> Result<Turn, Memory>
+        ensures done { IfOkUnless (H.may_refuse heap) result
+        (IsTurn (held_values variables.now) (work_of self.old) (λ k. work_of self.new)) }
         ensures stays { IfOk result (Stays self.old self.new) }
         ensures unchanged { IfErr result (λ e. self.new ≡ self.old) }
     {
         self.added.clear();
-        match next_turn(variables, self.items.as_slice(), &mut self.added)? {
+        match next_turn(heap, variables, self.items.as_slice(), &mut self.added)? {
             Turn::Opens(kept) => {
-                change(&mut self.items, kept, &mut self.added)?;
+                change(heap, &mut self.items, kept, &mut self.added)?;
                 Ok(Turn::Opens(kept))
             }
             Turn::Goes(kept, advance) => {
-                change(&mut self.items, kept, &mut self.added)?;
+                change(heap, &mut self.items, kept, &mut self.added)?;
                 Ok(Turn::Goes(kept, advance))
             }
             turn => Ok(turn),

@@ -1,6 +1,7 @@
 //! What a step does at the end of a procedure for which another waits.
 
-ghost use Rattle.std.specs.Prelude.{◌≡◌, ◌<◌, ◌++◌, ◌∷◌, [], get_or, map, IfErr, IfOk, MatchBool};
+ghost use Rattle.std.specs.Prelude.{◌≡◌, ◌<◌, ◌++◌, ◌∷◌, [], get_or, map, IfErr, MatchBool};
+ghost use Rattle.stack_heap.specs.Heaps.{IfOkUnless};
 ghost use Rattle.gypsy_space.specs.Events.{AreSmall};
 ghost use Rattle.gypsy_syntax.specs.Programs.{Routine};
 ghost use Rattle.gypsy_space.specs.Nodes.{seen_cond, seen_program};
@@ -17,7 +18,8 @@ use crate::copying::copy_out;
 use crate::running::{Frame, Meaning};
 use gypsy_semantics::is_passed_on;
 use gypsy_space::{Condition, CostEvent, Needs, Program};
-use std::alloc::AllocError;
+use stack_heap::Heap;
+use stack_text::Memory;
 use std::mem;
 
 /// The condition of the caller: the matching actual of a formal condition, spaceerror itself, and else routineerror.
@@ -113,10 +115,10 @@ impl Meaning {
     }
 
     /// Makes the step at the normal end of a procedure for which another waits; `false` where none waits.
-    pub(crate) fn end_call(&mut self, needs: &Needs) -> Result<bool, AllocError>
+    pub(crate) fn end_call<H: Heap>(&mut self, heap: H, needs: &Needs) -> Result<bool, Memory>
         requires small { AreSmall needs.now.procedures.items }
         requires turn { work_of self.old.work ≡ [] }
-        ensures done { IfOk result (λ b. MatchBool b
+        ensures done { IfOkUnless (H.may_refuse heap) result (λ b. MatchBool b
             (Moves self.old self.new)
             ((self.new ≡ self.old) × (self.old.waiting.items ≡ []))) }
         ensures unchanged { IfErr result (λ e. IsUnchanged self.old self.new) }
@@ -128,7 +130,7 @@ impl Meaning {
             unreachable!()
         };
         let mut frame = frame;
-        if let Err(failed) = frame.work.settle() {
+        if let Err(failed) = frame.work.settle(heap) {
             self.put_back(frame);
             return Err(failed);
         }
@@ -138,10 +140,10 @@ impl Meaning {
     }
 
     /// Makes the step of a condition that leaves a procedure for which another waits; `false` where none waits.
-    pub(crate) fn leave_call(&mut self, needs: &Needs, cond: Condition) -> Result<bool, AllocError>
+    pub(crate) fn leave_call<H: Heap>(&mut self, heap: H, needs: &Needs, cond: Condition) -> Result<bool, Memory>
         requires small { AreSmall needs.now.procedures.items }
         requires turn { Leaves (seen_cond cond) (work_of self.old.work) }
-        ensures done { IfOk result (λ b. MatchBool b
+        ensures done { IfOkUnless (H.may_refuse heap) result (λ b. MatchBool b
             (Moves self.old self.new)
             ((self.new ≡ self.old) × (self.old.waiting.items ≡ []))) }
         ensures unchanged { IfErr result (λ e. IsUnchanged self.old self.new) }
@@ -160,7 +162,7 @@ impl Meaning {
             frame.call.conds.as_slice(),
             cond,
         );
-        match frame.work.raise(cond) {
+        match frame.work.raise(heap, cond) {
             Err(failed) => {
                 self.put_back(frame);
                 Err(failed)

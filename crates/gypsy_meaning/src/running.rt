@@ -1,6 +1,7 @@
 //! The state of the step machine.
 
-ghost use Rattle.std.specs.Prelude.{◌≡◌, IfOk, IfErr};
+ghost use Rattle.std.specs.Prelude.{◌≡◌, IfErr};
+ghost use Rattle.stack_heap.specs.Heaps.{IfOkUnless};
 ghost use Rattle.gypsy_space.specs.Events.{AreSmall};
 ghost use Rattle.gypsy_space.specs.Nodes.{held_values};
 ghost use Rattle.gypsy_meaning.specs.Views.Held.{Moves};
@@ -16,8 +17,8 @@ use crate::pending::Work;
 use crate::turn::{Advance, Turn};
 use crate::writing::write;
 use gypsy_space::{Application, CallSite, Condition, CostEvent, Needs, Program};
-use stack_text::{Name, Value};
-use std::alloc::{AllocError, Global};
+use stack_heap::Heap;
+use stack_text::{Memory, Name, Value};
 use std::rc::Rc;
 
 /// An activation that waits for a call.
@@ -114,14 +115,14 @@ impl Meaning {
     }
 
     /// Makes a predefined call, which is on top of the work.
-    fn apply(&mut self, alloc: Global, needs: &Needs, call: &Application) -> Result<(), AllocError>
+    fn apply<H: Heap>(&mut self, heap: H, needs: &Needs, call: &Application) -> Result<(), Memory>
         requires small { AreSmall needs.now.procedures.items }
         requires turn { IsApplication call.now (work_of self.old.work) }
         requires suits { Suits call.now.which (held_values self.old.variables.items) call.now.args.items }
-        ensures done { IfOk result (λ u. Moves self.old self.new) }
+        ensures done { IfOkUnless (H.may_refuse heap) result (λ u. Moves self.old self.new) }
         ensures unchanged { IfErr result (λ e. self.new ≡ self.old) }
     {
-        match application(alloc, self.variables.as_slice(), call, &mut self.work)? {
+        match application(heap, self.variables.as_slice(), call, &mut self.work)? {
             Applied::Writes(variable, value, advance) => {
                 write(&mut self.variables, variable, value);
                 self.advance(needs, advance);
@@ -132,17 +133,17 @@ impl Meaning {
     }
 
     /// Makes a step within the active procedure, or tells what leaves it.
-    pub(crate) fn step_within(
+    pub(crate) fn step_within<H: Heap>(
         &mut self,
-        alloc: Global,
+        heap: H,
         needs: &Needs,
-    ) -> Result<Option<Crossing>, AllocError>
+    ) -> Result<Option<Crossing>, Memory>
         requires small { AreSmall needs.now.procedures.items }
         requires suits { WorkSuits (held_values self.old.variables.items) (work_of self.old.work) }
-        ensures done { IfOk result (IsWithin self.old self.new) }
+        ensures done { IfOkUnless (H.may_refuse heap) result (IsWithin self.old self.new) }
         ensures unchanged { IfErr result (λ e. self.new ≡ self.old) }
     {
-        match self.work.turn(self.variables.as_slice())? {
+        match self.work.turn(heap, self.variables.as_slice())? {
             Turn::Opens(_) => {
                 self.pay(0);
                 Ok(None)
@@ -152,7 +153,7 @@ impl Meaning {
                 Ok(None)
             }
             Turn::Applies(call) => {
-                self.apply(alloc, needs, &call)?;
+                self.apply(heap, needs, &call)?;
                 Ok(None)
             }
             Turn::Calls(site) => Ok(Some(Crossing::Calls(site))),

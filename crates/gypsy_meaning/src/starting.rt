@@ -1,6 +1,7 @@
 //! The start of a run.
 
 ghost use Rattle.std.specs.Prelude.{◌≡◌, ◌+◌, ◌++◌, ◌<◌, ◌≤◌, [], IfOk, length, map, take};
+ghost use Rattle.stack_heap.specs.Heaps.{IfOkUnless};
 ghost use Rattle.gypsy_syntax.specs.Programs.{body_of, proc_at, words_of};
 ghost use Rattle.gypsy_space.specs.Nodes.{held_names, held_values, seen_program, seen_statement};
 ghost use Rattle.gypsy_semantics.specs.Calls.{main_start};
@@ -13,35 +14,35 @@ use crate::copying::{append_locals, named_copy};
 use crate::names::Names;
 use crate::pending::Work;
 use gypsy_space::{Node, Program};
-use stack_text::{Name, Value};
-use std::alloc::{AllocError, Global};
+use stack_heap::Heap;
+use stack_text::{Memory, Name, Value};
 use std::rc::Rc;
 
 /// A copy of values.
-pub fn copied(alloc: Global, values: &[Value]) -> Result<Vec<Value>, AllocError>
-    ensures { IfOk result (λ r. r.items ≡ values.now) }
+pub fn copied<H: Heap>(heap: H, values: &[Value]) -> Result<Vec<Value>, Memory>
+    ensures { IfOkUnless (H.may_refuse heap) result (λ r. r.items ≡ values.now) }
 {
-    let mut copies = Vec::new(alloc);
+    let mut copies = Vec::new(heap.handle());
     for value in values {
-        copies.push(value.clone()?)?;
+        heap.push(&mut copies, value.copied(heap)?)?;
     }
     Ok(copies)
 }
 
 /// Copies of values, under the first names.
-fn formals(
-    alloc: Global,
+fn formals<H: Heap>(
+    heap: H,
     names: &[Name],
     values: &[Value],
-) -> Result<Vec<(Name, Value)>, AllocError>
+) -> Result<Vec<(Name, Value)>, Memory>
     requires { length values.now ≤ length names.now }
-    ensures values { IfOk result (λ r. held_values r.items ≡ values.now) }
+    ensures values { IfOkUnless (H.may_refuse heap) result (λ r. held_values r.items ≡ values.now) }
     ensures names { IfOk result (λ r. held_names r.items ≡ take (length values.now) names.now) }
 {
-    let mut formals = Vec::new(alloc);
+    let mut formals = Vec::new(heap.handle());
     for (place, value) in values.iter().enumerate() {
         match names.get(place) {
-            Some(name) => formals.push(named_copy(name, value)?)?,
+            Some(name) => heap.push(&mut formals, named_copy(heap, name, value)?)?,
             None => unreachable!(),
         }
     }
@@ -49,18 +50,19 @@ fn formals(
 }
 
 /// Main's variables at the start.
-fn variables(
-    alloc: Global,
+fn variables<H: Heap>(
+    heap: H,
     names: &[Name],
     values: &[Value],
     locals: &[(Name, Value)],
-) -> Result<Vec<(Name, Value)>, AllocError>
+) -> Result<Vec<(Name, Value)>, Memory>
     requires { length names.now ≡ length values.now + length locals.now }
-    ensures values { IfOk result (λ r. held_values r.items ≡ values.now ++ held_values locals.now) }
+    ensures values { IfOkUnless (H.may_refuse heap) result
+        (λ r. held_values r.items ≡ values.now ++ held_values locals.now) }
     ensures names { IfOk result (λ r. held_names r.items ≡ names.now) }
 {
-    let mut all = formals(alloc, names, values)?;
-    append_locals(&mut all, &names[values.len()..], locals)?;
+    let mut all = formals(heap, names, values)?;
+    append_locals(heap, &mut all, &names[values.len()..], locals)?;
     Ok(all)
 }
 
@@ -90,17 +92,17 @@ pub fn body_at(program: &Program, procedure: u32) -> &Rc<Node>
 
 /// Main at its start, with these values of its formals, and its body to be done.
 #[tactic(auto, unfolding(gypsy_semantics::specs::Calls::main_start))]
-pub fn main_activation(
-    alloc: Global,
+pub fn main_activation<H: Heap>(
+    heap: H,
     program: &Program,
     names: &[Names],
     values: &[Value],
-) -> Result<Start, AllocError>
+) -> Result<Start, Memory>
     requires main { program.now.main < length program.now.procedures.items }
     requires there { program.now.main < length names.now }
     requires sized { let main = proc_at (seen_program program.now) program.now.main in
         length (variables_of names.now program.now.main) ≡ length values.now + length main.locals }
-    ensures variables { IfOk result (λ start. held_values start.variables.items
+    ensures variables { IfOkUnless (H.may_refuse heap) result (λ start. held_values start.variables.items
         ≡ main_start (seen_program program.now) values.now) }
     ensures names { IfOk result (λ start. held_names start.variables.items
         ≡ variables_of names.now program.now.main) }
@@ -109,12 +111,12 @@ pub fn main_activation(
 {
     let main = program.main;
     let variables = variables(
-        alloc,
+        heap,
         names_at(names, main),
         values,
         locals_at(program, main),
     )?;
-    let work = Work::begun(alloc, body_at(program, main))?;
+    let work = Work::begun(heap, body_at(program, main))?;
     Ok(Start { variables, work })
 }
 

@@ -1,6 +1,7 @@
 //! The work that an activation has still to do.
 
 ghost use Rattle.std.specs.Prelude.{◌≡◌, ◌≤◌, [], ◌∷◌, ◌++◌, List, IfOk, ℕ, drop, length, map, take};
+ghost use Rattle.stack_heap.specs.Heaps.{IfOkUnless};
 ghost use Rattle.stack_text.specs.Values.{ValueOf};
 ghost use Rattle.gypsy_space.specs.Costs.{Tally};
 ghost use Rattle.gypsy_semantics.specs.Machine as machine;
@@ -10,7 +11,8 @@ ghost use Rattle.gypsy_meaning.specs.Views.Work.{item_of, left_by, work_of, work
 
 use gypsy_semantics::{is_among, is_leave};
 use gypsy_space::{Condition, Node};
-use std::alloc::AllocError;
+use stack_heap::Heap;
+use stack_text::Memory;
 use std::rc::Rc;
 
 /// One item of work.
@@ -36,63 +38,67 @@ pub enum Item {
 
 /// Puts an item on top.
 #[tactic(auto, using(crate::proofs::OpenLaws::work_put))]
-pub fn put(work: &mut Vec<Item>, item: Item) -> Result<(), AllocError>
-    ensures items { IfOk result (λ u. work.new.items ≡ work.old.items ++ item ∷ []) }
+pub fn put<H: Heap>(heap: H, work: &mut Vec<Item>, item: Item) -> Result<(), Memory>
+    ensures items { IfOkUnless (H.may_refuse heap) result (λ u. work.new.items ≡ work.old.items ++ item ∷ []) }
     ensures seen { IfOk result (λ u. (w : List machine.Item) →
         work_on work.new.items w ≡ item_of item ∷ work_on work.old.items w) }
 {
-    work.push(item)?;
+    heap.push(work, item)?;
     Ok(())
 }
 
 /// Puts a statement on top that opens to itself.
-fn put_statement(node: &Rc<Node>, work: &mut Vec<Item>) -> Result<(), AllocError>
-    ensures { IfOk result (λ u. (w : List machine.Item) →
+fn put_statement<H: Heap>(heap: H, node: &Rc<Node>, work: &mut Vec<Item>) -> Result<(), Memory>
+    ensures { IfOkUnless (H.may_refuse heap) result (λ u. (w : List machine.Item) →
         work_on work.new.items w ≡ machine.Do (seen_statement node.now.value) ∷ work_on work.old.items w) }
 {
-    put(work, Item::Do(node.clone()?))?;
+    put(heap, work, Item::Do(heap.shared_again(node)?))?;
     Ok(())
 }
 
 /// Puts the guard of a handled body on top.
-fn put_guard(
+fn put_guard<H: Heap>(
+    heap: H,
     place: u32,
     conds: &Rc<Vec<Condition>>,
     arm: &Rc<Node>,
     work: &mut Vec<Item>,
-) -> Result<(), AllocError>
+) -> Result<(), Memory>
     ensures { let guard = machine.Guard place (map seen_cond conds.now.value.items) (seen_statement arm.now.value) in
-        IfOk result (λ u. (w : List machine.Item) → work_on work.new.items w ≡ guard ∷ work_on work.old.items w) }
+        IfOkUnless (H.may_refuse heap) result
+        (λ u. (w : List machine.Item) → work_on work.new.items w ≡ guard ∷ work_on work.old.items w) }
 {
-    put(work, Item::Guard(place, conds.clone()?, arm.clone()?))?;
+    put(heap, work, Item::Guard(place, heap.shared_again(conds)?, heap.shared_again(arm)?))?;
     Ok(())
 }
 
 /// Puts the parts of a sequence from a position on on top.
-fn put_parts(parts: &Rc<Vec<Rc<Node>>>, from: usize, work: &mut Vec<Item>) -> Result<(), AllocError>
-    ensures items { IfOk result (λ u. take (length work.old.items) work.new.items ≡ work.old.items) }
+fn put_parts<H: Heap>(heap: H, parts: &Rc<Vec<Rc<Node>>>, from: usize, work: &mut Vec<Item>) -> Result<(), Memory>
+    ensures items { IfOkUnless (H.may_refuse heap) result
+        (λ u. take (length work.old.items) work.new.items ≡ work.old.items) }
     ensures seen { let statements = seen_statements (drop from parts.now.value.items) in
         IfOk result (λ u. (w : List machine.Item) →
         work_on work.new.items w ≡ machine.Do statements ∷ work_on work.old.items w) }
 {
-    put(work, Item::Parts(parts.clone()?, from))?;
+    put(heap, work, Item::Parts(heap.shared_again(parts)?, from))?;
     Ok(())
 }
 
 /// Puts a statement on top, opened; `false` where it opens to nothing, and then nothing is put.
 #[cycle(opening)]
-pub fn open(node: &Rc<Node>, work: &mut Vec<Item>) -> Result<bool, AllocError>
-    ensures { IfOk result (OpensOn (seen_statement node.now.value) work.old.items work.new.items) }
+pub fn open<H: Heap>(heap: H, node: &Rc<Node>, work: &mut Vec<Item>) -> Result<bool, Memory>
+    ensures { IfOkUnless (H.may_refuse heap) result
+        (OpensOn (seen_statement node.now.value) work.old.items work.new.items) }
 {
     match &**node {
-        Node::Seq(parts) => open_parts(parts, 0, work),
+        Node::Seq(parts) => open_parts(heap, parts, 0, work),
         Node::Begin(place, body, conds, arm) => {
-            put_guard(*place, conds, arm, work)?;
-            let _opened = open(body, work)?;
+            put_guard(heap, *place, conds, arm, work)?;
+            let _opened = open(heap, body, work)?;
             Ok(true)
         }
         _ => {
-            put_statement(node, work)?;
+            put_statement(heap, node, work)?;
             Ok(true)
         }
     }
@@ -100,17 +106,19 @@ pub fn open(node: &Rc<Node>, work: &mut Vec<Item>) -> Result<bool, AllocError>
 
 /// The same for the parts of a sequence from a position on.
 #[cycle(opening)]
-pub fn open_parts(
+pub fn open_parts<H: Heap>(
+    heap: H,
     parts: &Rc<Vec<Rc<Node>>>,
     from: usize,
     work: &mut Vec<Item>,
-) -> Result<bool, AllocError>
-    ensures { IfOk result (OpensOn (seen_statements (drop from parts.now.value.items)) work.old.items work.new.items) }
+) -> Result<bool, Memory>
+    ensures { IfOkUnless (H.may_refuse heap) result
+        (OpensOn (seen_statements (drop from parts.now.value.items)) work.old.items work.new.items) }
 {
     let below = work.len();
     for index in from..parts.len() {
-        put_parts(parts, index + 1, work)?;
-        if open(&parts[index], work)? {
+        put_parts(heap, parts, index + 1, work)?;
+        if open(heap, &parts[index], work)? {
             return Ok(true);
         }
         work.truncate(below);
@@ -119,22 +127,22 @@ pub fn open_parts(
 }
 
 /// Puts an item that opens to itself, and a statement on it, opened.
-pub fn put_opened(item: Item, node: &Rc<Node>, work: &mut Vec<Item>) -> Result<(), AllocError>
+pub fn put_opened<H: Heap>(heap: H, item: Item, node: &Rc<Node>, work: &mut Vec<Item>) -> Result<(), Memory>
     requires { (w : List machine.Item) → settle (item_of item ∷ w) ≡ item_of item ∷ w }
-    ensures { IfOk result (λ u. (w : List machine.Item) →
+    ensures { IfOkUnless (H.may_refuse heap) result (λ u. (w : List machine.Item) →
         work_on work.new.items w ≡ open_on (seen_statement node.now.value) (item_of item ∷ work_on work.old.items w)) }
 {
-    put(work, item)?;
-    let _opened = open(node, work)?;
+    put(heap, work, item)?;
+    let _opened = open(heap, node, work)?;
     Ok(())
 }
 
 /// Opens what is on top of the first items. It answers how many of them stay; what is above them goes to `added`, which is
 /// empty before.
-pub fn settled(items: &[Item], below: usize, added: &mut Vec<Item>) -> Result<usize, AllocError>
+pub fn settled<H: Heap>(heap: H, items: &[Item], below: usize, added: &mut Vec<Item>) -> Result<usize, Memory>
     requires within { below ≤ length items.now }
     requires empty { added.old.items ≡ [] }
-    ensures { IfOk result (λ kept.
+    ensures { IfOkUnless (H.may_refuse heap) result (λ kept.
         left_by items.now added.new.items kept ≡ settle (work_of (take below items.now))) }
 {
     if below == 0 {
@@ -143,17 +151,17 @@ pub fn settled(items: &[Item], below: usize, added: &mut Vec<Item>) -> Result<us
     let top = below - 1;
     match &items[top] {
         Item::Do(node) => {
-            if open(node, added)? {
+            if open(heap, node, added)? {
                 Ok(top)
             } else {
-                settled(items, top, added)
+                settled(heap, items, top, added)
             }
         }
         Item::Parts(parts, next) => {
-            if open_parts(parts, *next, added)? {
+            if open_parts(heap, parts, *next, added)? {
                 Ok(top)
             } else {
-                settled(items, top, added)
+                settled(heap, items, top, added)
             }
         }
         _ => Ok(below),
@@ -171,20 +179,21 @@ pub struct Raised {
 
 /// Raises a condition above the first items. What is then above those that stay goes to `added`, which is empty before: the
 /// guard's arm, or *out* where nothing caught the condition.
-pub fn raise(
+pub fn raise<H: Heap>(
+    heap: H,
     cond: Condition,
     items: &[Item],
     below: usize,
     added: &mut Vec<Item>,
-) -> Result<Raised, AllocError>
+) -> Result<Raised, Memory>
     requires within { below ≤ length items.now }
     requires empty { added.old.items ≡ [] }
-    ensures { IfOk result (λ r. (p : ℕ) (x : List ValueOf) (fs : List Frame) (t : Tally) →
+    ensures { IfOkUnless (H.may_refuse heap) result (λ r. (p : ℕ) (x : List ValueOf) (fs : List Frame) (t : Tally) →
         raise (seen_cond cond) p x (work_of (take below items.now)) fs t
         ≡ machine.At p x (left_by items.now added.new.items r.kept) fs (caught_spend r.caught t)) }
 {
     if below == 0 {
-        put(added, Item::Out(cond))?;
+        put(heap, added, Item::Out(cond))?;
         return Ok(Raised {
             kept: 0,
             caught: false,
@@ -195,24 +204,24 @@ pub fn raise(
         Item::Back(_, _) => {
             if is_leave(cond) {
                 Ok(Raised {
-                    kept: settled(items, top, added)?,
+                    kept: settled(heap, items, top, added)?,
                     caught: true,
                 })
             } else {
-                raise(cond, items, top, added)
+                raise(heap, cond, items, top, added)
             }
         }
         Item::Guard(place, conds, arm) => {
             if is_among(cond, conds.as_slice()) {
-                put_opened(Item::JoinOne(*place), arm, added)?;
+                put_opened(heap, Item::JoinOne(*place), arm, added)?;
                 Ok(Raised {
                     kept: top,
                     caught: true,
                 })
             } else {
-                raise(cond, items, top, added)
+                raise(heap, cond, items, top, added)
             }
         }
-        _ => raise(cond, items, top, added),
+        _ => raise(heap, cond, items, top, added),
     }
 }

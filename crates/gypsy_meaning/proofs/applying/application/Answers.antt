@@ -12,7 +12,7 @@ use Rattle.gypsy_meaning.proofs.ApplyLaws.{writes_law, fails_law}
 use Rattle.gypsy_meaning.proofs.applying.application.Goals as goal
 
 pub returns-in_ok-settle_below-in-Normal-clause-done : goal.returns-in_ok-settle_below-in-Normal-clause-done
-returns-in_ok-settle_below-in-Normal-clause-done c = λ w top.
+returns-in_ok-settle_below-in-Normal-clause-done g c = λ w top.
     let x : List ValueOf = map (λ v. v.1) c.args.variables.now in
     let a : Advance = record { event = event.Predef c.args.call.now.which outcome.Normal; caught = false } in
     writes_law c.args.call.now x w (work_of c.settle_below.new.self) (effect_of c.in_ok-value.field-0) c.target.result c.in-Normal.value a
@@ -21,14 +21,14 @@ returns-in_ok-settle_below-in-Normal-clause-done c = λ w top.
     (c.in_ok-settle_below-in-Normal.ensures.done (call_item c.args.call.now) w top)
 
 pub returns-in_ok-fail-in-Fault-clause-done : goal.returns-in_ok-fail-in-Fault-clause-done
-returns-in_ok-fail-in-Fault-clause-done c = λ w top.
+returns-in_ok-fail-in-Fault-clause-done g c = λ w top.
     let x : List ValueOf = map (λ v. v.1) c.args.variables.now in
     fails_law c.args.call.now x w (work_of c.fail.new.work) (effect_of c.in_ok-value.field-0) outcome.Fault c.in_ok-fail-in-Fault.field-0 tt
     (ap effect_of c.in-Fault.is) (c.in_ok-value.ensures ∙ ap (applied_effect c.args.call.now.which x) c.as_slice.ensures.value)
     (c.in_ok-fail-in-Fault.ensures.done (call_item c.args.call.now) w top)
 
 pub returns-in_ok-fail-in-Beyond-clause-done : goal.returns-in_ok-fail-in-Beyond-clause-done
-returns-in_ok-fail-in-Beyond-clause-done c = λ w top.
+returns-in_ok-fail-in-Beyond-clause-done g c = λ w top.
     let x : List ValueOf = map (λ v. v.1) c.args.variables.now in
     fails_law c.args.call.now x w (work_of c.fail-in-Beyond.new.work) (effect_of c.in_ok-value.field-0) outcome.Beyond c.in_ok-fail-in-Beyond.field-0 tt
     (ap effect_of c.in-Beyond.is) (c.in_ok-value.ensures ∙ ap (applied_effect c.args.call.now.which x) c.as_slice.ensures.value)

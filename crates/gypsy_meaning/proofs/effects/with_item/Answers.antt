@@ -4,7 +4,7 @@ use Rattle.gypsy_meaning.proofs.ValueLaws.{set_is_value}
 use Rattle.gypsy_meaning.proofs.effects.with_item.Goals as goal
 
 pub unreachable-requires : goal.unreachable-requires
-unreachable-requires c =
+unreachable-requires g c =
     let shape = c.array.inside.shape in
     let wrote : c.set_item.new.items.items ≡ slice_set c.in_ok-items.items.items c.args.place c.args.item = search rules in
     let set : c.set_item.new.items.items ≡ slice_set c.array.inside.items.items c.args.place c.args.item =

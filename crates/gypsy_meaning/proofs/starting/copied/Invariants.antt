@@ -2,4 +2,4 @@ use Rattle.std.proofs.Common.{◌≡◌, ◌++◌, drop}
 use Rattle.gypsy_meaning.proofs.starting.copied.Given as goal
 
 abbrev pub invariant-loop-value : goal.invariant-loop-value
-invariant-loop-value l = l.copies.items ++ drop l.value-index l.values ≡ l.values
+invariant-loop-value g l = l.copies.items ++ drop l.value-index l.values ≡ l.values

@@ -11,7 +11,7 @@ use Rattle.gypsy_meaning.proofs.TurnLaws.{goes_from, parts_from}
 use Rattle.gypsy_meaning.proofs.turn.begin.Goals as goal
 
 pub returns-in_ok-enter_loop-in-Loop : goal.returns-in_ok-enter_loop-in-Loop
-returns-in_ok-enter_loop-in-Loop c =
+returns-in_ok-enter_loop-in-Loop g c =
     let x : List ValueOf = map (λ v. v.1) c.args.variables.now in
     let w = work_of c.args.items.now in
     let v = work_of (take c.args.below c.args.items.now) in
@@ -22,7 +22,7 @@ returns-in_ok-enter_loop-in-Loop c =
     goes_from x w (Do s ∷ v) u u a a (c.requires.top ∙ ap (λ (r : Stmt). Do r ∷ v) is) refl refl (c.in_ok-enter_loop-in-Loop.ensures x v)
 
 pub returns-in_ok-branch-in-If : goal.returns-in_ok-branch-in-If
-returns-in_ok-branch-in-If c =
+returns-in_ok-branch-in-If g c =
     let x : List ValueOf = map (λ v. v.1) c.args.variables.now in
     let w = work_of c.args.items.now in
     let v = work_of (take c.args.below c.args.items.now) in
@@ -34,7 +34,7 @@ returns-in_ok-branch-in-If c =
     (c.in_ok-branch-in-If.ensures x c.in-If.test v c.is_true-test.ensures)
 
 pub returns-in_ok-settled-in-Seq : goal.returns-in_ok-settled-in-Seq
-returns-in_ok-settled-in-Seq c =
+returns-in_ok-settled-in-Seq g c =
     let x : List ValueOf = map (λ v. v.1) c.args.variables.now in
     let items = c.args.items.now in
     let v = work_of (take c.args.below items) in

@@ -10,7 +10,7 @@ use Rattle.gypsy_meaning.proofs.TurnLaws.{goes_from, parts_from}
 use Rattle.gypsy_meaning.proofs.turn.turn_of.Goals as goal
 
 pub returns-in_ok-settled-in-Parts : goal.returns-in_ok-settled-in-Parts
-returns-in_ok-settled-in-Parts c =
+returns-in_ok-settled-in-Parts g c =
     let x : List ValueOf = map (λ v. v.1) c.args.variables.now in
     let items = c.args.items.now in
     let v = work_of (take c.args.below items) in
@@ -21,7 +21,7 @@ returns-in_ok-settled-in-Parts c =
     (c.requires.top ∙ ap (λ (i : Item). i ∷ v) is) refl (c.in_ok-settled-in-Parts.ensures ∙ all)
 
 pub returns-in_ok-enter_loop-in-Again : goal.returns-in_ok-enter_loop-in-Again
-returns-in_ok-enter_loop-in-Again c =
+returns-in_ok-enter_loop-in-Again g c =
     let x : List ValueOf = map (λ v. v.1) c.args.variables.now in
     let w = work_of c.args.items.now in
     let v = work_of (take c.args.below c.args.items.now) in
@@ -32,7 +32,7 @@ returns-in_ok-enter_loop-in-Again c =
     goes_from x w (Do s ∷ v) u u a a (c.requires.top ∙ ap (λ (i : Item). i ∷ v) is) refl refl (c.in_ok-enter_loop-in-Again.ensures x v)
 
 pub returns-in_ok-loop_again-in-Back : goal.returns-in_ok-loop_again-in-Back
-returns-in_ok-loop_again-in-Back c =
+returns-in_ok-loop_again-in-Back g c =
     let x : List ValueOf = map (λ v. v.1) c.args.variables.now in
     let w = work_of c.args.items.now in
     let v = work_of (take c.args.below c.args.items.now) in

@@ -1,5 +1,5 @@
 use Rattle.std.proofs.Common.{◌≡◌, ◌∷◌, ◌-◌, ◌<◌, ℕ, List, suc, length, get_or, take, map, true, false, ap, sym, ◌∙◌, rules, arith}
-use Rattle.std.proofs.lemmas.Result.{IfOk-weaker}
+use Rattle.stack_heap.proofs.UnlessLaws.{if_ok_unless_weaker}
 use Rattle.std.specs.Global.{Vec}
 use Rattle.gypsy_space.specs.declared.program.Condition.{Condition}
 use Rattle.gypsy_semantics.specs.Calls.{has_cond, is_leave}
@@ -11,7 +11,7 @@ use Rattle.gypsy_meaning.proofs.WorkLaws.{top_of, back_caught, back_passed, guar
 use Rattle.gypsy_meaning.proofs.work.+raise.Goals as goal
 
 pub returns-in_ok-settled-in-Back : goal.returns-in_ok-settled-in-Back
-returns-in_ok-settled-in-Back t c =
+returns-in_ok-settled-in-Back g t c =
     let items = c.args.items.now in
     let k : Kept = c.index-items-top.result in
     let n = c.args.below - 1 in
@@ -26,7 +26,7 @@ returns-in_ok-settled-in-Back t c =
     (sym c.is_leave.ensures ∙ c.if-is_leave.true) c.in_ok-settled-in-Back.ensures
 
 pub returns-else-is_leave : goal.returns-else-is_leave
-returns-else-is_leave t c =
+returns-else-is_leave g t c =
     let items = c.args.items.now in
     let k : Kept = c.index-items-top.result in
     let n = c.args.below - 1 in
@@ -37,12 +37,12 @@ returns-else-is_leave t c =
     let is : item_of k ≡ Back c.in-Back.field-0 s = search rules in
     let top : work_of (take c.args.below items) ≡ Back c.in-Back.field-0 s ∷ work_of (take n items) =
     top_of items c.args.below n k e lt at ∙ ap (λ (i : Item). i ∷ work_of (take n items)) is in
-    IfOk-weaker c.raise.result _ _ (λ r h p x fs u.
+    if_ok_unless_weaker (g.H.Heap.may_refuse c.args.heap) c.raise.result _ _ (λ r h p x fs u.
     back_passed (seen_cond c.args.cond) c.in-Back.field-0 s (work_of (take c.args.below items)) (work_of (take n items)) top
     (sym c.is_leave.ensures ∙ c.if-is_leave.false) p x fs u ∙ h p x fs u) c.raise.ensures
 
 pub returns-in_ok-put_opened-in-Guard : goal.returns-in_ok-put_opened-in-Guard
-returns-in_ok-put_opened-in-Guard t c =
+returns-in_ok-put_opened-in-Guard g t c =
     let items = c.args.items.now in
     let k : Kept = c.index-items-top.result in
     let n = c.args.below - 1 in
@@ -65,7 +65,7 @@ returns-in_ok-put_opened-in-Guard t c =
     guard_caught (seen_cond c.args.cond) place cs s (work_of (take c.args.below items)) v (work_on c.put_opened.new.work.items v) top has left
 
 pub returns-else-is_among : goal.returns-else-is_among
-returns-else-is_among t c =
+returns-else-is_among g t c =
     let items = c.args.items.now in
     let k : Kept = c.index-items-top.result in
     let n = c.args.below - 1 in
@@ -83,18 +83,18 @@ returns-else-is_among t c =
     ap (λ (l : List Condition). has_cond (seen_cond c.args.cond) (map seen_cond l))
     (sym (c.as_slice.ensures.value ∙ ap (λ (l : Vec Condition). l.items) c.deref.ensures))
     ∙ sym c.is_among.ensures ∙ c.if-is_among.false in
-    IfOk-weaker c.raise-else-is_among.result _ _ (λ r h p x fs u.
+    if_ok_unless_weaker (g.H.Heap.may_refuse c.args.heap) c.raise-else-is_among.result _ _ (λ r h p x fs u.
     guard_passed (seen_cond c.args.cond) place cs s (work_of (take c.args.below items)) v top has p x fs u ∙ h p x fs u) c.raise-else-is_among.ensures
 
 pub returns-in_default : goal.returns-in_default
-returns-in_default t c =
+returns-in_default g t c =
     let items = c.args.items.now in
     let k : Kept = c.index-items-top.result in
     let n = c.args.below - 1 in
     let e : c.args.below ≡ suc n = omega arith in
     let lt : n < length items = omega (arith, c.requires.within) in
     let at : k ≡ get_or items n k = search rules in
-    IfOk-weaker c.raise-in_default.result _ _ (λ r h p x fs u.
+    if_ok_unless_weaker (g.H.Heap.may_refuse c.args.heap) c.raise-in_default.result _ _ (λ r h p x fs u.
     passed_over k (work_of (take c.args.below items)) (work_of (take n items)) (top_of items c.args.below n k e lt at) c.in_default.not-Back
     c.in_default.not-Guard
     (seen_cond c.args.cond) p x fs u ∙ h p x fs u) c.raise-in_default.ensures

@@ -7,7 +7,7 @@ use Rattle.gypsy_meaning.proofs.WorkLaws.{top_of, settled_opened, settled_empty,
 use Rattle.gypsy_meaning.proofs.work.+settled.Goals as goal
 
 pub returns-then-branch : goal.returns-then-branch
-returns-then-branch t c =
+returns-then-branch g t c =
     let items = c.args.items.now in
     let k : Kept = c.index-items-top.result in
     let n = c.args.below - 1 in
@@ -22,7 +22,7 @@ returns-then-branch t c =
     c.requires.empty top c.if-branch.true c.in_ok-open-in-Do.ensures
 
 pub returns-else-branch : goal.returns-else-branch
-returns-else-branch t c =
+returns-else-branch g t c =
     let items = c.args.items.now in
     let k : Kept = c.index-items-top.result in
     let n = c.args.below - 1 in
@@ -39,7 +39,7 @@ returns-else-branch t c =
     rw same c.settled.ensures
 
 pub returns-then-branch-2 : goal.returns-then-branch-2
-returns-then-branch-2 t c =
+returns-then-branch-2 g t c =
     let items = c.args.items.now in
     let k : Kept = c.index-items-top.result in
     let n = c.args.below - 1 in
@@ -55,7 +55,7 @@ returns-then-branch-2 t c =
     c.requires.empty top c.if-branch-2.true c.in_ok-open_parts-in-Parts.ensures
 
 pub returns-else-branch-2 : goal.returns-else-branch-2
-returns-else-branch-2 t c =
+returns-else-branch-2 g t c =
     let items = c.args.items.now in
     let k : Kept = c.index-items-top.result in
     let n = c.args.below - 1 in
@@ -73,7 +73,7 @@ returns-else-branch-2 t c =
     rw same c.settled-else-branch-2.ensures
 
 pub returns-in_default : goal.returns-in_default
-returns-in_default t c =
+returns-in_default g t c =
     let items = c.args.items.now in
     let k : Kept = c.index-items-top.result in
     let n = c.args.below - 1 in

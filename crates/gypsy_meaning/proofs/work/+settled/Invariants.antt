@@ -1,4 +1,4 @@
 use Rattle.gypsy_meaning.proofs.work.+settled.Given as goal
 
 abbrev pub decreases-settled : goal.decreases-settled
-decreases-settled l = l.below
+decreases-settled g l = l.below

@@ -7,7 +7,7 @@ use Rattle.gypsy_meaning.proofs.OpenLaws.{put_opens}
 use Rattle.gypsy_meaning.proofs.pending.Work.begun.Goals as goal
 
 pub returns : goal.returns
-returns c =
+returns g c =
     let v : List Item = [] in
     let none : work_on c.new-items.result.items v ≡ v = ap (λ (l : List Kept). work_on l v) c.new-items.ensures.items in
     sym (put_opens (seen_statement c.args.body.now.value) c.new-items.result.items c.open.new.work.items c.in_ok-_opened._opened v v v none

@@ -8,7 +8,7 @@ use Rattle.gypsy_meaning.proofs.OpenLaws.{moved}
 use Rattle.gypsy_meaning.proofs.pending.Work.raise.Goals as goal
 
 pub returns-clause-done : goal.returns-clause-done
-returns-clause-done c = λ p x fs t.
+returns-clause-done g c = λ p x fs t.
     let items = c.as_slice-items.result.now in
     let added = c.raise.new.added.items in
     let kept = c.in_ok-raised.raised.kept in

@@ -7,7 +7,7 @@ use Rattle.gypsy_meaning.proofs.OpenLaws.{moved}
 use Rattle.gypsy_meaning.proofs.pending.Work.settle.Goals as goal
 
 pub returns-clause-done : goal.returns-clause-done
-returns-clause-done c =
+returns-clause-done g c =
     let items = c.as_slice-items.result.now in
     let added = c.settled.new.added.items in
     let kept = c.in_ok-kept.kept in

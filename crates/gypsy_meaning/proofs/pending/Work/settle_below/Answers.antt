@@ -6,7 +6,7 @@ use Rattle.gypsy_meaning.proofs.OpenLaws.{moved, popped}
 use Rattle.gypsy_meaning.proofs.pending.Work.settle_below.Goals as goal
 
 pub returns-clause-done : goal.returns-clause-done
-returns-clause-done c = λ i w top.
+returns-clause-done g c = λ i w top.
     let items = c.as_slice-items.result.now in
     let added = c.settled.new.added.items in
     let kept = c.in_ok-kept.kept in

@@ -7,7 +7,7 @@ use Rattle.gypsy_meaning.proofs.TurnLaws.{goes_moved, opens_moved}
 use Rattle.gypsy_meaning.proofs.pending.Work.turn.Goals as goal
 
 pub returns-in_ok-change-in-Opens-clause-done : goal.returns-in_ok-change-in-Opens-clause-done
-returns-in_ok-change-in-Opens-clause-done c =
+returns-in_ok-change-in-Opens-clause-done g c =
     let x : List ValueOf = map (λ v. v.1) c.args.variables.now in
     let items = c.as_slice.result.now in
     let added = c.next_turn.new.added.items in
@@ -20,7 +20,7 @@ returns-in_ok-change-in-Opens-clause-done c =
     c.in_ok-turn.ensures c.in-Opens.is same left
 
 pub returns-in_ok-change-in-Goes-clause-done : goal.returns-in_ok-change-in-Goes-clause-done
-returns-in_ok-change-in-Goes-clause-done c =
+returns-in_ok-change-in-Goes-clause-done g c =
     let x : List ValueOf = map (λ v. v.1) c.args.variables.now in
     let items = c.as_slice.result.now in
     let added = c.next_turn.new.added.items in

@@ -6,7 +6,7 @@ use Rattle.gypsy_meaning.proofs.ReturningLaws.{end_moves}
 use Rattle.gypsy_meaning.proofs.running.Meaning.end_call.Goals as goal
 
 pub returns-clause-done : goal.returns-clause-done
-returns-clause-done c =
+returns-clause-done g c =
     let m = c.args.self.now in
     let Q : Meaning → Type 0 = Moves m in
     let R : ℕ → Type 0 = λ cost. Moves m (paid cost c.resume.new.self) in

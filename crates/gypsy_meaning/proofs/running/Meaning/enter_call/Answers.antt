@@ -12,7 +12,7 @@ use Rattle.gypsy_meaning.proofs.CallingLaws.{after_call, enters}
 use Rattle.gypsy_meaning.proofs.running.Meaning.enter_call.Goals as goal
 
 pub wait-requires-clause-few : goal.wait-requires-clause-few
-wait-requires-clause-few c =
+wait-requires-clause-few g c =
     let m = c.args.self.now in
     let site = c.args.site.value in
     let callee_vars = c.in_ok-variables.field-0.variables in
@@ -26,7 +26,7 @@ wait-requires-clause-few c =
     omega (arith, number, sized)
 
 pub returns-clause-done : goal.returns-clause-done
-returns-clause-done c =
+returns-clause-done g c =
     let m = c.args.self.now in
     let q = seen_program m.program in
     let ns = c.args.needs.now.procedures.items in

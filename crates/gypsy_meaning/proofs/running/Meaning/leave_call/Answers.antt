@@ -14,7 +14,7 @@ use Rattle.gypsy_meaning.proofs.ReturningLaws.{leave_moves}
 use Rattle.gypsy_meaning.proofs.running.Meaning.leave_call.Goals as goal
 
 pub returns-in-Ok-clause-done : goal.returns-in-Ok-clause-done
-returns-in-Ok-clause-done c =
+returns-in-Ok-clause-done g c =
     let m = c.args.self.now in
     let q = seen_program m.program in
     let d = seen_cond c.args.cond in

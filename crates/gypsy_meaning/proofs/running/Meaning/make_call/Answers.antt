@@ -10,7 +10,7 @@ use Rattle.gypsy_meaning.proofs.CallingLaws.{lacks_temporary, lacks_control}
 use Rattle.gypsy_meaning.proofs.running.Meaning.make_call.Goals as goal
 
 pub raise_space-requires-clause-turn : goal.raise_space-requires-clause-turn
-raise_space-requires-clause-turn c =
+raise_space-requires-clause-turn g c =
     let m = c.args.self.now in
     let ns = c.args.needs.now.procedures.items in
     let site = c.args.site.value in
@@ -22,7 +22,7 @@ raise_space-requires-clause-turn c =
     lacks_temporary m ns site top.0 c.requires.needs there top.1 c.requires.held.top.used_words lack
 
 pub raise_space-requires-in-Control-clause-turn : goal.raise_space-requires-in-Control-clause-turn
-raise_space-requires-in-Control-clause-turn c =
+raise_space-requires-in-Control-clause-turn g c =
     let m = c.args.self.now in
     let ns = c.args.needs.now.procedures.items in
     let site = c.args.site.value in

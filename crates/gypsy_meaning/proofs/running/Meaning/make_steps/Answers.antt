@@ -10,13 +10,13 @@ use Rattle.gypsy_meaning.proofs.running.Meaning.make_steps.Goals as goal
 
 pub loop-made-init : goal.loop-made-init
 unfolding after
-loop-made-init c =
+loop-made-init g c =
     let v = seen c.args.self.now in
     let all : c.args.limit - 0 ≡ c.args.limit = omega arith in
     (ap (λ (n : ℕ). meaning_run n v) all, refl, c.requires)
 
 pub returns-in-Ended-clause-ran : goal.returns-in-Ended-clause-ran
-returns-in-Ended-clause-ran c =
+returns-in-Ended-clause-ran g c =
     let v = seen c.loop-made.self in
     let r = meaning_run c.args.limit (seen c.args.self.now) in
     let lt : c.loop-made._made < c.args.limit = omega arith in
@@ -24,7 +24,7 @@ returns-in-Ended-clause-ran c =
     ∙ ap (λ (s : Seen). let b : Ran = record { run = ran.Ended; seen = s } in b) (sym c.in_ok-step.ensures.left)
 
 pub loop-made-preserved : goal.loop-made-preserved
-loop-made-preserved c =
+loop-made-preserved g c =
     let v = seen c.loop-made.self in
     let w = seen c.args.self.now in
     let made = c.loop-made._made in
@@ -38,14 +38,14 @@ loop-made-preserved c =
     )
 
 pub returns-then-ended-clause-ran : goal.returns-then-ended-clause-ran
-returns-then-ended-clause-ran c =
+returns-then-ended-clause-ran g c =
     let v = seen c.loop-made.self in
     let past : c.args.limit ≤ c.loop-made._made = omega arith in
     run_done c.args.limit c.loop-made._made v (meaning_run c.args.limit (seen c.args.self.now)) past c.loop-made.invariant.0
     ∙ ap (λ (e : MeanRun). let b : Ran = record { run = e; seen = v } in b) (end_over v.stage true (sym c.ended.ensures ∙ c.if-ended.true))
 
 pub returns-else-ended-clause-ran : goal.returns-else-ended-clause-ran
-returns-else-ended-clause-ran c =
+returns-else-ended-clause-ran g c =
     let v = seen c.loop-made.self in
     let past : c.args.limit ≤ c.loop-made._made = omega arith in
     run_done c.args.limit c.loop-made._made v (meaning_run c.args.limit (seen c.args.self.now)) past c.loop-made.invariant.0

@@ -9,7 +9,7 @@ use Rattle.gypsy_meaning.proofs.RunningLaws.{step_moves}
 use Rattle.gypsy_meaning.proofs.running.Meaning.raise_space.Goals as goal
 
 pub returns-clause-done : goal.returns-clause-done
-returns-clause-done c =
+returns-clause-done g c =
     let m = c.args.self.now in
     let top = c.requires.turn in
     let a : Advance = record { event = c.args.event; caught = c.in_ok-caught.caught } in

@@ -15,10 +15,9 @@ use Rattle.gypsy_meaning.specs.declared.names.Names.{Names}
 use Rattle.gypsy_meaning.specs.declared.running.Meaning.{Meaning}
 use Rattle.gypsy_meaning.proofs.StartLaws.{belongs, main_sized, main_there, main_words, opens}
 use Rattle.gypsy_meaning.proofs.running.Meaning.start.Goals as goal
-use Rattle.gypsy_meaning.proofs.running.Meaning.start.Goals.{After-new-2}
 
 pub main_activation-requires-clause-there : goal.main_activation-requires-clause-there
-main_activation-requires-clause-there c =
+main_activation-requires-clause-there g c =
     let s = source_of c.args.accepted.now in
     let names : map seen_names c.in_ok-names.names.items ≡ map proc_names s.procs =
     c.in_ok-names.ensures ∙ ap (λ a. map proc_names (source_of a).procs) c.source.ensures.value in
@@ -27,7 +26,7 @@ main_activation-requires-clause-there c =
     subst P (sym c.as_slice.ensures.value) there
 
 pub main_activation-requires-clause-sized : goal.main_activation-requires-clause-sized
-main_activation-requires-clause-sized c =
+main_activation-requires-clause-sized g c =
     let s = source_of c.args.accepted.now in
     let code = c.in_ok-program.program in
     let names : map seen_names c.in_ok-names.names.items ≡ map proc_names s.procs =
@@ -38,70 +37,80 @@ main_activation-requires-clause-sized c =
     subst P (sym c.as_slice.ensures.value) sized
 
 pub words-used_temp-requires : goal.words-used_temp-requires
-words-used_temp-requires c =
+words-used_temp-requires g c =
     let s = source_of c.args.accepted.now in
     let vars : map (λ v. v.1) c.as_slice-2.result.now ≡ main_start (seen_program c.in_ok-program.program) c.args.values.now =
     ap (λ (l : List (Name × Value)). map (λ v. v.1) l) c.as_slice-2.ensures.value ∙ c.in_ok-variables.ensures.variables in
     main_words s c.source.ensures.accepted c.in_ok-program.program c.in_ok-program.ensures.program c.as_slice-2.result.now c.args.values.now
     c.requires.values vars
 
--- the run that is made
-abbrev made : After-new-2 → Meaning
-made c = record {
-  program = c.in_ok-program.program;
-  names = c.in_ok-names.names;
-  unnamed = c.new.result;
-  values = c.in_ok-values.values;
-  temp = c.args.temp;
-  ctrl = c.args.ctrl;
-  procedure = c.in_ok-program.program.main;
-  variables = c.in_ok-variables.field-0.variables;
-  work = c.in_ok-variables.field-0.work;
-  used_temp = c.words-used_temp.result;
-  used_ctrl = c.len.result + 2;
-  waiting = c.new-2.result;
-  steps = 0;
-  counted = 0;
-  cost = 0;
-  ending = None;
-}
-
--- its values, its names and its variables are those of the source
-record Starts (c : After-new-2) : Type 0 where
-  fit : VarsFit (proc_at (program_of (source_of c.args.accepted.now)) (program_of (source_of c.args.accepted.now)).main).formals (made c).values.items
-  names : map seen_names (made c).names.items ≡ map proc_names (source_of c.args.accepted.now).procs
-  vars : map (λ v. v.1) (made c).variables.items ≡ main_start (seen_program (made c).program) (made c).values.items
-  named : map (λ v. v.0) (made c).variables.items ≡ variables_of (made c).names.items (made c).program.main
-
-starts : (c : After-new-2) → Starts c
-starts c =
-    let m = made c in
-    let q = program_of (source_of c.args.accepted.now) in
-    let P : List ValueOf → Type 0 = VarsFit (proc_at q q.main).formals in
-    record {
-      fit = subst P (sym c.in_ok-values.ensures) c.requires.values;
-      names = c.in_ok-names.ensures ∙ ap (λ a. map proc_names (source_of a).procs) c.source.ensures.value;
-      vars = c.in_ok-variables.ensures.variables ∙ ap (main_start (seen_program m.program)) (sym c.in_ok-values.ensures);
-      named = c.in_ok-variables.ensures.names ∙ ap (λ (t : List Names). variables_of t m.program.main) c.as_slice.ensures.value;
-    }
-
 pub returns-clause-opening : goal.returns-clause-opening
-returns-clause-opening c =
+returns-clause-opening g c =
     let s = source_of c.args.accepted.now in
-    let m = made (goal.at.returns-clause-opening c).After-new-2 in
-    let h = starts (goal.at.returns-clause-opening c).After-new-2 in
-    opens s m c.source.ensures.accepted c.in_ok-program.ensures.program h.names h.fit refl h.vars h.named c.in_ok-variables.ensures.work
+    let q = program_of s in
+    let m : Meaning = record {
+      program = c.in_ok-program.program;
+      names = c.in_ok-names.names;
+      unnamed = c.new.result;
+      values = c.in_ok-values.values;
+      temp = c.args.temp;
+      ctrl = c.args.ctrl;
+      procedure = c.in_ok-program.program.main;
+      variables = c.in_ok-variables.field-0.variables;
+      work = c.in_ok-variables.field-0.work;
+      used_temp = c.words-used_temp.result;
+      used_ctrl = c.len.result + 2;
+      waiting = c.new-2.result;
+      steps = 0;
+      counted = 0;
+      cost = 0;
+      ending = None;
+    } in
+    let P : List ValueOf → Type 0 = VarsFit (proc_at q q.main).formals in
+    let fit : VarsFit (proc_at q q.main).formals m.values.items = subst P (sym c.in_ok-values.ensures) c.requires.values in
+    let names : map seen_names m.names.items ≡ map proc_names s.procs =
+    c.in_ok-names.ensures ∙ ap (λ a. map proc_names (source_of a).procs) c.source.ensures.value in
+    let vars : map (λ v. v.1) m.variables.items ≡ main_start (seen_program m.program) m.values.items =
+    c.in_ok-variables.ensures.variables ∙ ap (main_start (seen_program m.program)) (sym c.in_ok-values.ensures) in
+    let named : map (λ v. v.0) m.variables.items ≡ variables_of m.names.items m.program.main =
+    c.in_ok-variables.ensures.names ∙ ap (λ (t : List Names). variables_of t m.program.main) c.as_slice.ensures.value in
+    opens s m c.source.ensures.accepted c.in_ok-program.ensures.program names fit refl vars named c.in_ok-variables.ensures.work
     c.new-2.ensures.items refl refl refl refl
     ∙ ap (opening (program_of s) (stack_sizes c.args.ctrl c.args.temp)) c.in_ok-values.ensures
 
 pub returns-clause-belongs : goal.returns-clause-belongs
-returns-clause-belongs c =
+returns-clause-belongs g c =
     let s = source_of c.args.accepted.now in
-    let m = made (goal.at.returns-clause-belongs c).After-new-2 in
-    let h = starts (goal.at.returns-clause-belongs c).After-new-2 in
+    let q = program_of s in
+    let m : Meaning = record {
+      program = c.in_ok-program.program;
+      names = c.in_ok-names.names;
+      unnamed = c.new.result;
+      values = c.in_ok-values.values;
+      temp = c.args.temp;
+      ctrl = c.args.ctrl;
+      procedure = c.in_ok-program.program.main;
+      variables = c.in_ok-variables.field-0.variables;
+      work = c.in_ok-variables.field-0.work;
+      used_temp = c.words-used_temp.result;
+      used_ctrl = c.len.result + 2;
+      waiting = c.new-2.result;
+      steps = 0;
+      counted = 0;
+      cost = 0;
+      ending = None;
+    } in
+    let P : List ValueOf → Type 0 = VarsFit (proc_at q q.main).formals in
+    let fit : VarsFit (proc_at q q.main).formals m.values.items = subst P (sym c.in_ok-values.ensures) c.requires.values in
+    let names : map seen_names m.names.items ≡ map proc_names s.procs =
+    c.in_ok-names.ensures ∙ ap (λ a. map proc_names (source_of a).procs) c.source.ensures.value in
+    let vars : map (λ v. v.1) m.variables.items ≡ main_start (seen_program m.program) m.values.items =
+    c.in_ok-variables.ensures.variables ∙ ap (main_start (seen_program m.program)) (sym c.in_ok-values.ensures) in
+    let named : map (λ v. v.0) m.variables.items ≡ variables_of m.names.items m.program.main =
+    c.in_ok-variables.ensures.names ∙ ap (λ (t : List Names). variables_of t m.program.main) c.as_slice.ensures.value in
     let temp : m.used_temp ≡ words_of (map (λ v. v.shape) (map (λ v. v.1) m.variables.items)) =
     c.words-used_temp.ensures ∙ ap (λ (l : List (Name × Value)). words_of (map (λ v. v.shape) (map (λ v. v.1) l))) c.as_slice-2.ensures.value in
     let ctrl : m.used_ctrl ≡ length m.variables.items + 2 = omega (arith, c.len.ensures, m.variables.ok) in
-    belongs s m c.source.ensures.accepted c.in_ok-program.ensures.program h.names h.fit refl h.vars h.named c.in_ok-variables.ensures.work
+    belongs s m c.source.ensures.accepted c.in_ok-program.ensures.program names fit refl vars named c.in_ok-variables.ensures.work
     c.new-2.ensures.items refl c.args.needs.now.procedures.items c.requires.needs c.requires.small c.requires.sizes c.new.ensures
     refl refl refl temp ctrl

@@ -12,7 +12,7 @@ use Rattle.gypsy_meaning.proofs.TurnLaws.{goes_moved, opens_moved}
 use Rattle.gypsy_meaning.proofs.running.Meaning.step_within.Goals as goal
 
 pub returns-in-Opens-clause-done : goal.returns-in-Opens-clause-done
-returns-in-Opens-clause-done c =
+returns-in-Opens-clause-done g c =
     let m = c.args.self.now in
     let x : List ValueOf = map (λ v. v.1) m.variables.items in
     let w = work_of m.work in
@@ -24,7 +24,7 @@ returns-in-Opens-clause-done c =
     subst P (sym c.pay.ensures) (open_moves c.turn.new.self m (opens_moved x w w u left c.in-Opens.field-0 c.in_ok-turn.field-0 h c.in-Opens.is refl refl))
 
 pub returns-in-Goes-clause-done : goal.returns-in-Goes-clause-done
-returns-in-Goes-clause-done c =
+returns-in-Goes-clause-done g c =
     let m = c.args.self.now in
     let x : List ValueOf = map (λ v. v.1) m.variables.items in
     let w = work_of m.work in

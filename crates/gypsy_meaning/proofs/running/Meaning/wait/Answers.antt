@@ -11,7 +11,7 @@ use Rattle.gypsy_meaning.specs.declared.running.Frame.{Frame}
 use Rattle.gypsy_meaning.proofs.running.Meaning.wait.Goals as goal
 
 pub returns-clause-done : goal.returns-clause-done
-returns-clause-done c = λ below top.
+returns-clause-done g c = λ below top.
     let m = c.args.self.now in
     let x = map (λ v. v.1) m.variables.items in
     let y = map (λ v. v.1) c.args.callee.items in
