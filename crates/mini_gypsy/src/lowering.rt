@@ -1,12 +1,13 @@
 //! The source that a program becomes.
 
 ghost use Rattle.std.specs.Prelude.{◌≡◌, ◌≤◌, ◌^◌, IfOk, length};
+ghost use Rattle.stack_heap.specs.Heaps.{IfOkUnless};
 ghost use Rattle.gypsy_syntax.specs.Views.SourceView.{proc_of, source_of};
 ghost use Rattle.gypsy_check.specs.Accepted.{IsAccepted};
 ghost use Rattle.mini_syntax.specs.Lawful.{IsLawful};
 ghost use Rattle.mini_gypsy.specs.Lowered.{lowered, main_procedure};
 ghost use Rattle.mini_gypsy.specs.Promises.{Lowers};
-ghost use Rattle.mini_syntax.specs.MiniReading.{RefusesText};
+ghost use Rattle.mini_syntax.specs.MiniReading.{RefusesTextUnless};
 ghost use Rattle.mini_syntax.specs.ProgramView.{block_in};
 
 use crate::statements::block;
@@ -14,38 +15,38 @@ use crate::temporaries::{formals, temporaries};
 use gypsy_check::{Accepted, CheckFault, check};
 use gypsy_syntax::{Proc, Source, plain_form};
 use mini_syntax::{InfixProgram, MiniFault, read_mini};
+use stack_heap::Heap;
 use stack_text::{Memory, Named};
-use std::alloc::Global;
 
 /// The procedure that a program becomes.
-fn main_procedure(alloc: Global, program: &InfixProgram) -> Result<Proc, Memory>
+fn main_procedure<H: Heap>(heap: H, program: &InfixProgram) -> Result<Proc, Memory>
     requires lawful { IsLawful program.now.declared.items (block_in program.now.body.items) }
-    ensures { IfOk result (λ made.
+    ensures { IfOkUnless (H.may_refuse heap) result (λ made.
         proc_of made ≡ main_procedure program.now.declared.items (block_in program.now.body.items)) }
 {
     let declared = program.declared.as_slice();
     Ok(Proc {
         place: 0,
-        name: Named::unplaced(alloc, b"main".as_slice())?,
-        formals: formals(alloc, declared)?,
-        conds: Vec::new(alloc),
-        locals: temporaries(alloc)?,
-        local_conds: Vec::new(alloc),
-        body: block(alloc, declared, program.body.as_slice())?,
+        name: Named::unplaced(heap, b"main".as_slice())?,
+        formals: formals(heap, declared)?,
+        conds: Vec::new(heap.handle()),
+        locals: temporaries(heap)?,
+        local_conds: Vec::new(heap.handle()),
+        body: block(heap, declared, program.body.as_slice())?,
     })
 }
 
 /// The source that a program becomes.
-fn source(alloc: Global, program: &InfixProgram) -> Result<Source, Memory>
+fn source<H: Heap>(heap: H, program: &InfixProgram) -> Result<Source, Memory>
     requires lawful { IsLawful program.now.declared.items (block_in program.now.body.items) }
-    ensures { IfOk result (λ made.
+    ensures { IfOkUnless (H.may_refuse heap) result (λ made.
         source_of made ≡ lowered program.now.declared.items (block_in program.now.body.items)) }
 {
-    let mut procs = Vec::new(alloc);
-    procs.push(main_procedure(alloc, program)?)?;
+    let mut procs = Vec::new(heap.handle());
+    heap.push(&mut procs, main_procedure(heap, program)?)?;
     Ok(Source {
         place: 0,
-        main: Named::unplaced(alloc, b"main".as_slice())?,
+        main: Named::unplaced(heap, b"main".as_slice())?,
         procs,
     })
 }
@@ -54,15 +55,15 @@ fn source(alloc: Global, program: &InfixProgram) -> Result<Source, Memory>
 ///
 /// It has one procedure `main`, whose formals are the declared variables in order, and means the same as the program. The
 /// only error is out of memory.
-fn lower_program(alloc: Global, program: &InfixProgram) -> Result<Accepted, Memory>
+fn lower_program<H: Heap>(heap: H, program: &InfixProgram) -> Result<Accepted, Memory>
     requires lawful { IsLawful program.now.declared.items (block_in program.now.body.items) }
-    ensures lowered { IfOk result (λ accepted.
+    ensures lowered { IfOkUnless (H.may_refuse heap) result (λ accepted.
         source_of accepted ≡ lowered program.now.declared.items (block_in program.now.body.items)) }
     ensures accepted { IfOk result (λ accepted. IsAccepted (source_of accepted)) }
 {
     plain_form();
-    let source = source(alloc, program)?;
-    match check(alloc, source) {
+    let source = source(heap, program)?;
+    match check(heap, source) {
         Ok(accepted) => Ok(accepted),
         Err(CheckFault::Memory) => Err(Memory),
         Err(CheckFault::Violation { rule: _, place: _ }) => unreachable!(),
@@ -80,12 +81,12 @@ fn lower_program(alloc: Global, program: &InfixProgram) -> Result<Accepted, Memo
 ///
 /// The first token that breaks one of the rules 1 to 4, with the least rule that it breaks; or else the least place and
 /// then the least rule of 5 to 9; or out of memory.
-pub fn lower(alloc: Global, text: &[u8]) -> Result<Accepted, MiniFault>
+pub fn lower<H: Heap>(heap: H, text: &[u8]) -> Result<Accepted, MiniFault>
     requires { length text.now ≤ 2 ^ 20 }
     ensures lowers { IfOk result (λ accepted. Lowers text.now (source_of accepted)) }
-    ensures fault { RefusesText text.now result }
+    ensures fault { RefusesTextUnless (H.may_refuse heap) text.now result }
 {
-    let program = read_mini(alloc, text)?;
-    let accepted = lower_program(alloc, &program)?;
+    let program = read_mini(heap, text)?;
+    let accepted = lower_program(heap, &program)?;
     Ok(accepted)
 }

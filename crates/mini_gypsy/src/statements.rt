@@ -1,6 +1,7 @@
 //! The statements of a program, lowered.
 
-ghost use Rattle.std.specs.Prelude.{◌≡◌, ◌<◌, ◌++◌, IfOk, OnOk, [], ◌∷◌, length, map, slice_get, Some};
+ghost use Rattle.std.specs.Prelude.{◌≡◌, ◌<◌, ◌++◌, [], ◌∷◌, length, map, slice_get, Some};
+ghost use Rattle.stack_heap.specs.Heaps.{IfOkUnless, OnOkUnless};
 ghost use Rattle.gypsy_syntax.specs.Made.{new_seq};
 ghost use Rattle.gypsy_syntax.specs.Sources.{loop, no_op};
 ghost use Rattle.gypsy_syntax.specs.Views.SourceView.{stmt_of};
@@ -17,44 +18,45 @@ use crate::temporaries::{temporary, variable};
 use crate::values::append_value;
 use gypsy_syntax::{Predef, Stmt};
 use mini_syntax::{Declared, Exp, Sort, Statement};
+use stack_heap::Heap;
 use stack_text::{Memory, Named};
-use std::alloc::Global;
 
 /// A declared variable is set to the temporary at depth 0.
-fn set_variable(
-    alloc: Global,
+fn set_variable<H: Heap>(
+    heap: H,
     declared: &[Declared],
     index: u32,
     sort: Sort,
 ) -> Result<Stmt, Memory>
     requires { index < length declared.now }
     ensures { let name = nth_name (map (λ d. d.name) declared.now) index in
-        IfOk result (λ made. stmt_of made ≡ set_name name (temporary_name sort 0)) }
+        IfOkUnless (H.may_refuse heap) result (λ made. stmt_of made ≡ set_name name (temporary_name sort 0)) }
 {
-    let to = variable(declared, index)?;
-    let from = temporary(alloc, sort, 0)?;
-    call_two(alloc, Predef::MgSimpleVariableAssignment, to, from)
+    let to = variable(heap, declared, index)?;
+    let from = temporary(heap, sort, 0)?;
+    call_two(heap, Predef::MgSimpleVariableAssignment, to, from)
 }
 
 /// One of two statements, by the test that was put at depth 0.
-fn choice(alloc: Global, then: Stmt, otherwise: Stmt) -> Result<Stmt, Memory>
-    ensures { IfOk result (λ made. stmt_of made ≡ choice_parts (stmt_of then) (stmt_of otherwise)) }
+fn choice<H: Heap>(heap: H, then: Stmt, otherwise: Stmt) -> Result<Stmt, Memory>
+    ensures { IfOkUnless (H.may_refuse heap) result
+        (λ made. stmt_of made ≡ choice_parts (stmt_of then) (stmt_of otherwise)) }
 {
     Ok(Stmt::If {
         place: 0,
-        test: temporary(alloc, Sort::Bool, 0)?,
-        yes: Box::new(alloc, then)?,
-        no: Box::new(alloc, otherwise)?,
+        test: temporary(heap, Sort::Bool, 0)?,
+        yes: heap.boxed(then)?,
+        no: heap.boxed(otherwise)?,
     })
 }
 
 /// The end of a loop.
-fn leave(alloc: Global) -> Result<Stmt, Memory>
-    ensures { IfOk result (λ made. stmt_of made ≡ leave) }
+fn leave<H: Heap>(heap: H) -> Result<Stmt, Memory>
+    ensures { IfOkUnless (H.may_refuse heap) result (λ made. stmt_of made ≡ leave) }
 {
     Ok(Stmt::Signal {
         place: 0,
-        cond: Named::unplaced(alloc, b"leave".as_slice())?,
+        cond: Named::unplaced(heap, b"leave".as_slice())?,
     })
 }
 
@@ -66,18 +68,19 @@ fn sequence(parts: Vec<Stmt>) -> Stmt
 }
 
 /// Parts in turn, again and again.
-fn repeated(alloc: Global, parts: Vec<Stmt>) -> Result<Stmt, Memory>
-    ensures { IfOk result (λ made. stmt_of made ≡ loop 0 (new_seq 0 (map stmt_of parts.items))) }
+fn repeated<H: Heap>(heap: H, parts: Vec<Stmt>) -> Result<Stmt, Memory>
+    ensures { IfOkUnless (H.may_refuse heap) result
+        (λ made. stmt_of made ≡ loop 0 (new_seq 0 (map stmt_of parts.items))) }
 {
     Ok(Stmt::Loop {
         place: 0,
-        body: Box::new(alloc, sequence(parts))?,
+        body: heap.boxed(sequence(parts))?,
     })
 }
 
 /// Appends an assignment.
-fn append_assignment(
-    alloc: Global,
+fn append_assignment<H: Heap>(
+    heap: H,
     parts: &mut Vec<Stmt>,
     declared: &[Declared],
     index: u32,
@@ -86,17 +89,17 @@ fn append_assignment(
     requires there { slice_get (map (λ d. d.sort) declared.now) index ≡ Some (sort_of (exp_of value.now)) }
     requires fine { IsFine (map (λ d. d.sort) declared.now) (sort_of (exp_of value.now)) (exp_of value.now) }
     ensures { let parts_of = statement_parts (map (λ d. d.name) declared.now) (Assign index (exp_of value.now)) in
-        OnOk result (map stmt_of parts.new.items ≡ map stmt_of parts.old.items ++ parts_of) }
+        OnOkUnless (H.may_refuse heap) result (map stmt_of parts.new.items ≡ map stmt_of parts.old.items ++ parts_of) }
 {
-    append_value(alloc, parts, declared, 0, value)?;
-    let made = set_variable(alloc, declared, index, value.sort())?;
-    parts.push(made)?;
+    append_value(heap, parts, declared, 0, value)?;
+    let made = set_variable(heap, declared, index, value.sort())?;
+    heap.push(parts, made)?;
     Ok(())
 }
 
 /// Appends a loop of a test and a statement.
-fn append_while(
-    alloc: Global,
+fn append_while<H: Heap>(
+    heap: H,
     parts: &mut Vec<Stmt>,
     declared: &[Declared],
     test: &Exp,
@@ -105,20 +108,20 @@ fn append_while(
     requires { IsFine (map (λ d. d.sort) declared.now) Bool (exp_of test.now) }
     ensures { let value = value_parts (map (λ d. d.name) declared.now) 0 (exp_of test.now) in
         let made = loop 0 (new_seq 0 (value ++ choice_parts (stmt_of then) leave ∷ [])) in
-        OnOk result (map stmt_of parts.new.items ≡ map stmt_of parts.old.items ++ made ∷ []) }
+        OnOkUnless (H.may_refuse heap) result (map stmt_of parts.new.items ≡ map stmt_of parts.old.items ++ made ∷ []) }
 {
-    let mut round = Vec::new(alloc);
-    append_value(alloc, &mut round, declared, 0, test)?;
-    let made = choice(alloc, then, leave(alloc)?)?;
-    round.push(made)?;
-    let whole = repeated(alloc, round)?;
-    parts.push(whole)?;
+    let mut round = Vec::new(heap.handle());
+    append_value(heap, &mut round, declared, 0, test)?;
+    let made = choice(heap, then, leave(heap)?)?;
+    heap.push(&mut round, made)?;
+    let whole = repeated(heap, round)?;
+    heap.push(parts, whole)?;
     Ok(())
 }
 
 /// Appends a test and one of two statements.
-fn append_if(
-    alloc: Global,
+fn append_if<H: Heap>(
+    heap: H,
     parts: &mut Vec<Stmt>,
     declared: &[Declared],
     test: &Exp,
@@ -128,44 +131,45 @@ fn append_if(
     requires { IsFine (map (λ d. d.sort) declared.now) Bool (exp_of test.now) }
     ensures { let value = value_parts (map (λ d. d.name) declared.now) 0 (exp_of test.now) in
         let made = choice_parts (stmt_of then) (stmt_of otherwise) in
-        OnOk result (map stmt_of parts.new.items ≡ map stmt_of parts.old.items ++ (value ++ made ∷ [])) }
+        OnOkUnless (H.may_refuse heap) result
+        (map stmt_of parts.new.items ≡ map stmt_of parts.old.items ++ (value ++ made ∷ [])) }
 {
-    append_value(alloc, parts, declared, 0, test)?;
-    let made = choice(alloc, then, otherwise)?;
-    parts.push(made)?;
+    append_value(heap, parts, declared, 0, test)?;
+    let made = choice(heap, then, otherwise)?;
+    heap.push(parts, made)?;
     Ok(())
 }
 
 /// What a block begins with, so that it has a statement even if it is empty.
-fn opened(alloc: Global) -> Result<Vec<Stmt>, Memory>
-    ensures { IfOk result (λ parts. map stmt_of parts.items ≡ no_op 0 ∷ []) }
+fn opened<H: Heap>(heap: H) -> Result<Vec<Stmt>, Memory>
+    ensures { IfOkUnless (H.may_refuse heap) result (λ parts. map stmt_of parts.items ≡ no_op 0 ∷ []) }
 {
-    let mut parts = Vec::new(alloc);
-    parts.push(Stmt::NoOp { place: 0 })?;
+    let mut parts = Vec::new(heap.handle());
+    heap.push(&mut parts, Stmt::NoOp { place: 0 })?;
     Ok(parts)
 }
 
 /// Appends what a statement becomes.
 #[cycle(statements)]
-fn append_statement(
-    alloc: Global,
+fn append_statement<H: Heap>(
+    heap: H,
     statement: &Statement,
     parts: &mut Vec<Stmt>,
     declared: &[Declared],
 ) -> Result<(), Memory>
     requires { AreFine (map (λ d. d.sort) declared.now) (statement_in statement.now) }
     ensures { let made = statement_parts (map (λ d. d.name) declared.now) (statement_in statement.now) in
-        OnOk result (map stmt_of parts.new.items ≡ map stmt_of parts.old.items ++ made) }
+        OnOkUnless (H.may_refuse heap) result (map stmt_of parts.new.items ≡ map stmt_of parts.old.items ++ made) }
 {
     match statement {
         Statement::Assign { index, value } => {
-            append_assignment(alloc, parts, declared, *index, value)?;
+            append_assignment(heap, parts, declared, *index, value)?;
             Ok(())
         }
         Statement::While { test, body } => {
-            let mut inner = opened(alloc)?;
-            append_statements(alloc, body.as_slice(), &mut inner, declared)?;
-            append_while(alloc, parts, declared, test, sequence(inner))?;
+            let mut inner = opened(heap)?;
+            append_statements(heap, body.as_slice(), &mut inner, declared)?;
+            append_while(heap, parts, declared, test, sequence(inner))?;
             Ok(())
         }
         Statement::If {
@@ -173,12 +177,12 @@ fn append_statement(
             then,
             otherwise,
         } => {
-            let mut first = opened(alloc)?;
-            append_statements(alloc, then.as_slice(), &mut first, declared)?;
-            let mut second = opened(alloc)?;
-            append_statements(alloc, otherwise.as_slice(), &mut second, declared)?;
+            let mut first = opened(heap)?;
+            append_statements(heap, then.as_slice(), &mut first, declared)?;
+            let mut second = opened(heap)?;
+            append_statements(heap, otherwise.as_slice(), &mut second, declared)?;
             append_if(
-                alloc,
+                heap,
                 parts,
                 declared,
                 test,
@@ -192,33 +196,33 @@ fn append_statement(
 
 /// Appends what statements become.
 #[cycle(statements)]
-fn append_statements(
-    alloc: Global,
+fn append_statements<H: Heap>(
+    heap: H,
     statements: &[Statement],
     parts: &mut Vec<Stmt>,
     declared: &[Declared],
 ) -> Result<(), Memory>
     requires { AreFine (map (λ d. d.sort) declared.now) (block_in statements.now) }
     ensures { let made = statement_parts (map (λ d. d.name) declared.now) (block_in statements.now) in
-        OnOk result (map stmt_of parts.new.items ≡ map stmt_of parts.old.items ++ made) }
+        OnOkUnless (H.may_refuse heap) result (map stmt_of parts.new.items ≡ map stmt_of parts.old.items ++ made) }
 {
     for statement in statements {
-        append_statement(alloc, statement, parts, declared)?;
+        append_statement(heap, statement, parts, declared)?;
     }
     Ok(())
 }
 
 /// The statement that a block becomes.
-pub(crate) fn block(
-    alloc: Global,
+pub(crate) fn block<H: Heap>(
+    heap: H,
     declared: &[Declared],
     statements: &[Statement],
 ) -> Result<Stmt, Memory>
     requires { AreFine (map (λ d. d.sort) declared.now) (block_in statements.now) }
     ensures { let made = statement_parts (map (λ d. d.name) declared.now) (block_in statements.now) in
-        IfOk result (λ block. stmt_of block ≡ block_parts made) }
+        IfOkUnless (H.may_refuse heap) result (λ block. stmt_of block ≡ block_parts made) }
 {
-    let mut parts = opened(alloc)?;
-    append_statements(alloc, statements, &mut parts, declared)?;
+    let mut parts = opened(heap)?;
+    append_statements(heap, statements, &mut parts, declared)?;
     Ok(sequence(parts))
 }

@@ -1,6 +1,7 @@
 //! The names and declarations of variables: the declared ones, and the temporaries.
 
-ghost use Rattle.std.specs.Prelude.{◌≡◌, ◌++◌, ◌<◌, IfOk, OnOk, length, map};
+ghost use Rattle.std.specs.Prelude.{◌≡◌, ◌++◌, ◌<◌, length, map};
+ghost use Rattle.stack_heap.specs.Heaps.{IfOkUnless, OnOkUnless};
 ghost use Rattle.stack_text.specs.Grammar.Printed.{unplaced};
 ghost use Rattle.gypsy_syntax.specs.Made.{new_decl, new_simple};
 ghost use Rattle.gypsy_syntax.specs.Views.SourceView.{local_of};
@@ -11,31 +12,32 @@ ghost use Rattle.mini_syntax.specs.Sorted.{depths};
 use crate::rows::{kind_of, letter_of};
 use gypsy_syntax::{Decl, Literal, Local, TypeText};
 use mini_syntax::{Declared, Sort};
+use stack_heap::Heap;
 use stack_text::{Memory, Named};
-use std::alloc::Global;
 
 /// How deep an expression goes.
 const DEPTHS: u32 = 41;
 
 /// The name of a sort's temporary at a depth.
 #[tactic(auto, using(crate::proofs::NameLaws::temporary_is_name))]
-pub(crate) fn temporary(alloc: Global, sort: Sort, depth: u32) -> Result<Named, Memory>
+pub(crate) fn temporary<H: Heap>(heap: H, sort: Sort, depth: u32) -> Result<Named, Memory>
     requires { depth < depths }
-    ensures { IfOk result (λ named. named ≡ unplaced (temporary_name sort depth)) }
+    ensures { IfOkUnless (H.may_refuse heap) result (λ named. named ≡ unplaced (temporary_name sort depth)) }
 {
     let tens = b'0' + (depth / 10) as u8;
     let ones = b'0' + (depth % 10) as u8;
     let name = [letter_of(sort), b'$', tens, ones];
-    Named::unplaced(alloc, name.as_slice())
+    Named::unplaced(heap, name.as_slice())
 }
 
 /// The name of a declared variable.
-pub(crate) fn variable(declared: &[Declared], index: u32) -> Result<Named, Memory>
+pub(crate) fn variable<H: Heap>(heap: H, declared: &[Declared], index: u32) -> Result<Named, Memory>
     requires { index < length declared.now }
-    ensures { IfOk result (λ named. named ≡ unplaced (nth_name (map (λ d. d.name) declared.now) index)) }
+    ensures { IfOkUnless (H.may_refuse heap) result
+        (λ named. named ≡ unplaced (nth_name (map (λ d. d.name) declared.now) index)) }
 {
     match declared.get(index as usize) {
-        Some(variable) => variable.name.unplaced(),
+        Some(variable) => variable.name.unplaced(heap),
         None => unreachable!(),
     }
 }
@@ -53,11 +55,11 @@ fn declaration(name: Named, sort: Sort) -> Decl
 }
 
 /// The declaration of a temporary.
-fn temporary_local(alloc: Global, sort: Sort, depth: u32) -> Result<Local, Memory>
+fn temporary_local<H: Heap>(heap: H, sort: Sort, depth: u32) -> Result<Local, Memory>
     requires { depth < depths }
-    ensures { IfOk result (λ local. local_of local ≡ temporary_local sort depth) }
+    ensures { IfOkUnless (H.may_refuse heap) result (λ local. local_of local ≡ temporary_local sort depth) }
 {
-    let decl = declaration(temporary(alloc, sort, depth)?, sort);
+    let decl = declaration(temporary(heap, sort, depth)?, sort);
     match sort {
         Sort::Int => Ok(Local {
             decl,
@@ -77,33 +79,36 @@ fn temporary_local(alloc: Global, sort: Sort, depth: u32) -> Result<Local, Memor
 }
 
 /// Appends the temporaries of a sort.
-fn append_locals(alloc: Global, locals: &mut Vec<Local>, sort: Sort) -> Result<(), Memory>
-    ensures { OnOk result (map local_of locals.new.items ≡ map local_of locals.old.items ++ locals_from sort 0 depths) }
+fn append_locals<H: Heap>(heap: H, locals: &mut Vec<Local>, sort: Sort) -> Result<(), Memory>
+    ensures { OnOkUnless (H.may_refuse heap) result
+        (map local_of locals.new.items ≡ map local_of locals.old.items ++ locals_from sort 0 depths) }
 {
     for depth in 0..DEPTHS {
-        locals.push(temporary_local(alloc, sort, depth)?)?;
+        heap.push(locals, temporary_local(heap, sort, depth)?)?;
     }
     Ok(())
 }
 
 /// All temporaries.
 #[tactic(auto, unfolding(crate::specs::Lowered::temporaries))]
-pub(crate) fn temporaries(alloc: Global) -> Result<Vec<Local>, Memory>
-    ensures { IfOk result (λ locals. map local_of locals.items ≡ temporaries) }
+pub(crate) fn temporaries<H: Heap>(heap: H) -> Result<Vec<Local>, Memory>
+    ensures { IfOkUnless (H.may_refuse heap) result (λ locals. map local_of locals.items ≡ temporaries) }
 {
-    let mut locals = Vec::new(alloc);
-    append_locals(alloc, &mut locals, Sort::Int)?;
-    append_locals(alloc, &mut locals, Sort::Bool)?;
+    let mut locals = Vec::new(heap.handle());
+    append_locals(heap, &mut locals, Sort::Int)?;
+    append_locals(heap, &mut locals, Sort::Bool)?;
     Ok(locals)
 }
 
 /// The declared variables.
-pub(crate) fn formals(alloc: Global, declared: &[Declared]) -> Result<Vec<Decl>, Memory>
-    ensures { IfOk result (λ formals. formals.items ≡ map (λ d. decl_of d.name d.sort) declared.now) }
+pub(crate) fn formals<H: Heap>(heap: H, declared: &[Declared]) -> Result<Vec<Decl>, Memory>
+    ensures { IfOkUnless (H.may_refuse heap) result
+        (λ formals. formals.items ≡ map (λ d. decl_of d.name d.sort) declared.now) }
 {
-    let mut formals = Vec::new(alloc);
+    let mut formals = Vec::new(heap.handle());
     for variable in declared {
-        formals.push(declaration(variable.name.unplaced()?, variable.sort))?;
+        let name = variable.name.unplaced(heap)?;
+        heap.push(&mut formals, declaration(name, variable.sort))?;
     }
     Ok(formals)
 }

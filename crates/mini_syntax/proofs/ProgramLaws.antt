@@ -4,7 +4,7 @@ use Rattle.std.proofs.lemmas.List.{append-nil, length-map}
 use Rattle.stack_text.specs.declared.breach.Breach.{Breach}
 use Rattle.stack_text.specs.Breaches.{least, lesser_of}
 use Rattle.stack_text.proofs.BreachLaws.{none_least, notes_more}
-use Rattle.mini_syntax.specs.MiniReading.{IsFault, IsRead, ReadsText, RefusesText, of_program, of_tokens}
+use Rattle.mini_syntax.specs.MiniReading.{IsFault, IsRead, ReadsText, RefusesTextUnless, of_program, of_tokens}
 use Rattle.mini_syntax.specs.Breaches.{body_of, breaches, declared_of, decls_breaches, forms_breaches, forms_stmt}
 use Rattle.mini_syntax.specs.Internal.Declaring.{ReadsDecls, ReadsProgram, are_proper}
 use Rattle.mini_syntax.specs.declared.fault.MiniFault.{MiniFault}
@@ -15,7 +15,7 @@ use Rattle.mini_syntax.specs.declared.program.Statement.{Statement}
 use Rattle.mini_syntax.specs.declared.reading.Reading.{Reading}
 use Rattle.mini_syntax.specs.Faults.{AreFree}
 use Rattle.mini_syntax.specs.Grammar.{IsProgram, InfixProgram, decls_tokens, forms_tokens, program_tokens}
-use Rattle.mini_syntax.specs.Internal.Judging.{Refuses}
+use Rattle.mini_syntax.specs.Internal.Judging.{RefusesUnless}
 use Rattle.mini_syntax.specs.Internal.Lexemes.{token_seen}
 use Rattle.mini_syntax.specs.Internal.Phrases.{ReadsForms}
 use Rattle.mini_syntax.specs.ProgramView.{block_in}
@@ -82,6 +82,6 @@ module _ (text : List ℕ) (ts : List Token) (reading : Reading) (tokens : ts �
   text_faulty breach e = of_program r.tree is_read (sym r.breach ∙ e)
 
 -- a fault of the tokens is the text's
-pub refuses_text : (X Y : Type 0) (text : List ℕ) (e : MiniFault) → Refuses {X = X} text (Err e) → RefusesText {X = Y} text (Err e)
-refuses_text X Y text Memory r = tt
-refuses_text X Y text (Refused rule place) r = of_tokens r
+pub refuses_text : (X Y R : Type 0) (text : List ℕ) (e : MiniFault) → RefusesUnless {X = X} R text (Err e) → RefusesTextUnless {X = Y} R text (Err e)
+refuses_text X Y R text Memory r = r
+refuses_text X Y R text (Refused rule place) r = of_tokens r

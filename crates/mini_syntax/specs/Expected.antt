@@ -120,9 +120,9 @@ is_over st = list_all may_be_empty st
 
 -- The code's stack has its top last.
 
-abbrev pub Pushes : List Expected → Push → Result (Unit {0}) Memory → List Expected → Type 0
-Pushes old what (Ok u) new = reverse new ≡ pushed what (reverse old)
-Pushes old what (Err e) new = Unit {0}
+abbrev pub PushesUnless : Type 0 → List Expected → Push → Result (Unit {0}) Memory → List Expected → Type 0
+PushesUnless refused old what (Ok u) new = reverse new ≡ pushed what (reverse old)
+PushesUnless refused old what (Err e) new = refused
 
 -- the token was taken, or isn't
 abbrev pub Takes : List Expected → TokenKind → Bool → List Expected → Type 0

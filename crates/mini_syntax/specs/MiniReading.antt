@@ -44,8 +44,8 @@ pub data TextReading (text : List ℕ) : Type 0 where
   faultless : (program : grammar.InfixProgram) → IsFaultless text program → TextReading text
   faulty : (breach : Breach) → IsFault text breach.rule breach.place → TextReading text
 
--- an error is the text's fault; out of memory alone is free
-abbrev pub RefusesText : {X : Type 0} → List ℕ → Result X MiniFault → Type 0
-RefusesText text (Ok x) = Unit {0}
-RefusesText text (Err Memory) = Unit {0}
-RefusesText text (Err (Refused rule place)) = IsFault text rule place
+-- an error is the text's fault; out of memory comes only where memory was refused
+abbrev pub RefusesTextUnless : {X : Type 0} → Type 0 → List ℕ → Result X MiniFault → Type 0
+RefusesTextUnless refused text (Ok x) = Unit {0}
+RefusesTextUnless refused text (Err Memory) = refused
+RefusesTextUnless refused text (Err (Refused rule place)) = IsFault text rule place

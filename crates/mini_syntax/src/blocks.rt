@@ -1,6 +1,7 @@
 //! Statements and blocks, read from the tokens of a judged text.
 
-ghost use Rattle.std.specs.Prelude.{◌≡◌, [], ◌∷◌, IfOk, Some};
+ghost use Rattle.std.specs.Prelude.{◌≡◌, [], ◌∷◌, Some};
+ghost use Rattle.stack_heap.specs.Heaps.{IfOkUnless};
 ghost use Rattle.stack_text.specs.Breaches.{Notes};
 ghost use Rattle.mini_syntax.specs.Breaches.{assigns_breaches, test_breaches};
 ghost use Rattle.mini_syntax.specs.declared.blocks.StatementKind.TheVariants as a_statement;
@@ -18,8 +19,8 @@ use crate::program::Statement;
 use crate::scope::{Scope, index_of, sort_of};
 use crate::sort::Sort;
 use crate::word::Word;
+use stack_heap::Heap;
 use stack_text::{Breach, Memory, note_if};
-use std::alloc::Global;
 
 /// The kinds of statements.
 #[derive(Clone, Copy, Debug)]
@@ -69,8 +70,8 @@ fn note_test(best: &mut Option<Breach>, place: u32, test: Option<Sort>)
 }
 
 /// Reads an assignment.
-fn assignment(
-    alloc: Global,
+fn assignment<H: Heap>(
+    heap: H,
     cursor: &mut Cursor,
     scope: &Scope,
     best: &mut Option<Breach>,
@@ -78,14 +79,14 @@ fn assignment(
     requires scope { IsScope scope.now }
     requires awaits { Awaits (wants.MoreStatements ∷ []) (left_of cursor.old) }
     requires begun { Some a_statement.Assignment ≡ statement_kind (next_kind (left_of cursor.old)) }
-    ensures { IfOk result
+    ensures { IfOkUnless (H.may_refuse heap) result
         (ReadsForm scope.now.declared.items (left_of cursor.old) (left_of cursor.new) best.old best.new) }
 {
     let name = cursor.next();
     let found = scope.named(name.bytes);
     note_if(best, found.is_none(), name.place, 6);
     let becomes = cursor.mark(Mark::Becomes);
-    let value = expression(alloc, cursor, scope, best)?;
+    let value = expression(heap, cursor, scope, best)?;
     cursor.mark(Mark::Semicolon);
     note_assignment(best, becomes, sort_of(found), value.sort);
     Ok(Statement::Assign {
@@ -96,8 +97,8 @@ fn assignment(
 
 /// Reads a `while`.
 #[cycle(blocks)]
-fn while_statement(
-    alloc: Global,
+fn while_statement<H: Heap>(
+    heap: H,
     cursor: &mut Cursor,
     scope: &Scope,
     best: &mut Option<Breach>,
@@ -105,13 +106,13 @@ fn while_statement(
     requires scope { IsScope scope.now }
     requires awaits { Awaits (wants.MoreStatements ∷ []) (left_of cursor.old) }
     requires begun { Some a_statement.While ≡ statement_kind (next_kind (left_of cursor.old)) }
-    ensures { IfOk result
+    ensures { IfOkUnless (H.may_refuse heap) result
         (ReadsForm scope.now.declared.items (left_of cursor.old) (left_of cursor.new) best.old best.new) }
 {
     let place = cursor.next().place;
-    let test = expression(alloc, cursor, scope, best)?;
+    let test = expression(heap, cursor, scope, best)?;
     note_test(best, place, test.sort);
-    let body = block(alloc, cursor, scope, best)?;
+    let body = block(heap, cursor, scope, best)?;
     Ok(Statement::While {
         test: test.exp,
         body,
@@ -120,8 +121,8 @@ fn while_statement(
 
 /// Reads an `if`.
 #[cycle(blocks)]
-fn if_statement(
-    alloc: Global,
+fn if_statement<H: Heap>(
+    heap: H,
     cursor: &mut Cursor,
     scope: &Scope,
     best: &mut Option<Breach>,
@@ -129,15 +130,15 @@ fn if_statement(
     requires scope { IsScope scope.now }
     requires awaits { Awaits (wants.MoreStatements ∷ []) (left_of cursor.old) }
     requires begun { Some a_statement.If ≡ statement_kind (next_kind (left_of cursor.old)) }
-    ensures { IfOk result
+    ensures { IfOkUnless (H.may_refuse heap) result
         (ReadsForm scope.now.declared.items (left_of cursor.old) (left_of cursor.new) best.old best.new) }
 {
     let place = cursor.next().place;
-    let test = expression(alloc, cursor, scope, best)?;
+    let test = expression(heap, cursor, scope, best)?;
     note_test(best, place, test.sort);
-    let then = block(alloc, cursor, scope, best)?;
+    let then = block(heap, cursor, scope, best)?;
     cursor.next();
-    let otherwise = block(alloc, cursor, scope, best)?;
+    let otherwise = block(heap, cursor, scope, best)?;
     Ok(Statement::If {
         test: test.exp,
         then,
@@ -147,8 +148,8 @@ fn if_statement(
 
 /// Reads a statement of the kind.
 #[cycle(blocks)]
-fn statement(
-    alloc: Global,
+fn statement<H: Heap>(
+    heap: H,
     cursor: &mut Cursor,
     scope: &Scope,
     best: &mut Option<Breach>,
@@ -157,31 +158,31 @@ fn statement(
     requires scope { IsScope scope.now }
     requires awaits { Awaits (wants.MoreStatements ∷ []) (left_of cursor.old) }
     requires begun { Some kind ≡ statement_kind (next_kind (left_of cursor.old)) }
-    ensures { IfOk result
+    ensures { IfOkUnless (H.may_refuse heap) result
         (ReadsForm scope.now.declared.items (left_of cursor.old) (left_of cursor.new) best.old best.new) }
 {
     match kind {
-        StatementKind::Assignment => assignment(alloc, cursor, scope, best),
-        StatementKind::While => while_statement(alloc, cursor, scope, best),
-        StatementKind::If => if_statement(alloc, cursor, scope, best),
+        StatementKind::Assignment => assignment(heap, cursor, scope, best),
+        StatementKind::While => while_statement(heap, cursor, scope, best),
+        StatementKind::If => if_statement(heap, cursor, scope, best),
     }
 }
 
 /// Reads a block.
 #[cycle(blocks)]
-fn block(
-    alloc: Global,
+fn block<H: Heap>(
+    heap: H,
     cursor: &mut Cursor,
     scope: &Scope,
     best: &mut Option<Breach>,
 ) -> Result<Vec<Statement>, Memory>
     requires scope { IsScope scope.now }
     requires awaits { Awaits (a_block []) (left_of cursor.old) }
-    ensures { IfOk result (λ body.
+    ensures { IfOkUnless (H.may_refuse heap) result (λ body.
         ReadsBlock scope.now.declared.items (left_of cursor.old) (left_of cursor.new) best.old best.new body.items) }
 {
     cursor.mark(Mark::OpenBlock);
-    let body = statements(alloc, cursor, scope, best)?;
+    let body = statements(heap, cursor, scope, best)?;
     cursor.mark(Mark::CloseBlock);
     Ok(body)
 }
@@ -189,21 +190,21 @@ fn block(
 /// Reads statements up to a token with which none begins, and notes what breaks a rule in them. They nest as deep as the
 /// text's blocks: at most 40 deep in a judged text.
 #[cycle(blocks)]
-pub(crate) fn statements(
-    alloc: Global,
+pub(crate) fn statements<H: Heap>(
+    heap: H,
     cursor: &mut Cursor,
     scope: &Scope,
     best: &mut Option<Breach>,
 ) -> Result<Vec<Statement>, Memory>
     requires scope { IsScope scope.now }
     requires awaits { Awaits (wants.MoreStatements ∷ []) (left_of cursor.old) }
-    ensures { IfOk result (λ body.
+    ensures { IfOkUnless (H.may_refuse heap) result (λ body.
         ReadsForms scope.now.declared.items (left_of cursor.old) (left_of cursor.new) best.old best.new body.items) }
 {
-    let mut statements = Vec::new(alloc);
+    let mut statements = Vec::new(heap.handle());
     while let Some(kind) = statement_kind(cursor.kind()) {
-        let made = statement(alloc, cursor, scope, best, kind)?;
-        statements.push(made)?;
+        let made = statement(heap, cursor, scope, best, kind)?;
+        heap.push(&mut statements, made)?;
     }
     Ok(statements)
 }

@@ -1,14 +1,16 @@
 //! What may come next in a program, token by token.
 
-ghost use Rattle.std.specs.Prelude.{◌≡◌, IfOk, reverse};
+ghost use Rattle.std.specs.Prelude.{◌≡◌, reverse};
+ghost use Rattle.stack_heap.specs.Heaps.{IfOkUnless};
 ghost use Rattle.std.specs.List.{list_all};
-ghost use Rattle.mini_syntax.specs.Expected.{answer_of, is_over, may_be_empty, more, Pushes, Takes, wanted};
+ghost use Rattle.mini_syntax.specs.Expected.{answer_of, is_over, may_be_empty, more, PushesUnless, Takes, wanted};
 ghost use Rattle.mini_syntax.specs.declared.expected.Expected.TheVariants as wants;
 
 use crate::lexer::TokenKind;
 use crate::mark::Mark;
 use crate::operator::infix_of;
 use crate::word::Word;
+use stack_heap::Heap;
 use stack_text::Memory;
 
 /// What is expected.
@@ -170,34 +172,34 @@ fn meet(top: Expected, kind: TokenKind) -> Answer
 }
 
 /// Expects something more. What is expected first is pushed last.
-fn expect(stack: &mut Vec<Expected>, what: Push) -> Result<(), Memory>
-    ensures { Pushes stack.old.items what result stack.new.items }
+fn expect<H: Heap>(heap: H, stack: &mut Vec<Expected>, what: Push) -> Result<(), Memory>
+    ensures { PushesUnless (H.may_refuse heap) stack.old.items what result stack.new.items }
 {
     match what {
         Push::Nothing => {}
-        Push::Operand => stack.extend_from_slice(&[Expected::Operand])?,
-        Push::Bracket => stack.extend_from_slice(&[
+        Push::Operand => heap.extend_from_slice(stack, &[Expected::Operand])?,
+        Push::Bracket => heap.extend_from_slice(stack, &[
             Expected::Mark(Mark::Close),
             Expected::MoreExpression { compared: false },
             Expected::Operand,
         ])?,
-        Push::OperandAndMore { compared } => stack.extend_from_slice(&[
+        Push::OperandAndMore { compared } => heap.extend_from_slice(stack, &[
             Expected::MoreExpression { compared },
             Expected::Operand,
         ])?,
-        Push::Declaration => stack.extend_from_slice(&[
+        Push::Declaration => heap.extend_from_slice(stack, &[
             Expected::MoreDeclarations,
             Expected::Mark(Mark::Semicolon),
             Expected::Name,
         ])?,
-        Push::Assignment => stack.extend_from_slice(&[
+        Push::Assignment => heap.extend_from_slice(stack, &[
             Expected::MoreStatements,
             Expected::Mark(Mark::Semicolon),
             Expected::MoreExpression { compared: false },
             Expected::Operand,
             Expected::Mark(Mark::Becomes),
         ])?,
-        Push::Loop => stack.extend_from_slice(&[
+        Push::Loop => heap.extend_from_slice(stack, &[
             Expected::MoreStatements,
             Expected::Mark(Mark::CloseBlock),
             Expected::MoreStatements,
@@ -205,7 +207,7 @@ fn expect(stack: &mut Vec<Expected>, what: Push) -> Result<(), Memory>
             Expected::MoreExpression { compared: false },
             Expected::Operand,
         ])?,
-        Push::Branch => stack.extend_from_slice(&[
+        Push::Branch => heap.extend_from_slice(stack, &[
             Expected::MoreStatements,
             Expected::Mark(Mark::CloseBlock),
             Expected::MoreStatements,
@@ -222,15 +224,15 @@ fn expect(stack: &mut Vec<Expected>, what: Push) -> Result<(), Memory>
 }
 
 /// Takes a token of the kind, if it is expected.
-pub(crate) fn take(stack: &mut Vec<Expected>, kind: TokenKind) -> Result<bool, Memory>
-    ensures { IfOk result (λ taken. Takes stack.old.items kind taken stack.new.items) }
+pub(crate) fn take<H: Heap>(heap: H, stack: &mut Vec<Expected>, kind: TokenKind) -> Result<bool, Memory>
+    ensures { IfOkUnless (H.may_refuse heap) result (λ taken. Takes stack.old.items kind taken stack.new.items) }
 {
     while let Some(top) = stack.pop() {
         match meet(top, kind) {
             Answer::Refused => return Ok(false),
             Answer::LeftOut => {}
             Answer::Then(what) => {
-                expect(stack, what)?;
+                expect(heap, stack, what)?;
                 return Ok(true);
             }
         }

@@ -1,6 +1,7 @@
 //! Expressions, read from the tokens of a judged text.
 
-ghost use Rattle.std.specs.Prelude.{◌≡◌, [], ◌∷◌, IfOk};
+ghost use Rattle.std.specs.Prelude.{◌≡◌, [], ◌∷◌};
+ghost use Rattle.stack_heap.specs.Heaps.{IfOkUnless};
 ghost use Rattle.mini_syntax.specs.declared.expected.Expected.TheVariants as wants;
 ghost use Rattle.mini_syntax.specs.Expected.{expression};
 ghost use Rattle.mini_syntax.specs.Precedence.{any_level};
@@ -15,8 +16,8 @@ use crate::operator::{Infix, Prefix, infix_of};
 use crate::scope::Scope;
 use crate::typed::{Typed, number, truth, variable, with_infix, with_prefix};
 use crate::word::Word;
+use stack_heap::Heap;
 use stack_text::{Breach, Memory};
-use std::alloc::Global;
 
 /// The level of the loosest operator.
 const ANY_LEVEL: u32 = 5;
@@ -61,15 +62,15 @@ fn infix_within(level: u32, kind: TokenKind) -> Option<Infix>
 
 /// Reads a factor.
 #[cycle(expressions)]
-fn factor(
-    alloc: Global,
+fn factor<H: Heap>(
+    heap: H,
     cursor: &mut Cursor,
     scope: &Scope,
     best: &mut Option<Breach>,
 ) -> Result<Typed, Memory>
     requires scope { IsScope scope.now }
     requires awaits { Awaits (wants.Operand ∷ []) (left_of cursor.old) }
-    ensures { IfOk result
+    ensures { IfOkUnless (H.may_refuse heap) result
         (Reads 0 scope.now.declared.items (left_of cursor.old) (left_of cursor.new) best.old best.new) }
 {
     let token = cursor.next();
@@ -78,11 +79,11 @@ fn factor(
         Some(FactorKind::Number) => Ok(number(best, token.place, token.bytes)),
         Some(FactorKind::Truth(value)) => Ok(truth(value)),
         Some(FactorKind::Operator(op)) => {
-            let operand = factor(alloc, cursor, scope, best)?;
-            with_prefix(alloc, best, token.place, op, operand)
+            let operand = factor(heap, cursor, scope, best)?;
+            with_prefix(heap, best, token.place, op, operand)
         }
         Some(FactorKind::Bracket) => {
-            let inner = expression(alloc, cursor, scope, best)?;
+            let inner = expression(heap, cursor, scope, best)?;
             cursor.mark(Mark::Close);
             Ok(inner)
         }
@@ -93,8 +94,8 @@ fn factor(
 /// Reads an expression whose operators have the level at most: an operand, and as long as such an operator comes, its right
 /// operand, which binds closer.
 #[cycle(expressions)]
-fn expression_within(
-    alloc: Global,
+fn expression_within<H: Heap>(
+    heap: H,
     cursor: &mut Cursor,
     scope: &Scope,
     best: &mut Option<Breach>,
@@ -102,14 +103,14 @@ fn expression_within(
 ) -> Result<Typed, Memory>
     requires scope { IsScope scope.now }
     requires awaits { AwaitsOperand (left_of cursor.old) }
-    ensures { IfOk result
+    ensures { IfOkUnless (H.may_refuse heap) result
         (Reads level scope.now.declared.items (left_of cursor.old) (left_of cursor.new) best.old best.new) }
 {
-    let mut left = factor(alloc, cursor, scope, best)?;
+    let mut left = factor(heap, cursor, scope, best)?;
     while let Some(op) = infix_within(level, cursor.kind()) {
         let place = cursor.next().place;
-        let right = expression_within(alloc, cursor, scope, best, op.right_level())?;
-        left = with_infix(alloc, best, place, op, left, right)?;
+        let right = expression_within(heap, cursor, scope, best, op.right_level())?;
+        left = with_infix(heap, best, place, op, left, right)?;
     }
     Ok(left)
 }
@@ -117,16 +118,16 @@ fn expression_within(
 /// Reads an expression, and notes what breaks a rule in it. It nests as deep as the text's brackets and operators before
 /// their operands do: at most 80 deep in a judged text.
 #[cycle(expressions)]
-pub(crate) fn expression(
-    alloc: Global,
+pub(crate) fn expression<H: Heap>(
+    heap: H,
     cursor: &mut Cursor,
     scope: &Scope,
     best: &mut Option<Breach>,
 ) -> Result<Typed, Memory>
     requires scope { IsScope scope.now }
     requires awaits { Awaits (expression []) (left_of cursor.old) }
-    ensures { IfOk result
+    ensures { IfOkUnless (H.may_refuse heap) result
         (Reads any_level scope.now.declared.items (left_of cursor.old) (left_of cursor.new) best.old best.new) }
 {
-    expression_within(alloc, cursor, scope, best, ANY_LEVEL)
+    expression_within(heap, cursor, scope, best, ANY_LEVEL)
 }

@@ -1,11 +1,12 @@
 //! The first token that breaks a rule, from left to right.
 
-ghost use Rattle.std.specs.Prelude.{◌≡◌, ◌+◌, ◌<◌, ◌≤◌, ◌^◌, ◌++◌, ◌∷◌, length, map, reverse, [], IfOk, OnOk, if◌then◌else◌};
+ghost use Rattle.std.specs.Prelude.{◌≡◌, ◌+◌, ◌<◌, ◌≤◌, ◌^◌, ◌++◌, ◌∷◌, length, map, reverse, [], IfOk, if◌then◌else◌};
+ghost use Rattle.stack_heap.specs.Heaps.{IfOkUnless, OnOkUnless};
 ghost use Rattle.mini_syntax.specs.declared.fault.MiniFault.TheVariants.{Refused};
 ghost use Rattle.mini_syntax.specs.Expected.{at_start};
 ghost use Rattle.mini_syntax.specs.Faults.{AreFree, begins_expression, closes_block, closes_bracket, is_operator, opens_block, opens_bracket};
 ghost use Rattle.mini_syntax.specs.Grammar.{IsProgram, InfixProgram};
-ghost use Rattle.mini_syntax.specs.Internal.Judging.{counted, counts_of, IsBelow, is_over_limit, Judges, limit_of, Refuses, tally};
+ghost use Rattle.mini_syntax.specs.Internal.Judging.{counted, counts_of, IsBelow, is_over_limit, Judges, limit_of, RefusesUnless, tally};
 ghost use Rattle.mini_syntax.specs.Internal.Lexemes.{token_seen};
 ghost use Rattle.mini_syntax.specs.Tokens.{tokens_in};
 ghost use Rattle.mini_syntax.specs.Internal.TokenSpans.{token_in};
@@ -16,8 +17,8 @@ use crate::lexeme::Lexeme;
 use crate::lexer::{TokenKind, TokenSpan, next_token};
 use crate::mark::Mark;
 use crate::word::Word;
+use stack_heap::Heap;
 use stack_text::Memory;
-use std::alloc::Global;
 
 /// How many brackets and how many blocks lie in one another, and how many operators an expression has, at most.
 const LIMIT: u32 = 40;
@@ -156,19 +157,20 @@ fn limit(counts: Counts, kind: TokenKind) -> Option<u8>
 }
 
 /// The rule that a token breaks, if it breaks one; else it is taken.
-fn judge_token(
+fn judge_token<H: Heap>(
+    heap: H,
     stack: &mut Vec<Expected>,
     counts: Counts,
     kind: TokenKind,
 ) -> Result<Option<u8>, Memory>
     requires { IsBelow counts (2 ^ 31) }
-    ensures { IfOk result (λ rule. Judges stack.old.items counts kind rule stack.new.items) }
+    ensures { IfOkUnless (H.may_refuse heap) result (λ rule. Judges stack.old.items counts kind rule stack.new.items) }
 {
     match kind {
         TokenKind::Wrong => return Ok(Some(1)),
         _ => {}
     }
-    if !take(stack, kind)? {
+    if !take(heap, stack, kind)? {
         return Ok(Some(2));
     }
     Ok(limit(counts, kind))
@@ -188,12 +190,12 @@ fn no_counts() -> Counts
 }
 
 /// What is expected at the text's beginning.
-fn at_start(alloc: Global) -> Result<Vec<Expected>, Memory>
-    ensures { IfOk result (λ stack. reverse stack.items ≡ at_start) }
+fn at_start<H: Heap>(heap: H) -> Result<Vec<Expected>, Memory>
+    ensures { IfOkUnless (H.may_refuse heap) result (λ stack. reverse stack.items ≡ at_start) }
 {
-    let mut stack = Vec::new(alloc);
-    stack.push(Expected::MoreStatements)?;
-    stack.push(Expected::MoreDeclarations)?;
+    let mut stack = Vec::new(heap.handle());
+    heap.push(&mut stack, Expected::MoreStatements)?;
+    heap.push(&mut stack, Expected::MoreDeclarations)?;
     Ok(stack)
 }
 
@@ -223,10 +225,10 @@ fn lexeme(text: &[u8], found: TokenSpan) -> Lexeme<'_>
 }
 
 /// Keeps one more token.
-fn keep<'a>(lexemes: &mut Vec<Lexeme<'a>>, lexeme: Lexeme<'a>) -> Result<(), Memory>
-    ensures { OnOk result (lexemes.new.items ≡ lexemes.old.items ++ lexeme.entry ∷ []) }
+fn keep<'a, H: Heap>(heap: H, lexemes: &mut Vec<Lexeme<'a>>, lexeme: Lexeme<'a>) -> Result<(), Memory>
+    ensures { OnOkUnless (H.may_refuse heap) result (lexemes.new.items ≡ lexemes.old.items ++ lexeme.entry ∷ []) }
 {
-    lexemes.push(lexeme)?;
+    heap.push(lexemes, lexeme)?;
     Ok(())
 }
 
@@ -238,22 +240,22 @@ fn keep<'a>(lexemes: &mut Vec<Lexeme<'a>>, lexeme: Lexeme<'a>) -> Result<(), Mem
 ///
 /// The first token that breaks a rule, with the least rule that it breaks; the text's end, where it ends too early; or out
 /// of memory.
-pub(crate) fn judge_text(alloc: Global, text: &[u8]) -> Result<Vec<Lexeme<'_>>, MiniFault>
+pub(crate) fn judge_text<H: Heap>(heap: H, text: &[u8]) -> Result<Vec<Lexeme<'_>>, MiniFault>
     requires { length text.now ≤ 2 ^ 20 }
     ensures tokens { IfOk result (λ lexemes. map token_seen lexemes.items ≡ tokens_in text.now) }
     ensures free { IfOk result (λ lexemes. AreFree (tokens_in text.now)) }
     ensures program { IfOk result (λ lexemes. (p : InfixProgram) × IsProgram text.now p) }
-    ensures fault { Refuses text.now result }
+    ensures fault { RefusesUnless (H.may_refuse heap) text.now result }
 {
-    let mut lexemes = Vec::new(alloc);
-    let mut stack = at_start(alloc)?;
+    let mut lexemes = Vec::new(heap.handle());
+    let mut stack = at_start(heap)?;
     let mut counts = no_counts();
     let mut at = 0;
     while let Some(found) = next_token(text, at) {
-        if let Some(rule) = judge_token(&mut stack, counts, found.kind)? {
+        if let Some(rule) = judge_token(heap, &mut stack, counts, found.kind)? {
             return Err(refused(rule, found.start));
         }
-        keep(&mut lexemes, lexeme(text, found))?;
+        keep(heap, &mut lexemes, lexeme(text, found))?;
         counts = count_more(counts, found.kind);
         at = found.end;
     }

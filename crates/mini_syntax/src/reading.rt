@@ -1,7 +1,8 @@
 //! Programs, read from the tokens of a judged text.
 
 ghost use Rattle.std.specs.Prelude.{◌≡◌, ◌<◌, ◌≤◌, ◌^◌, [], ◌∷◌, length, map, IfOk, OnOk, Some, true};
-ghost use Rattle.mini_syntax.specs.MiniReading.{ReadsText, RefusesText};
+ghost use Rattle.stack_heap.specs.Heaps.{IfOkUnless, OnOkUnless};
+ghost use Rattle.mini_syntax.specs.MiniReading.{ReadsText, RefusesTextUnless};
 ghost use Rattle.mini_syntax.specs.Internal.Declaring.{are_proper, ReadsDecl, ReadsDecls, ReadsProgram};
 ghost use Rattle.mini_syntax.specs.declared.expected.Expected.TheVariants as wants;
 ghost use Rattle.mini_syntax.specs.Grammar as grammar;
@@ -20,8 +21,8 @@ use crate::scope::{Scope, enter};
 use crate::sort::Sort;
 use crate::word::Word;
 use indexmap::IndexMap;
+use stack_heap::Heap;
 use stack_text::{Breach, Memory, note_if, read_name};
-use std::alloc::Global;
 
 /// The most variables of a program.
 const MAX_VARIABLES: usize = 100;
@@ -46,8 +47,8 @@ fn sort_declared(kind: TokenKind) -> Option<Sort>
 }
 
 /// Reads a declaration of a variable of the sort, and enters it.
-fn declaration<'a>(
-    alloc: Global,
+fn declaration<'a, H: Heap>(
+    heap: H,
     cursor: &mut Cursor<'_, 'a>,
     scope: &mut Scope<'a>,
     best: &mut Option<Breach>,
@@ -58,7 +59,7 @@ fn declaration<'a>(
     requires awaits { Awaits (wants.MoreDeclarations ∷ []) (left_of cursor.old) }
     requires begun { Some sort ≡ sort_declared (next_kind (left_of cursor.old)) }
     requires named { are_proper (left_of cursor.old) ≡ true }
-    ensures scope { OnOk result (IsScope scope.new) }
+    ensures scope { OnOkUnless (H.may_refuse heap) result (IsScope scope.new) }
     ensures read { OnOk result (ReadsDecl scope.old.declared.items scope.new.declared.items
         (left_of cursor.old) (left_of cursor.new) best.old best.new) }
 {
@@ -77,46 +78,46 @@ fn declaration<'a>(
         variable.place,
         9,
     );
-    match read_name(alloc, variable.bytes)? {
-        Some(name) => enter(scope, name, variable.bytes, sort),
+    match read_name(heap, variable.bytes)? {
+        Some(name) => enter(heap, scope, name, variable.bytes, sort),
         None => unreachable!(),
     }
 }
 
 /// Reads all declarations.
-fn declarations<'a>(
-    alloc: Global,
+fn declarations<'a, H: Heap>(
+    heap: H,
     cursor: &mut Cursor<'_, 'a>,
     best: &mut Option<Breach>,
 ) -> Result<Scope<'a>, Memory>
     requires awaits { Awaits (wants.MoreDeclarations ∷ []) (left_of cursor.old) }
     requires named { are_proper (left_of cursor.old) ≡ true }
     requires few { length (left_of cursor.old) < 2 ^ 32 }
-    ensures scope { IfOk result IsScope }
+    ensures scope { IfOkUnless (H.may_refuse heap) result IsScope }
     ensures read { IfOk result (λ scope. ReadsDecls scope.declared.items
         (left_of cursor.old) (left_of cursor.new) best.old best.new) }
 {
     let mut scope = Scope {
-        declared: Vec::new(alloc),
-        variables: IndexMap::new(alloc),
+        declared: Vec::new(heap.handle()),
+        variables: IndexMap::new(heap.handle()),
     };
     while let Some(sort) = sort_declared(cursor.kind()) {
-        declaration(alloc, cursor, &mut scope, best, sort)?;
+        declaration(heap, cursor, &mut scope, best, sort)?;
     }
     Ok(scope)
 }
 
 /// The program that the tokens of a judged text are.
-fn read_program(alloc: Global, lexemes: &[Lexeme<'_>]) -> Result<Reading, Memory>
+fn read_program<H: Heap>(heap: H, lexemes: &[Lexeme<'_>]) -> Result<Reading, Memory>
     requires program { (p : grammar.InfixProgram) × (map token_seen lexemes.now ≡ grammar.program_tokens p) }
     requires named { are_proper (map token_seen lexemes.now) ≡ true }
     requires few { length lexemes.now < 2 ^ 32 }
-    ensures { IfOk result (ReadsProgram (map token_seen lexemes.now)) }
+    ensures { IfOkUnless (H.may_refuse heap) result (ReadsProgram (map token_seen lexemes.now)) }
 {
     let mut cursor = Cursor { left: lexemes };
     let mut breach = None;
-    let scope = declarations(alloc, &mut cursor, &mut breach)?;
-    let body = statements(alloc, &mut cursor, &scope, &mut breach)?;
+    let scope = declarations(heap, &mut cursor, &mut breach)?;
+    let body = statements(heap, &mut cursor, &scope, &mut breach)?;
     let Scope {
         declared,
         variables: _,
@@ -135,13 +136,13 @@ fn read_program(alloc: Global, lexemes: &[Lexeme<'_>]) -> Result<Reading, Memory
 ///
 /// The first token that breaks one of the rules 1 to 4, with the least rule that it breaks; or else the least place and
 /// then the least rule of 5 to 9; or out of memory.
-pub fn read_mini(alloc: Global, text: &[u8]) -> Result<InfixProgram, MiniFault>
+pub fn read_mini<H: Heap>(heap: H, text: &[u8]) -> Result<InfixProgram, MiniFault>
     requires { length text.now ≤ 2 ^ 20 }
     ensures read { IfOk result (ReadsText text.now) }
-    ensures fault { RefusesText text.now result }
+    ensures fault { RefusesTextUnless (H.may_refuse heap) text.now result }
 {
-    let lexemes = judge_text(alloc, text)?;
-    let read = read_program(alloc, lexemes.as_slice())?;
+    let lexemes = judge_text(heap, text)?;
+    let read = read_program(heap, lexemes.as_slice())?;
     let Reading { program, breach } = read;
     match breach {
         None => Ok(program),

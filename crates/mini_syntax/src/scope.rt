@@ -1,6 +1,7 @@
 //! The declared variables, found by their names.
 
 ghost use Rattle.std.specs.Prelude.{◌≡◌, ℕ, ◌<◌, ◌^◌, List, ◌++◌, [], ◌∷◌, length, OnOk, option_map};
+ghost use Rattle.stack_heap.specs.Heaps.{OnOkUnless};
 ghost use Rattle.std.specs.Str.{bytes_eq};
 ghost use Rattle.mini_syntax.specs.Breaches.{or_first, variable_named};
 ghost use Rattle.mini_syntax.specs.declared.program.Declared.{Declared};
@@ -10,6 +11,7 @@ ghost use Rattle.stack_text.specs.Options.{first_or};
 use crate::program::Declared;
 use crate::sort::Sort;
 use indexmap::IndexMap;
+use stack_heap::Heap;
 use stack_text::{Memory, Name};
 
 /// A declared variable.
@@ -58,23 +60,25 @@ pub(crate) fn index_of(found: Option<Variable>) -> u32
 }
 
 /// Enters a variable, unless its name is known.
-fn declare<'a>(
+fn declare<'a, H: Heap>(
+    heap: H,
     variables: &mut IndexMap<&'a [u8], Variable>,
     name: &'a [u8],
     variable: Variable,
 ) -> Result<(), Memory>
-    ensures { OnOk result ((other : List ℕ) →
+    ensures { OnOkUnless (H.may_refuse heap) result ((other : List ℕ) →
         look_up variables.new other ≡ first_or (look_up variables.old other) (bytes_eq other name.now) variable) }
 {
     if variables.contains_key(name) {
         return Ok(());
     }
-    variables.insert(name, variable)?;
+    heap.insert_pair(variables, name, variable)?;
     Ok(())
 }
 
 /// Enters a variable behind those that are declared, unless its name is known.
-pub(crate) fn enter<'a>(
+pub(crate) fn enter<'a, H: Heap>(
+    heap: H,
     scope: &mut Scope<'a>,
     name: Name,
     bytes: &'a [u8],
@@ -83,12 +87,12 @@ pub(crate) fn enter<'a>(
     requires scope { IsScope scope.old }
     requires few { length scope.old.declared.items < 2 ^ 32 }
     requires same { name ≡ bytes.now }
-    ensures scope { OnOk result (IsScope scope.new) }
+    ensures scope { OnOkUnless (H.may_refuse heap) result (IsScope scope.new) }
     ensures declared { let one : Declared = record { name = name; sort = sort } in
         OnOk result (scope.new.declared.items ≡ scope.old.declared.items ++ one ∷ []) }
 {
     let index = scope.declared.len() as u32;
-    declare(&mut scope.variables, bytes, Variable { index, sort })?;
-    scope.declared.push(Declared { name, sort })?;
+    declare(heap, &mut scope.variables, bytes, Variable { index, sort })?;
+    heap.push(&mut scope.declared, Declared { name, sort })?;
     Ok(())
 }

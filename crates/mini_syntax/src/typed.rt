@@ -1,6 +1,7 @@
 //! Expressions with their sorts, made from their parts. Where a part breaks a rule, that is noted.
 
-ghost use Rattle.std.specs.Prelude.{◌≡◌, ℕ, ◌*◌, ◌+◌, ◌-◌, ◌≤◌, List, Option, Some, None, IfOk, if◌then◌else◌};
+ghost use Rattle.std.specs.Prelude.{◌≡◌, ℕ, ◌*◌, ◌+◌, ◌-◌, ◌≤◌, List, Option, Some, None, if◌then◌else◌};
+ghost use Rattle.stack_heap.specs.Heaps.{IfOkUnless};
 ghost use Rattle.stack_text.specs.Breaches.{Notes};
 ghost use Rattle.stack_text.specs.declared.breach.Breach.{Breach};
 ghost use Rattle.mini_syntax.specs.Breaches.{infix_breaches, is_too_large, number_of, prefix_breaches};
@@ -15,8 +16,8 @@ use crate::operator::{Infix, Prefix};
 use crate::program::Exp;
 use crate::scope::{Scope, Variable};
 use crate::sort::Sort;
+use stack_heap::Heap;
 use stack_text::{Breach, Memory, note_if};
-use std::alloc::Global;
 
 /// The largest number.
 const MAX_NUMBER: u64 = 2_147_483_647;
@@ -148,43 +149,43 @@ fn note_infix(
 }
 
 /// An operator before its operand.
-pub(crate) fn with_prefix(
-    alloc: Global,
+pub(crate) fn with_prefix<H: Heap>(
+    heap: H,
     best: &mut Option<Breach>,
     place: u32,
     op: Prefix,
     operand: Typed,
 ) -> Result<Typed, Memory>
-    ensures { IfOk result (IsPrefix place op operand best.old best.new) }
+    ensures { IfOkUnless (H.may_refuse heap) result (IsPrefix place op operand best.old best.new) }
 {
     note_prefix(best, place, op, operand.sort);
     Ok(Typed {
         sort: Some(op.sort()),
         exp: Exp::Before {
             op,
-            operand: Box::new(alloc, operand.exp)?,
+            operand: heap.boxed(operand.exp)?,
         },
     })
 }
 
 /// An operator between its operands.
-pub(crate) fn with_infix(
-    alloc: Global,
+pub(crate) fn with_infix<H: Heap>(
+    heap: H,
     best: &mut Option<Breach>,
     place: u32,
     op: Infix,
     left: Typed,
     right: Typed,
 ) -> Result<Typed, Memory>
-    ensures { IfOk result (IsInfix place op left right best.old best.new) }
+    ensures { IfOkUnless (H.may_refuse heap) result (IsInfix place op left right best.old best.new) }
 {
     note_infix(best, place, op, left.sort, right.sort);
     Ok(Typed {
         sort: Some(op.sort()),
         exp: Exp::Between {
             op,
-            left: Box::new(alloc, left.exp)?,
-            right: Box::new(alloc, right.exp)?,
+            left: heap.boxed(left.exp)?,
+            right: heap.boxed(right.exp)?,
         },
     })
 }

@@ -63,8 +63,8 @@ pub data Judges (old : List Expected) (n : Counts) (k : TokenKind) (rule : Optio
   not_taken : is_wrong k ≡ false → takes (reverse old) k ≡ None → rule ≡ Some 2 → Judges old n k rule new
   taken : is_wrong k ≡ false → takes (reverse old) k ≡ Some (reverse new) → rule ≡ limit_of n k → Judges old n k rule new
 
--- an error is the text's fault
-abbrev pub Refuses : {X : Type 0} → List ℕ → Result X MiniFault → Type 0
-Refuses text (Ok x) = Unit {0}
-Refuses text (Err Memory) = Unit {0}
-Refuses text (Err (Refused rule place)) = IsTextFault text rule place
+-- an error is the text's fault, unless memory was refused
+abbrev pub RefusesUnless : {X : Type 0} → Type 0 → List ℕ → Result X MiniFault → Type 0
+RefusesUnless refused text (Ok x) = Unit {0}
+RefusesUnless refused text (Err Memory) = refused
+RefusesUnless refused text (Err (Refused rule place)) = IsTextFault text rule place

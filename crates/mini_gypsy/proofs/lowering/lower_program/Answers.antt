@@ -12,7 +12,7 @@ use Rattle.mini_gypsy.proofs.RuleLaws.{lowered_clean}
 use Rattle.mini_gypsy.proofs.lowering.lower_program.Goals as goal
 
 pub check-requires : goal.check-requires
-check-requires c =
+check-requires g c =
     let ds = c.args.program.now.declared.items in
     let s = block_in c.args.program.now.body.items in
     let small : node_count (tree_of (lowered ds s)) ≤ 2 ^ 31 =
@@ -20,7 +20,7 @@ check-requires c =
     subst KeepsForm (sym c.in_ok-source.ensures) (c.plain_form.ensures.keeps (lowered ds s) (lowered_fits ds s c.requires.lawful) small)
 
 pub unreachable-requires : goal.unreachable-requires
-unreachable-requires c =
+unreachable-requires g c =
     let ds = c.args.program.now.declared.items in
     let s = block_in c.args.program.now.body.items in
     let clean : violations (source_of c.in_ok-source.source) ≡ [] = ap violations c.in_ok-source.ensures ∙ lowered_clean ds s c.requires.lawful in

@@ -12,7 +12,7 @@ use Rattle.mini_syntax.proofs.ViewLaws.{statement_in-if, statement_in-while}
 use Rattle.mini_gypsy.proofs.statements.+statements.Goals as goal
 
 pub append_statement-append_statements-requires : goal.append_statement-append_statements-requires
-append_statement-append_statements-requires t c =
+append_statement-append_statements-requires g t c =
     let sorts = map (λ d. d.sort) c.args.declared.now in
     let k : statement_in c.args.statement.now ≡ While (exp_of c.in-While.test) (block_in c.in-While.body.items) =
     ap statement_in c.in-While.is ∙ statement_in-while c.in-While.test c.in-While.body in
@@ -20,21 +20,21 @@ append_statement-append_statements-requires t c =
     (search (rules, the_lemmas), subst (λ (ss : List Statement). AreFine sorts (block_in ss)) (sym c.as_slice.ensures.value) fine.1)
 
 pub append_statement-append_while-requires : goal.append_statement-append_while-requires
-append_statement-append_while-requires t c =
+append_statement-append_while-requires g t c =
     let sorts = map (λ d. d.sort) c.args.declared.now in
     let k : statement_in c.args.statement.now ≡ While (exp_of c.in-While.test) (block_in c.in-While.body.items) =
     ap statement_in c.in-While.is ∙ statement_in-while c.in-While.test c.in-While.body in
     (subst (λ (s : Stmt). AreFine sorts s) k c.requires).0
 
 pub append_statement-append_if-requires : goal.append_statement-append_if-requires
-append_statement-append_if-requires t c =
+append_statement-append_if-requires g t c =
     let sorts = map (λ d. d.sort) c.args.declared.now in
     let k : statement_in c.args.statement.now ≡ If (exp_of c.in-If.test) (block_in c.in-If.then.items) (block_in c.in-If.otherwise.items) =
     ap statement_in c.in-If.is ∙ statement_in-if c.in-If.test c.in-If.then c.in-If.otherwise in
     (subst (λ (s : Stmt). AreFine sorts s) k c.requires).0
 
 pub append_statement-append_statements-requires-in-If : goal.append_statement-append_statements-requires-in-If
-append_statement-append_statements-requires-in-If t c =
+append_statement-append_statements-requires-in-If g t c =
     let sorts = map (λ d. d.sort) c.args.declared.now in
     let k : statement_in c.args.statement.now ≡ If (exp_of c.in-If.test) (block_in c.in-If.then.items) (block_in c.in-If.otherwise.items) =
     ap statement_in c.in-If.is ∙ statement_in-if c.in-If.test c.in-If.then c.in-If.otherwise in
@@ -42,7 +42,7 @@ append_statement-append_statements-requires-in-If t c =
     (search (rules, the_lemmas), subst (λ (ss : List Statement). AreFine sorts (block_in ss)) (sym c.as_slice-in-If.ensures.value) fine.1)
 
 pub append_statement-append_statements-requires-in-If-2 : goal.append_statement-append_statements-requires-in-If-2
-append_statement-append_statements-requires-in-If-2 t c =
+append_statement-append_statements-requires-in-If-2 g t c =
     let sorts = map (λ d. d.sort) c.args.declared.now in
     let k : statement_in c.args.statement.now ≡ If (exp_of c.in-If.test) (block_in c.in-If.then.items) (block_in c.in-If.otherwise.items) =
     ap statement_in c.in-If.is ∙ statement_in-if c.in-If.test c.in-If.then c.in-If.otherwise in
@@ -50,7 +50,7 @@ append_statement-append_statements-requires-in-If-2 t c =
     (search (rules, the_lemmas), subst (λ (ss : List Statement). AreFine sorts (block_in ss)) (sym c.as_slice-in-If-2.ensures.value) fine.2)
 
 pub append_statement-returns-in_ok-append_while-in-While : goal.append_statement-returns-in_ok-append_while-in-While
-append_statement-returns-in_ok-append_while-in-While t c =
+append_statement-returns-in_ok-append_while-in-While g t c =
     let names = map (λ d. d.name) c.args.declared.now in
     let made : List Statement → List StmtOf = λ ss. statement_parts names (block_in ss) in
     let k : statement_in c.args.statement.now ≡ While (exp_of c.in-While.test) (block_in c.in-While.body.items) =
@@ -63,7 +63,7 @@ append_statement-returns-in_ok-append_while-in-While t c =
     k
 
 pub append_statement-returns-in_ok-append_if-in-If : goal.append_statement-returns-in_ok-append_if-in-If
-append_statement-returns-in_ok-append_if-in-If t c =
+append_statement-returns-in_ok-append_if-in-If g t c =
     let names = map (λ d. d.name) c.args.declared.now in
     let made : List Statement → List StmtOf = λ ss. statement_parts names (block_in ss) in
     let k : statement_in c.args.statement.now ≡ If (exp_of c.in-If.test) (block_in c.in-If.then.items) (block_in c.in-If.otherwise.items) =
@@ -80,7 +80,7 @@ append_statement-returns-in_ok-append_if-in-If t c =
     k
 
 pub append_statements-append_statement-requires : goal.append_statements-append_statement-requires
-append_statements-append_statement-requires t c =
+append_statements-append_statement-requires g t c =
     let sorts = map (λ d. d.sort) c.args.declared.now in (
       search (rules, the_lemmas),
       (fine_next sorts c.args.statements.now c.loop-statement.statement-index c.statement-item.result
@@ -88,7 +88,7 @@ append_statements-append_statement-requires t c =
     )
 
 pub append_statements-loop-statement-preserved : goal.append_statements-loop-statement-preserved
-append_statements-loop-statement-preserved t c =
+append_statements-loop-statement-preserved g t c =
     let sorts = map (λ d. d.sort) c.args.declared.now in
     let names = map (λ d. d.name) c.args.declared.now in record {
       fine = (fine_next sorts c.args.statements.now c.loop-statement.statement-index c.statement-item.result c.loop-statement-test.true
@@ -101,7 +101,7 @@ append_statements-loop-statement-preserved t c =
     }
 
 pub append_statements-returns : goal.append_statements-returns
-append_statements-returns t c =
+append_statements-returns g t c =
     let names = map (λ d. d.name) c.args.declared.now in
     statements_done names c.args.statements.now c.loop-statement.statement-index (map stmt_of c.loop-statement.parts.items)
     (map stmt_of c.args.parts.now.items ++ statement_parts names (block_in c.args.statements.now)) c.loop-statement-test.false c.loop-statement.invariant.parts

@@ -23,14 +23,14 @@ more = wants.MoreStatements ∷ []
 -- ---- `while`
 
 pub while_statement-expression-requires-clause-awaits : goal.while_statement-expression-requires-clause-awaits
-while_statement-expression-requires-clause-awaits t c =
+while_statement-expression-requires-clause-awaits g t c =
     let l = c.next-place.result in
     let k = kind_next l (kind.Word word.While) c.next-place.ensures (begins_with_while (next_kind (left_of c.args.cursor.now)) c.requires.begun) in
     expression_first (a_block more) (after_kind more (expression (a_block more)) l (kind.Word word.While) c.requires.awaits c.next-place.ensures k
     (λ rest. refl))
 
 pub while_statement-block-requires : goal.while_statement-block-requires
-while_statement-block-requires t c =
+while_statement-block-requires g t c =
     let l = c.next-place.result in
     let k = kind_next l (kind.Word word.While) c.next-place.ensures (begins_with_while (next_kind (left_of c.args.cursor.now)) c.requires.begun) in
     let begun = after_kind more (expression (a_block more)) l (kind.Word word.While) c.requires.awaits c.next-place.ensures k (λ rest. refl) in
@@ -39,7 +39,7 @@ while_statement-block-requires t c =
     (omega (arith, less, no_more), (c.requires.scope, block_first more (expression_passed (a_block more) begun c.in_ok-test.ensures)))
 
 pub while_statement-returns : goal.while_statement-returns
-while_statement-returns t c =
+while_statement-returns g t c =
     let l = c.next-place.result in
     let k = kind_next l (kind.Word word.While) c.next-place.ensures (begins_with_while (next_kind (left_of c.args.cursor.now)) c.requires.begun) in
     while_read c.args.scope.now.declared.items l (left_of c.args.cursor.now) (left_of c.next-place.new.self) (left_of c.expression.new.cursor)
@@ -50,14 +50,14 @@ while_statement-returns t c =
 -- ---- `if`
 
 pub if_statement-expression-requires-clause-awaits : goal.if_statement-expression-requires-clause-awaits
-if_statement-expression-requires-clause-awaits t c =
+if_statement-expression-requires-clause-awaits g t c =
     let l = c.next-place.result in
     let k = kind_next l (kind.Word word.If) c.next-place.ensures (begins_with_if (next_kind (left_of c.args.cursor.now)) c.requires.begun) in
     let rest = wants.Else ∷ a_block more in
     expression_first (a_block rest) (after_kind more (expression (a_block rest)) l (kind.Word word.If) c.requires.awaits c.next-place.ensures k (λ st. refl))
 
 pub if_statement-block-requires : goal.if_statement-block-requires
-if_statement-block-requires t c =
+if_statement-block-requires g t c =
     let l = c.next-place.result in
     let k = kind_next l (kind.Word word.If) c.next-place.ensures (begins_with_if (next_kind (left_of c.args.cursor.now)) c.requires.begun) in
     let rest = wants.Else ∷ a_block more in
@@ -67,7 +67,7 @@ if_statement-block-requires t c =
     (omega (arith, less, no_more), (c.requires.scope, block_first rest (expression_passed (a_block rest) begun c.in_ok-test.ensures)))
 
 pub if_statement-next-requires : goal.if_statement-next-requires
-if_statement-next-requires t c =
+if_statement-next-requires g t c =
     let l = c.next-place.result in
     let k = kind_next l (kind.Word word.If) c.next-place.ensures (begins_with_if (next_kind (left_of c.args.cursor.now)) c.requires.begun) in
     let rest = wants.Else ∷ a_block more in
@@ -75,7 +75,7 @@ if_statement-next-requires t c =
     token_left (block_passed rest (expression_passed (a_block rest) begun c.in_ok-test.ensures) c.in_ok-then.ensures) refl
 
 pub if_statement-block-requires-2 : goal.if_statement-block-requires-2
-if_statement-block-requires-2 t c =
+if_statement-block-requires-2 g t c =
     let l = c.next-place.result in
     let k = kind_next l (kind.Word word.If) c.next-place.ensures (begins_with_if (next_kind (left_of c.args.cursor.now)) c.requires.begun) in
     let rest = wants.Else ∷ a_block more in
@@ -88,7 +88,7 @@ if_statement-block-requires-2 t c =
     (omega (arith, less, no_more, none_more, fewer), (c.requires.scope, block_first more (else_passed (a_block more) c.next.result other c.next.ensures)))
 
 pub if_statement-returns : goal.if_statement-returns
-if_statement-returns t c =
+if_statement-returns g t c =
     let l = c.next-place.result in
     let k = kind_next l (kind.Word word.If) c.next-place.ensures (begins_with_if (next_kind (left_of c.args.cursor.now)) c.requires.begun) in
     let rest = wants.Else ∷ a_block more in
@@ -104,13 +104,13 @@ if_statement-returns t c =
 -- ---- a statement
 
 pub statement-assignment-requires-clause-begun : goal.statement-assignment-requires-clause-begun
-statement-assignment-requires-clause-begun t c = sym (ap Some c.in-Assignment.is) ∙ c.requires.begun
+statement-assignment-requires-clause-begun g t c = sym (ap Some c.in-Assignment.is) ∙ c.requires.begun
 
 pub statement-while_statement-requires : goal.statement-while_statement-requires
-statement-while_statement-requires t c = (omega arith, (c.requires.scope, (c.requires.awaits, sym (ap Some c.in-While.is) ∙ c.requires.begun)))
+statement-while_statement-requires g t c = (omega arith, (c.requires.scope, (c.requires.awaits, sym (ap Some c.in-While.is) ∙ c.requires.begun)))
 
 pub statement-if_statement-requires : goal.statement-if_statement-requires
-statement-if_statement-requires t c = (omega arith, (c.requires.scope, (c.requires.awaits, sym (ap Some c.in-If.is) ∙ c.requires.begun)))
+statement-if_statement-requires g t c = (omega arith, (c.requires.scope, (c.requires.awaits, sym (ap Some c.in-If.is) ∙ c.requires.begun)))
 
 -- ---- blocks
 
@@ -118,21 +118,21 @@ abbrev after_open : List Expected
 after_open = wants.MoreStatements ∷ wants.Mark mark.CloseBlock ∷ []
 
 pub block-mark-requires : goal.block-mark-requires
-block-mark-requires t c = first_awaited (wants.Mark mark.OpenBlock) after_open c.requires.awaits
+block-mark-requires g t c = first_awaited (wants.Mark mark.OpenBlock) after_open c.requires.awaits
 
 pub block-statements-requires : goal.block-statements-requires
-block-statements-requires t c =
+block-statements-requires g t c =
     let opened = mark_passed mark.OpenBlock c.mark.result after_open c.requires.awaits c.mark.ensures in
     let less = shrinks (left_of c.args.cursor.now) (mark_at c.mark.result mark.OpenBlock ∷ []) (left_of c.mark.new.self) c.mark.ensures in
     (omega (arith, less), (c.requires.scope, first_awaited wants.MoreStatements (wants.Mark mark.CloseBlock ∷ []) opened))
 
 pub block-mark-requires-2 : goal.block-mark-requires-2
-block-mark-requires-2 t c =
+block-mark-requires-2 g t c =
     let opened = mark_passed mark.OpenBlock c.mark.result after_open c.requires.awaits c.mark.ensures in
     forms_passed (wants.Mark mark.CloseBlock ∷ []) opened c.in_ok-body.ensures
 
 pub block-returns : goal.block-returns
-block-returns t c =
+block-returns g t c =
     block_read c.args.scope.now.declared.items c.mark.result c.mark-2.result (left_of c.args.cursor.now) (left_of c.mark.new.self)
     (left_of c.statements.new.cursor) (left_of c.mark-2.new.self)
     c.args.best.now c.statements.new.best c.in_ok-body.body.items c.mark.ensures c.in_ok-body.ensures c.mark-2.ensures
@@ -140,29 +140,29 @@ block-returns t c =
 -- ---- statements in turn
 
 pub statements-loop-kind-init : goal.statements-loop-kind-init
-statements-loop-kind-init t c = record {
+statements-loop-kind-init g t c = record {
   awaits = c.requires.awaits;
   read = none_yet c.args.scope.now.declared.items (left_of c.args.cursor.now) c.args.best.now c.new-statements.result.items c.new-statements.ensures.items;
 }
 
 pub statements-statement-requires : goal.statements-statement-requires
-statements-statement-requires t c =
+statements-statement-requires g t c =
     let before = so_far_shrinks c.loop-kind.invariant.read in
     (omega (arith, before), (c.requires.scope, (c.loop-kind.invariant.awaits, c.in-Some.ensures ∙ ap statement_kind c.kind.ensures)))
 
 pub statements-loop-kind-preserved : goal.statements-loop-kind-preserved
-statements-loop-kind-preserved t c = record {
+statements-loop-kind-preserved g t c = record {
   awaits = form_passed c.loop-kind.invariant.awaits c.in_ok-made.ensures;
   read = one_more c.args.scope.now.declared.items (left_of c.args.cursor.now) (left_of c.loop-kind.cursor) (left_of c.statement.new.cursor)
       c.args.best.now c.loop-kind.best c.statement.new.best
-      c.loop-kind.statements.items c.push.new.self.items c.in_ok-made.made c.loop-kind.invariant.read c.in_ok-made.ensures c.in_ok-push.ensures.items;
+      c.loop-kind.statements.items c.push.new.items.items c.in_ok-made.made c.loop-kind.invariant.read c.in_ok-made.ensures c.in_ok-push.ensures.items;
 }
 
 pub statements-loop-kind-smaller : goal.statements-loop-kind-smaller
-statements-loop-kind-smaller t c = form_shrinks c.in_ok-made.ensures
+statements-loop-kind-smaller g t c = form_shrinks c.in_ok-made.ensures
 
 pub statements-returns : goal.statements-returns
-statements-returns t c =
+statements-returns g t c =
     all_read c.args.scope.now.declared.items (left_of c.args.cursor.now) (left_of c.loop-kind.cursor) c.args.best.now c.loop-kind.best
     c.loop-kind.statements.items c.loop-kind.invariant.read
     (λ st k. no_statement st (left_of c.loop-kind.cursor) (c.in_default.ensures ∙ ap statement_kind c.kind.ensures) k)

@@ -16,14 +16,14 @@ abbrev ending : List Expected
 ending = wants.Mark mark.Semicolon ∷ wants.MoreStatements ∷ []
 
 pub mark-becomes-requires : goal.mark-becomes-requires
-mark-becomes-requires c =
+mark-becomes-requires g c =
     let l = c.next-name.result in
     let k = kind_next l kind.Name c.next-name.ensures (begins_with_name (next_kind (left_of c.args.cursor.now)) c.requires.begun) in
     first_awaited (wants.Mark mark.Becomes) (expression ending)
     (after_kind (wants.MoreStatements ∷ []) (wants.Mark mark.Becomes ∷ expression ending) l kind.Name c.requires.awaits c.next-name.ensures k (λ rest. refl))
 
 pub expression-requires-clause-awaits : goal.expression-requires-clause-awaits
-expression-requires-clause-awaits c =
+expression-requires-clause-awaits g c =
     let l = c.next-name.result in
     let k = kind_next l kind.Name c.next-name.ensures (begins_with_name (next_kind (left_of c.args.cursor.now)) c.requires.begun) in
     let named = after_kind (wants.MoreStatements ∷ []) (wants.Mark mark.Becomes ∷ expression ending) l kind.Name c.requires.awaits c.next-name.ensures k
@@ -31,7 +31,7 @@ expression-requires-clause-awaits c =
     expression_first ending (mark_passed mark.Becomes c.mark-becomes.result (expression ending) named c.mark-becomes.ensures)
 
 pub mark-requires : goal.mark-requires
-mark-requires c =
+mark-requires g c =
     let l = c.next-name.result in
     let k = kind_next l kind.Name c.next-name.ensures (begins_with_name (next_kind (left_of c.args.cursor.now)) c.requires.begun) in
     let named = after_kind (wants.MoreStatements ∷ []) (wants.Mark mark.Becomes ∷ expression ending) l kind.Name c.requires.awaits c.next-name.ensures k
@@ -40,7 +40,7 @@ mark-requires c =
     (expression_passed ending (mark_passed mark.Becomes c.mark-becomes.result (expression ending) named c.mark-becomes.ensures) c.in_ok-value.ensures)
 
 pub returns : goal.returns
-returns c =
+returns g c =
     let l = c.next-name.result in
     let k = kind_next l kind.Name c.next-name.ensures (begins_with_name (next_kind (left_of c.args.cursor.now)) c.requires.begun) in
     assignment_read c.args.scope.now.declared.items l c.mark-becomes.result c.mark.result

@@ -4,7 +4,7 @@ use Rattle.mini_syntax.specs.Expected.{takes}
 use Rattle.mini_syntax.proofs.expected.take.Given as goal
 
 abbrev pub invariant-loop-top : goal.invariant-loop-top
-invariant-loop-top l = takes (reverse l.fn.stack.items) l.kind ≡ takes (reverse l.stack.items) l.kind
+invariant-loop-top g l = takes (reverse l.fn.stack.items) l.kind ≡ takes (reverse l.stack.items) l.kind
 
 abbrev pub decreases-loop-top : goal.decreases-loop-top
-decreases-loop-top l = length l.stack.items
+decreases-loop-top g l = length l.stack.items

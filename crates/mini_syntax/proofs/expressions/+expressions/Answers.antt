@@ -1,5 +1,5 @@
 use Rattle.std.proofs.Common.{ℕ, [], ◌∷◌, refl, ap, subst, ◌∙◌, arith}
-use Rattle.std.proofs.lemmas.Result.{IfOk-weaker}
+use Rattle.stack_heap.proofs.UnlessLaws.{if_ok_unless_weaker}
 use Rattle.mini_syntax.specs.Internal.Combined.{IsPrefix}
 use Rattle.mini_syntax.specs.declared.expected.Expected.TheVariants as wants
 use Rattle.mini_syntax.specs.declared.lexer.TokenKind.TheVariants as kind
@@ -18,7 +18,7 @@ use Rattle.mini_syntax.proofs.expressions.+expressions.Goals as goal
 -- ---- factors
 
 pub factor-returns-in-Some-Variable : goal.factor-returns-in-Some-Variable
-factor-returns-in-Some-Variable t c =
+factor-returns-in-Some-Variable g t c =
     let l = c.next-token.result in
     let k = opens_name l.kind (rw c.in-Some-Variable.field-0-is at c.in-Some-Variable.ensures) in
     leaf c.args.scope.now.declared.items l kind.Name (grammar.variable l.place l.bytes.now) (left_of c.args.cursor.now) (left_of c.next-token.new.self)
@@ -26,7 +26,7 @@ factor-returns-in-Some-Variable t c =
     c.next-token.ensures k (omega arith) refl refl c.variable.ensures
 
 pub factor-returns-in-Some-Number : goal.factor-returns-in-Some-Number
-factor-returns-in-Some-Number t c =
+factor-returns-in-Some-Number g t c =
     let l = c.next-token.result in
     let k = opens_number l.kind (rw c.in-Some-Number.field-0-is at c.in-Some-Number.ensures) in
     leaf c.args.scope.now.declared.items l kind.Number (grammar.number l.place l.bytes.now) (left_of c.args.cursor.now) (left_of c.next-token.new.self)
@@ -34,7 +34,7 @@ factor-returns-in-Some-Number t c =
     c.next-token.ensures k (omega arith) refl refl (c.number.ensures c.args.scope.now.declared.items)
 
 pub factor-returns-in-Some-Truth : goal.factor-returns-in-Some-Truth
-factor-returns-in-Some-Truth t c =
+factor-returns-in-Some-Truth g t c =
     let l = c.next-token.result in
     let b = c.in-Some-Truth.value in
     let k = opens_truth b l.kind (rw c.in-Some-Truth.field-0-is at c.in-Some-Truth.ensures) in
@@ -43,7 +43,7 @@ factor-returns-in-Some-Truth t c =
     c.next-token.ensures k (omega arith) refl refl (c.truth.ensures c.args.scope.now.declared.items l.place c.args.best.now)
 
 pub factor-factor-requires : goal.factor-factor-requires
-factor-factor-requires t c =
+factor-factor-requires g t c =
     let l = c.next-token.result in
     let op = c.in-Some-Operator.op in
     let k = opens_prefix op l.kind (rw c.in-Some-Operator.field-0-is at c.in-Some-Operator.ensures) in
@@ -57,16 +57,17 @@ factor-factor-requires t c =
     )
 
 pub factor-returns-in_ok-operand-in-Some-Operator : goal.factor-returns-in_ok-operand-in-Some-Operator
-factor-returns-in_ok-operand-in-Some-Operator t c =
+factor-returns-in_ok-operand-in-Some-Operator g t c =
     let l = c.next-token.result in
     let op = c.in-Some-Operator.op in
     let k = opens_prefix op l.kind (rw c.in-Some-Operator.field-0-is at c.in-Some-Operator.ensures) in
-    IfOk-weaker c.with_prefix.result (IsPrefix l.place op c.in_ok-operand-in-Some-Operator.operand c.factor.new.best c.with_prefix.new.best)
+    if_ok_unless_weaker (g.H.Heap.may_refuse c.args.heap) c.with_prefix.result
+    (IsPrefix l.place op c.in_ok-operand-in-Some-Operator.operand c.factor.new.best c.with_prefix.new.best)
     (Reads 0 c.args.scope.now.declared.items (left_of c.args.cursor.now) (left_of c.factor.new.cursor) c.args.best.now c.with_prefix.new.best)
     (λ typed made. prefix_read op l c.next-token.ensures k c.in_ok-operand-in-Some-Operator.ensures made) c.with_prefix.ensures
 
 pub factor-expression-requires : goal.factor-expression-requires
-factor-expression-requires t c =
+factor-expression-requires g t c =
     let l = c.next-token.result in
     let k = opens_bracket l.kind (rw c.in-Some-Bracket.field-0-is at c.in-Some-Bracket.ensures) in
     let less = one_less (token_seen l) (left_of c.args.cursor.now) (left_of c.next-token.new.self) c.next-token.ensures in
@@ -75,7 +76,7 @@ factor-expression-requires t c =
     (omega (arith, less), (c.requires.scope, expression_first (wants.Mark mark.Close ∷ []) opened))
 
 pub factor-mark-requires : goal.factor-mark-requires
-factor-mark-requires t c =
+factor-mark-requires g t c =
     let l = c.next-token.result in
     let k = opens_bracket l.kind (rw c.in-Some-Bracket.field-0-is at c.in-Some-Bracket.ensures) in
     let opened = after_kind (wants.Operand ∷ []) (expression (wants.Mark mark.Close ∷ [])) l (kind.Mark mark.Open) c.requires.awaits
@@ -83,24 +84,24 @@ factor-mark-requires t c =
     expression_passed (wants.Mark mark.Close ∷ []) opened c.in_ok-inner-in-Some-Bracket.ensures
 
 pub factor-returns-in_ok-inner-in-Some-Bracket : goal.factor-returns-in_ok-inner-in-Some-Bracket
-factor-returns-in_ok-inner-in-Some-Bracket t c =
+factor-returns-in_ok-inner-in-Some-Bracket g t c =
     let l = c.next-token.result in
     let k = opens_bracket l.kind (rw c.in-Some-Bracket.field-0-is at c.in-Some-Bracket.ensures) in
     group_read l c.mark.result c.next-token.ensures k c.in_ok-inner-in-Some-Bracket.ensures c.mark.ensures
 
 pub factor-unreachable-requires : goal.factor-unreachable-requires
-factor-unreachable-requires t c = operand_is c.next-token.result c.requires.awaits c.next-token.ensures c.in-None.ensures
+factor-unreachable-requires g t c = operand_is c.next-token.result c.requires.awaits c.next-token.ensures c.in-None.ensures
 
 -- ---- an operand, and operators with their right operands
 
 pub expression_within-factor-requires : goal.expression_within-factor-requires
-expression_within-factor-requires t c = (omega arith, (c.requires.scope, first_operand c.requires.awaits))
+expression_within-factor-requires g t c = (omega arith, (c.requires.scope, first_operand c.requires.awaits))
 
 pub expression_within-loop-op-init : goal.expression_within-loop-op-init
-expression_within-loop-op-init t c = begun c.requires.awaits c.in_ok-left.ensures
+expression_within-loop-op-init g t c = begun c.requires.awaits c.in_ok-left.ensures
 
 pub expression_within-expression_within-requires : goal.expression_within-expression_within-requires
-expression_within-expression_within-requires t c =
+expression_within-expression_within-requires g t c =
     let l = c.next-place.result in
     let less = one_less (token_seen l) (left_of c.loop-op.cursor) (left_of c.next-place.new.self) c.next-place.ensures in
     let before = going_shrinks c.loop-op.invariant in
@@ -108,7 +109,7 @@ expression_within-expression_within-requires t c =
     (omega (arith, less, before), (c.requires.scope, right_awaited c.loop-op.invariant l c.next-place.ensures comes))
 
 pub expression_within-loop-op-preserved : goal.expression_within-loop-op-preserved
-expression_within-loop-op-preserved t c =
+expression_within-loop-op-preserved g t c =
     let comes = c.in-Some.ensures ∙ ap (infix_within c.args.level) c.kind.ensures in
     let right =
     subst (λ (level : ℕ). Reads level c.args.scope.now.declared.items (left_of c.next-place.new.self)
@@ -117,15 +118,15 @@ expression_within-loop-op-preserved t c =
     grown c.loop-op.invariant c.next-place.result c.next-place.ensures comes right c.in_ok-left-2.ensures
 
 pub expression_within-loop-op-smaller : goal.expression_within-loop-op-smaller
-expression_within-loop-op-smaller t c =
+expression_within-loop-op-smaller g t c =
     let less = one_less (token_seen c.next-place.result) (left_of c.loop-op.cursor) (left_of c.next-place.new.self) c.next-place.ensures in
     let more = read_shrinks c.in_ok-right.ensures in
     omega (arith, less, more)
 
 pub expression_within-returns : goal.expression_within-returns
-expression_within-returns t c = done c.loop-op.invariant (c.in_default.ensures ∙ ap (infix_within c.args.level) c.kind.ensures)
+expression_within-returns g t c = done c.loop-op.invariant (c.in_default.ensures ∙ ap (infix_within c.args.level) c.kind.ensures)
 
 -- ---- a whole expression
 
 pub expression-expression_within-requires : goal.expression-expression_within-requires
-expression-expression_within-requires t c = (omega arith, (c.requires.scope, expression_operand c.requires.awaits))
+expression-expression_within-requires g t c = (omega arith, (c.requires.scope, expression_operand c.requires.awaits))

@@ -6,14 +6,14 @@ use Rattle.mini_syntax.proofs.JudgeLaws.{below_further, breaks_first, ends_early
 use Rattle.mini_syntax.proofs.judging.judge_text.Goals as goal
 
 pub returns-in-Some-2-clause-fault : goal.returns-in-Some-2-clause-fault
-returns-in-Some-2-clause-fault c =
+returns-in-Some-2-clause-fault g c =
     let j = rw c.in-Some-2.is at c.in_ok-rule.ensures in
     rw c.refused.ensures (inl (breaks_first c.args.text.now c.loop-found.at c.loop-found.lexemes.items c.loop-found.stack.items
     c.judge_token.new.stack.items c.loop-found.counts c.in-Some.found c.loop-found.invariant.stands
     c.in-Some.ensures.some c.in-Some-2.rule j))
 
 pub loop-found-preserved : goal.loop-found-preserved
-loop-found-preserved c =
+loop-found-preserved g c =
     let finds = c.in-Some.ensures.some in
     let j = rw c.in_default-2.is at c.in_ok-rule.ensures in
     let low = finds.in_order.0 in
@@ -29,13 +29,13 @@ loop-found-preserved c =
     }
 
 pub returns-then-is_over-clause-program : goal.returns-then-is_over-clause-program
-returns-then-is_over-clause-program c =
+returns-then-is_over-clause-program g c =
     has_program c.args.text.now c.loop-found.at c.loop-found.lexemes.items c.loop-found.stack.items c.loop-found.counts c.loop-found.invariant.stands
     c.in_default.ensures.none
     (ap (λ (items : List Expected). is_over (reverse items)) (sym c.as_slice.ensures.value) ∙ sym c.if-is_over.ensures)
 
 pub returns-clause-fault : goal.returns-clause-fault
-returns-clause-fault c =
+returns-clause-fault g c =
     rw c.refused-else-is_over.ensures (inr (ends_early c.args.text.now c.loop-found.at c.loop-found.lexemes.items c.loop-found.stack.items
     c.loop-found.counts c.loop-found.invariant.stands c.in_default.ensures.none
     (ap (λ (items : List Expected). is_over (reverse items)) (sym c.as_slice.ensures.value) ∙ sym c.if-is_over.ensures)))

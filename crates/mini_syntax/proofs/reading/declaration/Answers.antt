@@ -20,14 +20,14 @@ abbrev after_name : List Expected
 after_name = wants.Mark mark.Semicolon ∷ more
 
 pub next-variable-requires : goal.next-variable-requires
-next-variable-requires c =
+next-variable-requires g c =
     let k = kind_next c.next.result (kind.Word (word.Sort c.args.sort)) c.next.ensures
     (sort_is c.args.sort (next_kind (left_of c.args.cursor.now)) c.requires.begun) in
     token_left (after_kind more (wants.Name ∷ after_name) c.next.result (kind.Word (word.Sort c.args.sort)) c.requires.awaits c.next.ensures k
     (λ rest. refl)) refl
 
 pub mark-requires : goal.mark-requires
-mark-requires c =
+mark-requires g c =
     let k = kind_next c.next.result (kind.Word (word.Sort c.args.sort)) c.next.ensures
     (sort_is c.args.sort (next_kind (left_of c.args.cursor.now)) c.requires.begun) in
     let named = after_kind more (wants.Name ∷ after_name) c.next.result (kind.Word (word.Sort c.args.sort)) c.requires.awaits c.next.ensures k (λ rest. refl) in
@@ -36,7 +36,7 @@ mark-requires c =
     (name_is c.next-variable.result named c.next-variable.ensures) (λ rest. refl))
 
 pub unreachable-requires : goal.unreachable-requires
-unreachable-requires c =
+unreachable-requires g c =
     let k = kind_next c.next.result (kind.Word (word.Sort c.args.sort)) c.next.ensures
     (sort_is c.args.sort (next_kind (left_of c.args.cursor.now)) c.requires.begun) in
     let named = after_kind more (wants.Name ∷ after_name) c.next.result (kind.Word (word.Sort c.args.sort)) c.requires.awaits c.next.ensures k (λ rest. refl) in
@@ -47,7 +47,7 @@ unreachable-requires c =
     cc
 
 pub returns-clause-read : goal.returns-clause-read
-returns-clause-read c =
+returns-clause-read g c =
     let k = kind_next c.next.result (kind.Word (word.Sort c.args.sort)) c.next.ensures
     (sort_is c.args.sort (next_kind (left_of c.args.cursor.now)) c.requires.begun) in
     let named = after_kind more (wants.Name ∷ after_name) c.next.result (kind.Word (word.Sort c.args.sort)) c.requires.awaits c.next.ensures k (λ rest. refl) in

@@ -14,7 +14,7 @@ use Rattle.mini_syntax.proofs.StepLaws.{decl_passed, proper_rest}
 use Rattle.mini_syntax.proofs.reading.declarations.Goals as goal
 
 pub loop-sort-init : goal.loop-sort-init
-loop-sort-init c = record {
+loop-sort-init g c = record {
   scope = λ name. ap (λ (es : List (Bor (List ℕ) × Variable)). lookup (λ key. bytes_eq name key.now) es) c.new-2.ensures.empty
       ∙ sym (ap (λ (ds : List Declared). variable_named ds name) c.new.ensures.items);
   awaits = c.requires.awaits;
@@ -24,13 +24,13 @@ loop-sort-init c = record {
 }
 
 pub declaration-requires-clause-begun : goal.declaration-requires-clause-begun
-declaration-requires-clause-begun c = c.in-Some.ensures ∙ ap sort_declared c.kind.ensures
+declaration-requires-clause-begun g c = c.in-Some.ensures ∙ ap sort_declared c.kind.ensures
 
 pub declaration-requires-clause-few : goal.declaration-requires-clause-few
-declaration-requires-clause-few c = omega (arith, c.loop-sort.invariant.few)
+declaration-requires-clause-few g c = omega (arith, c.loop-sort.invariant.few)
 
 pub loop-sort-preserved : goal.loop-sort-preserved
-loop-sort-preserved c =
+loop-sort-preserved g c =
     let three = decl_shrinks c.in_ok-declaration.ensures.read in
     let pushed : length c.declaration.new.scope.declared.items ≡ length
     (c.loop-sort.scope.declared.items ++ declared_by c.in_ok-declaration.ensures.read.tree ∷ []) =
@@ -53,10 +53,10 @@ loop-sort-preserved c =
     }
 
 pub loop-sort-smaller : goal.loop-sort-smaller
-loop-sort-smaller c = let three = decl_shrinks c.in_ok-declaration.ensures.read in omega (arith, three)
+loop-sort-smaller g c = let three = decl_shrinks c.in_ok-declaration.ensures.read in omega (arith, three)
 
 pub returns-clause-read : goal.returns-clause-read
-returns-clause-read c =
+returns-clause-read g c =
     all_declared c.loop-sort.scope.declared.items (left_of c.args.cursor.now) (left_of c.loop-sort.cursor) c.args.best.now c.loop-sort.best
     c.loop-sort.invariant.read
     (λ st k. no_declaration st (left_of c.loop-sort.cursor) (c.in_default.ensures ∙ ap sort_declared c.kind.ensures) k)

@@ -9,7 +9,7 @@ use Rattle.mini_syntax.proofs.reading.declarations.Given as goal
 
 -- each declaration has three tokens
 abbrev pub invariant-loop-sort : goal.invariant-loop-sort
-invariant-loop-sort l = record {
+invariant-loop-sort g l = record {
   scope : IsScope l.scope;
   awaits : Awaits (wants.MoreDeclarations ∷ []) (left_of l.cursor);
   named : are_proper (left_of l.cursor) ≡ true;
@@ -18,4 +18,4 @@ invariant-loop-sort l = record {
 }
 
 abbrev pub decreases-loop-sort : goal.decreases-loop-sort
-decreases-loop-sort l = length (left_of l.cursor)
+decreases-loop-sort g l = length (left_of l.cursor)

@@ -7,19 +7,19 @@ use Rattle.mini_syntax.proofs.StepLaws.{all_passed, decls_passed, program_comple
 use Rattle.mini_syntax.proofs.reading.read_program.Goals as goal
 
 pub declarations-requires-clause-awaits : goal.declarations-requires-clause-awaits
-declarations-requires-clause-awaits c = record {
+declarations-requires-clause-awaits g c = record {
   rest = wants.MoreStatements ∷ [];
   completes = program_completes (map token_seen c.args.lexemes.now) c.requires.program.0 c.requires.program.1;
 }
 
 pub statements-requires-clause-awaits : goal.statements-requires-clause-awaits
-statements-requires-clause-awaits c = record {
+statements-requires-clause-awaits g c = record {
   rest = [];
   completes = decls_passed (program_completes (map token_seen c.args.lexemes.now) c.requires.program.0 c.requires.program.1) c.in_ok-scope.ensures.read;
 }
 
 pub returns : goal.returns
-returns c =
+returns g c =
     let start = program_completes (map token_seen c.args.lexemes.now) c.requires.program.0 c.requires.program.1 in
     let over = all_passed (decls_passed start c.in_ok-scope.ensures.read) c.in_ok-body.ensures in
     let w = whole_read c.in_ok-scope.ensures.read c.in_ok-body.ensures (nothing_left (left_of c.statements.new.cursor) over) in

@@ -6,7 +6,7 @@ use Rattle.mini_syntax.proofs.ScopeLaws.{entered}
 use Rattle.mini_syntax.proofs.scope.declare.Goals as goal
 
 pub returns : goal.returns
-returns c = λ other.
-    ap (λ (es : List (Bor (List ℕ) × Variable)). lookup (λ key. bytes_eq other key.now) es) c.in_ok-insert.ensures.entries
+returns g c = λ other.
+    ap (λ (es : List (Bor (List ℕ) × Variable)). lookup (λ key. bytes_eq other key.now) es) c.in_ok-insert_pair.ensures.entries
     ∙ entered (λ a b. bytes_eq a.now b.now) (λ a b. refl) c.args.variables.now.entries c.args.name c.args.variable
     (sym c.contains_key.ensures ∙ c.if-contains_key.false) other

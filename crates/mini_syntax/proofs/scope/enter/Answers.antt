@@ -6,8 +6,8 @@ use Rattle.mini_syntax.proofs.ScopeLaws.{knows_more}
 use Rattle.mini_syntax.proofs.scope.enter.Goals as goal
 
 pub returns-clause-scope : goal.returns-clause-scope
-returns-clause-scope c =
-    knows_more (look_up c.args.scope.now.variables) (look_up c.declare.new.variables) c.args.scope.now.declared.items c.push.new.self.items
+returns-clause-scope g c =
+    knows_more (look_up c.args.scope.now.variables) (look_up c.declare.new.variables) c.args.scope.now.declared.items c.push.new.items.items
     record { name = c.args.name; sort = c.args.sort } c.len-index.result
     c.requires.scope (omega (arith, c.args.scope.now.declared.ok.0, c.len-index.ensures))
     (λ other. c.in_ok-declare.ensures other ∙ ap
