@@ -14,10 +14,10 @@ use Rattle.space_cert.specs.declared.certifying.CertFault.{CertFault}
 use Rattle.space_cert.specs.declared.certifying.CertFault.TheVariants.{Recursive, Memory}
 use Rattle.space_cert.specs.Covers.{Bounds, as_words, bound_at, IsAtMost, own_need, call_bound, CoversCall, CoversRun, IsCertificate}
 use Rattle.space_cert.specs.Reaches.{Directly, Further, calls_of, IsReached, IsRecursive}
-use Rattle.space_cert.specs.Least.{AreLeastBounds, IsFirstRecursive, IsCertFault, IsThere}
+use Rattle.space_cert.specs.Least.{AreLeastBounds, IsFirstRecursive, IsCertFaultUnless, IsThere}
 use Rattle.space_cert.specs.Order.{greater, call_words, greatest_call, run_bound}
 use Rattle.space_cert.specs.Certified.{reaches, is_reached, is_recursive, first_from, greatest_taken, run_within, least_bound, bounds_from, unless_recursive}
-use Rattle.space_cert.specs.Certified.{certified, recursive_of, GivesCertified}
+use Rattle.space_cert.specs.Certified.{certified, recursive_of, GivesCertifiedUnless}
 use Rattle.stack_text.specs.Gives as common
 use Rattle.space_cert.proofs.ContainsLaws.{contains_first, contains_later}
 use Rattle.space_cert.proofs.ReachLaws.{reached_by, computed_reached, reached_below, reached_computed}
@@ -360,14 +360,14 @@ least_one q bs ds h g =
         λ i. Some (temp i, ctrl i)
 
 -- what the code finds is what is computed
-pub certified_gives : (q : Program) → ProgramFits q → (r : Result Certificate CertFault)
-    → MatchResult r (λ (c : Certificate). AreLeastBounds q c.bounds.items) (IsCertFault q)
-    → GivesCertified (λ (c : Certificate). c.bounds.items) r (certified q)
-certified_gives q fits r h = by_both (certified q) (certified_is q fits) r h
+pub certified_gives : (R : Type 0) (q : Program) → ProgramFits q → (r : Result Certificate CertFault)
+    → MatchResult r (λ (c : Certificate). AreLeastBounds q c.bounds.items) (IsCertFaultUnless R q)
+    → GivesCertifiedUnless R (λ (c : Certificate). c.bounds.items) r (certified q)
+certified_gives R q fits r h = by_both (certified q) (certified_is q fits) r h
   where
     by_both : (v : Result Bounds ℕ) → MatchResult v (AreLeastBounds q) (IsFirstRecursive q) → (r : Result Certificate CertFault)
-        → MatchResult r (λ (c : Certificate). AreLeastBounds q c.bounds.items) (IsCertFault q)
-        → common.Gives recursive_of (λ (c : Certificate). c.bounds.items) r v
+        → MatchResult r (λ (c : Certificate). AreLeastBounds q c.bounds.items) (IsCertFaultUnless R q)
+        → common.GivesUnless R recursive_of (λ (c : Certificate). c.bounds.items) r v
     by_both (Ok bs) g (Ok c) h = ap (λ b. Ok b) (least_one q bs c.bounds.items g h)
     by_both (Ok bs) g (Err (Recursive p)) h = absurd (never_recursive q p bs h.recursive g.certificate)
     by_both (Err p) g (Ok c) h = absurd (never_recursive q p c.bounds.items g.recursive h.certificate)
@@ -378,11 +378,12 @@ certified_gives q fits r h = by_both (certified q) (certified_is q fits) r h
               elim (cases_lt r p) [ inl lt ↦ absurd (g.first r lt h.recursive) | inr le' ↦ omega (arith, le, le') ]
         ] in
         ap (λ x. Err x) same
-    by_both (Ok bs) g (Err Memory) h = tt
-    by_both (Err p) g (Err Memory) h = tt
+    by_both (Ok bs) g (Err Memory) h = h
+    by_both (Err p) g (Err Memory) h = h
 
 -- that procedure is there
-pub fault_there : {X : Type 0} (q : Program) → ProgramFits q → (P : X → Type 0) (r : Result X CertFault) → MatchResult r P (IsCertFault q) → IfErr r (IsThere q)
-fault_there q fits P (Ok c) h = tt
-fault_there q fits P (Err (Recursive p)) h = recursive_below q fits p h.recursive
-fault_there q fits P (Err Memory) h = tt
+pub fault_there : {X : Type 0} (R : Type 0) (q : Program) → ProgramFits q → (P : X → Type 0) (r : Result X CertFault)
+    → MatchResult r P (IsCertFaultUnless R q) → IfErr r (IsThere q)
+fault_there R q fits P (Ok c) h = tt
+fault_there R q fits P (Err (Recursive p)) h = recursive_below q fits p h.recursive
+fault_there R q fits P (Err Memory) h = tt

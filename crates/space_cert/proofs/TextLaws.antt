@@ -3,7 +3,7 @@ use Rattle.std.proofs.Common.{◌≡◌, ◌≢◌, ℕ, zero, suc, ◌+◌, ◌
 use Rattle.std.proofs.Common.{Result, Ok, refl, ap, sym, ◌∙◌, arith}
 use Rattle.std.proofs.lemmas.Bool.{and_parts, le-leb, and_from}
 use Rattle.std.proofs.lemmas.List.{drop_all}
-use Rattle.stack_text.specs.Gives.{Fails}
+use Rattle.stack_text.specs.Gives.{FailsUnless}
 use Rattle.stack_text.specs.Results.{◌>>=◌}
 use Rattle.stack_text.specs.Trees.{more}
 use Rattle.stack_text.specs.declared.tree.TextTree.{TextTree}
@@ -38,10 +38,10 @@ module _ (names : List (List ℕ)) (trees : List TextTree) (i : ℕ) (tree : Tex
       ap (λ r. r >>= λ e. with_entries names (set bs e.0 (Some e.1)) (nodes_of (drop (i + 1) trees))) (sym read)
       ∙ (ap (with_entries names bs) (sym (nodes_at trees i tree lt is)) ∙ so_far)
 
-  pub entry_stops : (fault : Option Fault) → Fails fault (entry_at names bs (node_of tree)) → Fails fault all
+  pub entry_stops : (R : Type 0) (fault : Option Fault) → FailsUnless R fault (entry_at names bs (node_of tree)) → FailsUnless R fault all
   unfolding with_entries
-  entry_stops None h = tt
-  entry_stops (Some fault) h =
+  entry_stops R None h = h
+  entry_stops R (Some fault) h =
       sym so_far ∙ (ap (with_entries names bs) (nodes_at trees i tree lt is) ∙ ap
       (λ r. r >>= λ e. with_entries names (set bs e.0 (Some e.1)) (nodes_of (drop (i + 1) trees))) h)
 

@@ -111,6 +111,6 @@ abbrev pub fault_of : CertTextFault → Option Fault
 fault_of (Refused rule place) = Some (rule, place)
 fault_of Memory = None
 
--- the call returned exactly what the definition gives, seen through the view; out of memory alone is free
-abbrev pub GivesCertificateText : {X Y : Type 0} → (X → Y) → Result X CertTextFault → Result Y Fault → Type 0
-GivesCertificateText view result value = common.Gives fault_of view result value
+-- the call returned exactly what the definition gives, seen through the view, unless memory was refused
+abbrev pub GivesCertificateTextUnless : {X Y : Type 0} → Type 0 → (X → Y) → Result X CertTextFault → Result Y Fault → Type 0
+GivesCertificateTextUnless refused view result value = common.GivesUnless refused fault_of view result value

@@ -67,6 +67,6 @@ abbrev pub recursive_of : CertFault → Option ℕ
 recursive_of (Recursive p) = Some p
 recursive_of Memory = None
 
--- the call returned exactly what the definition gives, seen through the view; out of memory alone is free
-abbrev pub GivesCertified : {X : Type 0} → (X → Bounds) → Result X CertFault → Result Bounds ℕ → Type 0
-GivesCertified view result value = common.Gives recursive_of view result value
+-- the call returned exactly what the definition gives, seen through the view, unless memory was refused
+abbrev pub GivesCertifiedUnless : {X : Type 0} → Type 0 → (X → Bounds) → Result X CertFault → Result Bounds ℕ → Type 0
+GivesCertifiedUnless refused view result value = common.GivesUnless refused recursive_of view result value

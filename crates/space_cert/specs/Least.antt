@@ -21,10 +21,10 @@ pub record IsFirstRecursive (q : Program) (p : ℕ) : Type 0 where
   pub recursive : IsRecursive q p
   pub first : (r : ℕ) → r < p → ¬ IsRecursive q r
 
--- why there is no certificate, or none was found; out of memory alone is free
-abbrev pub IsCertFault : Program → CertFault → Type 0
-IsCertFault q (Recursive p) = IsFirstRecursive q p
-IsCertFault q Memory = Unit {0}
+-- why there is no certificate, or that memory was refused
+abbrev pub IsCertFaultUnless : Type 0 → Program → CertFault → Type 0
+IsCertFaultUnless refused q (Recursive p) = IsFirstRecursive q p
+IsCertFaultUnless refused q Memory = refused
 
 -- the procedure that a fault tells is one of the program's
 abbrev pub IsThere : Program → CertFault → Type 0

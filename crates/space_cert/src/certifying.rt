@@ -1,6 +1,7 @@
 //! The least certificate.
 
-ghost use Rattle.std.specs.Prelude.{◌≡◌, ℕ, ◌+◌, ◌<◌, ◌≤◌, ◌^◌, ◌++◌, None, get_or, length, map, reverse, take, IfErr, IfOk, OnOk};
+ghost use Rattle.std.specs.Prelude.{◌≡◌, ℕ, ◌+◌, ◌<◌, ◌≤◌, ◌^◌, ◌++◌, None, get_or, length, map, reverse, take, IfErr};
+ghost use Rattle.stack_heap.specs.Heaps.{IfOkUnless, OnOkUnless};
 ghost use Rattle.std.specs.Result.{MatchResult};
 ghost use Rattle.std.specs.List.{All};
 ghost use Rattle.gypsy_syntax.specs.ProgramFits.{ProgramFits};
@@ -9,18 +10,19 @@ ghost use Rattle.gypsy_syntax.specs.Views.SourceView.{source_of};
 ghost use Rattle.gypsy_space.specs.Events.{AreNeeds, AreSmall, IsSmall};
 ghost use Rattle.gypsy_space.specs.Nodes.{seen_program, seen_statement, seen_statements};
 ghost use Rattle.space_cert.specs.Covers.{as_words, callees};
-ghost use Rattle.space_cert.specs.Certified.{GivesCertified, certified};
+ghost use Rattle.space_cert.specs.Certified.{GivesCertifiedUnless, certified};
 ghost use Rattle.space_cert.specs.Order.{AreBounds, bounds_by_needs, call_bound_by, run_bound_by};
-ghost use Rattle.space_cert.specs.Least.{IsCertFault, AreLeastBounds, IsThere};
+ghost use Rattle.space_cert.specs.Least.{IsCertFaultUnless, AreLeastBounds, IsThere};
 ghost use Rattle.space_cert.specs.Internal.SearchView.{seen_calls};
 
 use crate::certificate::Certificate;
+use crate::filling::filled;
 use crate::search::call_order;
 use gypsy_check::Accepted;
 use gypsy_space::{Need, Needs, Node, Program, resolve};
 use gypsy_syntax::plain_form;
+use stack_heap::Heap;
 use stack_text::Memory;
-use std::alloc::Global;
 use std::rc::Rc;
 use thiserror::Error;
 
@@ -49,23 +51,24 @@ impl From<Memory> for CertFault {
 
 /// Appends the callees of the calls in a statement.
 #[cycle(statements)]
-fn append_callees(calls: &mut Vec<u32>, node: &Rc<Node>) -> Result<(), Memory>
-    ensures { OnOk result (calls.new.items ≡ calls.old.items ++ callees (seen_statement node.now.value)) }
+fn append_callees<H: Heap>(heap: H, calls: &mut Vec<u32>, node: &Rc<Node>) -> Result<(), Memory>
+    ensures { OnOkUnless (H.may_refuse heap) result
+        (calls.new.items ≡ calls.old.items ++ callees (seen_statement node.now.value)) }
 {
     match &**node {
         Node::NoOp(_) | Node::Signal(_, _) | Node::Apply(_) => Ok(()),
-        Node::Seq(parts) => append_all(calls, parts),
-        Node::Loop(_, body) => append_callees(calls, body),
+        Node::Seq(parts) => append_all(heap, calls, parts),
+        Node::Loop(_, body) => append_callees(heap, calls, body),
         Node::If(_, _, yes, no) => {
-            append_callees(calls, yes)?;
-            append_callees(calls, no)
+            append_callees(heap, calls, yes)?;
+            append_callees(heap, calls, no)
         }
         Node::Begin(_, body, _, arm) => {
-            append_callees(calls, body)?;
-            append_callees(calls, arm)
+            append_callees(heap, calls, body)?;
+            append_callees(heap, calls, arm)
         }
         Node::Call(call) => {
-            calls.push(call.callee)?;
+            heap.push(calls, call.callee)?;
             Ok(())
         }
     }
@@ -73,32 +76,33 @@ fn append_callees(calls: &mut Vec<u32>, node: &Rc<Node>) -> Result<(), Memory>
 
 /// Appends the callees of the calls in the parts of a sequence.
 #[cycle(statements)]
-fn append_all(calls: &mut Vec<u32>, parts: &Rc<Vec<Rc<Node>>>) -> Result<(), Memory>
-    ensures { OnOk result (calls.new.items ≡ calls.old.items ++ callees (seen_statements parts.now.value.items)) }
+fn append_all<H: Heap>(heap: H, calls: &mut Vec<u32>, parts: &Rc<Vec<Rc<Node>>>) -> Result<(), Memory>
+    ensures { OnOkUnless (H.may_refuse heap) result
+        (calls.new.items ≡ calls.old.items ++ callees (seen_statements parts.now.value.items)) }
 {
     for index in 0..parts.len() {
-        append_callees(calls, &parts[index])?;
+        append_callees(heap, calls, &parts[index])?;
     }
     Ok(())
 }
 
 /// The callees of the calls in a procedure.
-fn callees_of(alloc: Global, body: &Rc<Node>) -> Result<Vec<u32>, Memory>
-    ensures { IfOk result (λ calls. calls.items ≡ callees (seen_statement body.now.value)) }
+fn callees_of<H: Heap>(heap: H, body: &Rc<Node>) -> Result<Vec<u32>, Memory>
+    ensures { IfOkUnless (H.may_refuse heap) result (λ calls. calls.items ≡ callees (seen_statement body.now.value)) }
 {
-    let mut calls = Vec::new(alloc);
-    append_callees(&mut calls, body)?;
+    let mut calls = Vec::new(heap.handle());
+    append_callees(heap, &mut calls, body)?;
     Ok(calls)
 }
 
 /// The callees of the calls in each procedure.
-fn all_callees(alloc: Global, program: &Program) -> Result<Vec<Vec<u32>>, Memory>
-    ensures { IfOk result (λ calls.
+fn all_callees<H: Heap>(heap: H, program: &Program) -> Result<Vec<Vec<u32>>, Memory>
+    ensures { IfOkUnless (H.may_refuse heap) result (λ calls.
         seen_calls calls.items ≡ map (λ p. callees p.body) (seen_program program.now).procs) }
 {
-    let mut calls = Vec::new(alloc);
+    let mut calls = Vec::new(heap.handle());
     for procedure in program.procedures.as_slice() {
-        calls.push(callees_of(alloc, &procedure.body)?)?;
+        heap.push(&mut calls, callees_of(heap, &procedure.body)?)?;
     }
     Ok(calls)
 }
@@ -149,8 +153,8 @@ fn run_bound(
 }
 
 /// The bounds of the procedures in an order, in which each one stands after those that it calls.
-fn bounds_in(
-    alloc: Global,
+fn bounds_in<H: Heap>(
+    heap: H,
     needs: &Needs,
     calls: &[Vec<u32>],
     order: &[u32],
@@ -159,10 +163,10 @@ fn bounds_in(
     requires there { All (λ p. p < length calls.now) order.now }
     requires bounds { (k : ℕ) → AreBounds
         (bounds_by_needs needs.now.procedures.items (seen_calls calls.now) (reverse (take k order.now))) }
-    ensures { IfOk result (λ bounds.
+    ensures { IfOkUnless (H.may_refuse heap) result (λ bounds.
         bounds.items ≡ bounds_by_needs needs.now.procedures.items (seen_calls calls.now) (reverse order.now)) }
 {
-    let mut bounds = vec![in alloc; None; calls.len()]?;
+    let mut bounds = filled(heap, None, calls.len())?;
     for procedure in order {
         let callees = calls[*procedure as usize].as_slice();
         let need = run_bound(needs, bounds.as_slice(), callees, *procedure);
@@ -172,8 +176,8 @@ fn bounds_in(
 }
 
 /// The least certificate of a program.
-fn least_certificate(
-    alloc: Global,
+fn least_certificate<H: Heap>(
+    heap: H,
     program: &Program,
     needs: &Needs,
 ) -> Result<Certificate, CertFault>
@@ -182,14 +186,14 @@ fn least_certificate(
     requires needs { AreNeeds (seen_program program.now) needs.now.procedures.items }
     requires small { AreSmall needs.now.procedures.items }
     ensures { MatchResult result (λ c. AreLeastBounds (seen_program program.now) c.bounds.items)
-        (IsCertFault (seen_program program.now)) }
+        (IsCertFaultUnless (H.may_refuse heap) (seen_program program.now)) }
 {
-    let calls = all_callees(alloc, program)?;
-    let order = call_order(alloc, calls.as_slice(), program.main)?;
+    let calls = all_callees(heap, program)?;
+    let order = call_order(heap, calls.as_slice(), program.main)?;
     if let Some(procedure) = order.recursive {
         return Err(CertFault::Recursive { procedure });
     }
-    let bounds = bounds_in(alloc, needs, calls.as_slice(), order.procedures.as_slice())?;
+    let bounds = bounds_in(heap, needs, calls.as_slice(), order.procedures.as_slice())?;
     Ok(Certificate { bounds })
 }
 
@@ -200,16 +204,17 @@ fn least_certificate(
 ///
 /// A procedure that main reaches reaches itself: the first one in the source. Then no certificate covers the source, at any
 /// sizes. Or out of memory. Time and memory are linear in the source.
-pub fn certify(alloc: Global, accepted: &Accepted, needs: &Needs) -> Result<Certificate, CertFault>
+pub fn certify<H: Heap>(heap: H, accepted: &Accepted, needs: &Needs) -> Result<Certificate, CertFault>
     requires needs { AreNeeds (program_of (source_of accepted.now)) needs.now.procedures.items }
     requires small { AreSmall needs.now.procedures.items }
     ensures least { MatchResult result (λ c. AreLeastBounds (program_of (source_of accepted.now)) c.bounds.items)
-        (IsCertFault (program_of (source_of accepted.now))) }
+        (IsCertFaultUnless (H.may_refuse heap) (program_of (source_of accepted.now))) }
     ensures there { IfErr result (IsThere (program_of (source_of accepted.now))) }
     // The same as a function of the source.
-    ensures exact { GivesCertified (λ c. c.bounds.items) result (certified (program_of (source_of accepted.now))) }
+    ensures exact { GivesCertifiedUnless (H.may_refuse heap) (λ c. c.bounds.items) result
+        (certified (program_of (source_of accepted.now))) }
 {
     plain_form();
-    let program = resolve(alloc, accepted)?;
-    least_certificate(alloc, &program, needs)
+    let program = resolve(heap, accepted)?;
+    least_certificate(heap, &program, needs)
 }

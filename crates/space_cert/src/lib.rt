@@ -8,6 +8,7 @@
 mod accepting;
 mod certificate;
 mod certifying;
+mod filling;
 mod laws;
 mod printing;
 mod reading;

@@ -1,6 +1,7 @@
 //! The text of certificates.
 
-ghost use Rattle.std.specs.Prelude.{◌≡◌, ◌≤◌, ◌^◌, ◌++◌, ◌∷◌, length, IfOk, OnOk, Ok};
+ghost use Rattle.std.specs.Prelude.{◌≡◌, ◌≤◌, ◌^◌, ◌++◌, ◌∷◌, length, IfOk, Ok};
+ghost use Rattle.stack_heap.specs.Heaps.{IfOkUnless, OnOkUnless};
 ghost use Rattle.std.specs.Fmt.{decimal};
 ghost use Rattle.stack_text.specs.TreeText.{items_text, tree_text};
 ghost use Rattle.stack_text.specs.Views.TreeView.{nodes};
@@ -14,40 +15,42 @@ use crate::certifying::bound_of;
 use gypsy_check::Accepted;
 use gypsy_syntax::Proc;
 use itoa::Buffer;
+use stack_heap::Heap;
 use stack_text::grammar::separate;
 use stack_text::{Memory, Name};
-use std::alloc::Global;
 
 /// Appends a space and a bound.
-fn print_bound(out: &mut Vec<u8>, bound: u64) -> Result<(), Memory>
-    ensures { OnOk result (out.new.items ≡ out.old.items ++ 32 ∷ decimal bound) }
+fn print_bound<H: Heap>(heap: H, out: &mut Vec<u8>, bound: u64) -> Result<(), Memory>
+    ensures { OnOkUnless (H.may_refuse heap) result (out.new.items ≡ out.old.items ++ 32 ∷ decimal bound) }
 {
     let mut digits = Buffer::new();
-    out.push(b' ')?;
-    out.extend_from_slice(digits.format(bound).as_bytes())?;
+    heap.push(out, b' ')?;
+    heap.extend_from_slice(out, digits.format(bound).as_bytes())?;
     Ok(())
 }
 
 /// Appends the entry of a procedure.
-fn print_entry(out: &mut Vec<u8>, name: &Name, bound: (u64, u64)) -> Result<(), Memory>
-    ensures { OnOk result (out.new.items ≡ out.old.items ++ tree_text (entry_tree name.now bound)) }
+fn print_entry<H: Heap>(heap: H, out: &mut Vec<u8>, name: &Name, bound: (u64, u64)) -> Result<(), Memory>
+    ensures { OnOkUnless (H.may_refuse heap) result
+        (out.new.items ≡ out.old.items ++ tree_text (entry_tree name.now bound)) }
 {
-    out.push(b'(')?;
-    out.extend_from_slice(name.bytes())?;
-    print_bound(out, bound.0)?;
-    print_bound(out, bound.1)?;
-    out.push(b')')?;
+    heap.push(out, b'(')?;
+    heap.extend_from_slice(out, name.bytes())?;
+    print_bound(heap, out, bound.0)?;
+    print_bound(heap, out, bound.1)?;
+    heap.push(out, b')')?;
     Ok(())
 }
 
 /// Appends the entries of the procedures that have bounds, with one space between.
-fn print_entries(
+fn print_entries<H: Heap>(
+    heap: H,
     out: &mut Vec<u8>,
     procs: &[Proc],
     bounds: &[Option<(u64, u64)>],
 ) -> Result<(), Memory>
     requires { length bounds.now ≡ length procs.now }
-    ensures { OnOk result
+    ensures { OnOkUnless (H.may_refuse heap) result
         (out.new.items ≡ out.old.items ++ items_text (nodes (entry_trees (names_of procs.now) bounds.now))) }
 {
     let mut printed = 0;
@@ -55,8 +58,8 @@ fn print_entries(
         let Some(bound) = bound_of(bounds, index) else {
             continue;
         };
-        separate(*out.allocator(), out, printed)?;
-        print_entry(out, &proc.name.name, bound)?;
+        separate(heap, out, printed)?;
+        print_entry(heap, out, &proc.name.name, bound)?;
         printed += 1;
     }
     Ok(())
@@ -64,13 +67,14 @@ fn print_entries(
 
 /// Appends a certificate.
 #[tactic(auto, unfolding(crate::specs::CertText::certificate_text))]
-fn print_all(out: &mut Vec<u8>, procs: &[Proc], bounds: &[Option<(u64, u64)>]) -> Result<(), Memory>
+fn print_all<H: Heap>(heap: H, out: &mut Vec<u8>, procs: &[Proc], bounds: &[Option<(u64, u64)>]) -> Result<(), Memory>
     requires { length bounds.now ≡ length procs.now }
-    ensures { OnOk result (out.new.items ≡ out.old.items ++ certificate_text (names_of procs.now) bounds.now) }
+    ensures { OnOkUnless (H.may_refuse heap) result
+        (out.new.items ≡ out.old.items ++ certificate_text (names_of procs.now) bounds.now) }
 {
-    out.push(b'(')?;
-    print_entries(out, procs, bounds)?;
-    out.push(b')')?;
+    heap.push(out, b'(')?;
+    print_entries(heap, out, procs, bounds)?;
+    heap.push(out, b')')?;
     Ok(())
 }
 
@@ -78,20 +82,21 @@ fn print_all(out: &mut Vec<u8>, procs: &[Proc], bounds: &[Option<(u64, u64)>]) -
 /// space between. It has no line end.
 ///
 /// It is read again as the same bounds.
-pub fn print_certificate(
-    alloc: Global,
+pub fn print_certificate<H: Heap>(
+    heap: H,
     accepted: &Accepted,
     cert: &Certificate,
 ) -> Result<Vec<u8>, Memory>
     requires { length cert.now.bounds.items ≡ length (source_of accepted.now).procs }
     ensures exact { let names = procedure_names (source_of accepted.now) in
-        IfOk result (λ text. text.items ≡ certificate_text names cert.now.bounds.items) }
+        IfOkUnless (H.may_refuse heap) result (λ text. text.items ≡ certificate_text names cert.now.bounds.items) }
     ensures again { let names = procedure_names (source_of accepted.now) in
         IfOk result (λ text. bounds_in names text.items ≡ Ok cert.now.bounds.items) }
     ensures short { IfOk result (λ text. length text.items ≤ 2 ^ 17) }
 {
-    let mut out = Vec::new(alloc);
+    let mut out = Vec::new(heap.handle());
     print_all(
+        heap,
         &mut out,
         accepted.source().procs.as_slice(),
         cert.bounds.as_slice(),

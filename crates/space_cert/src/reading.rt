@@ -1,6 +1,7 @@
 //! Reading certificates.
 
 ghost use Rattle.std.specs.Prelude.{◌≡◌, ◌<◌, ◌≤◌, ◌^◌, IfOk, IfSome, IsTrue, length, option_map};
+ghost use Rattle.stack_heap.specs.Heaps.{IfOkUnless};
 ghost use Rattle.std.specs.List.{IsDistinct};
 ghost use Rattle.std.specs.Str.{bytes_eq};
 ghost use Rattle.stack_text.specs.Gives as memory;
@@ -11,19 +12,20 @@ ghost use Rattle.gypsy_space.specs.Callees.{names_of};
 ghost use Rattle.space_cert.specs.Bounded.{are_bounds};
 ghost use Rattle.space_cert.specs.Covers.{no_bounds};
 ghost use Rattle.stack_text.specs.TreeNames.{name_of_tree};
-ghost use Rattle.space_cert.specs.CertText.{GivesCertificateText, bounds_at, bounds_in, entry_at, fault_of, free_place};
+ghost use Rattle.space_cert.specs.CertText.{GivesCertificateTextUnless, bounds_at, bounds_in, entry_at, fault_of, free_place};
 ghost use Rattle.space_cert.specs.CertText.{number_at, number_of, parts_entry, three_of, with_entries};
 ghost use Rattle.space_cert.specs.Internal.Names.{names_in};
 
 use crate::certificate::Certificate;
 use crate::certifying::bound_of;
+use crate::filling::filled;
 use gypsy_check::Accepted;
 use gypsy_syntax::Proc;
 use indexmap::IndexSet;
+use stack_heap::Heap;
 use stack_text::{
     Memory, Name, TextFault, TextTree, is_digits, read_name, read_numeral, read_text_tree,
 };
-use std::alloc::{AllocError, Global};
 use thiserror::Error;
 
 /// The greatest bound.
@@ -61,17 +63,6 @@ impl From<Memory> for CertTextFault {
     }
 }
 
-impl From<AllocError> for CertTextFault {
-    ghost use Rattle.std.specs.Prelude.{◌≡◌};
-    ghost use Rattle.space_cert.specs.declared.reading.CertTextFault.TheVariants as faults;
-
-    ghost from_gives = { λ _ e. e ≡ faults.Memory };
-
-    fn from(_error: AllocError) -> CertTextFault {
-        CertTextFault::Memory
-    }
-}
-
 /// The number of a word of digits, up to 2^40.
 fn number_of(word: &[u8]) -> Option<u64>
     ensures exact { result ≡ number_of word.now }
@@ -104,11 +95,11 @@ fn number_at(tree: &TextTree) -> Option<u64>
 }
 
 /// The name that a tree is, if it is one.
-fn name_at(alloc: Global, tree: &TextTree) -> Result<Option<Name>, Memory>
-    ensures { memory.Returns (λ name. name) result (name_of_tree (node_of tree.now)) }
+fn name_at<H: Heap>(heap: H, tree: &TextTree) -> Result<Option<Name>, Memory>
+    ensures { memory.ReturnsUnless (H.may_refuse heap) (λ name. name) result (name_of_tree (node_of tree.now)) }
 {
     match tree {
-        TextTree::Atom { place: _, text } => read_name(alloc, text),
+        TextTree::Atom { place: _, text } => read_name(heap, text),
         TextTree::List { place: _, items: _ } => Ok(None),
     }
 }
@@ -134,13 +125,13 @@ fn refused(rule: u8, place: u32) -> CertTextFault
 }
 
 /// The names of procedures, in order.
-fn names<'a>(alloc: Global, procs: &'a [Proc]) -> Result<IndexSet<&'a [u8]>, Memory>
+fn names<'a, H: Heap>(heap: H, procs: &'a [Proc]) -> Result<IndexSet<&'a [u8]>, Memory>
     requires { IsDistinct bytes_eq (names_of procs.now) }
-    ensures { IfOk result (λ names. names_in names ≡ names_of procs.now) }
+    ensures { IfOkUnless (H.may_refuse heap) result (λ names. names_in names ≡ names_of procs.now) }
 {
-    let mut names: IndexSet<&[u8]> = IndexSet::new(alloc);
+    let mut names: IndexSet<&[u8]> = IndexSet::new(heap.handle());
     for proc in procs {
-        let (_index, _added) = names.insert_full(proc.name.name.bytes())?;
+        let _is_new = heap.insert(&mut names, proc.name.name.bytes())?;
     }
     Ok(names)
 }
@@ -167,8 +158,8 @@ fn free_place(bounds: &[Option<(u64, u64)>], procedure: usize) -> Option<usize>
 
 /// The procedure and the bounds of an entry of these parts.
 #[tactic(auto, unfolding(crate::specs::CertText::parts_entry))]
-fn parts_entry(
-    alloc: Global,
+fn parts_entry<H: Heap>(
+    heap: H,
     names: &IndexSet<&[u8]>,
     bounds: &[Option<(u64, u64)>],
     place: u32,
@@ -176,12 +167,12 @@ fn parts_entry(
     temp: &TextTree,
     ctrl: &TextTree,
 ) -> Result<(usize, (u64, u64)), CertTextFault>
-    ensures exact { GivesCertificateText (λ e. e) result
+    ensures exact { GivesCertificateTextUnless (H.may_refuse heap) (λ e. e) result
         (parts_entry (names_in names.now) bounds.now place (node_of name.now, node_of temp.now, node_of ctrl.now)) }
     ensures there { IfOk result (λ e. e.0 < length (names_in names.now)) }
     ensures small { IfOk result (λ e. (e.1.0 ≤ 2 ^ 40) × (e.1.1 ≤ 2 ^ 40)) }
 {
-    let Some(name) = name_at(alloc, name)? else {
+    let Some(name) = name_at(heap, name)? else {
         return Err(refused(1, place));
     };
     let Some(named) = named_place(names, &name) else {
@@ -201,13 +192,14 @@ fn parts_entry(
 
 /// The procedure and the bounds of an entry.
 #[tactic(auto, unfolding(crate::specs::CertText::entry_at))]
-fn entry_at(
-    alloc: Global,
+fn entry_at<H: Heap>(
+    heap: H,
     names: &IndexSet<&[u8]>,
     bounds: &[Option<(u64, u64)>],
     tree: &TextTree,
 ) -> Result<(usize, (u64, u64)), CertTextFault>
-    ensures exact { GivesCertificateText (λ e. e) result (entry_at (names_in names.now) bounds.now (node_of tree.now)) }
+    ensures exact { GivesCertificateTextUnless (H.may_refuse heap) (λ e. e) result
+        (entry_at (names_in names.now) bounds.now (node_of tree.now)) }
     ensures there { IfOk result (λ e. e.0 < length (names_in names.now)) }
     ensures small { IfOk result (λ e. (e.1.0 ≤ 2 ^ 40) × (e.1.1 ≤ 2 ^ 40)) }
 {
@@ -216,46 +208,46 @@ fn entry_at(
         TextTree::List { place, items } => match three(items) {
             None => Err(refused(1, *place)),
             Some((name, temp, ctrl)) => {
-                parts_entry(alloc, names, bounds, *place, name, temp, ctrl)
+                parts_entry(heap, names, bounds, *place, name, temp, ctrl)
             }
         },
     }
 }
 
 /// The bounds that entries give.
-fn entries(
-    alloc: Global,
+fn entries<H: Heap>(
+    heap: H,
     names: &IndexSet<&[u8]>,
     trees: &[TextTree],
 ) -> Result<Vec<Option<(u64, u64)>>, CertTextFault>
     ensures exact { let names = names_in names.now in
-        GivesCertificateText (λ bs. bs.items) result
+        GivesCertificateTextUnless (H.may_refuse heap) (λ bs. bs.items) result
         (with_entries names (no_bounds (length names)) (nodes_of trees.now)) }
     ensures number { IfOk result (λ bs. length bs.items ≡ length (names_in names.now)) }
     ensures within { IfOk result (λ bs. IsTrue (are_bounds bs.items)) }
 {
-    let mut bounds = vec![in alloc; None; names.len()]?;
+    let mut bounds = filled(heap, None, names.len())?;
     for tree in trees {
-        let entry = entry_at(alloc, names, bounds.as_slice(), tree)?;
+        let entry = entry_at(heap, names, bounds.as_slice(), tree)?;
         bounds[entry.0] = Some(entry.1);
     }
     Ok(bounds)
 }
 
 /// The certificate that a tree is.
-fn certificate_at(
-    alloc: Global,
+fn certificate_at<H: Heap>(
+    heap: H,
     names: &IndexSet<&[u8]>,
     tree: &TextTree,
 ) -> Result<Certificate, CertTextFault>
-    ensures exact { GivesCertificateText (λ c. c.bounds.items) result
+    ensures exact { GivesCertificateTextUnless (H.may_refuse heap) (λ c. c.bounds.items) result
         (bounds_at (names_in names.now) (node_of tree.now)) }
     ensures number { IfOk result (λ c. length c.bounds.items ≡ length (names_in names.now)) }
 {
     match tree {
         TextTree::Atom { place, text: _ } => Err(refused(1, *place)),
         TextTree::List { place: _, items } => {
-            let bounds = entries(alloc, names, items)?;
+            let bounds = entries(heap, names, items)?;
             Ok(Certificate { bounds })
         }
     }
@@ -263,17 +255,18 @@ fn certificate_at(
 
 /// The certificate that a text is, for procedures of these names.
 #[tactic(auto, unfolding(crate::specs::CertText::bounds_in))]
-fn certificate_in(
-    alloc: Global,
+fn certificate_in<H: Heap>(
+    heap: H,
     names: &IndexSet<&[u8]>,
     text: &[u8],
 ) -> Result<Certificate, CertTextFault>
     requires { length text.now ≤ 2 ^ 31 }
-    ensures exact { GivesCertificateText (λ c. c.bounds.items) result (bounds_in (names_in names.now) text.now) }
+    ensures exact { GivesCertificateTextUnless (H.may_refuse heap) (λ c. c.bounds.items) result
+        (bounds_in (names_in names.now) text.now) }
     ensures number { IfOk result (λ c. length c.bounds.items ≡ length (names_in names.now)) }
 {
-    match read_text_tree(alloc, text) {
-        Ok(tree) => certificate_at(alloc, names, &tree),
+    match read_text_tree(heap, text) {
+        Ok(tree) => certificate_at(heap, names, &tree),
         Err(TextFault::Fault { rule: _, place }) => Err(refused(1, place)),
         Err(TextFault::Memory) => Err(CertTextFault::Memory),
     }
@@ -286,16 +279,16 @@ fn certificate_in(
 ///
 /// The rule that the text breaks, and its place, as `CertTextFault` has them; or out of memory. The time is linear in the
 /// text and the source, but for names that were picked so that they meet in a hash table, whose seed is fixed.
-pub fn read_certificate(
-    alloc: Global,
+pub fn read_certificate<H: Heap>(
+    heap: H,
     text: &[u8],
     accepted: &Accepted,
 ) -> Result<Certificate, CertTextFault>
     requires { length text.now ≤ 2 ^ 31 }
-    ensures exact { GivesCertificateText (λ c. c.bounds.items) result
+    ensures exact { GivesCertificateTextUnless (H.may_refuse heap) (λ c. c.bounds.items) result
         (bounds_in (procedure_names (source_of accepted.now)) text.now) }
     ensures number { IfOk result (λ c. length c.bounds.items ≡ length (source_of accepted.now).procs) }
 {
-    let names = names(alloc, accepted.source().procs.as_slice())?;
-    certificate_in(alloc, &names, text)
+    let names = names(heap, accepted.source().procs.as_slice())?;
+    certificate_in(heap, &names, text)
 }

@@ -1,13 +1,15 @@
 //! Procedures in an order in which each one stands after those that it calls, and which of them reach themselves.
 
-ghost use Rattle.std.specs.Prelude.{◌≡◌, ◌<◌, ◌≤◌, ◌^◌, ◌∷◌, Some, List, length, reverse, IfOk, OnOk};
+ghost use Rattle.std.specs.Prelude.{◌≡◌, ◌<◌, ◌≤◌, ◌^◌, ◌∷◌, Some, List, length, reverse, IfOk};
+ghost use Rattle.stack_heap.specs.Heaps.{IfOkUnless, OnOkUnless};
 ghost use Rattle.std.specs.List.{All};
 ghost use Rattle.space_cert.specs.Internal.Search.{earlier};
 ghost use Rattle.space_cert.specs.Internal.SearchState.{IsFound};
 ghost use Rattle.space_cert.specs.Internal.SearchView.{AreCalls, seen_calls};
 
+use crate::filling::filled;
+use stack_heap::Heap;
 use stack_text::Memory;
-use std::alloc::Global;
 
 /// How far the search has come with a procedure.
 #[derive(Clone, Copy, Debug)]
@@ -61,16 +63,17 @@ impl Search {
     ghost use Rattle.space_cert.specs.declared.search.Group.{Group};
 
     /// The search begins with main.
-    fn new(alloc: Global, calls: &[Vec<u32>], main: u32) -> Result<Search, Memory>
+    fn new<H: Heap>(heap: H, calls: &[Vec<u32>], main: u32) -> Result<Search, Memory>
         requires { main < length calls.now }
-        ensures search { IfOk result (λ s. IsSearch (seen_calls calls.now) main (search_of s)) }
+        ensures search { IfOkUnless (H.may_refuse heap) result
+        (λ s. IsSearch (seen_calls calls.now) main (search_of s)) }
         ensures main { IfOk result (λ s. s.main ≡ main) }
     {
-        let mut marks = vec![in alloc; Mark::New; calls.len()]?;
+        let mut marks = filled(heap, Mark::New, calls.len())?;
         marks[main as usize] = Mark::Entered(0);
-        let mut entered = Vec::new(alloc);
-        entered.push(main)?;
-        let todo = Vec::from_slice(alloc, calls[main as usize].as_slice())?;
+        let mut entered = Vec::new(heap.handle());
+        heap.push(&mut entered, main)?;
+        let todo = heap.copied(calls[main as usize].as_slice())?;
         Ok(Search {
             main,
             marks,
@@ -81,39 +84,39 @@ impl Search {
                 from: 0,
                 again: false,
             },
-            below: Vec::new(alloc),
-            order: Vec::new(alloc),
+            below: Vec::new(heap.handle()),
+            order: Vec::new(heap.handle()),
             first: None,
         })
     }
 
     /// A procedure that is new is entered, as a group of its own.
-    fn enter(&mut self, calls: &[Vec<u32>], procedure: u32) -> Result<(), Memory>
+    fn enter<H: Heap>(&mut self, heap: H, calls: &[Vec<u32>], procedure: u32) -> Result<(), Memory>
         requires there { procedure < length calls.now }
         requires marked { procedure < length self.old.marks.items }
         requires few { length self.old.entered.items < 2 ^ 32 }
-        ensures entered { OnOk result (search_of self.new
+        ensures entered { OnOkUnless (H.may_refuse heap) result (search_of self.new
             ≡ with_entered (seen_calls calls.now) procedure self.old.todo.items (search_of self.old)) }
         ensures main { self.new.main ≡ self.old.main }
     {
-        self.below.push(self.top)?;
+        heap.push(&mut self.below, self.top)?;
         self.top = Group {
             first: self.entered.len(),
             from: self.todo.len(),
             again: false,
         };
         self.marks[procedure as usize] = Mark::Entered(self.entered.len() as u32);
-        self.entered.push(procedure)?;
-        self.todo
-            .extend_from_slice(calls[procedure as usize].as_slice())?;
+        heap.push(&mut self.entered, procedure)?;
+        heap.extend_from_slice(&mut self.todo, calls[procedure as usize].as_slice())?;
         Ok(())
     }
 
     /// The procedures of the top group are done.
-    fn close(&mut self) -> Result<(), Memory>
+    fn close<H: Heap>(&mut self, heap: H) -> Result<(), Memory>
         requires marked { All (λ p. p < length self.old.marks.items) self.old.entered.items }
         requires there { self.old.top.first ≤ length self.old.entered.items }
-        ensures closed { OnOk result (search_of self.new ≡ with_top_done (search_of self.old)) }
+        ensures closed { OnOkUnless (H.may_refuse heap) result
+        (search_of self.new ≡ with_top_done (search_of self.old)) }
         ensures main { self.new.main ≡ self.old.main }
     {
         while self.entered.len() > self.top.first {
@@ -121,7 +124,7 @@ impl Search {
                 None => unreachable!(),
                 Some(procedure) => {
                     self.marks[procedure as usize] = Mark::Done;
-                    self.order.push(procedure)?;
+                    heap.push(&mut self.order, procedure)?;
                     if self.top.again {
                         self.first = Some(earlier(procedure, self.first));
                     }
@@ -147,24 +150,25 @@ impl Search {
     }
 
     /// Follows a call, which was the last that was to be followed.
-    fn follow(&mut self, calls: &[Vec<u32>], procedure: u32) -> Result<(), Memory>
+    fn follow<H: Heap>(&mut self, heap: H, calls: &[Vec<u32>], procedure: u32) -> Result<(), Memory>
         requires calls { AreCalls (seen_calls calls.now) }
         requires few { length calls.now < 2 ^ 32 }
         requires search { IsSearch (seen_calls calls.now) self.old.main (with_call procedure (search_of self.old)) }
         requires of_top { self.old.top.from ≤ length self.old.todo.items }
-        ensures search { OnOk result (IsSearch (seen_calls calls.now) self.new.main (search_of self.new)) }
-        ensures less { OnOk result (left_to_do (seen_calls calls.now) (search_of self.new)
+        ensures search { OnOkUnless (H.may_refuse heap) result
+        (IsSearch (seen_calls calls.now) self.new.main (search_of self.new)) }
+        ensures less { OnOkUnless (H.may_refuse heap) result (left_to_do (seen_calls calls.now) (search_of self.new)
             < left_to_do (seen_calls calls.now) (with_call procedure (search_of self.old))) }
         ensures main { self.new.main ≡ self.old.main }
     {
         match self.marks[procedure as usize] {
-            Mark::New => self.enter(calls, procedure),
+            Mark::New => self.enter(heap, calls, procedure),
             Mark::Done => Ok(()),
             Mark::Entered(place) => {
                 if self.top.first <= place as usize {
                     self.top.again = true;
                 } else {
-                    self.todo.push(procedure)?;
+                    heap.push(&mut self.todo, procedure)?;
                     self.join();
                 }
                 Ok(())
@@ -173,13 +177,14 @@ impl Search {
     }
 
     /// The top group is done; whether there is another.
-    fn finish(&mut self) -> Result<bool, Memory>
+    fn finish<H: Heap>(&mut self, heap: H) -> Result<bool, Memory>
         requires marked { All (λ p. p < length self.old.marks.items) self.old.entered.items }
         requires there { self.old.top.first ≤ length self.old.entered.items }
-        ensures finished { IfOk result (λ more. HasFinished (search_of self.old) (search_of self.new) more) }
+        ensures finished { IfOkUnless (H.may_refuse heap) result
+        (λ more. HasFinished (search_of self.old) (search_of self.new) more) }
         ensures main { self.new.main ≡ self.old.main }
     {
-        self.close()?;
+        self.close(heap)?;
         match self.below.pop() {
             Some(group) => {
                 self.top = group;
@@ -190,20 +195,21 @@ impl Search {
     }
 
     /// Makes a move; whether there is more to do.
-    fn advance(&mut self, calls: &[Vec<u32>]) -> Result<bool, Memory>
+    fn advance<H: Heap>(&mut self, heap: H, calls: &[Vec<u32>]) -> Result<bool, Memory>
         requires calls { AreCalls (seen_calls calls.now) }
         requires few { length calls.now < 2 ^ 32 }
         requires search { IsSearch (seen_calls calls.now) self.old.main (search_of self.old) }
-        ensures advanced { IfOk result (λ more. HasAdvanced (seen_calls calls.now) self.old.main (search_of self.old)
+        ensures advanced { IfOkUnless (H.may_refuse heap) result
+        (λ more. HasAdvanced (seen_calls calls.now) self.old.main (search_of self.old)
             (search_of self.new) more) }
         ensures main { self.new.main ≡ self.old.main }
     {
         if self.todo.len() <= self.top.from {
-            return self.finish();
+            return self.finish(heap);
         }
         match self.todo.pop() {
             Some(procedure) => {
-                self.follow(calls, procedure)?;
+                self.follow(heap, calls, procedure)?;
                 Ok(true)
             }
             None => unreachable!(),
@@ -221,14 +227,15 @@ pub(crate) struct CallOrder {
 }
 
 /// The procedures that main reaches.
-pub(crate) fn call_order(alloc: Global, calls: &[Vec<u32>], main: u32) -> Result<CallOrder, Memory>
+pub(crate) fn call_order<H: Heap>(heap: H, calls: &[Vec<u32>], main: u32) -> Result<CallOrder, Memory>
     requires there { main < length calls.now }
     requires calls { AreCalls (seen_calls calls.now) }
     requires few { length calls.now < 2 ^ 32 }
-    ensures { IfOk result (λ o. IsFound (seen_calls calls.now) main (reverse o.procedures.items) o.recursive) }
+    ensures { IfOkUnless (H.may_refuse heap) result
+        (λ o. IsFound (seen_calls calls.now) main (reverse o.procedures.items) o.recursive) }
 {
-    let mut search = Search::new(alloc, calls, main)?;
-    while search.advance(calls)? {}
+    let mut search = Search::new(heap, calls, main)?;
+    while search.advance(heap, calls)? {}
     Ok(CallOrder {
         procedures: search.order,
         recursive: search.first,

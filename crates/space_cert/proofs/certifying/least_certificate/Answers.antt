@@ -11,14 +11,14 @@ use Rattle.space_cert.proofs.CertifyLaws.{calls_there, order_below, prefix_bound
 use Rattle.space_cert.proofs.certifying.least_certificate.Goals as goal
 
 pub call_order-requires-clause-calls : goal.call_order-requires-clause-calls
-call_order-requires-clause-calls c =
+call_order-requires-clause-calls g c =
     let few : length (seen_program c.args.program.now).procs ≤ 1000 = omega (arith, c.requires.few, length-map c.args.program.now.procedures.items seen_proc) in
     subst (λ x. AreCalls (seen_calls x)) (sym c.as_slice.ensures.value)
     (calls_there (seen_program c.args.program.now) c.requires.fits few c.args.needs.now.procedures.items c.requires.needs c.in_ok-calls.calls.items
     c.in_ok-calls.ensures)
 
 pub returns-in-Some : goal.returns-in-Some
-returns-in-Some c =
+returns-in-Some g c =
     let few : length (seen_program c.args.program.now).procs ≤ 1000 = omega (arith, c.requires.few, length-map c.args.program.now.procedures.items seen_proc) in
     let found = subst (λ x. IsFound (seen_calls x) (seen_program c.args.program.now).main (reverse c.in_ok-order.order.procedures.items)
     c.in_ok-order.order.recursive) c.as_slice.ensures.value c.in_ok-order.ensures in
@@ -26,7 +26,7 @@ returns-in-Some c =
     c.in_ok-calls.ensures c.in_ok-order.order.procedures.items c.in_ok-order.order.recursive found c.in-Some.procedure c.in-Some.is
 
 pub bounds_in-requires-clause-there : goal.bounds_in-requires-clause-there
-bounds_in-requires-clause-there c =
+bounds_in-requires-clause-there g c =
     let few : length (seen_program c.args.program.now).procs ≤ 1000 = omega (arith, c.requires.few, length-map c.args.program.now.procedures.items seen_proc) in
     let found = subst (λ x. IsFound (seen_calls x) (seen_program c.args.program.now).main (reverse c.in_ok-order.order.procedures.items)
     c.in_ok-order.order.recursive) c.as_slice.ensures.value c.in_ok-order.ensures in
@@ -36,7 +36,7 @@ bounds_in-requires-clause-there c =
     c.in_ok-calls.ensures c.in_ok-order.order.procedures.items c.in_ok-order.order.recursive found))
 
 pub bounds_in-requires-clause-bounds : goal.bounds_in-requires-clause-bounds
-bounds_in-requires-clause-bounds c = λ k.
+bounds_in-requires-clause-bounds g c = λ k.
     let few : length (seen_program c.args.program.now).procs ≤ 1000 = omega (arith, c.requires.few, length-map c.args.program.now.procedures.items seen_proc) in
     let found = subst (λ x. IsFound (seen_calls x) (seen_program c.args.program.now).main (reverse c.in_ok-order.order.procedures.items)
     c.in_ok-order.order.recursive) c.as_slice.ensures.value c.in_ok-order.ensures in
@@ -48,7 +48,7 @@ bounds_in-requires-clause-bounds c = λ k.
     c.in_ok-calls.ensures c.in_ok-order.order.procedures.items c.in_ok-order.order.recursive found k))
 
 pub invariant_of-result : goal.invariant_of-result
-invariant_of-result c =
+invariant_of-result g c =
     let few : length (seen_program c.args.program.now).procs ≤ 1000 = omega (arith, c.requires.few, length-map c.args.program.now.procedures.items seen_proc) in
     let found = subst (λ x. IsFound (seen_calls x) (seen_program c.args.program.now).main (reverse c.in_ok-order.order.procedures.items)
     c.in_ok-order.order.recursive) c.as_slice.ensures.value c.in_ok-order.ensures in
@@ -63,7 +63,7 @@ invariant_of-result c =
     }
 
 pub returns : goal.returns
-returns c =
+returns g c =
     let few : length (seen_program c.args.program.now).procs ≤ 1000 = omega (arith, c.requires.few, length-map c.args.program.now.procedures.items seen_proc) in
     let found = subst (λ x. IsFound (seen_calls x) (seen_program c.args.program.now).main (reverse c.in_ok-order.order.procedures.items)
     c.in_ok-order.order.recursive) c.as_slice.ensures.value c.in_ok-order.ensures in

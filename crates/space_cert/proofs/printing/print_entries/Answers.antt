@@ -9,7 +9,7 @@ use Rattle.space_cert.proofs.PrintedLaws.{left_out, printed_next, printed_end}
 use Rattle.space_cert.proofs.printing.print_entries.Goals as goal
 
 pub loop-index-preserved-in_default : goal.loop-index-preserved-in_default
-loop-index-preserved-in_default c =
+loop-index-preserved-in_default g c =
     let none : None ≡ get_or c.args.bounds.now c.loop-index.index None = sym c.in_default.is ∙ c.bound_of.ensures in
     record {
       text = ap (λ (ns : List Node). c.loop-index.out.items ++ items_after c.loop-index.printed (nodes ns))
@@ -20,7 +20,7 @@ loop-index-preserved-in_default c =
     }
 
 pub loop-index-preserved : goal.loop-index-preserved
-loop-index-preserved c =
+loop-index-preserved g c =
     let all = c.args.out.now.items ++ items_text (nodes (entry_trees (names_of c.args.procs.now) c.args.bounds.now)) in
     let some : Some c.in-Some.bound ≡ get_or c.args.bounds.now c.loop-index.index None = sym c.in-Some.is ∙ c.bound_of.ensures in
     record {
@@ -31,7 +31,7 @@ loop-index-preserved c =
     }
 
 pub returns : goal.returns
-returns c =
+returns g c =
     printed_end c.args.procs.now c.args.bounds.now c.loop-index.index c.loop-index.printed c.loop-index.out.items
     (c.args.out.now.items ++ items_text (nodes (entry_trees (names_of c.args.procs.now) c.args.bounds.now))) c.loop-index-test.false
     c.loop-index.invariant.text

@@ -9,7 +9,7 @@ use Rattle.space_cert.proofs.printing.print_entries.Given as goal
 
 -- what is printed, and the entries that are left, are all
 abbrev pub invariant-loop-index : goal.invariant-loop-index
-invariant-loop-index l = record {
+invariant-loop-index g l = record {
   text : l.out.items ++ items_after l.printed (nodes (entries_left l.procs l.bounds l.index)) ≡ l.fn.out.items
       ++ items_text (nodes (entry_trees (names_of l.procs) l.bounds));
   few : l.printed ≤ l.index;

@@ -7,7 +7,7 @@ use Rattle.space_cert.specs.Internal.Names.{names_in}
 use Rattle.space_cert.proofs.reading.entries.Given as goal
 
 abbrev pub invariant-loop-tree : goal.invariant-loop-tree
-invariant-loop-tree l = record {
+invariant-loop-tree g l = record {
   read : with_entries (names_in l.names) l.bounds.items (nodes_of (drop l.tree-index l.trees))
       ≡ with_entries (names_in l.names) (no_bounds (length (names_in l.names))) (nodes_of l.trees);
   many : length l.bounds.items ≡ length (names_in l.names);

@@ -2,6 +2,6 @@ use Rattle.space_cert.proofs.NameLaws.{names_next}
 use Rattle.space_cert.proofs.reading.names.Goals as goal
 
 pub loop-proc-preserved : goal.loop-proc-preserved
-loop-proc-preserved c =
-    names_next c.args.procs.now c.loop-proc.proc-index c.proc-item.result c.bytes.result c.loop-proc.names.keys c.insert_full.new.self.keys
-    c.loop-proc-test.true c.proc-item.is c.bytes.ensures.bytes c.requires c.in_ok-_index.ensures.keys c.loop-proc.invariant
+loop-proc-preserved g c =
+    names_next c.args.procs.now c.loop-proc.proc-index c.proc-item.result c.bytes.result c.loop-proc.names.keys c.insert.new.set.keys
+    c.loop-proc-test.true c.proc-item.is c.bytes.ensures.bytes c.requires c.in_ok-_is_new.ensures.keys c.loop-proc.invariant

@@ -5,4 +5,4 @@ use Rattle.space_cert.proofs.reading.names.Given as goal
 
 -- the names so far
 abbrev pub invariant-loop-proc : goal.invariant-loop-proc
-invariant-loop-proc l = names_in l.names ≡ names_of (take l.proc-index l.procs)
+invariant-loop-proc g l = names_in l.names ≡ names_of (take l.proc-index l.procs)

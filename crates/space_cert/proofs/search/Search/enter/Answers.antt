@@ -5,7 +5,7 @@ use Rattle.space_cert.proofs.SearchCode.{search_same, calls_at}
 use Rattle.space_cert.proofs.search.Search.enter.Goals as goal
 
 pub returns-clause-entered : goal.returns-clause-entered
-returns-clause-entered c =
+returns-clause-entered g c =
     let entered : c.len.result ≡ length c.args.self.now.entered.items = omega (arith, c.args.self.now.entered.ok, c.len.ensures) in
     let again : c.len-3.result ≡ length c.args.self.now.entered.items = omega (arith, c.args.self.now.entered.ok, c.len-3.ensures) in
     let todo : c.len-2.result ≡ length c.args.self.now.todo.items = omega (arith, c.args.self.now.todo.ok, c.len-2.ensures) in

@@ -8,7 +8,7 @@ use Rattle.space_cert.proofs.SearchingLaws.{begins}
 use Rattle.space_cert.proofs.search.Search.new.Goals as goal
 
 pub returns-clause-search : goal.returns-clause-search
-returns-clause-search c =
+returns-clause-search g c =
     let marks : c.in_ok-marks.marks.items ≡ replicate (length c.args.calls.now) New = search rules in
     let many = length-map c.args.calls.now (λ v. v.items) in
     let calls = calls_at c.args.calls.now c.args.main c.index-calls-main.result c.requires c.index-calls-main.is in
