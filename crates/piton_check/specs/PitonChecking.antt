@@ -21,7 +21,7 @@ pub record IsChecked (c : CheckedOf) : Type 0 where
   pub names : c.resolved ≡ resolved c.system
   pub sound : IsSound (system_view c.resolved)
 
--- the least of all breaches; out of memory alone is free
-abbrev pub IsLeast : SystemOf → CheckFault → Type 0
-IsLeast s (Violation rule place) = least (violations s) ≡ Some (record { rule = rule; place = place })
-IsLeast s Memory = Unit {0}
+-- the least of all breaches; memory runs out only where it was refused
+abbrev pub IsLeastUnless : Type 0 → SystemOf → CheckFault → Type 0
+IsLeastUnless refused s (Violation rule place) = least (violations s) ≡ Some (record { rule = rule; place = place })
+IsLeastUnless refused s Memory = refused

@@ -1,7 +1,8 @@
 //! Arguments and instructions.
 
-ghost use Rattle.std.specs.Prelude.{◌≡◌, map, IfOk, OnOk};
+ghost use Rattle.std.specs.Prelude.{◌≡◌, map, OnOk};
 ghost use Rattle.std.specs.List.{flat_map};
+ghost use Rattle.stack_heap.specs.Heaps.{IfOkUnless};
 ghost use Rattle.stack_text.specs.Breaches.{Notes};
 ghost use Rattle.piton_check.specs.Declarations.{label_names, local_names, first_of};
 ghost use Rattle.piton_check.specs.Meaning.{count_of, name_kind, name_of};
@@ -13,8 +14,8 @@ use crate::names::Scope;
 use crate::resolved::{ResolvedArg, ResolvedInstr};
 use crate::word::{area_position, natural, program_position, word};
 use piton_syntax::{ArgKind, ArgText, Arguments, InstrText};
+use stack_heap::Heap;
 use stack_text::{Breach, MOST_STACK, Memory, Name, note_if};
-use std::alloc::Global;
 
 /// The number, where an instruction may have it as its count.
 fn count(number: i128) -> Option<u32>
@@ -106,8 +107,8 @@ fn argument(best: &mut Option<Breach>, scope: &Scope, kind: ArgKind, arg: &ArgTe
 }
 
 /// Arguments, one after the other.
-fn arguments(
-    alloc: Global,
+fn arguments<H: Heap>(
+    heap: H,
     best: &mut Option<Breach>,
     scope: &Scope,
     kind: ArgKind,
@@ -115,53 +116,56 @@ fn arguments(
 ) -> Result<Vec<ResolvedArg>, Memory>
     requires { KnowsProgram scope.now }
     ensures value { let system = scope.now.names.now.system.now in
-        IfOk result (λ args. args.items ≡ map (resolved_argument system scope.now.program.now kind) texts.now) }
+        IfOkUnless (H.may_refuse heap) result
+        (λ args. args.items ≡ map (resolved_argument system scope.now.program.now kind) texts.now) }
     ensures noted { let system = scope.now.names.now.system.now in
         let breaches = flat_map (argument_breaches system scope.now.program.now kind) texts.now in
         OnOk result (Notes best.old breaches best.new) }
 {
-    let mut args = Vec::with_capacity(alloc, texts.len())?;
+    let mut args = heap.with_room(texts.len())?;
     for text in texts {
-        args.push(argument(best, scope, kind, text))?;
+        heap.push(&mut args, argument(best, scope, kind, text))?;
     }
     Ok(args)
 }
 
 /// An instruction.
-fn instruction(
-    alloc: Global,
+fn instruction<H: Heap>(
+    heap: H,
     best: &mut Option<Breach>,
     scope: &Scope,
     instr: &InstrText,
 ) -> Result<ResolvedInstr, Memory>
     requires { KnowsProgram scope.now }
     ensures value { let system = scope.now.names.now.system.now in
-        IfOk result (λ resolved. resolved ≡ resolved_instruction system scope.now.program.now instr.now) }
+        IfOkUnless (H.may_refuse heap) result
+        (λ resolved. resolved ≡ resolved_instruction system scope.now.program.now instr.now) }
     ensures noted { let system = scope.now.names.now.system.now in
         OnOk result (Notes best.old (instruction_breaches system scope.now.program.now instr.now) best.new) }
 {
     let op = instr.op;
-    let args = arguments(alloc, best, scope, name_kind(op.arguments()), &instr.args)?;
+    let args = arguments(heap, best, scope, name_kind(op.arguments()), &instr.args)?;
     Ok(ResolvedInstr { op, args })
 }
 
 /// Instructions, one after the other.
-pub(crate) fn instructions(
-    alloc: Global,
+pub(crate) fn instructions<H: Heap>(
+    heap: H,
     best: &mut Option<Breach>,
     scope: &Scope,
     texts: &[InstrText],
 ) -> Result<Vec<ResolvedInstr>, Memory>
     requires { KnowsProgram scope.now }
     ensures value { let system = scope.now.names.now.system.now in
-        IfOk result (λ instrs. instrs.items ≡ map (resolved_instruction system scope.now.program.now) texts.now) }
+        IfOkUnless (H.may_refuse heap) result
+        (λ instrs. instrs.items ≡ map (resolved_instruction system scope.now.program.now) texts.now) }
     ensures noted { let system = scope.now.names.now.system.now in
         let breaches = flat_map (instruction_breaches system scope.now.program.now) texts.now in
         OnOk result (Notes best.old breaches best.new) }
 {
-    let mut instrs = Vec::with_capacity(alloc, texts.len())?;
+    let mut instrs = heap.with_room(texts.len())?;
     for text in texts {
-        instrs.push(instruction(alloc, best, scope, text)?)?;
+        heap.push(&mut instrs, instruction(heap, best, scope, text)?)?;
     }
     Ok(instrs)
 }

@@ -2,13 +2,13 @@
 
 ghost use Rattle.std.specs.Prelude.{◌≡◌, IfOk, IfErr};
 ghost use Rattle.piton_syntax.specs.PitonReading.{KeepsForm};
-ghost use Rattle.piton_check.specs.PitonChecking.{IsLeast, IsChecked};
+ghost use Rattle.piton_check.specs.PitonChecking.{IsLeastUnless, IsChecked};
 
 use crate::fault::CheckFault;
 use crate::resolved::Resolved;
 use crate::system::resolve;
 use piton_syntax::System;
-use std::alloc::Global;
+use stack_heap::Heap;
 use std::marker::Model;
 
 /// A system that keeps the form and breaks no static rule, and the same with each name replaced by a position.
@@ -55,14 +55,14 @@ impl Checked {
 ///
 /// The least breach, place before rule, of all that there are; or out of memory. The time is linear in the text, but for
 /// names that were picked so that they meet in a hash table, whose seed is fixed.
-pub fn check(alloc: Global, system: System) -> Result<Checked, CheckFault>
+pub fn check<H: Heap>(heap: H, system: System) -> Result<Checked, CheckFault>
     requires { KeepsForm system }
     ensures checked { IfOk result IsChecked }
     ensures kept { IfOk result (λ checked. checked.system ≡ system) }
-    ensures least { IfErr result (IsLeast system) }
+    ensures least { IfErr result (IsLeastUnless (H.may_refuse heap) system) }
 {
     let mut best = None;
-    let resolved = resolve(alloc, &mut best, &system)?;
+    let resolved = resolve(heap, &mut best, &system)?;
     match best {
         None => Ok(Checked { system, resolved }),
         Some(breach) => Err(CheckFault::Violation {

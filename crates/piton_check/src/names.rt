@@ -2,6 +2,7 @@
 
 ghost use Rattle.std.specs.Prelude.{◌≡◌, ℕ, ◌+◌, ◌≤◌, ◌^◌, List, [], ◌++◌, length, map, is_some, OnOk};
 ghost use Rattle.std.specs.Str.{bytes_eq};
+ghost use Rattle.stack_heap.specs.Heaps.{OnOkUnless};
 ghost use Rattle.stack_text.specs.Breaches.{when, Notes};
 ghost use Rattle.piton_check.specs.Declarations.{area_name, program_name, formal_name, temporary_name, label_name, is_named, repeats};
 ghost use Rattle.piton_check.specs.Tables.{repeated, Knows};
@@ -10,6 +11,7 @@ ghost use Rattle.name_tables.specs.Entries.{look_up};
 
 use name_tables::NameTable;
 use piton_syntax::{Area, InstrText, Program, System, WordText};
+use stack_heap::Heap;
 use stack_text::{Breach, Memory, Name, Named, note_if};
 
 /// A system with tables of its areas and programs.
@@ -30,7 +32,8 @@ pub(crate) struct Scope<'a, 'b> {
 }
 
 /// Enters a name with its position, or notes that it was entered before.
-fn declare<'a>(
+fn declare<'a, H: Heap>(
+    heap: H,
     best: &mut Option<Breach>,
     table: &mut NameTable<'a, u32>,
     name: &'a Name,
@@ -38,46 +41,57 @@ fn declare<'a>(
     place: u32,
     rule: u8,
 ) -> Result<(), Memory>
-    ensures entered { OnOk result
+    ensures entered { OnOkUnless (H.may_refuse heap) result
         ((other : List ℕ) →
         look_up table.new other ≡ first_or (look_up table.old other) (bytes_eq other name.now) position) }
     ensures noted { OnOk result (Notes best.old (when (is_some (look_up table.old name.now)) place rule) best.new) }
 {
-    let is_known = table.enter(name.bytes(), position)?;
+    let is_known = table.enter(heap, name.bytes(), position)?;
     note_if(best, is_known, place, rule);
     Ok(())
 }
 
 /// The areas.
-pub(crate) fn declare_areas<'a>(
+pub(crate) fn declare_areas<'a, H: Heap>(
+    heap: H,
     best: &mut Option<Breach>,
     table: &mut NameTable<'a, u32>,
     areas: &'a [Area],
 ) -> Result<(), Memory>
     requires empty { Knows table.old [] }
     requires few { length areas.now ≤ 2 ^ 20 }
-    ensures known { OnOk result (Knows table.new (map area_name areas.now)) }
+    ensures known { OnOkUnless (H.may_refuse heap) result (Knows table.new (map area_name areas.now)) }
     ensures noted { OnOk result (Notes best.old (repeats 2 [] (map area_name areas.now)) best.new) }
 {
     for (index, area) in areas.iter().enumerate() {
-        declare(best, table, &area.name.name, index as u32, area.place, 2)?;
+        declare(
+            heap,
+            best,
+            table,
+            &area.name.name,
+            index as u32,
+            area.place,
+            2,
+        )?;
     }
     Ok(())
 }
 
 /// The programs.
-pub(crate) fn declare_programs<'a>(
+pub(crate) fn declare_programs<'a, H: Heap>(
+    heap: H,
     best: &mut Option<Breach>,
     table: &mut NameTable<'a, u32>,
     programs: &'a [Program],
 ) -> Result<(), Memory>
     requires empty { Knows table.old [] }
     requires few { length programs.now ≤ 2 ^ 20 }
-    ensures known { OnOk result (Knows table.new (map program_name programs.now)) }
+    ensures known { OnOkUnless (H.may_refuse heap) result (Knows table.new (map program_name programs.now)) }
     ensures noted { OnOk result (Notes best.old (repeats 1 [] (map program_name programs.now)) best.new) }
 {
     for (index, program) in programs.iter().enumerate() {
         declare(
+            heap,
             best,
             table,
             &program.name.name,
@@ -90,7 +104,8 @@ pub(crate) fn declare_programs<'a>(
 }
 
 /// The formals of a program, and after them its temporaries.
-pub(crate) fn declare_locals<'a>(
+pub(crate) fn declare_locals<'a, H: Heap>(
+    heap: H,
     best: &mut Option<Breach>,
     table: &mut NameTable<'a, u32>,
     formals: &'a [Named],
@@ -98,16 +113,26 @@ pub(crate) fn declare_locals<'a>(
 ) -> Result<(), Memory>
     requires empty { Knows table.old [] }
     requires few { length formals.now + length temporaries.now ≤ 2 ^ 20 }
-    ensures known { OnOk result (Knows table.new (map formal_name formals.now ++ map temporary_name temporaries.now)) }
+    ensures known { OnOkUnless (H.may_refuse heap) result
+        (Knows table.new (map formal_name formals.now ++ map temporary_name temporaries.now)) }
     ensures noted { let locals = map formal_name formals.now ++ map temporary_name temporaries.now in
         OnOk result (Notes best.old (repeats 5 [] locals) best.new) }
 {
     for (index, formal) in formals.iter().enumerate() {
-        declare(best, table, &formal.name, index as u32, formal.place, 5)?;
+        declare(
+            heap,
+            best,
+            table,
+            &formal.name,
+            index as u32,
+            formal.place,
+            5,
+        )?;
     }
     for (offset, temporary) in temporaries.iter().enumerate() {
         let position = (formals.len() + offset) as u32;
         declare(
+            heap,
             best,
             table,
             &temporary.0.name,
@@ -120,36 +145,38 @@ pub(crate) fn declare_locals<'a>(
 }
 
 /// A label, if there is one.
-fn declare_label<'a>(
+fn declare_label<'a, H: Heap>(
+    heap: H,
     best: &mut Option<Breach>,
     table: &mut NameTable<'a, u32>,
     label: &'a Option<Named>,
     position: u32,
 ) -> Result<(), Memory>
-    ensures entered { OnOk result
+    ensures entered { OnOkUnless (H.may_refuse heap) result
         ((other : List ℕ) →
         look_up table.new other ≡ first_or (look_up table.old other) (is_named other label.now) position) }
     ensures noted { OnOk result (Notes best.old (repeated (look_up table.old) 6 label.now) best.new) }
 {
     match label {
         None => Ok(()),
-        Some(label) => declare(best, table, &label.name, position, label.place, 6),
+        Some(label) => declare(heap, best, table, &label.name, position, label.place, 6),
     }
 }
 
 /// The labels of a program's instructions.
-pub(crate) fn declare_labels<'a>(
+pub(crate) fn declare_labels<'a, H: Heap>(
+    heap: H,
     best: &mut Option<Breach>,
     table: &mut NameTable<'a, u32>,
     instrs: &'a [InstrText],
 ) -> Result<(), Memory>
     requires empty { Knows table.old [] }
     requires few { length instrs.now ≤ 2 ^ 20 }
-    ensures known { OnOk result (Knows table.new (map label_name instrs.now)) }
+    ensures known { OnOkUnless (H.may_refuse heap) result (Knows table.new (map label_name instrs.now)) }
     ensures noted { OnOk result (Notes best.old (repeats 6 [] (map label_name instrs.now)) best.new) }
 {
     for (index, instr) in instrs.iter().enumerate() {
-        declare_label(best, table, &instr.label, index as u32)?;
+        declare_label(heap, best, table, &instr.label, index as u32)?;
     }
     Ok(())
 }

@@ -1,10 +1,12 @@
 //! Words as the text of Piton has them, with names in place of positions.
-ghost use Rattle.std.specs.Prelude.{◌≡◌, ◌++◌, pos, IfOk, OnOk, slice_get};
+ghost use Rattle.std.specs.Prelude.{◌≡◌, ◌++◌, pos, slice_get};
 ghost use Rattle.std.specs.Option.{option_map};
+ghost use Rattle.stack_heap.specs.Heaps.{IfOkUnless, OnOkUnless};
 ghost use Rattle.piton_check.specs.NamedWords.{area_name_at, program_name_at, number_item, named_item, named_word, word_text, words_line};
 
 use piton_syntax::{Area, Number, Program, System, WordItem, WordText};
 use piton_words::Word;
+use stack_heap::Heap;
 use stack_text::grammar::Print;
 use stack_text::{Memory, Name};
 
@@ -57,8 +59,8 @@ fn natural_item(number: u32) -> Number
 }
 
 /// What a word is, with names in place of positions.
-fn named_item(system: &System, word: Word) -> Result<WordItem, Memory>
-    ensures { IfOk result (λ item. item ≡ named_item system.now word) }
+fn named_item<H: Heap>(heap: H, system: &System, word: Word) -> Result<WordItem, Memory>
+    ensures { IfOkUnless (H.may_refuse heap) result (λ item. item ≡ named_item system.now word) }
 {
     match word {
         Word::Int(number) => Ok(WordItem::Int(number_item(i128::from(number)))),
@@ -66,50 +68,60 @@ fn named_item(system: &System, word: Word) -> Result<WordItem, Memory>
         Word::Bitv(number) => Ok(WordItem::Bitv(natural_item(number))),
         Word::Bool(truth) => Ok(WordItem::Bool(truth)),
         Word::Addr { area, offset } => {
-            let area = area_name(system, area).unplaced()?;
+            let area = area_name(system, area).unplaced(heap)?;
             let offset = natural_item(offset);
             Ok(WordItem::Addr { area, offset })
         }
         Word::Pc { program, place } => {
-            let program = program_name(system, program).unplaced()?;
+            let program = program_name(system, program).unplaced(heap)?;
             let at = natural_item(place);
             Ok(WordItem::Pc { program, at })
         }
-        Word::Subr { program } => Ok(WordItem::Subr(program_name(system, program).unplaced()?)),
+        Word::Subr { program } => {
+            let program = program_name(system, program).unplaced(heap)?;
+            Ok(WordItem::Subr(program))
+        }
     }
 }
 
 /// A word with names in place of positions.
-fn named_word(system: &System, word: Word) -> Result<WordText, Memory>
-    ensures { IfOk result (λ text. text ≡ named_word system.now word) }
+fn named_word<H: Heap>(heap: H, system: &System, word: Word) -> Result<WordText, Memory>
+    ensures { IfOkUnless (H.may_refuse heap) result (λ text. text ≡ named_word system.now word) }
 {
     Ok(WordText {
         place: 0,
-        item: named_item(system, word)?,
+        item: named_item(heap, system, word)?,
     })
 }
 
 /// Appends a word as the text has it, as `(int -7)` or `(addr (a 2))`. The only error is out of memory.
-pub fn push_word(out: &mut Vec<u8>, system: &System, word: Word) -> Result<(), Memory>
-    ensures { OnOk result (out.new.items ≡ out.old.items ++ word_text system.now word) }
+pub fn push_word<H: Heap>(
+    heap: H,
+    out: &mut Vec<u8>,
+    system: &System,
+    word: Word,
+) -> Result<(), Memory>
+    ensures { OnOkUnless (H.may_refuse heap) result (out.new.items ≡ out.old.items ++ word_text system.now word) }
 {
-    named_word(system, word)?.print(*out.allocator(), out)
+    named_word(heap, system, word)?.print(heap, out)
 }
 
 /// Appends a line of a name and words, with a space before each word. The only error is out of memory.
-pub fn words_line(
+pub fn words_line<H: Heap>(
+    heap: H,
     out: &mut Vec<u8>,
     system: &System,
     name: &[u8],
     words: &[Word],
 ) -> Result<(), Memory>
-    ensures { OnOk result (out.new.items ≡ out.old.items ++ words_line system.now name.now words.now) }
+    ensures { OnOkUnless (H.may_refuse heap) result
+        (out.new.items ≡ out.old.items ++ words_line system.now name.now words.now) }
 {
-    out.extend_from_slice(name)?;
+    heap.extend_from_slice(out, name)?;
     for word in words {
-        out.push(b' ')?;
-        push_word(out, system, *word)?;
+        heap.push(out, b' ')?;
+        push_word(heap, out, system, *word)?;
     }
-    out.push(b'\n')?;
+    heap.push(out, b'\n')?;
     Ok(())
 }

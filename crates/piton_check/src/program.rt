@@ -2,6 +2,7 @@
 
 ghost use Rattle.std.specs.Prelude.{◌≡◌, ◌+◌, ◌-◌, ◌++◌, [], length, map, slice_get, IfOk, OnOk};
 ghost use Rattle.std.specs.List.{flat_map};
+ghost use Rattle.stack_heap.specs.Heaps.{IfOkUnless};
 ghost use Rattle.stack_text.specs.Breaches.{Notes};
 ghost use Rattle.piton_check.specs.Resolved.{resolved_program};
 ghost use Rattle.piton_check.specs.Declarations.{label_names, local_names, repeats};
@@ -14,8 +15,8 @@ use crate::resolved::ResolvedProgram;
 use crate::word::temporary_words;
 use name_tables::NameTable;
 use piton_syntax::{InstrText, PitonOp, Program};
+use stack_heap::Heap;
 use stack_text::{Breach, Memory, note_if};
-use std::alloc::Global;
 
 /// Whether the instruction after it is not reached.
 fn is_end(op: PitonOp) -> bool
@@ -37,52 +38,52 @@ fn check_end(best: &mut Option<Breach>, instrs: &[InstrText])
 }
 
 /// The table of a program's formals and temporaries.
-fn locals<'a>(
-    alloc: Global,
+fn locals<'a, H: Heap>(
+    heap: H,
     best: &mut Option<Breach>,
     text: &'a Program,
 ) -> Result<NameTable<'a, u32>, Memory>
     requires { IsSmall text.now }
-    ensures known { IfOk result (λ table. Knows table (local_names text.now)) }
+    ensures known { IfOkUnless (H.may_refuse heap) result (λ table. Knows table (local_names text.now)) }
     ensures noted { OnOk result (Notes best.old (repeats 5 [] (local_names text.now)) best.new) }
 {
-    let mut table = NameTable::new(alloc);
-    declare_locals(best, &mut table, &text.formals, &text.temporaries)?;
+    let mut table = NameTable::new(heap.handle());
+    declare_locals(heap, best, &mut table, &text.formals, &text.temporaries)?;
     Ok(table)
 }
 
 /// The table of a program's labels.
-fn labels<'a>(
-    alloc: Global,
+fn labels<'a, H: Heap>(
+    heap: H,
     best: &mut Option<Breach>,
     text: &'a Program,
 ) -> Result<NameTable<'a, u32>, Memory>
     requires { IsSmall text.now }
-    ensures known { IfOk result (λ table. Knows table (label_names text.now)) }
+    ensures known { IfOkUnless (H.may_refuse heap) result (λ table. Knows table (label_names text.now)) }
     ensures noted { OnOk result (Notes best.old (repeats 6 [] (label_names text.now)) best.new) }
 {
-    let mut table = NameTable::new(alloc);
-    declare_labels(best, &mut table, &text.instrs)?;
+    let mut table = NameTable::new(heap.handle());
+    declare_labels(heap, best, &mut table, &text.instrs)?;
     Ok(table)
 }
 
 /// The names that a program's instructions may use.
-fn scope<'a, 'b>(
-    alloc: Global,
+fn scope<'a, 'b, H: Heap>(
+    heap: H,
     best: &mut Option<Breach>,
     names: &'b Names<'a>,
     text: &'a Program,
 ) -> Result<Scope<'a, 'b>, Memory>
     requires known { KnowsSystem names.now }
     requires small { IsSmall text.now }
-    ensures of { IfOk result (λ scope. scope.program.now ≡ text.now) }
+    ensures of { IfOkUnless (H.may_refuse heap) result (λ scope. scope.program.now ≡ text.now) }
     ensures names { IfOk result (λ scope. scope.names.now ≡ names.now) }
     ensures known { IfOk result KnowsProgram }
     ensures noted { let breaches = repeats 5 [] (local_names text.now) ++ repeats 6 [] (label_names text.now) in
         OnOk result (Notes best.old breaches best.new) }
 {
-    let locals = locals(alloc, best, text)?;
-    let labels = labels(alloc, best, text)?;
+    let locals = locals(heap, best, text)?;
+    let labels = labels(heap, best, text)?;
     Ok(Scope {
         names,
         program: text,
@@ -92,20 +93,21 @@ fn scope<'a, 'b>(
 }
 
 /// A program.
-fn program<'a, 'b>(
-    alloc: Global,
+fn program<'a, 'b, H: Heap>(
+    heap: H,
     best: &mut Option<Breach>,
     names: &'b Names<'a>,
     text: &'a Program,
 ) -> Result<ResolvedProgram, Memory>
     requires known { KnowsSystem names.now }
     requires small { IsSmall text.now }
-    ensures value { IfOk result (λ resolved. resolved ≡ resolved_program names.now.system.now text.now) }
+    ensures value { IfOkUnless (H.may_refuse heap) result
+        (λ resolved. resolved ≡ resolved_program names.now.system.now text.now) }
     ensures noted { OnOk result (Notes best.old (program_breaches names.now.system.now text.now) best.new) }
 {
-    let scope = scope(alloc, best, names, text)?;
-    let temporaries = temporary_words(alloc, best, names, &text.temporaries)?;
-    let instrs = instructions(alloc, best, &scope, &text.instrs)?;
+    let scope = scope(heap, best, names, text)?;
+    let temporaries = temporary_words(heap, best, names, &text.temporaries)?;
+    let instrs = instructions(heap, best, &scope, &text.instrs)?;
     check_end(best, &text.instrs);
     Ok(ResolvedProgram {
         formals: text.formals.len() as u32,
@@ -115,20 +117,21 @@ fn program<'a, 'b>(
 }
 
 /// Programs, one after the other.
-pub(crate) fn programs<'a, 'b>(
-    alloc: Global,
+pub(crate) fn programs<'a, 'b, H: Heap>(
+    heap: H,
     best: &mut Option<Breach>,
     names: &'b Names<'a>,
     texts: &'a [Program],
 ) -> Result<Vec<ResolvedProgram>, Memory>
     requires known { KnowsSystem names.now }
     requires small { AreSmall texts.now }
-    ensures value { IfOk result (λ programs. programs.items ≡ map (resolved_program names.now.system.now) texts.now) }
+    ensures value { IfOkUnless (H.may_refuse heap) result
+        (λ programs. programs.items ≡ map (resolved_program names.now.system.now) texts.now) }
     ensures noted { OnOk result (Notes best.old (flat_map (program_breaches names.now.system.now) texts.now) best.new) }
 {
-    let mut programs = Vec::new(alloc);
+    let mut programs = Vec::new(heap.handle());
     for text in texts {
-        programs.push(program(alloc, best, names, text)?)?;
+        heap.push(&mut programs, program(heap, best, names, text)?)?;
     }
     Ok(programs)
 }

@@ -3,6 +3,7 @@
 ghost use Rattle.std.specs.Prelude.{◌≡◌, ◌+◌, not, map, IfOk, OnOk};
 ghost use Rattle.std.specs.List.{flat_map};
 ghost use Rattle.std.specs.Option.{option_map};
+ghost use Rattle.stack_heap.specs.Heaps.{IfOkUnless};
 ghost use Rattle.stack_text.specs.Breaches.{when, Notes};
 ghost use Rattle.piton_check.specs.Resolved.{resolved, resolved_area, resolved_number};
 ghost use Rattle.piton_check.specs.Tables.{IsSmallSystem, KnowsSystem};
@@ -15,8 +16,8 @@ use crate::word::{natural, program_position, words};
 use name_tables::NameTable;
 use piton_syntax::{Area, Number, Program, System};
 use piton_words::Word;
+use stack_heap::Heap;
 use stack_text::{Breach, MOST_STACK, Memory, note_if};
-use std::alloc::Global;
 
 /// The most words of a stack.
 const MAX_STACK: u64 = MOST_STACK as u64;
@@ -97,39 +98,39 @@ fn check_sizes(best: &mut Option<Breach>, names: &Names)
 }
 
 /// Areas, one after the other.
-fn areas(
-    alloc: Global,
+fn areas<H: Heap>(
+    heap: H,
     best: &mut Option<Breach>,
     names: &Names,
     texts: &[Area],
 ) -> Result<Vec<Vec<Word>>, Memory>
     requires { KnowsSystem names.now }
     ensures value { let words = map (resolved_area names.now.system.now) texts.now in
-        IfOk result (λ areas. map (λ area. area.items) areas.items ≡ words) }
+        IfOkUnless (H.may_refuse heap) result (λ areas. map (λ area. area.items) areas.items ≡ words) }
     ensures noted { OnOk result (Notes best.old (flat_map (area_breaches names.now.system.now) texts.now) best.new) }
 {
-    let mut areas = Vec::new(alloc);
+    let mut areas = Vec::new(heap.handle());
     for text in texts {
-        areas.push(words(alloc, best, names, &text.words)?)?;
+        heap.push(&mut areas, words(heap, best, names, &text.words)?)?;
     }
     Ok(areas)
 }
 
 /// The names of a system.
-fn names<'a>(
-    alloc: Global,
+fn names<'a, H: Heap>(
+    heap: H,
     best: &mut Option<Breach>,
     system: &'a System,
 ) -> Result<Names<'a>, Memory>
     requires { IsSmallSystem system.now }
-    ensures of { IfOk result (λ names. names.system.now ≡ system.now) }
+    ensures of { IfOkUnless (H.may_refuse heap) result (λ names. names.system.now ≡ system.now) }
     ensures known { IfOk result KnowsSystem }
     ensures noted { OnOk result (Notes best.old (name_breaches system.now) best.new) }
 {
-    let mut areas = NameTable::new(alloc);
-    declare_areas(best, &mut areas, &system.areas)?;
-    let mut programs = NameTable::new(alloc);
-    declare_programs(best, &mut programs, &system.programs)?;
+    let mut areas = NameTable::new(heap.handle());
+    declare_areas(heap, best, &mut areas, &system.areas)?;
+    let mut programs = NameTable::new(heap.handle());
+    declare_programs(heap, best, &mut programs, &system.programs)?;
     Ok(Names {
         system,
         areas,
@@ -138,8 +139,8 @@ fn names<'a>(
 }
 
 /// A system with each name replaced by a position; all breaches are noted but those of names.
-fn parts<'a>(
-    alloc: Global,
+fn parts<'a, H: Heap>(
+    heap: H,
     best: &mut Option<Breach>,
     names: &Names<'a>,
     system: &'a System,
@@ -147,14 +148,14 @@ fn parts<'a>(
     requires of { names.now.system.now ≡ system.now }
     requires known { KnowsSystem names.now }
     requires small { IsSmallSystem system.now }
-    ensures value { IfOk result (λ made. made ≡ resolved system.now) }
+    ensures value { IfOkUnless (H.may_refuse heap) result (λ made. made ≡ resolved system.now) }
     ensures noted { OnOk result (Notes best.old (part_breaches system.now) best.new) }
 {
     check_main(best, names);
     check_sizes(best, names);
-    let areas = areas(alloc, best, names, &system.areas)?;
-    let stack = words(alloc, best, names, &system.stack)?;
-    let programs = programs(alloc, best, names, &system.programs)?;
+    let areas = areas(heap, best, names, &system.areas)?;
+    let stack = words(heap, best, names, &system.stack)?;
+    let programs = programs(heap, best, names, &system.programs)?;
     Ok(Resolved {
         main: program_position(names, &system.main.name).unwrap_or(0),
         ctrl: number(system.ctrl),
@@ -167,15 +168,15 @@ fn parts<'a>(
 }
 
 /// A system with each name replaced by a position; all breaches are noted.
-pub(crate) fn resolve(
-    alloc: Global,
+pub(crate) fn resolve<H: Heap>(
+    heap: H,
     best: &mut Option<Breach>,
     system: &System,
 ) -> Result<Resolved, Memory>
     requires { IsSmallSystem system.now }
-    ensures value { IfOk result (λ made. made ≡ resolved system.now) }
+    ensures value { IfOkUnless (H.may_refuse heap) result (λ made. made ≡ resolved system.now) }
     ensures noted { OnOk result (Notes best.old (violations system.now) best.new) }
 {
-    let names = names(alloc, best, system)?;
-    parts(alloc, best, &names, system)
+    let names = names(heap, best, system)?;
+    parts(heap, best, &names, system)
 }

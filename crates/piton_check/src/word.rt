@@ -1,7 +1,8 @@
 //! Numbers and words.
 
-ghost use Rattle.std.specs.Prelude.{◌≡◌, map, get_or, IfOk, OnOk};
+ghost use Rattle.std.specs.Prelude.{◌≡◌, map, get_or, OnOk};
 ghost use Rattle.std.specs.List.{flat_map};
+ghost use Rattle.stack_heap.specs.Heaps.{IfOkUnless};
 ghost use Rattle.stack_text.specs.Breaches.{Notes};
 ghost use Rattle.piton_check.specs.Declarations.{area_names, program_names, first_of};
 ghost use Rattle.fm_words.specs.Word.{unsigned_32, signed_32};
@@ -13,8 +14,8 @@ ghost use Rattle.piton_check.specs.Violations.{word_breaches, temporary_breaches
 use crate::names::Names;
 use piton_syntax::{System, WordItem, WordText};
 use piton_words::Word;
+use stack_heap::Heap;
 use stack_text::{Breach, Memory, Name, Named, note_if};
-use std::alloc::Global;
 
 /// The number, where a natural word has it.
 pub(crate) fn natural(number: i128) -> Option<u32>
@@ -117,38 +118,40 @@ pub(crate) fn word(best: &mut Option<Breach>, names: &Names, word: &WordText) ->
 }
 
 /// Words, one after the other.
-pub(crate) fn words(
-    alloc: Global,
+pub(crate) fn words<H: Heap>(
+    heap: H,
     best: &mut Option<Breach>,
     names: &Names,
     texts: &[WordText],
 ) -> Result<Vec<Word>, Memory>
     requires { KnowsSystem names.now }
-    ensures value { IfOk result (λ words. words.items ≡ map (resolved_word names.now.system.now) texts.now) }
+    ensures value { IfOkUnless (H.may_refuse heap) result
+        (λ words. words.items ≡ map (resolved_word names.now.system.now) texts.now) }
     ensures noted { OnOk result (Notes best.old (flat_map (word_breaches names.now.system.now) texts.now) best.new) }
 {
-    let mut words = Vec::new(alloc);
+    let mut words = Vec::new(heap.handle());
     for text in texts {
-        words.push(word(best, names, text))?;
+        heap.push(&mut words, word(best, names, text))?;
     }
     Ok(words)
 }
 
 /// The words of temporaries.
-pub(crate) fn temporary_words(
-    alloc: Global,
+pub(crate) fn temporary_words<H: Heap>(
+    heap: H,
     best: &mut Option<Breach>,
     names: &Names,
     temporaries: &[(Named, WordText)],
 ) -> Result<Vec<Word>, Memory>
     requires { KnowsSystem names.now }
-    ensures value { IfOk result (λ words. words.items ≡ map (resolved_temporary names.now.system.now) temporaries.now) }
+    ensures value { IfOkUnless (H.may_refuse heap) result
+        (λ words. words.items ≡ map (resolved_temporary names.now.system.now) temporaries.now) }
     ensures noted { let breaches = flat_map (temporary_breaches names.now.system.now) temporaries.now in
         OnOk result (Notes best.old breaches best.new) }
 {
-    let mut words = Vec::new(alloc);
+    let mut words = Vec::new(heap.handle());
     for temporary in temporaries {
-        words.push(word(best, names, &temporary.1))?;
+        heap.push(&mut words, word(best, names, &temporary.1))?;
     }
     Ok(words)
 }

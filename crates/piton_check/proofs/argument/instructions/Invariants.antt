@@ -7,7 +7,7 @@ use Rattle.piton_check.proofs.argument.instructions.Given as goal
 
 -- the instructions so far
 abbrev pub invariant-loop-text : goal.invariant-loop-text
-invariant-loop-text l = record {
+invariant-loop-text g l = record {
   value : l.instrs.items ≡ map (resolved_instruction l.scope.names.now.system.now l.scope.program.now) (take l.text-index l.texts);
   noted : Notes l.fn.best (flat_map (instruction_breaches l.scope.names.now.system.now l.scope.program.now) (take l.text-index l.texts)) l.best;
 }

@@ -6,7 +6,7 @@ use Rattle.piton_check.proofs.names.declare_areas.Given as goal
 
 -- the areas so far
 abbrev pub invariant-loop-index : goal.invariant-loop-index
-invariant-loop-index l = record {
+invariant-loop-index g l = record {
   known : Knows l.table (map area_name (take l.index l.areas));
   noted : Notes l.fn.best (repeats 2 [] (map area_name (take l.index l.areas))) l.best;
 }

@@ -6,14 +6,14 @@ use Rattle.piton_check.proofs.names.declare_locals.Given as goal
 
 -- the formals so far
 abbrev pub invariant-loop-index : goal.invariant-loop-index
-invariant-loop-index l = record {
+invariant-loop-index g l = record {
   known : Knows l.table (map formal_name (take l.index l.formals));
   noted : Notes l.fn.best (repeats 5 [] (map formal_name (take l.index l.formals))) l.best;
 }
 
 -- the temporaries so far, after the formals
 abbrev pub invariant-loop-offset : goal.invariant-loop-offset
-invariant-loop-offset l = record {
+invariant-loop-offset g l = record {
   known : Knows l.table (map formal_name l.formals ++ map temporary_name (take l.offset l.temporaries));
   noted : Notes l.fn.best (repeats 5 [] (map formal_name l.formals ++ map temporary_name (take l.offset l.temporaries))) l.best;
 }

@@ -8,12 +8,12 @@ use Rattle.piton_check.proofs.ListLaws.{seen_next}
 use Rattle.piton_check.proofs.system.areas.Goals as goal
 
 pub loop-text-preserved : goal.loop-text-preserved
-loop-text-preserved c =
+loop-text-preserved g c =
     let s = c.args.names.now.system.now in
     let words_are = c.deref.ensures.value ∙ ap (λ a. a.words) c.text.view_is in
     record {
       value = seen_next (λ words. words.items) (resolved_area s) c.args.texts.now c.loop-text.text-index c.text-item.result c.in_ok-words.field-0
-          c.loop-text.areas.items c.push.new.self.items
+          c.loop-text.areas.items c.push.new.items.items
           c.loop-text-test.true c.text-item.is c.loop-text.invariant.value (c.in_ok-words.ensures.value ∙ ap (map (resolved_word s)) words_are)
           c.in_ok-push.ensures.items;
       noted = notes_next (area_breaches s) c.args.texts.now c.loop-text.text-index c.text-item.result c.args.best.now c.loop-text.best c.words.new.best

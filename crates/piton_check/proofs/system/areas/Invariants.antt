@@ -7,7 +7,7 @@ use Rattle.piton_check.proofs.system.areas.Given as goal
 
 -- the areas so far
 abbrev pub invariant-loop-text : goal.invariant-loop-text
-invariant-loop-text l = record {
+invariant-loop-text g l = record {
   value : map (λ words. words.items) l.areas.items ≡ map (resolved_area l.names.system.now) (take l.text-index l.texts);
   noted : Notes l.fn.best (flat_map (area_breaches l.names.system.now) (take l.text-index l.texts)) l.best;
 }

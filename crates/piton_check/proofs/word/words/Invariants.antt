@@ -7,7 +7,7 @@ use Rattle.piton_check.proofs.word.words.Given as goal
 
 -- the words so far
 abbrev pub invariant-loop-text : goal.invariant-loop-text
-invariant-loop-text l = record {
+invariant-loop-text g l = record {
   value : l.words.items ≡ map (resolved_word l.names.system.now) (take l.text-index l.texts);
   noted : Notes l.fn.best (flat_map (word_breaches l.names.system.now) (take l.text-index l.texts)) l.best;
 }
