@@ -178,10 +178,14 @@ abbrev pub temporary_pieces : List Word → List Piece
 temporary_pieces [] = []
 temporary_pieces (word ∷ rest) = temporary_pieces rest ++ literal_pieces (mov (push 1) literal) (word_piece word)
 
+-- each formal moved from the temporary stack to the control stack
+abbrev pub formal_pieces : ℕ → List Piece
+formal_pieces formals = replicate formals (Code (mov (push 1) (pop 2)))
+
 abbrev pub entered_pieces : ℕ → List Word → List Piece
 entered_pieces formals temporaries =
     Code (mov (push 1) (reg 0)) ∷ (temporary_pieces temporaries
-    ++ (replicate formals (Code (mov (push 1) (pop 2))) ++ Code (mov (reg 0) (reg 1)) ∷ []))
+    ++ (formal_pieces formals ++ Code (mov (reg 0) (reg 1)) ∷ []))
 
 abbrev pub prelude_pieces : ProgramView → List Piece
 prelude_pieces p = entered_pieces p.formals p.temporaries

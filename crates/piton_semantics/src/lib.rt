@@ -21,6 +21,6 @@ pub use error_kind::ErrorKind;
 pub use group::{Group, group_of};
 pub use instructions::instruction;
 pub use laws::{placed_laws, step_laws};
-pub use piece::{literal_pieces, push_code, word_piece};
+pub use piece::{push_code, push_literal, word_piece};
 pub use piton_instr::PitonInstr;
 pub use stepped::{PitonRun, Stepped};

@@ -1,10 +1,12 @@
 //! Pieces that the rows of several tables have.
 
-ghost use Rattle.std.specs.Prelude.{◌≡◌, ◌++◌, OnOk};
+ghost use Rattle.std.specs.Prelude.{◌≡◌, ◌++◌};
+ghost use Rattle.stack_heap.specs.Heaps.{OnOkUnless};
 ghost use Rattle.piton_semantics.specs.Templates.{word_piece, literal_pieces, code_pieces};
 
 use piton_check::Piece;
 use piton_words::Word;
+use stack_heap::Heap;
 use std::alloc::AllocError;
 
 /// The piece of a word.
@@ -22,20 +24,26 @@ pub fn word_piece(word: Word) -> Piece
     }
 }
 
-/// An instruction word with its literal.
-pub fn literal_pieces(word: u32, literal: Piece) -> [Piece; 2]
-    ensures { result ≡ literal_pieces word literal }
+/// Appends an instruction word with its literal.
+pub fn push_literal<H: Heap>(
+    heap: H,
+    pieces: &mut Vec<Piece>,
+    word: u32,
+    literal: Piece,
+) -> Result<(), AllocError>
+    ensures { OnOkUnless (H.may_refuse heap) result
+        (pieces.new.items ≡ pieces.old.items ++ literal_pieces word literal) }
 {
-    [Piece::Code(word), literal]
+    heap.extend_from_slice(pieces, &[Piece::Code(word), literal])
 }
 
 /// Appends instruction words alone.
-pub fn push_code(pieces: &mut Vec<Piece>, words: &[u32]) -> Result<(), AllocError>
-    ensures { OnOk result (pieces.new.items ≡ pieces.old.items ++ code_pieces words.now) }
+pub fn push_code<H: Heap>(heap: H, pieces: &mut Vec<Piece>, words: &[u32]) -> Result<(), AllocError>
+    ensures { OnOkUnless (H.may_refuse heap) result
+        (pieces.new.items ≡ pieces.old.items ++ code_pieces words.now) }
 {
-    pieces.reserve(words.len())?;
     for word in words {
-        pieces.push(Piece::Code(*word))?;
+        heap.push(pieces, Piece::Code(*word))?;
     }
     Ok(())
 }

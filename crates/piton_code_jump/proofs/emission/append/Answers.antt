@@ -14,7 +14,7 @@ use Rattle.piton_code_jump.proofs.CountLaws.{next_fits}
 use Rattle.piton_code_jump.proofs.emission.append.Goals as goal
 
 pub push_jump-requires : goal.push_jump-requires
-push_jump-requires c =
+push_jump-requires g c =
     let checked = c.args.checked.now in
     let r = c.resolved-resolved.result.now in
     let instr = c.in-Some.instr.now in
@@ -23,7 +23,7 @@ push_jump-requires c =
     record { next = next_fits (system_in checked) c.resolved-resolved.ensures.checked.sound c.args.program c.args.place (instruction_view instr) here }
 
 pub returns-in_ok-push_jump-in-Some-clause-pieces : goal.returns-in_ok-push_jump-in-Some-clause-pieces
-returns-in_ok-push_jump-in-Some-clause-pieces c =
+returns-in_ok-push_jump-in-Some-clause-pieces g c =
     let checked = c.args.checked.now in
     let r = c.resolved-resolved.result.now in
     let instr = c.in-Some.instr.now in
@@ -38,8 +38,9 @@ returns-in_ok-push_jump-in-Some-clause-pieces c =
     )
 
 pub returns-in_ok-push_jump-in-Some-clause-steps : goal.returns-in_ok-push_jump-in-Some-clause-steps
-returns-in_ok-push_jump-in-Some-clause-steps c =
+returns-in_ok-push_jump-in-Some-clause-steps g c =
     λ small m p q at here. each_step_simulated (system_in c.args.checked.now) c.resolved-resolved.ensures.checked.sound small m p q
 
 pub returns-in-None-clause-steps : goal.returns-in-None-clause-steps
-returns-in-None-clause-steps c = λ small m p q at here. each_step_simulated (system_in c.args.checked.now) c.resolved-resolved.ensures.checked.sound small m p q
+returns-in-None-clause-steps g c =
+    λ small m p q at here. each_step_simulated (system_in c.args.checked.now) c.resolved-resolved.ensures.checked.sound small m p q

@@ -6,4 +6,4 @@ use Rattle.piton_code_jump.proofs.emission.push_jump_case.Given as goal
 
 -- the places so far
 abbrev pub invariant-loop-arg : goal.invariant-loop-arg
-invariant-loop-arg l = l.pieces.items ≡ l.fn.pieces.items ++ (jump_case_pieces ++ map (λ to. Place l.program to) (map place_of (take l.arg-index l.args)))
+invariant-loop-arg g l = l.pieces.items ≡ l.fn.pieces.items ++ (jump_case_pieces ++ map (λ to. Place l.program to) (map place_of (take l.arg-index l.args)))

@@ -1,5 +1,6 @@
 use Rattle.std.proofs.Common.{◌≡◌, ◌++◌, ◌∙◌, Some, ap, sym}
 use Rattle.std.specs.Prelude.{option_map}
+use Rattle.std.proofs.lemmas.Result.{err_from_is_err_and}
 use Rattle.piton_check.specs.Sound.{local_count}
 use Rattle.piton_semantics.specs.declared.group.Group.TheVariants.{Move}
 use Rattle.piton_semantics.specs.Fits.{system_in}
@@ -12,7 +13,7 @@ use Rattle.piton_code_move.proofs.CountLaws.{few_at}
 use Rattle.piton_code_move.proofs.emission.append.Goals as goal
 
 pub push_move-requires : goal.push_move-requires
-push_move-requires c =
+push_move-requires g c =
     let checked = c.args.checked.now in
     let r = c.resolved.result.now in
     let instr = c.in-Some.instr.now in
@@ -23,8 +24,14 @@ push_move-requires c =
           (here ∙ ap Some (sym c.decode.ensures));
     }
 
+-- memory was refused whatever stands there
+pub returns-in_err-push_move-in-Some-clause-pieces : goal.returns-in_err-push_move-in-Some-clause-pieces
+returns-in_err-push_move-in-Some-clause-pieces g c =
+    let p = err_from_is_err_and c.from_residual.result c.from_residual.ensures.1 in
+    rw p.1 (c.in_err-push_move-in-Some.ensures 0 0 0)
+
 pub returns-in_ok-push_move-in-Some-clause-pieces : goal.returns-in_ok-push_move-in-Some-clause-pieces
-returns-in_ok-push_move-in-Some-clause-pieces c =
+returns-in_ok-push_move-in-Some-clause-pieces g c =
     let checked = c.args.checked.now in
     let r = c.resolved.result.now in
     let instr = c.in-Some.instr.now in
@@ -35,8 +42,8 @@ returns-in_ok-push_move-in-Some-clause-pieces c =
     c.requires)
 
 pub returns-in_ok-push_move-in-Some-clause-steps : goal.returns-in_ok-push_move-in-Some-clause-steps
-returns-in_ok-push_move-in-Some-clause-steps c =
+returns-in_ok-push_move-in-Some-clause-steps g c =
     λ small m p q at here. each_step_simulated (system_in c.args.checked.now) c.resolved.ensures.checked.sound small m p q
 
 pub returns-in-None-clause-steps : goal.returns-in-None-clause-steps
-returns-in-None-clause-steps c = λ small m p q at here. each_step_simulated (system_in c.args.checked.now) c.resolved.ensures.checked.sound small m p q
+returns-in-None-clause-steps g c = λ small m p q at here. each_step_simulated (system_in c.args.checked.now) c.resolved.ensures.checked.sound small m p q

@@ -4,4 +4,4 @@ use Rattle.piton_semantics.proofs.piece.push_code.Given as goal
 
 -- the words so far
 abbrev pub invariant-loop-word : goal.invariant-loop-word
-invariant-loop-word l = l.pieces.items ≡ l.fn.pieces.items ++ code_pieces (take l.word-index l.words)
+invariant-loop-word g l = l.pieces.items ≡ l.fn.pieces.items ++ code_pieces (take l.word-index l.words)
