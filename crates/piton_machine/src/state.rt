@@ -1,6 +1,7 @@
 //! The state of a run.
 
 ghost use Rattle.std.specs.Prelude.{◌≡◌, ◌≤◌, [], IfOk, length, reverse, slice_index_or};
+ghost use Rattle.stack_heap.specs.Heaps.{IfOkUnless};
 ghost use Rattle.piton_semantics.specs.Fits.{Each, IsWellFormed, IsWordOf};
 ghost use Rattle.piton_check.specs.Instruction.{system_view};
 ghost use Rattle.piton_semantics.specs.Fits.{system_in, IsInitialStack};
@@ -14,8 +15,8 @@ use crate::stack::Stack;
 use piton_check::{Checked, Resolved};
 use piton_semantics::{ErrorKind, PitonInstr, PitonRun, Stepped, instruction};
 use piton_words::Word;
+use stack_heap::Heap;
 use stack_text::Memory;
-use std::alloc::Global;
 use std::marker::Model;
 
 /// The state of a run of a checked system.
@@ -43,23 +44,25 @@ impl Model for State {
 impl State {
     /// The opening state of a system. All memory of its runs is taken here.
     #[tactic(auto, using(piton_semantics::proofs::SoundLaws::checked_known))]
-    pub fn start(alloc: Global, checked: &Checked) -> Result<State, Memory>
-        ensures opening { IfOk result (λ v. v ≡ opening (system_in checked.now) (system_in checked.now).stack) }
+    pub fn start<H: Heap>(heap: H, checked: &Checked) -> Result<State, Memory>
+        ensures opening { IfOkUnless (H.may_refuse heap) result
+            (λ v. v ≡ opening (system_in checked.now) (system_in checked.now).stack) }
         ensures fits { IfOk result (λ v. IsSeen (system_in checked.now) v) }
     {
         let resolved = checked.resolved();
-        State::opened(alloc, resolved, resolved.stack.as_slice())
+        State::opened(heap, resolved, resolved.stack.as_slice())
     }
 
     /// The opening state of a system with another initial stack, from the bottom up: one that is as long as the system's, of
     /// words that name what there is.
     #[tactic(auto, using(piton_semantics::proofs::SoundLaws::checked_known, piton_semantics::proofs::SoundLaws::initial_room, piton_semantics::proofs::SoundLaws::initial_words))]
-    pub fn start_with(alloc: Global, checked: &Checked, stack: &[Word]) -> Result<State, Memory>
+    pub fn start_with<H: Heap>(heap: H, checked: &Checked, stack: &[Word]) -> Result<State, Memory>
         requires { IsInitialStack (system_in checked.now) stack.now }
-        ensures opening { IfOk result (λ v. v ≡ opening (system_in checked.now) stack.now) }
+        ensures opening { IfOkUnless (H.may_refuse heap) result
+            (λ v. v ≡ opening (system_in checked.now) stack.now) }
         ensures fits { IfOk result (λ v. IsSeen (system_in checked.now) v) }
     {
-        State::opened(alloc, checked.resolved(), stack)
+        State::opened(heap, checked.resolved(), stack)
     }
 
     /// One step. An error changes nothing, and a halted state stays as it is.
@@ -107,16 +110,17 @@ impl State {
     }
 
     /// The opening state of a system with this initial stack, from the bottom up.
-    fn opened(alloc: Global, checked: &Resolved, stack: &[Word]) -> Result<State, Memory>
+    fn opened<H: Heap>(heap: H, checked: &Resolved, stack: &[Word]) -> Result<State, Memory>
         requires sound { IsWellFormed (system_view checked.now) }
         requires room { length stack.now ≤ checked.now.temp }
         requires words { Each (IsWordOf (system_view checked.now)) stack.now }
-        ensures opening { IfOk result (λ v. v ≡ opening (system_view checked.now) stack.now) }
+        ensures opening { IfOkUnless (H.may_refuse heap) result
+            (λ v. v ≡ opening (system_view checked.now) stack.now) }
         ensures fits { IfOk result (λ v. IsSeen (system_view checked.now) v) }
     {
-        let areas = Areas::new(alloc, checked.areas.as_slice())?;
-        let mut frames = Frames::new(alloc, checked.ctrl)?;
-        let mut words = Stack::new(alloc, checked.temp)?;
+        let areas = Areas::new(heap, checked.areas.as_slice())?;
+        let mut frames = Frames::new(heap, checked.ctrl)?;
+        let mut words = Stack::new(heap, checked.temp)?;
         let main = &checked.programs[checked.main as usize];
         frames.enter(&[], main.temporaries.as_slice(), checked.main, 0);
         words.push_all(stack);

@@ -5,7 +5,7 @@ use Rattle.piton_machine.proofs.AreaLaws.{area_at, copied_more, sized_more}
 use Rattle.piton_machine.proofs.areas.Areas.new.Goals as goal
 
 pub overflow_cast-len : goal.overflow_cast-len
-overflow_cast-len c =
+overflow_cast-len g c =
     let area = c.area-item.result in
     let there = area_at c.args.areas.now c.loop-area.area-index area c.loop-area-test.true in
     let same : length (get_or (map words_in c.args.areas.now) c.loop-area.area-index []) ≡ length (words_in area) =
@@ -14,10 +14,10 @@ overflow_cast-len c =
     search rules
 
 pub loop-area-preserved : goal.loop-area-preserved
-loop-area-preserved c =
+loop-area-preserved g c =
     let area = c.area-item.result in
-    let copy = c.in_ok-copy.field-0 in
-    let same : words_in copy ≡ words_in area = c.in_ok-copy.ensures ∙ c.deref.ensures.value in
+    let copy = c.in_ok-copied.field-0 in
+    let same : words_in copy ≡ words_in area = c.in_ok-copied.ensures.items ∙ c.as_slice.ensures.value in
     let size : c.len.result ≡ length (words_in copy) = c.len.ensures ∙ area.ok.0 ∙ ap length (sym same) in
     record {
       copied = rw c.in_ok-push-2.ensures.items

@@ -6,7 +6,7 @@ use Rattle.piton_semantics.proofs.SeenLaws.{opening_seen}
 use Rattle.piton_machine.proofs.state.State.opened.Goals as goal
 
 pub returns-clause-fits : goal.returns-clause-fits
-returns-clause-fits c =
+returns-clause-fits g c =
     let s = system_view c.args.checked.now in
     let fits : IsSeen s (opening s c.args.stack.now) = opening_seen s c.args.stack.now c.requires.sound c.requires.room c.requires.words in
     subst (IsSeen s) (sym (grind (arith, common_steps))) fits
