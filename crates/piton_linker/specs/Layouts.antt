@@ -37,7 +37,11 @@ abbrev pub trimmed : List ℕ → List ℕ
 trimmed [] = []
 trimmed (word ∷ words) = before_zeros word (trimmed words)
 
--- why a system is not linked: its words are over 2^20, and that is how many; out of memory alone is free
+-- why a system is not linked: its words are over 2^20, and that is how many, or memory was refused
+abbrev pub IsFaultUnless : Type 0 → SystemView → LinkFault → Type 0
+IsFaultUnless refused s (Large words) = (words ≡ (placed s).size) × (most_window < (placed s).size)
+IsFaultUnless refused s Memory = refused
+
+-- the same of callers that pass the library's heap, of which nothing says when it refuses
 abbrev pub IsFault : SystemView → LinkFault → Type 0
-IsFault s (Large words) = (words ≡ (placed s).size) × (most_window < (placed s).size)
-IsFault s Memory = Unit {0}
+IsFault s fault = IsFaultUnless (Unit {0}) s fault

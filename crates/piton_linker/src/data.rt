@@ -1,6 +1,7 @@
 //! The words of placed data.
 
-ghost use Rattle.std.specs.Prelude.{◌≡◌, ◌++◌, ◌<◌, ◌^◌, OnOk, map, reverse};
+ghost use Rattle.std.specs.Prelude.{◌≡◌, ◌++◌, ◌<◌, ◌^◌, map, reverse};
+ghost use Rattle.stack_heap.specs.Heaps.{OnOkUnless};
 ghost use Rattle.piton_check.specs.Instruction.{system_view};
 ghost use Rattle.piton_semantics.specs.Fits.{Each, IsWordOf};
 ghost use Rattle.piton_semantics.specs.StateView.{words_in};
@@ -13,6 +14,7 @@ use crate::table::{Table, word};
 use piton_check::Resolved;
 use piton_semantics::word_piece;
 use piton_words::Word;
+use stack_heap::Heap;
 use stack_text::Memory;
 
 /// The number of a word.
@@ -26,7 +28,8 @@ pub(crate) fn number(table: &Table, checked: &Resolved, item: Word) -> u32
 }
 
 /// Appends the numbers of words.
-pub(crate) fn append_words(
+pub(crate) fn append_words<H: Heap>(
+    heap: H,
     words: &mut Vec<u32>,
     table: &Table,
     checked: &Resolved,
@@ -35,17 +38,18 @@ pub(crate) fn append_words(
     requires table { table.now ≡ table_of (system_view checked.now) }
     requires fits { end_of (system_view checked.now) < 2 ^ 32 }
     requires there { Each (IsWordOf (system_view checked.now)) items.now }
-    ensures { OnOk result (words.new.items
+    ensures { OnOkUnless (H.may_refuse heap) result (words.new.items
         ≡ words.old.items ++ numbers (addresses_of (system_view checked.now)) items.now) }
 {
     for item in items {
-        words.push(number(table, checked, *item))?;
+        heap.push(words, number(table, checked, *item))?;
     }
     Ok(())
 }
 
 /// Appends the numbers of words, the last first.
-pub(crate) fn append_reversed(
+pub(crate) fn append_reversed<H: Heap>(
+    heap: H,
     words: &mut Vec<u32>,
     table: &Table,
     checked: &Resolved,
@@ -54,18 +58,19 @@ pub(crate) fn append_reversed(
     requires table { table.now ≡ table_of (system_view checked.now) }
     requires fits { end_of (system_view checked.now) < 2 ^ 32 }
     requires there { Each (IsWordOf (system_view checked.now)) items.now }
-    ensures { OnOk result (words.new.items
+    ensures { OnOkUnless (H.may_refuse heap) result (words.new.items
         ≡ words.old.items ++ numbers (addresses_of (system_view checked.now)) (reverse items.now)) }
 {
     let count = items.len();
     for done in 0..count {
-        words.push(number(table, checked, items[count - 1 - done]))?;
+        heap.push(words, number(table, checked, items[count - 1 - done]))?;
     }
     Ok(())
 }
 
 /// Appends the numbers of the words of areas.
-pub(crate) fn append_areas(
+pub(crate) fn append_areas<H: Heap>(
+    heap: H,
     words: &mut Vec<u32>,
     table: &Table,
     checked: &Resolved,
@@ -74,11 +79,11 @@ pub(crate) fn append_areas(
     requires table { table.now ≡ table_of (system_view checked.now) }
     requires fits { end_of (system_view checked.now) < 2 ^ 32 }
     requires there { Each (Each (IsWordOf (system_view checked.now))) (map words_in areas.now) }
-    ensures { OnOk result (words.new.items
+    ensures { OnOkUnless (H.may_refuse heap) result (words.new.items
         ≡ words.old.items ++ areas_words (system_view checked.now) (map words_in areas.now)) }
 {
     for area in areas {
-        append_words(words, table, checked, area.as_slice())?;
+        append_words(heap, words, table, checked, area.as_slice())?;
     }
     Ok(())
 }

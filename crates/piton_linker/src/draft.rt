@@ -1,6 +1,7 @@
 //! Words of code that a pass has made, while not all addresses are known.
 
 ghost use Rattle.std.specs.Prelude.{◌≡◌, ◌+◌, ◌<◌, ◌^◌, ◌++◌, ◌∷◌, [], OnOk, length};
+ghost use Rattle.stack_heap.specs.Heaps.{OnOkUnless};
 ghost use Rattle.piton_check.specs.Instruction.{system_view};
 ghost use Rattle.piton_semantics.specs.Fits.{Each};
 ghost use Rattle.piton_semantics.specs.Placed.{end_of, addresses_of};
@@ -10,6 +11,7 @@ ghost use Rattle.piton_linker.specs.Tables.{table_of, PieceExists};
 
 use crate::table::{Table, word};
 use piton_check::{Piece, Resolved};
+use stack_heap::Heap;
 use stack_text::Memory;
 use std::alloc::Global;
 use std::marker::Model;
@@ -56,8 +58,9 @@ impl Draft {
     }
 
     /// Appends the word of a piece that stands inside a program, whose first places have these addresses.
-    pub(crate) fn push(
+    pub(crate) fn push<H: Heap>(
         &mut self,
+        heap: H,
         checked: &Resolved,
         program: u32,
         row: &[u32],
@@ -67,7 +70,7 @@ impl Draft {
         requires row { IsRow (system_view checked.now) program row.now }
         requires named { PieceExists (system_view checked.now) piece }
         requires room { (system_view checked.now).base + length self.old.words + 2 < 2 ^ 32 }
-        ensures draft { OnOk result (IsDraft (system_view checked.now) self.new) }
+        ensures draft { OnOkUnless (H.may_refuse heap) result (IsDraft (system_view checked.now) self.new) }
         ensures words { OnOk result (drafted (system_view checked.now) self.new
             ≡ drafted (system_view checked.now) self.old
             ++ word_of (addresses_of (system_view checked.now))
@@ -75,18 +78,19 @@ impl Draft {
     {
         let place = self.words.len() as u32;
         match known(program, row, checked.base + place, piece) {
-            Some(word) => self.words.push(word)?,
+            Some(word) => heap.push(&mut self.words, word)?,
             None => {
-                self.fixups.push(FixUp { place, piece })?;
-                self.words.push(0)?;
+                heap.push(&mut self.fixups, FixUp { place, piece })?;
+                heap.push(&mut self.words, 0)?;
             }
         }
         Ok(())
     }
 
     /// Appends the words of pieces that stand inside a program, whose first places have these addresses.
-    pub(crate) fn append(
+    pub(crate) fn append<H: Heap>(
         &mut self,
+        heap: H,
         checked: &Resolved,
         program: u32,
         row: &[u32],
@@ -96,14 +100,14 @@ impl Draft {
         requires row { IsRow (system_view checked.now) program row.now }
         requires named { Each (PieceExists (system_view checked.now)) pieces.now }
         requires room { (system_view checked.now).base + length self.old.words + length pieces.now + 2 < 2 ^ 32 }
-        ensures draft { OnOk result (IsDraft (system_view checked.now) self.new) }
+        ensures draft { OnOkUnless (H.may_refuse heap) result (IsDraft (system_view checked.now) self.new) }
         ensures words { OnOk result (drafted (system_view checked.now) self.new
             ≡ drafted (system_view checked.now) self.old
             ++ words_of (addresses_of (system_view checked.now))
             ((system_view checked.now).base + length self.old.words) pieces.now) }
     {
         for piece in pieces {
-            self.push(checked, program, row, *piece)?;
+            self.push(heap, checked, program, row, *piece)?;
         }
         Ok(())
     }

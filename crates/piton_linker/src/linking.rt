@@ -1,10 +1,11 @@
 //! Linked systems.
 
 ghost use Rattle.std.specs.Prelude.{◌≡◌, ◌≤◌, IfOk, IfErr, map};
+ghost use Rattle.stack_heap.specs.Heaps.{IfOkUnless};
 ghost use Rattle.fm_words.specs.WindowLimit.{most_window};
 ghost use Rattle.piton_semantics.specs.Fits.{system_in};
 ghost use Rattle.piton_semantics.specs.Placed.{placed};
-ghost use Rattle.piton_linker.specs.Layouts.{layout_of, places_of, trimmed, IsFault};
+ghost use Rattle.piton_linker.specs.Layouts.{layout_of, places_of, trimmed, IsFaultUnless};
 ghost use Rattle.piton_linker.specs.Theorem.{RunsOnProcessor};
 
 use crate::fault::LinkFault;
@@ -15,8 +16,8 @@ use crate::table::completed;
 use crate::words::{Pass, code};
 use fm_words::MOST_WINDOW;
 use piton_check::Checked;
+use stack_heap::Heap;
 use stack_text::Memory;
-use std::alloc::Global;
 
 /// A system with all its words in their places.
 #[derive(Debug, Drop)]
@@ -43,9 +44,9 @@ pub struct Linked {
 /// # Errors
 ///
 /// Its placed words are over 1,048,576, or memory runs out.
-pub fn link(alloc: Global, checked: &Checked) -> Result<Linked, LinkFault>
+pub fn link<H: Heap>(heap: H, checked: &Checked) -> Result<Linked, LinkFault>
     ensures small { IfOk result (λ linked. (placed (system_in checked.now)).size ≤ most_window) }
-    ensures fault { IfErr result (IsFault (system_in checked.now)) }
+    ensures fault { IfErr result (IsFaultUnless (H.may_refuse heap) (system_in checked.now)) }
     ensures base { IfOk result (λ linked. linked.base ≡ (system_in checked.now).base) }
     ensures size { IfOk result (λ linked. linked.size ≡ (placed (system_in checked.now)).size) }
     ensures final_pc { IfOk result (λ linked. linked.final_pc ≡ (placed (system_in checked.now)).final_pc) }
@@ -60,15 +61,15 @@ pub fn link(alloc: Global, checked: &Checked) -> Result<Linked, LinkFault>
     if parts.size > u64::from(MOST_WINDOW) {
         return Err(LinkFault::Large { words: parts.size });
     }
-    Ok(link_small(alloc, checked, parts)?)
+    Ok(link_small(heap, checked, parts)?)
 }
 
 /// Links a system whose placed words are few enough.
 #[tactic(auto, using(crate::proofs::ProcessorLaws::checked_end))]
-fn link_small(alloc: Global, checked: &Checked, parts: Layout) -> Result<Linked, Memory>
+fn link_small<H: Heap>(heap: H, checked: &Checked, parts: Layout) -> Result<Linked, Memory>
     requires small { (placed (system_in checked.now)).size ≤ most_window }
     requires parts { parts ≡ layout_of (system_in checked.now) }
-    ensures base { IfOk result (λ linked. linked.base ≡ (system_in checked.now).base) }
+    ensures base { IfOkUnless (H.may_refuse heap) result (λ linked. linked.base ≡ (system_in checked.now).base) }
     ensures size { IfOk result (λ linked. linked.size ≡ (placed (system_in checked.now)).size) }
     ensures final_pc { IfOk result (λ linked. linked.final_pc ≡ (placed (system_in checked.now)).final_pc) }
     ensures registers { IfOk result (λ linked. linked.registers.items ≡ (placed (system_in checked.now)).registers) }
@@ -83,11 +84,11 @@ fn link_small(alloc: Global, checked: &Checked, parts: Layout) -> Result<Linked,
         draft,
         entries,
         places,
-    } = code(alloc, checked)?;
-    let table = completed(alloc, resolved, parts, entries, places)?;
-    let registers = registers(alloc, &table, checked, parts)?;
+    } = code(heap, checked)?;
+    let table = completed(heap, resolved, parts, entries, places)?;
+    let registers = registers(heap, &table, checked, parts)?;
     let code = draft.complete(&table, resolved);
-    let mut words = memory(code, &table, checked, parts.final_pc as u32)?;
+    let mut words = memory(heap, code, &table, checked, parts.final_pc as u32)?;
     trim(&mut words);
     Ok(Linked {
         base: resolved.base,

@@ -1,6 +1,7 @@
 //! All words of a placed system.
 
-ghost use Rattle.std.specs.Prelude.{◌≡◌, ◌+◌, ◌-◌, ◌++◌, ◌<◌, ◌^◌, IfOk, OnOk, length, replicate, reverse, take};
+ghost use Rattle.std.specs.Prelude.{◌≡◌, ◌+◌, ◌-◌, ◌++◌, ◌<◌, ◌^◌, length, replicate, reverse, take};
+ghost use Rattle.stack_heap.specs.Heaps.{IfOkUnless, OnOkUnless};
 ghost use Rattle.piton_semantics.specs.Fits.{system_in};
 ghost use Rattle.piton_semantics.specs.State.{program_of};
 ghost use Rattle.piton_semantics.specs.Addresses.{numbers};
@@ -15,11 +16,12 @@ use crate::table::{Table, at_place};
 use fm_code::word::HALT_WORD;
 use piton_check::Checked;
 use piton_words::Word;
+use stack_heap::Heap;
 use stack_text::Memory;
-use std::alloc::Global;
 
 /// All words of a placed system, behind those of its code.
-pub(crate) fn memory(
+pub(crate) fn memory<H: Heap>(
+    heap: H,
     code: Vec<u32>,
     table: &Table,
     checked: &Checked,
@@ -29,44 +31,55 @@ pub(crate) fn memory(
     requires table { table.now ≡ table_of (system_in checked.now) }
     requires fits { end_of (system_in checked.now) + 2 < 2 ^ 32 }
     requires final_pc { final_pc ≡ final_pc_of (system_in checked.now) }
-    ensures { IfOk result (λ words. words.items ≡ (placed (system_in checked.now)).words) }
+    ensures { IfOkUnless (H.may_refuse heap) result (λ words. words.items ≡ (placed (system_in checked.now)).words) }
 {
     let mut words = code;
-    words.push(HALT_WORD)?;
-    append_data(&mut words, table, checked)?;
-    append_zeros(&mut words, ctrl_gap(checked))?;
-    append_frame(&mut words, table, checked, final_pc)?;
-    append_zeros(&mut words, temp_gap(checked))?;
-    append_stack(&mut words, table, checked)?;
+    heap.push(&mut words, HALT_WORD)?;
+    append_data(heap, &mut words, table, checked)?;
+    append_zeros(heap, &mut words, ctrl_gap(checked))?;
+    append_frame(heap, &mut words, table, checked, final_pc)?;
+    append_zeros(heap, &mut words, temp_gap(checked))?;
+    append_stack(heap, &mut words, table, checked)?;
     Ok(words)
 }
 
 /// The words of the areas.
-fn append_data(words: &mut Vec<u32>, table: &Table, checked: &Checked) -> Result<(), Memory>
+fn append_data<H: Heap>(
+    heap: H,
+    words: &mut Vec<u32>,
+    table: &Table,
+    checked: &Checked,
+) -> Result<(), Memory>
     requires table { table.now ≡ table_of (system_in checked.now) }
     requires fits { end_of (system_in checked.now) + 2 < 2 ^ 32 }
-    ensures { OnOk result (words.new.items
+    ensures { OnOkUnless (H.may_refuse heap) result (words.new.items
         ≡ words.old.items ++ areas_words (system_in checked.now) (system_in checked.now).areas) }
 {
     let resolved = checked.resolved();
-    append_areas(words, table, resolved, resolved.areas.as_slice())?;
+    append_areas(heap, words, table, resolved, resolved.areas.as_slice())?;
     Ok(())
 }
 
 /// The words of the temporary stack.
-fn append_stack(words: &mut Vec<u32>, table: &Table, checked: &Checked) -> Result<(), Memory>
+fn append_stack<H: Heap>(
+    heap: H,
+    words: &mut Vec<u32>,
+    table: &Table,
+    checked: &Checked,
+) -> Result<(), Memory>
     requires table { table.now ≡ table_of (system_in checked.now) }
     requires fits { end_of (system_in checked.now) + 2 < 2 ^ 32 }
-    ensures { OnOk result (words.new.items
+    ensures { OnOkUnless (H.may_refuse heap) result (words.new.items
         ≡ words.old.items ++ numbers (addresses_of (system_in checked.now)) (reverse (system_in checked.now).stack)) }
 {
     let resolved = checked.resolved();
-    append_reversed(words, table, resolved, resolved.stack.as_slice())?;
+    append_reversed(heap, words, table, resolved, resolved.stack.as_slice())?;
     Ok(())
 }
 
 /// The words of main's frame.
-fn append_frame(
+fn append_frame<H: Heap>(
+    heap: H,
     words: &mut Vec<u32>,
     table: &Table,
     checked: &Checked,
@@ -75,11 +88,18 @@ fn append_frame(
     requires table { table.now ≡ table_of (system_in checked.now) }
     requires fits { end_of (system_in checked.now) + 2 < 2 ^ 32 }
     requires final_pc { final_pc ≡ final_pc_of (system_in checked.now) }
-    ensures { OnOk result (words.new.items ≡ words.old.items ++ first_frame (system_in checked.now)) }
+    ensures { OnOkUnless (H.may_refuse heap) result
+        (words.new.items ≡ words.old.items ++ first_frame (system_in checked.now)) }
 {
-    append_words(words, table, checked.resolved(), main_temporaries(checked))?;
-    words.push(0)?;
-    words.push(final_pc)?;
+    append_words(
+        heap,
+        words,
+        table,
+        checked.resolved(),
+        main_temporaries(checked),
+    )?;
+    heap.push(words, 0)?;
+    heap.push(words, final_pc)?;
     Ok(())
 }
 
@@ -112,17 +132,17 @@ fn temp_gap(checked: &Checked) -> u32
 }
 
 /// So many zeros.
-fn append_zeros(words: &mut Vec<u32>, count: u32) -> Result<(), Memory>
-    ensures { OnOk result (words.new.items ≡ words.old.items ++ replicate count 0) }
+fn append_zeros<H: Heap>(heap: H, words: &mut Vec<u32>, count: u32) -> Result<(), Memory>
+    ensures { OnOkUnless (H.may_refuse heap) result (words.new.items ≡ words.old.items ++ replicate count 0) }
 {
-    let len = words.len();
-    words.resize(len.saturating_add(count as usize), 0)?;
+    let zeros = heap.zeros(count as usize)?;
+    heap.extend_from_slice(words, zeros.as_slice())?;
     Ok(())
 }
 
 /// The registers of a placed system.
-pub(crate) fn registers(
-    alloc: Global,
+pub(crate) fn registers<H: Heap>(
+    heap: H,
     table: &Table,
     checked: &Checked,
     parts: Layout,
@@ -130,15 +150,14 @@ pub(crate) fn registers(
     requires table { table.now ≡ table_of (system_in checked.now) }
     requires fits { end_of (system_in checked.now) + 2 < 2 ^ 32 }
     requires parts { parts ≡ layout_of (system_in checked.now) }
-    ensures { IfOk result (λ registers. registers.items ≡ placed_registers (system_in checked.now)) }
+    ensures { IfOkUnless (H.may_refuse heap) result
+        (λ registers. registers.items ≡ placed_registers (system_in checked.now)) }
 {
     let frame = first_frame_at(checked, parts);
     let top = first_top(checked, parts);
     let entry = main_at(table, checked);
     let registers = [frame, frame, top, 0, 0, 0, 0, 0, 0, 0, 0, 0, 0, 0, 0, entry];
-    let mut made = Vec::with_capacity(alloc, 16)?;
-    made.extend_from_slice(&registers)?;
-    Ok(made)
+    Ok(heap.copied(&registers)?)
 }
 
 /// The first address of main's frame.

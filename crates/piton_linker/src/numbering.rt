@@ -6,8 +6,8 @@ use crate::sizes::layout;
 use crate::table::{Table, tabulated};
 use piton_check::Checked;
 use piton_words::Word;
+use stack_heap::Heap;
 use stack_text::Memory;
-use std::alloc::Global;
 use std::marker::Model;
 
 /// A checked system with the addresses of its programs, places and areas, so that each of its words has its number at once.
@@ -37,7 +37,8 @@ impl Model for PlacedSystem {
 }
 
 impl PlacedSystem {
-    ghost use Rattle.std.specs.Prelude.{◌≡◌, ◌≤◌, ◌^◌, IfOk};
+    ghost use Rattle.std.specs.Prelude.{◌≡◌, ◌≤◌, ◌^◌};
+    ghost use Rattle.stack_heap.specs.Heaps.{IfOkUnless};
     ghost use Rattle.piton_semantics.specs.Fits.{Each, IsWordOf, system_in};
     ghost use Rattle.piton_semantics.specs.Addresses.{numbers, word_number};
     ghost use Rattle.piton_semantics.specs.Placed.{addresses_of, placed};
@@ -47,12 +48,12 @@ impl PlacedSystem {
     ///
     /// The only error is out of memory.
     #[tactic(auto, using(crate::proofs::ProcessorLaws::checked_end))]
-    pub fn new(alloc: Global, checked: Checked) -> Result<PlacedSystem, Memory>
+    pub fn new<H: Heap>(heap: H, checked: Checked) -> Result<PlacedSystem, Memory>
         requires small { (placed (system_in checked)).size ≤ 2 ^ 20 }
-        ensures { IfOk result (λ made. made ≡ checked) }
+        ensures { IfOkUnless (H.may_refuse heap) result (λ made. made ≡ checked) }
     {
         let layout = layout(&checked);
-        let table = tabulated(alloc, checked.resolved(), layout)?;
+        let table = tabulated(heap, checked.resolved(), layout)?;
         Ok(PlacedSystem {
             checked,
             layout,
@@ -96,12 +97,13 @@ impl PlacedSystem {
     ///
     /// The only error is out of memory.
     #[tactic(auto, using(crate::proofs::ProcessorLaws::checked_end))]
-    pub fn numbers(&self, alloc: Global, words: &[Word]) -> Result<Vec<u32>, Memory>
+    pub fn numbers<H: Heap>(&self, heap: H, words: &[Word]) -> Result<Vec<u32>, Memory>
         requires there { Each (IsWordOf (system_in self.now)) words.now }
-        ensures { IfOk result (λ made. made.items ≡ numbers (addresses_of (system_in self.now)) words.now) }
+        ensures { IfOkUnless (H.may_refuse heap) result
+            (λ made. made.items ≡ numbers (addresses_of (system_in self.now)) words.now) }
     {
-        let mut made = Vec::new(alloc);
-        append_words(&mut made, &self.table, self.checked.resolved(), words)?;
+        let mut made = Vec::new(heap.handle());
+        append_words(heap, &mut made, &self.table, self.checked.resolved(), words)?;
         Ok(made)
     }
 }

@@ -1,6 +1,7 @@
 //! The addresses of all places, programs and areas.
 
-ghost use Rattle.std.specs.Prelude.{◌≡◌, ◌+◌, ◌<◌, ◌^◌, IfOk, map, length, get_or, slice_get, sum_by};
+ghost use Rattle.std.specs.Prelude.{◌≡◌, ◌+◌, ◌<◌, ◌^◌, map, length, get_or, slice_get, sum_by};
+ghost use Rattle.stack_heap.specs.Heaps.{IfOkUnless};
 ghost use Rattle.piton_check.specs.Instruction.{program_view, system_view};
 ghost use Rattle.piton_semantics.specs.Fits.{IsPlace};
 ghost use Rattle.piton_semantics.specs.Placed.{program_size, programs_size, entry_of, address_of_place, address_of_area, end_of, addresses_of};
@@ -11,8 +12,8 @@ ghost use Rattle.piton_semantics.specs.Templates.{word_of};
 use crate::placement::Layout;
 use crate::sizes::{TakesWords, prelude_size, program_size};
 use piton_check::{Piece, Resolved, ResolvedProgram};
+use stack_heap::Heap;
 use stack_text::Memory;
-use std::alloc::Global;
 use std::marker::Model;
 
 /// The addresses of a placed system. A contract sees them as lists.
@@ -37,19 +38,23 @@ impl Model for Table {
 }
 
 /// The addresses of a system that is placed so.
-pub(crate) fn tabulated(alloc: Global, checked: &Resolved, layout: Layout) -> Result<Table, Memory>
+pub(crate) fn tabulated<H: Heap>(
+    heap: H,
+    checked: &Resolved,
+    layout: Layout,
+) -> Result<Table, Memory>
     requires fits { end_of (system_view checked.now) < 2 ^ 32 }
     requires layout { layout ≡ layout_of (system_view checked.now) }
-    ensures { IfOk result (λ table. table ≡ table_of (system_view checked.now)) }
+    ensures { IfOkUnless (H.may_refuse heap) result (λ table. table ≡ table_of (system_view checked.now)) }
 {
-    let entries = starts(alloc, u64::from(checked.base), checked.programs.as_slice())?;
-    let places = places(alloc, checked.base, checked.programs.as_slice())?;
-    completed(alloc, checked, layout, entries, places)
+    let entries = starts(heap, u64::from(checked.base), checked.programs.as_slice())?;
+    let places = places(heap, checked.base, checked.programs.as_slice())?;
+    completed(heap, checked, layout, entries, places)
 }
 
 /// The addresses of a system that is placed so, where those of programs and places are known.
-pub(crate) fn completed(
-    alloc: Global,
+pub(crate) fn completed<H: Heap>(
+    heap: H,
     checked: &Resolved,
     layout: Layout,
     entries: Vec<u32>,
@@ -61,9 +66,9 @@ pub(crate) fn completed(
         ≡ starts (system_view checked.now).base (map program_size (system_view checked.now).programs) }
     requires places { map (λ row. row.items) places.items
         ≡ place_rows (system_view checked.now).base (system_view checked.now).programs }
-    ensures { IfOk result (λ table. table ≡ table_of (system_view checked.now)) }
+    ensures { IfOkUnless (H.may_refuse heap) result (λ table. table ≡ table_of (system_view checked.now)) }
 {
-    let areas = starts(alloc, layout.areas_start, checked.areas.as_slice())?;
+    let areas = starts(heap, layout.areas_start, checked.areas.as_slice())?;
     Ok(Table {
         entries,
         places,
@@ -76,30 +81,34 @@ pub(crate) fn completed(
 }
 
 /// The address of each of these parts, the first of which stands at an address.
-fn starts<T: TakesWords>(alloc: Global, first: u64, parts: &[T]) -> Result<Vec<u32>, Memory>
+fn starts<T: TakesWords, H: Heap>(heap: H, first: u64, parts: &[T]) -> Result<Vec<u32>, Memory>
     requires { first + sum_by T.words parts.now < 2 ^ 32 }
-    ensures { IfOk result (λ made. made.items ≡ starts first (map T.words parts.now)) }
+    ensures { IfOkUnless (H.may_refuse heap) result (λ made. made.items ≡ starts first (map T.words parts.now)) }
 {
-    let mut made = Vec::new(alloc);
+    let mut made = Vec::new(heap.handle());
     let mut at = first;
     for part in parts {
-        made.push(at as u32)?;
+        heap.push(&mut made, at as u32)?;
         at += part.size();
     }
     Ok(made)
 }
 
 /// The addresses of the places of these programs, the first of which stands at an address.
-fn places(alloc: Global, base: u32, programs: &[ResolvedProgram]) -> Result<Vec<Vec<u32>>, Memory>
+fn places<H: Heap>(
+    heap: H,
+    base: u32,
+    programs: &[ResolvedProgram],
+) -> Result<Vec<Vec<u32>>, Memory>
     requires { base + programs_size (map program_view programs.now) < 2 ^ 32 }
-    ensures { IfOk result (λ made. map (λ row. row.items) made.items
+    ensures { IfOkUnless (H.may_refuse heap) result (λ made. map (λ row. row.items) made.items
         ≡ place_rows base (map program_view programs.now)) }
 {
-    let mut made = Vec::new(alloc);
+    let mut made = Vec::new(heap.handle());
     let mut at = u64::from(base);
     for program in programs {
         let first = at + prelude_size(program);
-        made.push(starts(alloc, first, program.instrs.as_slice())?)?;
+        heap.push(&mut made, starts(heap, first, program.instrs.as_slice())?)?;
         at += program_size(program);
     }
     Ok(made)

@@ -1,6 +1,7 @@
 //! The words of placed code.
 
 ghost use Rattle.std.specs.Prelude.{◌≡◌, ◌+◌, ◌<◌, ◌^◌, ◌++◌, IfOk, OnOk, length, map};
+ghost use Rattle.stack_heap.specs.Heaps.{IfOkUnless, OnOkUnless};
 ghost use Rattle.piton_semantics.specs.Fits.{IsPlace, system_in};
 ghost use Rattle.piton_semantics.specs.State.{program_of};
 ghost use Rattle.piton_semantics.specs.Placed.{entry_of, address_of_place, end_of, addresses_of, program_size};
@@ -12,8 +13,8 @@ use crate::draft::Draft;
 use piton_check::{Checked, Piece};
 use piton_code_jump::prelude;
 use piton_semantics::{Group, group_of, instruction};
+use stack_heap::Heap;
 use stack_text::Memory;
-use std::alloc::Global;
 
 /// What a pass over the programs makes: their words, and the addresses of programs and places.
 #[derive(Drop)]
@@ -24,8 +25,8 @@ pub(crate) struct Pass {
 }
 
 /// Appends the words of a program's prelude.
-fn append_prelude(
-    alloc: Global,
+fn append_prelude<H: Heap>(
+    heap: H,
     draft: &mut Draft,
     checked: &Checked,
     program: u32,
@@ -34,26 +35,32 @@ fn append_prelude(
     requires fits { end_of (system_in checked.now) + 2 < 2 ^ 32 }
     requires there { program < length (system_in checked.now).programs }
     requires at { (system_in checked.now).base + length draft.old.words ≡ entry_of (system_in checked.now) program }
-    ensures draft { OnOk result (IsDraft (system_in checked.now) draft.new) }
+    ensures draft { OnOkUnless (H.may_refuse heap) result (IsDraft (system_in checked.now) draft.new) }
     ensures words { OnOk result (drafted (system_in checked.now) draft.new
         ≡ drafted (system_in checked.now) draft.old ++ prelude_words (addresses_of (system_in checked.now)) program
         (program_of (system_in checked.now) program)) }
 {
-    let pieces = prelude(alloc, checked, program)?;
-    draft.append(checked.resolved(), program, &[], pieces.as_slice())?;
+    let pieces = prelude(heap, checked, program)?;
+    draft.append(heap, checked.resolved(), program, &[], pieces.as_slice())?;
     Ok(())
 }
 
 /// Appends the pieces of the instruction at a place.
-fn emit(pieces: &mut Vec<Piece>, checked: &Checked, program: u32, place: u32) -> Result<(), Memory>
-    ensures { OnOk result
+fn emit<H: Heap>(
+    heap: H,
+    pieces: &mut Vec<Piece>,
+    checked: &Checked,
+    program: u32,
+    place: u32,
+) -> Result<(), Memory>
+    ensures { OnOkUnless (H.may_refuse heap) result
         (pieces.new.items ≡ pieces.old.items ++ pieces_at (system_in checked.now) program place) }
 {
     match instruction(checked.resolved(), program, place) {
         Some(instr) => match group_of(instr.op) {
-            Group::Move => piton_code_move::append(pieces, checked, program, place),
-            Group::Jump => piton_code_jump::append(pieces, checked, program, place),
-            Group::Word => piton_code_arith::append(pieces, checked, program, place),
+            Group::Move => piton_code_move::append(heap, pieces, checked, program, place),
+            Group::Jump => piton_code_jump::append(heap, pieces, checked, program, place),
+            Group::Word => piton_code_arith::append(heap, pieces, checked, program, place),
         },
         None => Ok(()),
     }
@@ -61,7 +68,8 @@ fn emit(pieces: &mut Vec<Piece>, checked: &Checked, program: u32, place: u32) ->
 
 /// Appends the words of the instruction at a place of a program, whose first places have these addresses. What `pieces` has
 /// doesn't matter: it lends its memory to the pieces of each instruction.
-fn append_place(
+fn append_place<H: Heap>(
+    heap: H,
     pieces: &mut Vec<Piece>,
     draft: &mut Draft,
     checked: &Checked,
@@ -75,13 +83,13 @@ fn append_place(
     requires there { IsPlace (system_in checked.now) program place }
     requires at { (system_in checked.now).base + length draft.old.words
         ≡ address_of_place (system_in checked.now) program place }
-    ensures draft { OnOk result (IsDraft (system_in checked.now) draft.new) }
+    ensures draft { OnOkUnless (H.may_refuse heap) result (IsDraft (system_in checked.now) draft.new) }
     ensures words { OnOk result (drafted (system_in checked.now) draft.new
         ≡ drafted (system_in checked.now) draft.old ++ words_at (system_in checked.now) program place) }
 {
     pieces.clear();
-    emit(pieces, checked, program, place)?;
-    draft.append(checked.resolved(), program, row, pieces.as_slice())?;
+    emit(heap, pieces, checked, program, place)?;
+    draft.append(heap, checked.resolved(), program, row, pieces.as_slice())?;
     Ok(())
 }
 
@@ -104,8 +112,8 @@ fn program_count(checked: &Checked) -> u32
 }
 
 /// Appends the words of a program, and tells the addresses of its places.
-fn append_program(
-    alloc: Global,
+fn append_program<H: Heap>(
+    heap: H,
     draft: &mut Draft,
     checked: &Checked,
     program: u32,
@@ -114,28 +122,36 @@ fn append_program(
     requires fits { end_of (system_in checked.now) + 2 < 2 ^ 32 }
     requires there { program < length (system_in checked.now).programs }
     requires at { (system_in checked.now).base + length draft.old.words ≡ entry_of (system_in checked.now) program }
-    ensures draft { OnOk result (IsDraft (system_in checked.now) draft.new) }
+    ensures draft { OnOkUnless (H.may_refuse heap) result (IsDraft (system_in checked.now) draft.new) }
     ensures words { OnOk result (drafted (system_in checked.now) draft.new
         ≡ drafted (system_in checked.now) draft.old ++ program_words (addresses_of (system_in checked.now)) program
         (program_of (system_in checked.now) program)) }
     ensures places { IfOk result (λ row. row.items
         ≡ row_at (entry_of (system_in checked.now) program) (program_of (system_in checked.now) program)) }
 {
-    append_prelude(alloc, draft, checked, program)?;
+    append_prelude(heap, draft, checked, program)?;
     let count = place_count(checked, program);
-    let mut row = Vec::with_capacity(alloc, count as usize)?;
-    let mut pieces = Vec::new(alloc);
+    let mut row = heap.with_room(count as usize)?;
+    let mut pieces = Vec::new(heap.handle());
     for place in 0..count {
-        row.push(draft.next(checked.resolved()))?;
-        append_place(&mut pieces, draft, checked, program, place, row.as_slice())?;
+        heap.push(&mut row, draft.next(checked.resolved()))?;
+        append_place(
+            heap,
+            &mut pieces,
+            draft,
+            checked,
+            program,
+            place,
+            row.as_slice(),
+        )?;
     }
     Ok(row)
 }
 
 /// Goes once over all programs.
-pub(crate) fn code(alloc: Global, checked: &Checked) -> Result<Pass, Memory>
+pub(crate) fn code<H: Heap>(heap: H, checked: &Checked) -> Result<Pass, Memory>
     requires fits { end_of (system_in checked.now) + 2 < 2 ^ 32 }
-    ensures draft { IfOk result (λ pass. IsDraft (system_in checked.now) pass.draft) }
+    ensures draft { IfOkUnless (H.may_refuse heap) result (λ pass. IsDraft (system_in checked.now) pass.draft) }
     ensures words { IfOk result (λ pass. drafted (system_in checked.now) pass.draft
         ≡ programs_words (addresses_of (system_in checked.now)) 0 (system_in checked.now).programs) }
     ensures entries { IfOk result (λ pass. pass.entries.items
@@ -143,13 +159,16 @@ pub(crate) fn code(alloc: Global, checked: &Checked) -> Result<Pass, Memory>
     ensures places { IfOk result (λ pass. map (λ row. row.items) pass.places.items
         ≡ place_rows (system_in checked.now).base (system_in checked.now).programs) }
 {
-    let mut draft = Draft::new(alloc);
-    let mut entries = Vec::new(alloc);
-    let mut places = Vec::new(alloc);
+    let mut draft = Draft::new(heap.handle());
+    let mut entries = Vec::new(heap.handle());
+    let mut places = Vec::new(heap.handle());
     let count = program_count(checked);
     for program in 0..count {
-        entries.push(draft.next(checked.resolved()))?;
-        places.push(append_program(alloc, &mut draft, checked, program)?)?;
+        heap.push(&mut entries, draft.next(checked.resolved()))?;
+        heap.push(
+            &mut places,
+            append_program(heap, &mut draft, checked, program)?,
+        )?;
     }
     Ok(Pass {
         draft,

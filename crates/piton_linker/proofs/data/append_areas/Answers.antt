@@ -11,7 +11,7 @@ use Rattle.piton_linker.proofs.DataLaws.{areas_more}
 use Rattle.piton_linker.proofs.data.append_areas.Goals as goal
 
 pub append_words-requires-clause-there : goal.append_words-requires-clause-there
-append_words-requires-clause-there c =
+append_words-requires-clause-there g c =
     let s = system_view c.args.checked.now in
     let all = map words_in c.args.areas.now in
     let k = c.loop-area.area-index in
@@ -19,7 +19,7 @@ append_words-requires-clause-there c =
     subst (Each (IsWordOf s)) (sym c.as_slice.ensures.value) (each_get (Each (IsWordOf s)) all k (words_in c.area-item.result) c.requires.there there)
 
 pub loop-area-preserved : goal.loop-area-preserved
-loop-area-preserved c =
+loop-area-preserved g c =
     let s = system_view c.args.checked.now in
     let old = c.args.words.now.items in
     let all = map words_in c.args.areas.now in

@@ -6,7 +6,7 @@ use Rattle.piton_linker.proofs.DataLaws.{reversed_more}
 use Rattle.piton_linker.proofs.data.append_reversed.Goals as goal
 
 pub loop-done-preserved : goal.loop-done-preserved
-loop-done-preserved c =
+loop-done-preserved g c =
     let s = system_view c.args.checked.now in
     let old = c.args.words.now.items in
     let ws = c.args.items.now in

@@ -6,4 +6,4 @@ use Rattle.piton_linker.proofs.data.append_reversed.Given as goal
 
 -- the numbers so far
 abbrev pub invariant-loop-done : goal.invariant-loop-done
-invariant-loop-done l = l.words.items ≡ l.fn.words.items ++ numbers (addresses_of (system_view l.checked)) (take l.done (reverse l.items))
+invariant-loop-done g l = l.words.items ≡ l.fn.words.items ++ numbers (addresses_of (system_view l.checked)) (take l.done (reverse l.items))

@@ -11,7 +11,7 @@ use Rattle.piton_linker.proofs.ProcessorLaws.{checked_runs, checked_end}
 use Rattle.piton_linker.proofs.linking.link_small.Goals as goal
 
 pub complete-code-requires-clause-room : goal.complete-code-requires-clause-room
-complete-code-requires-clause-room c =
+complete-code-requires-clause-room g c =
     let s = system_in c.args.checked.now in
     let d = c.in_ok-draft.field-0.draft in
     let base : c.resolved-resolved.result.now.base ≡ s.base = ap (λ (u : ResolvedOf). u.base) c.resolved-resolved.ensures.value in
@@ -20,10 +20,10 @@ complete-code-requires-clause-room c =
     omega (arith, base, size, checked_end c.args.checked.now c.resolved-resolved.ensures.checked c.requires.small)
 
 pub returns-clause-places : goal.returns-clause-places
-returns-clause-places c =
+returns-clause-places g c =
     ap (λ (t : TableOf). t.places) (c.table.view_is ∙ c.in_ok-table.ensures)
     ∙ ap (λ (u : ResolvedOf). (table_of (system_view u)).places) c.resolved-resolved.ensures.value
     ∙ rows_are (system_in c.args.checked.now)
 
 pub returns-clause-runs : goal.returns-clause-runs
-returns-clause-runs c = checked_runs c.args.checked.now c.resolved-resolved.ensures.checked c.requires.small
+returns-clause-runs g c = checked_runs c.args.checked.now c.resolved-resolved.ensures.checked c.requires.small

@@ -8,7 +8,7 @@ use Rattle.piton_semantics.specs.Placed.{addresses_of}
 use Rattle.piton_linker.proofs.memory.append_frame.Goals as goal
 
 pub returns : goal.returns
-returns c =
+returns g c =
     let s = system_in c.args.checked.now in
     let old = c.args.words.now.items in
     let f = c.args.final_pc in

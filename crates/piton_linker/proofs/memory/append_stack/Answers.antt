@@ -6,7 +6,7 @@ use Rattle.piton_semantics.specs.Placed.{addresses_of}
 use Rattle.piton_linker.proofs.memory.append_stack.Goals as goal
 
 pub returns : goal.returns
-returns c =
+returns g c =
     let r = c.resolved-resolved.result.now in
     let old = c.args.words.now.items in
     let stack : c.as_slice.result.now ≡ r.stack = c.as_slice.ensures.value ∙ ap (λ (u : ResolvedOf). u.stack) c.resolved.view_is in

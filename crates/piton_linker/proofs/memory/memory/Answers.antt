@@ -10,7 +10,7 @@ use Rattle.piton_linker.proofs.DataLaws.{assembled}
 use Rattle.piton_linker.proofs.memory.memory.Goals as goal
 
 pub returns : goal.returns
-returns c =
+returns g c =
     let s = system_in c.args.checked.now in
     let code = programs_words (addresses_of s) 0 s.programs in
     let areas = areas_words s s.areas in
@@ -20,7 +20,7 @@ returns c =
     let stack = numbers (addresses_of s) (reverse s.stack) in
     let below : c.ctrl_gap.result ≡ first_frame_at s - ctrl_start s = omega (arith, c.ctrl_gap.ensures) in
     let empty : c.temp_gap.result ≡ first_top s - temp_start s = omega (arith, c.temp_gap.ensures) in
-    let one : c.push.new.self.items ≡ code ++ halt_word ∷ [] =
+    let one : c.push.new.items.items ≡ code ++ halt_word ∷ [] =
     c.in_ok-push.ensures.items ∙ ap (λ ws. ws ++ halt_word ∷ []) c.requires.code in
     let two : c.append_data.new.words.items ≡ (code ++ halt_word ∷ []) ++ areas = c.in_ok-append_data.ensures ∙ ap (λ ws. ws ++ areas) one in
     let three : c.append_zeros.new.words.items ≡ ((code ++ halt_word ∷ []) ++ areas) ++ gap =

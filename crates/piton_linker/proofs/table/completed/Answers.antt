@@ -10,7 +10,7 @@ use Rattle.piton_linker.proofs.BoundLaws.{areas_seen, areas_sizes}
 use Rattle.piton_linker.proofs.table.completed.Goals as goal
 
 pub starts-requires : goal.starts-requires
-starts-requires c =
+starts-requires g c =
     let s = system_view c.args.checked.now in
     let same : map words_in c.as_slice.result.now ≡ s.areas =
     ap (λ xs. map words_in xs) c.as_slice.ensures.value ∙ ap (λ (r : ResolvedOf). r.areas) c.checked.view_is in
@@ -19,7 +19,7 @@ starts-requires c =
     omega (arith, start, areas_seen c.as_slice.result.now, size, c.requires.fits)
 
 pub returns : goal.returns
-returns c =
+returns g c =
     let s = system_view c.args.checked.now in
     let same : map words_in c.as_slice.result.now ≡ s.areas =
     ap (λ xs. map words_in xs) c.as_slice.ensures.value ∙ ap (λ (r : ResolvedOf). r.areas) c.checked.view_is in

@@ -10,17 +10,17 @@ use Rattle.piton_linker.proofs.LookupLaws.{rows_more, whole_rows}
 use Rattle.piton_linker.proofs.table.places.Goals as goal
 
 pub prelude_size-requires : goal.prelude_size-requires
-prelude_size-requires c =
+prelude_size-requires g c =
     let at = program_at c.args.programs.now c.loop-program.program-index c.program-item.result c.loop-program-test.true c.program-item.is in
     omega (arith, at.next, at.within, c.requires)
 
 pub overflow_add-first : goal.overflow_add-first
-overflow_add-first c =
+overflow_add-first g c =
     let at = program_at c.args.programs.now c.loop-program.program-index c.program-item.result c.loop-program-test.true c.program-item.is in
     omega (arith, at.next, at.within, c.requires, c.loop-program.invariant.at, c.prelude_size.ensures)
 
 pub starts-requires : goal.starts-requires
-starts-requires c =
+starts-requires g c =
     let at = program_at c.args.programs.now c.loop-program.program-index c.program-item.result c.loop-program-test.true c.program-item.is in
     let same : map instruction_view c.as_slice.result.now ≡ (program_view c.program-item.result).instructions =
     ap (map instruction_view) (c.as_slice.ensures.value ∙ ap (λ (p : ResolvedProgramOf). p.instrs) c.program.view_is) in
@@ -30,17 +30,17 @@ starts-requires c =
     omega (arith, at.next, at.within, c.requires, c.loop-program.invariant.at, c.prelude_size.ensures, sums, seen)
 
 pub program_size-requires : goal.program_size-requires
-program_size-requires c =
+program_size-requires g c =
     let at = program_at c.args.programs.now c.loop-program.program-index c.program-item.result c.loop-program-test.true c.program-item.is in
     omega (arith, at.next, at.within, c.requires)
 
 pub overflow_add-at : goal.overflow_add-at
-overflow_add-at c =
+overflow_add-at g c =
     let at = program_at c.args.programs.now c.loop-program.program-index c.program-item.result c.loop-program-test.true c.program-item.is in
     omega (arith, at.next, at.within, c.requires, c.loop-program.invariant.at, c.program_size.ensures)
 
 pub loop-program-preserved : goal.loop-program-preserved
-loop-program-preserved c =
+loop-program-preserved g c =
     let all = map program_view c.args.programs.now in
     let k = c.loop-program.program-index in
     let at = program_at c.args.programs.now c.loop-program.program-index c.program-item.result c.loop-program-test.true c.program-item.is in
@@ -61,7 +61,7 @@ loop-program-preserved c =
     }
 
 pub returns : goal.returns
-returns c =
+returns g c =
     let all = map program_view c.args.programs.now in
     let size : length all ≤ c.loop-program.program-index = omega (arith, length-map c.args.programs.now program_view, c.loop-program-test.false) in
     c.loop-program.invariant.made ∙ whole_rows c.args.base c.loop-program.program-index all size

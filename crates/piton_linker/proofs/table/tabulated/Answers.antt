@@ -8,7 +8,7 @@ use Rattle.piton_linker.proofs.BoundLaws.{programs_seen}
 use Rattle.piton_linker.proofs.table.tabulated.Goals as goal
 
 pub starts-requires : goal.starts-requires
-starts-requires c =
+starts-requires g c =
     let s = system_view c.args.checked.now in
     let same : map program_view c.as_slice.result.now ≡ s.programs =
     ap (map program_view) (c.as_slice.ensures.value ∙ ap (λ (r : ResolvedOf). r.programs) c.checked.view_is) in
@@ -17,7 +17,7 @@ starts-requires c =
     omega (arith, c.from.ensures, programs_seen c.as_slice.result.now, size, base, c.requires.fits)
 
 pub completed-requires-clause-entries : goal.completed-requires-clause-entries
-completed-requires-clause-entries c =
+completed-requires-clause-entries g c =
     let s = system_view c.args.checked.now in
     let same : map program_view c.as_slice.result.now ≡ s.programs =
     ap (map program_view) (c.as_slice.ensures.value ∙ ap (λ (r : ResolvedOf). r.programs) c.checked.view_is) in

@@ -12,13 +12,13 @@ use Rattle.piton_linker.specs.Drafts.{drafted, IsDraft}
 use Rattle.piton_linker.proofs.words.append_prelude.Goals as goal
 
 pub append-requires-clause-draft : goal.append-requires-clause-draft
-append-requires-clause-draft c = subst (λ (u : ResolvedOf). IsDraft (system_view u) c.args.draft.now) (sym c.resolved.ensures.value) c.requires.draft
+append-requires-clause-draft g c = subst (λ (u : ResolvedOf). IsDraft (system_view u) c.args.draft.now) (sym c.resolved.ensures.value) c.requires.draft
 
 pub append-requires-clause-row : goal.append-requires-clause-row
-append-requires-clause-row c = λ place a h. absurd cc
+append-requires-clause-row g c = λ place a h. absurd cc
 
 pub append-requires-clause-named : goal.append-requires-clause-named
-append-requires-clause-named c =
+append-requires-clause-named g c =
     let s = system_in c.args.checked.now in
     let value = c.resolved.ensures.value in
     let known = prelude_known s c.resolved.ensures.checked.sound c.args.program c.requires.there in
@@ -26,7 +26,7 @@ append-requires-clause-named c =
     subst (λ (u : ResolvedOf). Each (PieceExists (system_view u)) c.as_slice.result.now) (sym value) (subst (Each (PieceExists s)) (sym pieces) known.named)
 
 pub append-requires-clause-room : goal.append-requires-clause-room
-append-requires-clause-room c =
+append-requires-clause-room g c =
     let s = system_in c.args.checked.now in
     let value = c.resolved.ensures.value in
     let known = prelude_known s c.resolved.ensures.checked.sound c.args.program c.requires.there in
@@ -35,10 +35,10 @@ append-requires-clause-room c =
     omega (arith, base, ap length pieces, known.room, c.requires.at, c.requires.fits)
 
 pub returns-clause-draft : goal.returns-clause-draft
-returns-clause-draft c = subst (λ (u : ResolvedOf). IsDraft (system_view u) c.append.new.self) c.resolved.ensures.value c.in_ok-append.ensures.draft
+returns-clause-draft g c = subst (λ (u : ResolvedOf). IsDraft (system_view u) c.append.new.self) c.resolved.ensures.value c.in_ok-append.ensures.draft
 
 pub returns-clause-words : goal.returns-clause-words
-returns-clause-words c =
+returns-clause-words g c =
     let s = system_in c.args.checked.now in
     let value = c.resolved.ensures.value in
     let known = prelude_known s c.resolved.ensures.checked.sound c.args.program c.requires.there in

@@ -14,7 +14,7 @@ use Rattle.piton_linker.proofs.EmissionLaws.{places_next, place_here, place_know
 use Rattle.piton_linker.proofs.words.append_program.Goals as goal
 
 pub next-requires : goal.next-requires
-next-requires c =
+next-requires g c =
     let s = system_in c.args.checked.now in
     let program = c.args.program in
     let k = c.loop-place.place in
@@ -29,7 +29,7 @@ next-requires c =
     omega (arith, at, base, known.room, c.requires.fits)
 
 pub append_place-requires-clause-at : goal.append_place-requires-clause-at
-append_place-requires-clause-at c =
+append_place-requires-clause-at g c =
     let s = system_in c.args.checked.now in
     let program = c.args.program in
     let k = c.loop-place.place in
@@ -42,7 +42,7 @@ append_place-requires-clause-at c =
     at
 
 pub append_place-requires-clause-row : goal.append_place-requires-clause-row
-append_place-requires-clause-row c =
+append_place-requires-clause-row g c =
     let s = system_in c.args.checked.now in
     let program = c.args.program in
     let k = c.loop-place.place in
@@ -55,7 +55,7 @@ append_place-requires-clause-row c =
     let p = program_of s program in
     let next : c.next.result ≡ address_of_place s program k =
     c.next.ensures ∙ ap (λ (u : ResolvedOf). u.base + length new.words) c.resolved.ensures.value ∙ at in
-    let row : c.push.new.self.items ≡ take (k + 1) (row_at (entry_of s program) p) =
+    let row : c.push.new.items.items ≡ take (k + 1) (row_at (entry_of s program) p) =
     c.in_ok-push.ensures.items
     ∙ ap (λ ns. ns ++ c.next.result ∷ []) c.loop-place.invariant.row
     ∙ ap (λ n. take k (row_at (entry_of s program) p) ++ n ∷ []) next
@@ -63,7 +63,7 @@ append_place-requires-clause-row c =
     is_row s program (k + 1) c.as_slice.result.now (c.as_slice.ensures.value ∙ row)
 
 pub loop-place-preserved : goal.loop-place-preserved
-loop-place-preserved c =
+loop-place-preserved g c =
     let s = system_in c.args.checked.now in
     let program = c.args.program in
     let k = c.loop-place.place in
@@ -76,7 +76,7 @@ loop-place-preserved c =
     let p = program_of s program in
     let next : c.next.result ≡ address_of_place s program k =
     c.next.ensures ∙ ap (λ (u : ResolvedOf). u.base + length new.words) c.resolved.ensures.value ∙ at in
-    let row : c.push.new.self.items ≡ take (k + 1) (row_at (entry_of s program) p) =
+    let row : c.push.new.items.items ≡ take (k + 1) (row_at (entry_of s program) p) =
     c.in_ok-push.ensures.items
     ∙ ap (λ ns. ns ++ c.next.result ∷ []) c.loop-place.invariant.row
     ∙ ap (λ n. take k (row_at (entry_of s program) p) ++ n ∷ []) next
@@ -94,7 +94,7 @@ loop-place-preserved c =
     }
 
 pub returns-clause-places : goal.returns-clause-places
-returns-clause-places c =
+returns-clause-places g c =
     let s = system_in c.args.checked.now in
     let k = c.loop-place.place in
     let p = program_of s c.args.program in

@@ -10,7 +10,7 @@ use Rattle.piton_linker.proofs.words.append_program.Given as goal
 
 -- the words so far, once all addresses are known, and the addresses of the places so far
 abbrev pub invariant-loop-place : goal.invariant-loop-place
-invariant-loop-place l = record {
+invariant-loop-place g l = record {
   draft : IsDraft (system_in l.checked) l.draft;
   words : drafted (system_in l.checked) l.draft ≡ drafted (system_in l.checked) l.fn.draft
       ++ (prelude_words (addresses_of (system_in l.checked)) l.program (program_of (system_in l.checked) l.program)

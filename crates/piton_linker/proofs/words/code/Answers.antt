@@ -14,7 +14,7 @@ use Rattle.piton_linker.proofs.EmissionLaws.{programs_next, program_here, take_w
 use Rattle.piton_linker.proofs.words.code.Goals as goal
 
 pub next-requires : goal.next-requires
-next-requires c =
+next-requires g c =
     let s = system_in c.args.checked.now in
     let k = c.loop-program.program in
     let new = c.loop-program.draft in
@@ -25,7 +25,7 @@ next-requires c =
     omega (arith, at, base, programs_within s.programs k, c.requires.fits)
 
 pub append_program-requires-clause-at : goal.append_program-requires-clause-at
-append_program-requires-clause-at c =
+append_program-requires-clause-at g c =
     let s = system_in c.args.checked.now in
     let k = c.loop-program.program in
     let new = c.loop-program.draft in
@@ -35,7 +35,7 @@ append_program-requires-clause-at c =
     at
 
 pub loop-program-preserved : goal.loop-program-preserved
-loop-program-preserved c =
+loop-program-preserved g c =
     let s = system_in c.args.checked.now in
     let k = c.loop-program.program in
     let new = c.loop-program.draft in
@@ -62,14 +62,14 @@ loop-program-preserved c =
     }
 
 pub returns-clause-words : goal.returns-clause-words
-returns-clause-words c =
+returns-clause-words g c =
     let s = system_in c.args.checked.now in
     let k = c.loop-program.program in
     let done : length s.programs ≤ k = omega (arith, c.program_count-count.ensures, c.loop-program-test.false) in
     c.loop-program.invariant.words ∙ ap (programs_words (addresses_of s) 0) (take_whole s.programs k done)
 
 pub returns-clause-entries : goal.returns-clause-entries
-returns-clause-entries c =
+returns-clause-entries g c =
     let s = system_in c.args.checked.now in
     let k = c.loop-program.program in
     let done : length (map program_size s.programs) ≤ k =
@@ -77,7 +77,7 @@ returns-clause-entries c =
     c.loop-program.invariant.entries ∙ whole s.base k (map program_size s.programs) done
 
 pub returns-clause-places : goal.returns-clause-places
-returns-clause-places c =
+returns-clause-places g c =
     let s = system_in c.args.checked.now in
     let k = c.loop-program.program in
     let done : length s.programs ≤ k = omega (arith, c.program_count-count.ensures, c.loop-program-test.false) in

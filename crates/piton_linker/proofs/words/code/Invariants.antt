@@ -8,7 +8,7 @@ use Rattle.piton_linker.proofs.words.code.Given as goal
 
 -- the words so far, once all addresses are known, and the addresses so far
 abbrev pub invariant-loop-program : goal.invariant-loop-program
-invariant-loop-program l = record {
+invariant-loop-program g l = record {
   draft : IsDraft (system_in l.checked) l.draft;
   words : drafted (system_in l.checked) l.draft ≡ programs_words (addresses_of (system_in l.checked)) 0 (take l.program (system_in l.checked).programs);
   entries : l.entries.items ≡ take l.program (starts (system_in l.checked).base (map program_size (system_in l.checked).programs));

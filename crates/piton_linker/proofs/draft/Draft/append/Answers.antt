@@ -11,7 +11,7 @@ use Rattle.piton_linker.proofs.DraftLaws.{length-drafted}
 use Rattle.piton_linker.proofs.draft.Draft.append.Goals as goal
 
 pub push-requires-clause-room : goal.push-requires-clause-room
-push-requires-clause-room c =
+push-requires-clause-room g c =
     let s = system_view c.args.checked.now in
     let A = addresses_of s in
     let old = c.args.self.now in
@@ -25,7 +25,7 @@ push-requires-clause-room c =
     omega (arith, count, c.requires.room, c.loop-piece-test.true)
 
 pub loop-piece-preserved : goal.loop-piece-preserved
-loop-piece-preserved c =
+loop-piece-preserved g c =
     let s = system_view c.args.checked.now in
     let A = addresses_of s in
     let old = c.args.self.now in

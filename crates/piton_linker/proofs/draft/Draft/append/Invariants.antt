@@ -7,7 +7,7 @@ use Rattle.piton_linker.proofs.draft.Draft.append.Given as goal
 
 -- the words of the pieces so far
 abbrev pub invariant-loop-piece : goal.invariant-loop-piece
-invariant-loop-piece l = record {
+invariant-loop-piece g l = record {
   draft : IsDraft (system_view l.checked) l.self;
   words : drafted (system_view l.checked) l.self ≡ drafted (system_view l.checked) l.fn.self
       ++ words_of (addresses_of (system_view l.checked)) ((system_view l.checked).base + length l.fn.self.words) (take l.piece-index l.pieces);

@@ -7,7 +7,7 @@ use Rattle.piton_linker.proofs.DraftLaws.{more_known, more_open, still_draft}
 use Rattle.piton_linker.proofs.draft.Draft.push.Goals as goal
 
 pub returns-in_ok-push-in-Some-clause-words : goal.returns-in_ok-push-in-Some-clause-words
-returns-in_ok-push-in-Some-clause-words c =
+returns-in_ok-push-in-Some-clause-words g c =
     let s = system_view c.args.checked.now in
     let d = c.args.self.now in
     let base : c.checked.inside.base ≡ s.base = ap (λ (u : ResolvedOf). u.base) c.checked.view_is in
@@ -21,7 +21,7 @@ returns-in_ok-push-in-Some-clause-words c =
     (λ t. record { words = (c.in_ok-push-in-Some.ensures.items ∙ ap (λ ws. ws ++ w ∷ []) words) t; fixups = fixups t })
 
 pub returns-in_ok-push-in-None-2-clause-draft : goal.returns-in_ok-push-in-None-2-clause-draft
-returns-in_ok-push-in-None-2-clause-draft c =
+returns-in_ok-push-in-None-2-clause-draft g c =
     let s = system_view c.args.checked.now in
     let d = c.args.self.now in
     let base : c.checked.inside.base ≡ s.base = ap (λ (u : ResolvedOf). u.base) c.checked.view_is in
@@ -36,7 +36,7 @@ returns-in_ok-push-in-None-2-clause-draft c =
     })
 
 pub returns-in_ok-push-in-None-2-clause-words : goal.returns-in_ok-push-in-None-2-clause-words
-returns-in_ok-push-in-None-2-clause-words c =
+returns-in_ok-push-in-None-2-clause-words g c =
     let s = system_view c.args.checked.now in
     let d = c.args.self.now in
     let base : c.checked.inside.base ≡ s.base = ap (λ (u : ResolvedOf). u.base) c.checked.view_is in
