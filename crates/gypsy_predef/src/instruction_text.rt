@@ -1,13 +1,14 @@
 //! Instructions of a text, put one behind the other. All their places are 0.
 
-ghost use Rattle.std.specs.Prelude.{◌≡◌, ◌++◌, [], ◌∷◌, None, OnOk, IfOk};
+ghost use Rattle.std.specs.Prelude.{◌≡◌, ◌++◌, [], ◌∷◌, None};
+ghost use Rattle.stack_heap.specs.Heaps.{IfOkUnless, OnOkUnless};
 ghost use Rattle.stack_text.specs.Grammar.Printed.{unplaced};
 ghost use Rattle.piton_syntax.specs.declared.argument.ArgText.TheVariants as arg;
 ghost use Rattle.gypsy_predef.specs.Texts.{condition_area, constant, instruction, number};
 
 use piton_syntax::{ArgText, InstrText, Number, PitonOp, TestKind, WordItem, WordText};
+use stack_heap::Heap;
 use stack_text::{Memory, Named};
-use std::alloc::Global;
 
 /// A number.
 pub fn number(value: i128) -> Number
@@ -21,82 +22,91 @@ pub fn number(value: i128) -> Number
 
 /// One more instruction.
 #[inline(always)]
-pub fn put(
+pub fn put<H: Heap>(
+    heap: H,
     instrs: &mut Vec<InstrText>,
     label: Option<Named>,
     op: PitonOp,
     args: Vec<ArgText>,
 ) -> Result<(), Memory>
-    ensures { OnOk result (instrs.new.items ≡ instrs.old.items ++ instruction label op args.items ∷ []) }
+    ensures { OnOkUnless (H.may_refuse heap) result
+        (instrs.new.items ≡ instrs.old.items ++ instruction label op args.items ∷ []) }
 {
-    instrs.push(InstrText {
+    let instr = InstrText {
         place: 0,
         label,
         op,
         args,
-    })?;
+    };
+    heap.push(instrs, instr)?;
     Ok(())
 }
 
 /// An instruction without arguments.
-pub fn plain(
-    alloc: Global,
+pub fn plain<H: Heap>(
+    heap: H,
     instrs: &mut Vec<InstrText>,
     label: Option<Named>,
     op: PitonOp,
 ) -> Result<(), Memory>
-    ensures { OnOk result (instrs.new.items ≡ instrs.old.items ++ instruction label op [] ∷ []) }
+    ensures { OnOkUnless (H.may_refuse heap) result
+        (instrs.new.items ≡ instrs.old.items ++ instruction label op [] ∷ []) }
 {
-    put(instrs, label, op, Vec::new(alloc))
+    put(heap, instrs, label, op, Vec::new(heap.handle()))
 }
 
 /// An instruction of a name.
 #[inline(always)]
-pub fn of_name(
-    alloc: Global,
+pub fn of_name<H: Heap>(
+    heap: H,
     instrs: &mut Vec<InstrText>,
     op: PitonOp,
     name: Named,
 ) -> Result<(), Memory>
-    ensures { OnOk result (instrs.new.items ≡ instrs.old.items ++ instruction None op (arg.Name name ∷ []) ∷ []) }
+    ensures { OnOkUnless (H.may_refuse heap) result
+        (instrs.new.items ≡ instrs.old.items ++ instruction None op (arg.Name name ∷ []) ∷ []) }
 {
-    let args = vec![in alloc; ArgText::Name(name)]?;
-    put(instrs, None, op, args)
+    let mut args = heap.with_room(1)?;
+    heap.push(&mut args, ArgText::Name(name))?;
+    put(heap, instrs, None, op, args)
 }
 
 /// A `push-constant`.
 #[inline(always)]
-pub fn constant(
-    alloc: Global,
+pub fn constant<H: Heap>(
+    heap: H,
     instrs: &mut Vec<InstrText>,
     label: Option<Named>,
     item: WordItem,
 ) -> Result<(), Memory>
-    ensures { OnOk result (instrs.new.items ≡ instrs.old.items ++ constant label item ∷ []) }
+    ensures { OnOkUnless (H.may_refuse heap) result (instrs.new.items ≡ instrs.old.items ++ constant label item ∷ []) }
 {
-    let args = vec![in alloc; ArgText::Word(WordText { place: 0, item })]?;
-    put(instrs, label, PitonOp::PushConstant, args)
+    let mut args = heap.with_room(1)?;
+    heap.push(&mut args, ArgText::Word(WordText { place: 0, item }))?;
+    put(heap, instrs, label, PitonOp::PushConstant, args)
 }
 
 /// A test, and the jump to a label.
 #[inline(always)]
-pub fn test(
-    alloc: Global,
+pub fn test<H: Heap>(
+    heap: H,
     instrs: &mut Vec<InstrText>,
     op: PitonOp,
     kind: TestKind,
     to: Named,
 ) -> Result<(), Memory>
     ensures { let args = arg.Test kind ∷ arg.Name to ∷ [] in
-        OnOk result (instrs.new.items ≡ instrs.old.items ++ instruction None op args ∷ []) }
+        OnOkUnless (H.may_refuse heap) result (instrs.new.items ≡ instrs.old.items ++ instruction None op args ∷ []) }
 {
-    let args = vec![in alloc; ArgText::Test(kind), ArgText::Name(to)]?;
-    put(instrs, None, op, args)
+    let mut args = heap.with_room(2)?;
+    heap.push(&mut args, ArgText::Test(kind))?;
+    heap.push(&mut args, ArgText::Name(to))?;
+    put(heap, instrs, None, op, args)
 }
 
 /// The name of the area that holds the current condition.
-pub fn condition_area(alloc: Global) -> Result<Named, Memory>
-    ensures { IfOk result (λ name. name ≡ unplaced condition_area) }
+pub fn condition_area<H: Heap>(heap: H) -> Result<Named, Memory>
+    ensures { IfOkUnless (H.may_refuse heap) result (λ name. name ≡ unplaced condition_area) }
 {
-    Named::unplaced(alloc, b"c-c".as_slice())
+    Named::unplaced(heap, b"c-c".as_slice())
 }
