@@ -35,9 +35,9 @@ abbrev pub fault_of : GenFault → Option GenFault
 fault_of Memory = None
 fault_of fault = Some fault
 
--- the call returned exactly what the definition gives, seen through the view; out of memory alone is free
-abbrev pub GivesGenerated : {X Y : Type 0} → (X → Y) → Result X GenFault → Result Y GenFault → Type 0
-GivesGenerated view result value = common.Gives fault_of view result value
+-- the call returned exactly what the definition gives, seen through the view; memory runs out only where it was refused
+abbrev pub GivesGeneratedUnless : {X Y : Type 0} → Type 0 → (X → Y) → Result X GenFault → Result Y GenFault → Type 0
+GivesGeneratedUnless refused view result value = common.GivesUnless refused fault_of view result value
 
 -- each stack has 1 to 65,536 words
 abbrev pub are_sizes : StackSizes → Bool

@@ -1,6 +1,7 @@
 //! The code of predefined calls.
 
-ghost use Rattle.std.specs.Prelude.{◌≡◌, ◌++◌, ◌∷◌, [], map, get_or, OnOk};
+ghost use Rattle.std.specs.Prelude.{◌≡◌, ◌++◌, ◌∷◌, [], map, get_or};
+ghost use Rattle.stack_heap.specs.Heaps.{OnOkUnless};
 ghost use Rattle.gypsy_syntax.specs.Programs.{Var, Apply};
 ghost use Rattle.gypsy_syntax.specs.ProgramFits.{Each};
 ghost use Rattle.gypsy_space.specs.Nodes.{seen_arg};
@@ -18,30 +19,31 @@ use gypsy_predef::instruction_text::number;
 use gypsy_space::{Application, Argument, Condition};
 use gypsy_syntax::Predef;
 use piton_syntax::{PitonOp, TestKind, WordItem};
+use stack_heap::Heap;
 use stack_text::{Memory, Shape};
 
 /// An argument, pushed: the index of a variable, or a literal.
-fn push_arg(emitter: &mut Emitter, context: &Context, arg: &Argument) -> Result<(), Memory>
+fn push_arg<H: Heap>(heap: H, emitter: &mut Emitter, context: &Context, arg: &Argument) -> Result<(), Memory>
     requires ready { IsReady context.now }
     requires word { ArgHasWord (program_in context.now) context.now.procedure (seen_arg arg.now) }
     ensures { let pushed = push_args (program_in context.now) context.now.procedure (seen_arg arg.now ∷ []) in
-        OnOk result (emitter.new ≡ emitter.old ++ code_in context.now pushed) }
+        OnOkUnless (H.may_refuse heap) result (emitter.new ≡ emitter.old ++ code_in context.now pushed) }
 {
     match arg {
-        Argument::Variable(variable) => push_local(emitter, context, *variable),
-        Argument::Constant(value) => emitter.constant(None, simple_word(value)),
+        Argument::Variable(variable) => push_local(heap, emitter, context, *variable),
+        Argument::Constant(value) => emitter.constant(heap, None, simple_word(value)),
     }
 }
 
 /// The arguments, pushed.
-fn push_args(emitter: &mut Emitter, context: &Context, args: &[Argument]) -> Result<(), Memory>
+fn push_args<H: Heap>(heap: H, emitter: &mut Emitter, context: &Context, args: &[Argument]) -> Result<(), Memory>
     requires ready { IsReady context.now }
     requires words { Each (ArgHasWord (program_in context.now) context.now.procedure) (map seen_arg args.now) }
     ensures { let pushed = push_args (program_in context.now) context.now.procedure (map seen_arg args.now) in
-        OnOk result (emitter.new ≡ emitter.old ++ code_in context.now pushed) }
+        OnOkUnless (H.may_refuse heap) result (emitter.new ≡ emitter.old ++ code_in context.now pushed) }
 {
     for arg in args {
-        push_arg(emitter, context, arg)?;
+        push_arg(heap, emitter, context, arg)?;
     }
     Ok(())
 }
@@ -58,9 +60,9 @@ fn array_length(shapes: &[Shape], args: &[Argument], at: usize) -> u32
 }
 
 /// The length that the array rows push last.
-fn push_length(emitter: &mut Emitter, context: &Context, call: &Application) -> Result<(), Memory>
+fn push_length<H: Heap>(heap: H, emitter: &mut Emitter, context: &Context, call: &Application) -> Result<(), Memory>
     ensures { let pushed = length_code context.now.shapes.now call.now.which (map seen_arg call.now.args.items) in
-        OnOk result (emitter.new ≡ emitter.old ++ code_in context.now pushed) }
+        OnOkUnless (H.may_refuse heap) result (emitter.new ≡ emitter.old ++ code_in context.now pushed) }
 {
     let at = match call.which {
         Predef::MgIndexArray => 1,
@@ -69,7 +71,7 @@ fn push_length(emitter: &mut Emitter, context: &Context, call: &Application) -> 
     };
     let length = array_length(context.shapes, call.args.as_slice(), at);
     let item = WordItem::Int(number(length as i128));
-    emitter.constant(None, item)
+    emitter.constant(heap, None, item)
 }
 
 /// Whether a predefined procedure may signal routineerror.
@@ -80,20 +82,22 @@ pub(crate) fn can_fail(which: Predef) -> bool
 }
 
 /// The test for a fault, and the jump to a label.
-fn test_fault(
+fn test_fault<H: Heap>(
+    heap: H,
     emitter: &mut Emitter,
     context: &Context,
     which: Predef,
     to: u32,
 ) -> Result<(), Memory>
-    ensures { OnOk result (emitter.new ≡ emitter.old ++ code_in context.now (test_code which to)) }
+    ensures { OnOkUnless (H.may_refuse heap) result (emitter.new ≡
+        emitter.old ++ code_in context.now (test_code which to)) }
 {
     if !can_fail(which) {
         return Ok(());
     }
-    emitter.area(PitonOp::PushGlobal)?;
-    emitter.plain(None, PitonOp::Sub1Nat)?;
-    emitter.test(PitonOp::TestNatAndJump, TestKind::Zero, to)
+    emitter.area(heap, PitonOp::PushGlobal)?;
+    emitter.plain(heap, None, PitonOp::Sub1Nat)?;
+    emitter.test(heap, PitonOp::TestNatAndJump, TestKind::Zero, to)
 }
 
 /// The position of a predefined procedure in the table.
@@ -104,7 +108,8 @@ fn number_of(which: Predef) -> usize
 }
 
 /// A predefined call.
-pub(crate) fn apply(
+pub(crate) fn apply<H: Heap>(
+    heap: H,
     emitter: &mut Emitter,
     context: &Context,
     scopes: &Scopes,
@@ -115,12 +120,12 @@ pub(crate) fn apply(
         Each (ArgHasWord (program_in context.now) context.now.procedure) args }
     ensures { let statement = Apply call.now.place call.now.which (map seen_arg call.now.args.items) in
         let code = apply_code (program_in context.now) context.now.procedure (env scopes.now) statement in
-        OnOk result (emitter.new ≡ emitter.old ++ code_in context.now code) }
+        OnOkUnless (H.may_refuse heap) result (emitter.new ≡ emitter.old ++ code_in context.now code) }
 {
-    push_args(emitter, context, call.args.as_slice())?;
-    push_length(emitter, context, call)?;
+    push_args(heap, emitter, context, call.args.as_slice())?;
+    push_length(heap, emitter, context, call)?;
     let position = context.program.procedures.len() + number_of(call.which);
-    call_program(emitter, context, position)?;
+    call_program(heap, emitter, context, position)?;
     let to = label_to(context, scopes, Condition::Routine);
-    test_fault(emitter, context, call.which, to)
+    test_fault(heap, emitter, context, call.which, to)
 }

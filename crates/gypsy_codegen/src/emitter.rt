@@ -1,6 +1,7 @@
 //! Instructions, put one behind the other.
 
-ghost use Rattle.std.specs.Prelude.{◌≡◌, ◌++◌, [], ◌∷◌, pos, None, OnOk, IfOk, option_map};
+ghost use Rattle.std.specs.Prelude.{◌≡◌, ◌++◌, [], ◌∷◌, pos, None, option_map};
+ghost use Rattle.stack_heap.specs.Heaps.{IfOkUnless, OnOkUnless};
 ghost use Rattle.piton_syntax.specs.declared.argument.ArgText.TheVariants as arg;
 ghost use Rattle.piton_syntax.specs.declared.op.PitonOp.TheVariants as op;
 ghost use Rattle.gypsy_predef.specs.Texts.{instruction, constant, of_name, condition_area, number};
@@ -11,8 +12,8 @@ use crate::lines::label_named;
 use gypsy_predef::instruction_text;
 use gypsy_predef::instruction_text::{condition_area, number};
 use piton_syntax::{ArgText, InstrText, PitonOp, TestKind, WordItem, WordText};
+use stack_heap::Heap;
 use stack_text::{Memory, Named};
-use std::alloc::Global;
 use std::marker::Model;
 
 /// The instructions of a procedure so far. Contracts see the list of them.
@@ -20,7 +21,6 @@ use std::marker::Model;
 /// A label that a method is given stands in front of the new instruction.
 #[derive(Drop)]
 pub(crate) struct Emitter {
-    alloc: Global,
     instrs: Vec<InstrText>,
 }
 
@@ -35,16 +35,11 @@ impl Model for Emitter {
 
 impl Emitter {
     /// Without instructions yet, and with room for so many.
-    pub(crate) fn with_capacity(alloc: Global, capacity: usize) -> Result<Self, Memory>
-        ensures { IfOk result (λ emitter. emitter ≡ []) }
+    pub(crate) fn with_capacity<H: Heap>(heap: H, capacity: usize) -> Result<Self, Memory>
+        ensures { IfOkUnless (H.may_refuse heap) result (λ emitter. emitter ≡ []) }
     {
-        let instrs = Vec::with_capacity(alloc, capacity)?;
-        Ok(Emitter { alloc, instrs })
-    }
-
-    /// Where memory is taken from.
-    pub(crate) fn alloc(&self) -> Global {
-        self.alloc
+        let instrs = heap.with_room(capacity)?;
+        Ok(Emitter { instrs })
     }
 
     /// The instructions.
@@ -56,76 +51,82 @@ impl Emitter {
 
     /// One more instruction.
     #[inline(always)]
-    pub(crate) fn put(
+    pub(crate) fn put<H: Heap>(
         &mut self,
+        heap: H,
         label: Option<u32>,
         op: PitonOp,
         args: Vec<ArgText>,
     ) -> Result<(), Memory>
-        ensures { OnOk result (self.new ≡ self.old ++ labelled label op args.items ∷ []) }
+        ensures { OnOkUnless (H.may_refuse heap) result (self.new ≡ self.old ++ labelled label op args.items ∷ []) }
     {
         let label = match label {
-            Some(label) => Some(label_named(self.alloc, label)?),
+            Some(label) => Some(label_named(heap, label)?),
             None => None,
         };
-        instruction_text::put(&mut self.instrs, label, op, args)
+        instruction_text::put(heap, &mut self.instrs, label, op, args)
     }
 
     /// An instruction without arguments.
-    pub(crate) fn plain(&mut self, label: Option<u32>, op: PitonOp) -> Result<(), Memory>
-        ensures { OnOk result (self.new ≡ self.old ++ labelled label op [] ∷ []) }
+    pub(crate) fn plain<H: Heap>(&mut self, heap: H, label: Option<u32>, op: PitonOp) -> Result<(), Memory>
+        ensures { OnOkUnless (H.may_refuse heap) result (self.new ≡ self.old ++ labelled label op [] ∷ []) }
     {
-        self.put(label, op, Vec::new(self.alloc))
+        self.put(heap, label, op, Vec::new(heap.handle()))
     }
 
     /// An instruction of a number of words.
-    pub(crate) fn of_number(&mut self, op: PitonOp, count: u64) -> Result<(), Memory>
+    pub(crate) fn of_number<H: Heap>(&mut self, heap: H, op: PitonOp, count: u64) -> Result<(), Memory>
         ensures { let args = arg.Number (number (pos count)) ∷ [] in
-            OnOk result (self.new ≡ self.old ++ instruction None op args ∷ []) }
+            OnOkUnless (H.may_refuse heap) result (self.new ≡ self.old ++ instruction None op args ∷ []) }
     {
-        let args = vec![in self.alloc; ArgText::Number(number(count as i128))]?;
-        self.put(None, op, args)
+        let mut args = heap.with_room(1)?;
+        heap.push(&mut args, ArgText::Number(number(count as i128)))?;
+        self.put(heap, None, op, args)
     }
 
     /// An instruction of a name.
     #[inline(always)]
-    pub(crate) fn of_name(&mut self, op: PitonOp, name: Named) -> Result<(), Memory>
-        ensures { OnOk result (self.new ≡ self.old ++ instruction None op (arg.Name name ∷ []) ∷ []) }
+    pub(crate) fn of_name<H: Heap>(&mut self, heap: H, op: PitonOp, name: Named) -> Result<(), Memory>
+        ensures { OnOkUnless (H.may_refuse heap) result
+            (self.new ≡ self.old ++ instruction None op (arg.Name name ∷ []) ∷ []) }
     {
-        instruction_text::of_name(self.alloc, &mut self.instrs, op, name)
+        instruction_text::of_name(heap, &mut self.instrs, op, name)
     }
 
     /// A `push-constant`.
     #[inline(always)]
-    pub(crate) fn constant(&mut self, label: Option<u32>, item: WordItem) -> Result<(), Memory>
-        ensures { OnOk result (self.new ≡ self.old ++ constant (option_map label_name label) item ∷ []) }
+    pub(crate) fn constant<H: Heap>(&mut self, heap: H, label: Option<u32>, item: WordItem) -> Result<(), Memory>
+        ensures { OnOkUnless (H.may_refuse heap) result
+            (self.new ≡ self.old ++ constant (option_map label_name label) item ∷ []) }
     {
-        let args = vec![in self.alloc; ArgText::Word(WordText { place: 0, item })]?;
-        self.put(label, PitonOp::PushConstant, args)
+        let mut args = heap.with_room(1)?;
+        heap.push(&mut args, ArgText::Word(WordText { place: 0, item }))?;
+        self.put(heap, label, PitonOp::PushConstant, args)
     }
 
     /// A jump.
-    pub(crate) fn jump(&mut self, to: u32) -> Result<(), Memory>
-        ensures { OnOk result (self.new ≡ self.old ++ instruction None op.Jump (label_arg to ∷ []) ∷ []) }
+    pub(crate) fn jump<H: Heap>(&mut self, heap: H, to: u32) -> Result<(), Memory>
+        ensures { OnOkUnless (H.may_refuse heap) result
+            (self.new ≡ self.old ++ instruction None op.Jump (label_arg to ∷ []) ∷ []) }
     {
-        let name = label_named(self.alloc, to)?;
-        self.of_name(PitonOp::Jump, name)
+        let name = label_named(heap, to)?;
+        self.of_name(heap, PitonOp::Jump, name)
     }
 
     /// An instruction of the area that holds the condition.
-    pub(crate) fn area(&mut self, op: PitonOp) -> Result<(), Memory>
-        ensures { OnOk result (self.new ≡ self.old ++ of_name op condition_area ∷ []) }
+    pub(crate) fn area<H: Heap>(&mut self, heap: H, op: PitonOp) -> Result<(), Memory>
+        ensures { OnOkUnless (H.may_refuse heap) result (self.new ≡ self.old ++ of_name op condition_area ∷ []) }
     {
-        let name = condition_area(self.alloc)?;
-        self.of_name(op, name)
+        let name = condition_area(heap)?;
+        self.of_name(heap, op, name)
     }
 
     /// A test, and the jump to a label.
-    pub(crate) fn test(&mut self, op: PitonOp, kind: TestKind, to: u32) -> Result<(), Memory>
+    pub(crate) fn test<H: Heap>(&mut self, heap: H, op: PitonOp, kind: TestKind, to: u32) -> Result<(), Memory>
         ensures { let args = arg.Test kind ∷ label_arg to ∷ [] in
-            OnOk result (self.new ≡ self.old ++ instruction None op args ∷ []) }
+            OnOkUnless (H.may_refuse heap) result (self.new ≡ self.old ++ instruction None op args ∷ []) }
     {
-        let name = label_named(self.alloc, to)?;
-        instruction_text::test(self.alloc, &mut self.instrs, op, kind, name)
+        let name = label_named(heap, to)?;
+        instruction_text::test(heap, &mut self.instrs, op, kind, name)
     }
 }

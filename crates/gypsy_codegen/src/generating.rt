@@ -1,6 +1,7 @@
 //! The generator.
 
 ghost use Rattle.std.specs.Prelude.{◌≡◌, ◌≤◌, ◌<◌, ◌^◌, [], length, IfOk};
+ghost use Rattle.stack_heap.specs.Heaps.{IfOkUnless};
 ghost use Rattle.piton_syntax.specs.PitonReading.{KeepsForm};
 ghost use Rattle.piton_check.specs.PitonChecking.{IsChecked};
 ghost use Rattle.piton_check.specs.Violations.{violations};
@@ -11,7 +12,7 @@ ghost use Rattle.gypsy_check.specs.Accepted.{IsAccepted};
 ghost use Rattle.gypsy_space.specs.Events.{AreNeeds, AreSmall};
 ghost use Rattle.gypsy_space.specs.Needs.{stack_sizes};
 ghost use Rattle.gypsy_space.specs.Nodes.{seen_program};
-ghost use Rattle.gypsy_codegen.specs.Generation.{GivesGenerated, SystemImplements, TakesCodeWords};
+ghost use Rattle.gypsy_codegen.specs.Generation.{GivesGeneratedUnless, SystemImplements, TakesCodeWords};
 ghost use Rattle.gypsy_codegen.specs.Generation.{are_sizes, generation, size_fault};
 ghost use Rattle.gypsy_codegen.specs.Internal.Views.{AreModest, words_together};
 
@@ -26,8 +27,8 @@ use gypsy_semantics::{control_need, temporary_need};
 use gypsy_space::{Need, Needs, Program, resolve};
 use piton_check::{CheckFault, Checked, check};
 use piton_syntax::System;
+use stack_heap::Heap;
 use stack_text::{MOST_STACK, Memory};
-use std::alloc::Global;
 
 /// The most words of code.
 const MOST_WORDS: u64 = MOST_WINDOW as u64;
@@ -81,13 +82,13 @@ fn size_fault(program: &Program, needs: &Needs, ctrl: u32, temp: u32) -> Option<
 }
 
 /// A system that breaks no rule, checked.
-fn checked(alloc: Global, system: System) -> Result<Checked, Memory>
+fn checked<H: Heap>(heap: H, system: System) -> Result<Checked, Memory>
     requires form { KeepsForm system }
     requires rules { violations system ≡ [] }
-    ensures known { IfOk result IsChecked }
+    ensures known { IfOkUnless (H.may_refuse heap) result IsChecked }
     ensures kept { IfOk result (λ checked. checked.system ≡ system) }
 {
-    match check(alloc, system) {
+    match check(heap, system) {
         Ok(checked) => Ok(checked),
         Err(CheckFault::Memory) => Err(Memory),
         Err(CheckFault::Violation { rule: _, place: _ }) => unreachable!(),
@@ -111,8 +112,8 @@ fn checked(alloc: Global, system: System) -> Result<Checked, Memory>
 ///
 /// The first of these: a size that is not 1 to 65,536, a control stack or a temporary stack below main's own need, and
 /// more than 1,048,576 words of code; or out of memory. No source of these sizes breaks a rule of Piton.
-pub fn generate(
-    alloc: Global,
+pub fn generate<H: Heap>(
+    heap: H,
     accepted: &Accepted,
     needs: &Needs,
     ctrl: u32,
@@ -123,17 +124,18 @@ pub fn generate(
     requires small { AreSmall needs.now.procedures.items }
     requires base { base ≤ 2 ^ 31 }
     ensures value { let s = source_of accepted.now in
-        GivesGenerated (λ checked. checked.system) result (generation s (stack_sizes ctrl temp) base) }
+        GivesGeneratedUnless (H.may_refuse heap) (λ checked. checked.system) result
+        (generation s (stack_sizes ctrl temp) base) }
     ensures runs { IfOk result (SystemImplements (source_of accepted.now) (stack_sizes ctrl temp) base) }
     ensures words { IfOk result (TakesCodeWords (source_of accepted.now)) }
 {
-    let program = resolve(alloc, accepted)?;
-    generate_with(alloc, accepted, &program, needs, ctrl, temp, base)
+    let program = resolve(heap, accepted)?;
+    generate_with(heap, accepted, &program, needs, ctrl, temp, base)
 }
 
 /// The same, for callers that have the program of the source.
-pub fn generate_with(
-    alloc: Global,
+pub fn generate_with<H: Heap>(
+    heap: H,
     accepted: &Accepted,
     program: &Program,
     needs: &Needs,
@@ -147,7 +149,8 @@ pub fn generate_with(
     requires small { AreSmall needs.now.procedures.items }
     requires base { base ≤ 2 ^ 31 }
     ensures value { let s = source_of accepted.now in
-        GivesGenerated (λ checked. checked.system) result (generation s (stack_sizes ctrl temp) base) }
+        GivesGeneratedUnless (H.may_refuse heap) (λ checked. checked.system) result
+        (generation s (stack_sizes ctrl temp) base) }
     ensures runs { IfOk result (SystemImplements (source_of accepted.now) (stack_sizes ctrl temp) base) }
     ensures words { IfOk result (TakesCodeWords (source_of accepted.now)) }
 {
@@ -158,7 +161,7 @@ pub fn generate_with(
     source_runs();
     moments_are_reached();
     procedures_take_words();
-    let system = system(alloc, accepted.source(), program, needs, ctrl, temp, base)?;
-    let made = checked(alloc, system)?;
+    let system = system(heap, accepted.source(), program, needs, ctrl, temp, base)?;
+    let made = checked(heap, system)?;
     Ok(made)
 }

@@ -1,6 +1,7 @@
 //! The conditions that a `begin` handles.
 
-ghost use Rattle.std.specs.Prelude.{◌≡◌, ◌==◌, ◌<◌, ◌^◌, ℕ, map, get_or, false, OnOk, IfOk, if◌then◌else◌, true};
+ghost use Rattle.std.specs.Prelude.{◌≡◌, ◌==◌, ◌<◌, ◌^◌, ℕ, map, get_or, false, if◌then◌else◌, true};
+ghost use Rattle.stack_heap.specs.Heaps.{IfOkUnless, OnOkUnless};
 ghost use Rattle.gypsy_syntax.specs.Programs.{ConditionOf};
 ghost use Rattle.gypsy_space.specs.Nodes.{seen_cond};
 ghost use Rattle.gypsy_semantics.specs.Calls.{has_cond};
@@ -8,8 +9,8 @@ ghost use Rattle.gypsy_codegen.specs.WordsOf.{number_of};
 
 use crate::context::number_of;
 use gypsy_space::Condition;
+use stack_heap::Heap;
 use stack_text::Memory;
-use std::alloc::Global;
 
 /// The conditions that a `begin` handles, and a table that tells, by a condition's number, whether it is one of them.
 #[derive(Drop)]
@@ -20,14 +21,14 @@ pub(crate) struct Handled<'a> {
 }
 
 /// Makes one entry of a table true. Those that it doesn't have yet are false.
-fn mark(table: &mut Vec<bool>, number: u64) -> Result<(), Memory>
+fn mark<H: Heap>(heap: H, table: &mut Vec<bool>, number: u64) -> Result<(), Memory>
     requires { number < 2 ^ 33 }
-    ensures { OnOk result ((k : ℕ) → get_or table.new.items k false ≡
+    ensures { OnOkUnless (H.may_refuse heap) result ((k : ℕ) → get_or table.new.items k false ≡
         (if k == number then true else get_or table.old.items k false)) }
 {
     let at = number as usize;
     if table.len() <= at {
-        table.resize(at + 1, false)?;
+        heap.resize(table, at + 1, false)?;
     }
     table[at] = true;
     Ok(())
@@ -35,12 +36,12 @@ fn mark(table: &mut Vec<bool>, number: u64) -> Result<(), Memory>
 
 impl<'a> Handled<'a> {
     /// The conditions, with their table.
-    pub(crate) fn new(alloc: Global, conds: &'a [Condition]) -> Result<Self, Memory>
-        ensures { IfOk result (λ handled. handled.conds.now ≡ conds.now) }
+    pub(crate) fn new<H: Heap>(heap: H, conds: &'a [Condition]) -> Result<Self, Memory>
+        ensures { IfOkUnless (H.may_refuse heap) result (λ handled. handled.conds.now ≡ conds.now) }
     {
-        let mut table = Vec::new(alloc);
+        let mut table = Vec::new(heap.handle());
         for cond in conds {
-            mark(&mut table, number_of(*cond))?;
+            mark(heap, &mut table, number_of(*cond))?;
         }
         Ok(Handled { conds, table })
     }

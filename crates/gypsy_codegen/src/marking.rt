@@ -1,6 +1,7 @@
 //! The marks of a generated program, in one pass.
 
-ghost use Rattle.std.specs.Prelude.{◌≡◌, ◌+◌, ◌^◌, ◌++◌, ◌∷◌, [], ◌<◌, ◌≤◌, length, OnOk, IfOk};
+ghost use Rattle.std.specs.Prelude.{◌≡◌, ◌+◌, ◌^◌, ◌++◌, ◌∷◌, [], ◌<◌, ◌≤◌, length, IfOk};
+ghost use Rattle.stack_heap.specs.Heaps.{IfOkUnless, OnOkUnless};
 ghost use Rattle.gypsy_syntax.specs.Programs.{body_of, proc_at};
 ghost use Rattle.gypsy_syntax.specs.Resolved.{program_of};
 ghost use Rattle.gypsy_syntax.specs.Views.SourceView.{source_of};
@@ -20,8 +21,8 @@ use crate::context::procedure_at;
 use gypsy_check::Accepted;
 use gypsy_space::{Application, CallSite, Needs, Node, Program, resolve};
 use gypsy_syntax::Predef;
+use stack_heap::Heap;
 use stack_text::Memory;
-use std::alloc::Global;
 use std::rc::Rc;
 
 /// A place of the generated code at which a run of the source may stand.
@@ -44,10 +45,11 @@ struct Marking<'a, 'b> {
 }
 
 /// A mark of the procedure.
-fn note(marks: &mut Vec<MarkAt>, marking: &Marking, at: u32, place: u32) -> Result<(), Memory>
-    ensures { OnOk result (marks.new.items ≡ marks.old.items ++ mark_at marking.now.procedure at place ∷ []) }
+fn note<H: Heap>(heap: H, marks: &mut Vec<MarkAt>, marking: &Marking, at: u32, place: u32) -> Result<(), Memory>
+    ensures { OnOkUnless (H.may_refuse heap) result
+        (marks.new.items ≡ marks.old.items ++ mark_at marking.now.procedure at place ∷ []) }
 {
-    marks.push(MarkAt {
+    heap.push(marks, MarkAt {
         program: marking.procedure,
         at,
         place,
@@ -123,7 +125,8 @@ fn application_size(marking: &Marking, call: &Application) -> u32
 
 /// A part of a statement at this place, and behind it a mark of the statement; where that is.
 #[cycle(marked)]
-fn part(
+fn part<H: Heap>(
+    heap: H,
     marks: &mut Vec<MarkAt>,
     marking: &Marking,
     node: &Rc<Node>,
@@ -137,17 +140,18 @@ fn part(
         let s = seen_statement node.now.value in
         let listed = statement_marks q marking.now.procedure at s ++
         mark_at marking.now.procedure (at + size q s) place ∷ [] in
-        OnOk result (marks.new.items ≡ marks.old.items ++ listed) }
+        OnOkUnless (H.may_refuse heap) result (marks.new.items ≡ marks.old.items ++ listed) }
     ensures next { IfOk result (λ next. next ≡ at + size (marked_program marking.now) (seen_statement node.now.value)) }
 {
-    let behind = statement(marks, marking, node, at)?;
-    note(marks, marking, behind, place)?;
+    let behind = statement(heap, marks, marking, node, at)?;
+    note(heap, marks, marking, behind, place)?;
     Ok(behind)
 }
 
 /// The marks of a statement whose code stands at this place; where it ends.
 #[cycle(marked)]
-fn statement(
+fn statement<H: Heap>(
+    heap: H,
     marks: &mut Vec<MarkAt>,
     marking: &Marking,
     node: &Rc<Node>,
@@ -158,44 +162,44 @@ fn statement(
     requires room { at + size (marked_program marking.now) (seen_statement node.now.value) ≤ 2 ^ 21 }
     ensures marks { let q = marked_program marking.now in
         let listed = statement_marks q marking.now.procedure at (seen_statement node.now.value) in
-        OnOk result (marks.new.items ≡ marks.old.items ++ listed) }
+        OnOkUnless (H.may_refuse heap) result (marks.new.items ≡ marks.old.items ++ listed) }
     ensures next { IfOk result (λ next. next ≡ at + size (marked_program marking.now) (seen_statement node.now.value)) }
 {
     match &**node {
         Node::NoOp(place) => {
-            note(marks, marking, at, *place)?;
+            note(heap, marks, marking, at, *place)?;
             Ok(at + 1)
         }
         Node::Signal(place, _) => {
-            note(marks, marking, at, *place)?;
+            note(heap, marks, marking, at, *place)?;
             Ok(at + 3)
         }
         Node::Seq(nodes) => {
-            let next = parts(marks, marking, nodes, at)?;
+            let next = parts(heap, marks, marking, nodes, at)?;
             Ok(next)
         }
         Node::Loop(place, body) => {
-            note(marks, marking, at, *place)?;
-            let back = part(marks, marking, body, at + 1, *place)?;
+            note(heap, marks, marking, at, *place)?;
+            let back = part(heap, marks, marking, body, at + 1, *place)?;
             Ok(back + 3)
         }
         Node::If(place, _, yes, no) => {
-            note(marks, marking, at, *place)?;
-            let jump = part(marks, marking, yes, at + 3, *place)?;
-            let join = part(marks, marking, no, jump + 2, *place)?;
+            note(heap, marks, marking, at, *place)?;
+            let jump = part(heap, marks, marking, yes, at + 3, *place)?;
+            let join = part(heap, marks, marking, no, jump + 2, *place)?;
             Ok(join + 1)
         }
         Node::Begin(place, body, _, arm) => {
-            let jump = part(marks, marking, body, at, *place)?;
-            let join = part(marks, marking, arm, jump + 3, *place)?;
+            let jump = part(heap, marks, marking, body, at, *place)?;
+            let join = part(heap, marks, marking, arm, jump + 3, *place)?;
             Ok(join + 1)
         }
         Node::Call(site) => {
-            note(marks, marking, at, site.place)?;
+            note(heap, marks, marking, at, site.place)?;
             Ok(at + call_size(marking, site))
         }
         Node::Apply(call) => {
-            note(marks, marking, at, call.place)?;
+            note(heap, marks, marking, at, call.place)?;
             Ok(at + application_size(marking, call))
         }
     }
@@ -203,7 +207,8 @@ fn statement(
 
 /// The parts of a sequence.
 #[cycle(marked)]
-fn parts(
+fn parts<H: Heap>(
+    heap: H,
     marks: &mut Vec<MarkAt>,
     marking: &Marking,
     parts: &Rc<Vec<Rc<Node>>>,
@@ -215,40 +220,41 @@ fn parts(
     requires room { at + size (marked_program marking.now) (seen_statements parts.now.value.items) ≤ 2 ^ 21 }
     ensures marks { let q = marked_program marking.now in
         let listed = statement_marks q marking.now.procedure at (seen_statements parts.now.value.items) in
-        OnOk result (marks.new.items ≡ marks.old.items ++ listed) }
+        OnOkUnless (H.may_refuse heap) result (marks.new.items ≡ marks.old.items ++ listed) }
     ensures next { let q = marked_program marking.now in
         IfOk result (λ next. next ≡ at + size q (seen_statements parts.now.value.items)) }
 {
     let mut next = at;
     for index in 0..parts.len() {
-        next = statement(marks, marking, &parts[index], next)?;
+        next = statement(heap, marks, marking, &parts[index], next)?;
     }
     Ok(next)
 }
 
 /// What stands behind a body of so many instructions.
-fn tail(marks: &mut Vec<MarkAt>, marking: &Marking, at: u32, place: u32) -> Result<(), Memory>
+fn tail<H: Heap>(heap: H, marks: &mut Vec<MarkAt>, marking: &Marking, at: u32, place: u32) -> Result<(), Memory>
     requires { at ≤ 2 ^ 21 }
-    ensures { OnOk result (marks.new.items ≡ marks.old.items ++ tail_marks marking.now.procedure at place) }
+    ensures { OnOkUnless (H.may_refuse heap) result
+        (marks.new.items ≡ marks.old.items ++ tail_marks marking.now.procedure at place) }
 {
-    note(marks, marking, at, place)?;
-    note(marks, marking, at + 1, place)?;
-    note(marks, marking, at + 3, place)
+    note(heap, marks, marking, at, place)?;
+    note(heap, marks, marking, at + 1, place)?;
+    note(heap, marks, marking, at + 3, place)
 }
 
 /// The marks of a procedure.
-fn procedure(marks: &mut Vec<MarkAt>, marking: &Marking) -> Result<(), Memory>
+fn procedure<H: Heap>(heap: H, marks: &mut Vec<MarkAt>, marking: &Marking) -> Result<(), Memory>
     requires known { IsKnown marking.now }
     requires there { marking.now.procedure < length (marked_program marking.now).procs }
     requires names { let q = marked_program marking.now in
         NamesAreThere q marking.now.procedure (body_of q marking.now.procedure) }
     requires room { let q = marked_program marking.now in size q (body_of q marking.now.procedure) ≤ 2 ^ 20 }
     ensures { let listed = procedure_marks (marked_program marking.now) marking.now.procedure in
-        OnOk result (marks.new.items ≡ marks.old.items ++ listed) }
+        OnOkUnless (H.may_refuse heap) result (marks.new.items ≡ marks.old.items ++ listed) }
 {
     let found = procedure_at(marking.program, marking.procedure);
-    let end = statement(marks, marking, &found.body, 0)?;
-    tail(marks, marking, end, found.place)
+    let end = statement(heap, marks, marking, &found.body, 0)?;
+    tail(heap, marks, marking, end, found.place)
 }
 
 /// The marks of the program that is generated from an accepted source: the places of its code at which a run of the source may
@@ -261,18 +267,19 @@ fn procedure(marks: &mut Vec<MarkAt>, marking: &Marking) -> Result<(), Memory>
 /// # Errors
 ///
 /// Out of memory.
-pub fn marks(alloc: Global, accepted: &Accepted, needs: &Needs) -> Result<Vec<MarkAt>, Memory>
+pub fn marks<H: Heap>(heap: H, accepted: &Accepted, needs: &Needs) -> Result<Vec<MarkAt>, Memory>
     requires needs { AreNeeds (program_of (source_of accepted.now)) needs.now.procedures.items }
     requires words { total_words (program_of (source_of accepted.now)) ≤ 2 ^ 20 }
-    ensures { IfOk result (λ marks. marks.items ≡ marks_of (program_of (source_of accepted.now))) }
+    ensures { IfOkUnless (H.may_refuse heap) result
+        (λ marks. marks.items ≡ marks_of (program_of (source_of accepted.now))) }
 {
-    let program = resolve(alloc, accepted)?;
-    marks_with(alloc, accepted, &program, needs)
+    let program = resolve(heap, accepted)?;
+    marks_with(heap, accepted, &program, needs)
 }
 
 /// The same, for callers that have the program of the source.
-pub fn marks_with(
-    alloc: Global,
+pub fn marks_with<H: Heap>(
+    heap: H,
     _accepted: &Accepted,
     program: &Program,
     needs: &Needs,
@@ -281,16 +288,17 @@ pub fn marks_with(
     requires accepted { IsAccepted (source_of _accepted.now) }
     requires needs { AreNeeds (program_of (source_of _accepted.now)) needs.now.procedures.items }
     requires words { total_words (program_of (source_of _accepted.now)) ≤ 2 ^ 20 }
-    ensures { IfOk result (λ marks. marks.items ≡ marks_of (program_of (source_of _accepted.now))) }
+    ensures { IfOkUnless (H.may_refuse heap) result
+        (λ marks. marks.items ≡ marks_of (program_of (source_of _accepted.now))) }
 {
-    let mut listed = Vec::new(alloc);
+    let mut listed = Vec::new(heap.handle());
     for number in 0..program.procedures.len() {
         let marking = Marking {
             program,
             needs,
             procedure: number as u32,
         };
-        procedure(&mut listed, &marking)?;
+        procedure(heap, &mut listed, &marking)?;
     }
     Ok(listed)
 }

@@ -1,6 +1,7 @@
 //! The code of statements, in one pass.
 
-ghost use Rattle.std.specs.Prelude.{◌≡◌, ◌+◌, ◌^◌, ◌++◌, ◌∷◌, [], ◌<◌, length, map, None, Some, OnOk, IfOk};
+ghost use Rattle.std.specs.Prelude.{◌≡◌, ◌+◌, ◌^◌, ◌++◌, ◌∷◌, [], ◌<◌, length, map, None, Some, IfOk};
+ghost use Rattle.stack_heap.specs.Heaps.{OnOkUnless};
 ghost use Rattle.piton_syntax.specs.declared.op.PitonOp.TheVariants as op;
 ghost use Rattle.piton_syntax.specs.declared.test_kind.TestFamily.TheVariants as family;
 ghost use Rattle.piton_syntax.specs.declared.test_kind.TestKind.TheVariants as test;
@@ -23,50 +24,52 @@ use crate::handled::Handled;
 use gypsy_predef::instruction_text::number;
 use gypsy_space::{CallSite, Condition, Node};
 use piton_syntax::{PitonOp, TestKind, WordItem};
+use stack_heap::Heap;
 use stack_text::Memory;
 use std::rc::Rc;
 
 /// The condition is normal again, from a label on.
-fn normal(emitter: &mut Emitter, label: u32) -> Result<(), Memory>
-    ensures { OnOk result (emitter.new ≡ emitter.old ++ normal_text label) }
+fn normal<H: Heap>(heap: H, emitter: &mut Emitter, label: u32) -> Result<(), Memory>
+    ensures { OnOkUnless (H.may_refuse heap) result (emitter.new ≡ emitter.old ++ normal_text label) }
 {
-    emitter.constant(Some(label), WordItem::Nat(number(NORMAL)))?;
-    emitter.area(PitonOp::PopGlobal)
+    emitter.constant(heap, Some(label), WordItem::Nat(number(NORMAL)))?;
+    emitter.area(heap, PitonOp::PopGlobal)
 }
 
 /// A jump, and behind it the label from which on the condition is normal again.
-fn jump_to_normal(emitter: &mut Emitter, to: u32, label: u32) -> Result<(), Memory>
+fn jump_to_normal<H: Heap>(heap: H, emitter: &mut Emitter, to: u32, label: u32) -> Result<(), Memory>
     ensures { let text = instruction None op.Jump (label_arg to ∷ []) ∷ normal_text label in
-        OnOk result (emitter.new ≡ emitter.old ++ text) }
+        OnOkUnless (H.may_refuse heap) result (emitter.new ≡ emitter.old ++ text) }
 {
-    emitter.jump(to)?;
-    normal(emitter, label)
+    emitter.jump(heap, to)?;
+    normal(heap, emitter, label)
 }
 
 /// A jump, and behind it a label.
-fn jump_over(emitter: &mut Emitter, to: u32, label: u32) -> Result<(), Memory>
+fn jump_over<H: Heap>(heap: H, emitter: &mut Emitter, to: u32, label: u32) -> Result<(), Memory>
     ensures { let text = instruction None op.Jump (label_arg to ∷ []) ∷ labelled (Some label) op.NoOp [] ∷ [] in
-        OnOk result (emitter.new ≡ emitter.old ++ text) }
+        OnOkUnless (H.may_refuse heap) result (emitter.new ≡ emitter.old ++ text) }
 {
-    emitter.jump(to)?;
-    emitter.plain(Some(label), PitonOp::NoOp)
+    emitter.jump(heap, to)?;
+    emitter.plain(heap, Some(label), PitonOp::NoOp)
 }
 
 /// The test of an `if`, and the jump to a label where it is false.
-fn branch(emitter: &mut Emitter, context: &Context, variable: u32, to: u32) -> Result<(), Memory>
+fn branch<H: Heap>(heap: H, emitter: &mut Emitter, context: &Context, variable: u32, to: u32) -> Result<(), Memory>
     requires ready { IsReady context.now }
     requires word { HasWord (program_in context.now) context.now.procedure variable }
     ensures { let at = offset (program_in context.now) context.now.procedure variable in
         let code = i.PushLocal at ∷ i.FetchTempStk ∷ i.TestAndJump family.Bool test.F to ∷ [] in
-        OnOk result (emitter.new ≡ emitter.old ++ code_in context.now code) }
+        OnOkUnless (H.may_refuse heap) result (emitter.new ≡ emitter.old ++ code_in context.now code) }
 {
-    push_local(emitter, context, variable)?;
-    emitter.plain(None, PitonOp::FetchTempStk)?;
-    emitter.test(PitonOp::TestBoolAndJump, TestKind::F, to)
+    push_local(heap, emitter, context, variable)?;
+    emitter.plain(heap, None, PitonOp::FetchTempStk)?;
+    emitter.test(heap, PitonOp::TestBoolAndJump, TestKind::F, to)
 }
 
 /// A call of a procedure.
-fn call(
+fn call<H: Heap>(
+    heap: H,
     emitter: &mut Emitter,
     context: &Context,
     site: &CallSite,
@@ -79,17 +82,19 @@ fn call(
     requires labels { first + 3 + length site.now.conds.items < 2 ^ 32 }
     ensures { let conds = map seen_cond site.now.conds.items in
         let statement = Call site.now.place site.now.callee site.now.actuals.items conds in
-        OnOk result (emitter.new ≡ emitter.old ++ statement_text context.now scopes.now first statement) }
+        OnOkUnless (H.may_refuse heap) result
+        (emitter.new ≡ emitter.old ++ statement_text context.now scopes.now first statement) }
 {
-    guard_call(emitter, context, site.callee, first + 2)?;
-    before_call(emitter, context, site)?;
-    after_call(emitter, context, site, scopes, first)?;
+    guard_call(heap, emitter, context, site.callee, first + 2)?;
+    before_call(heap, emitter, context, site)?;
+    after_call(heap, emitter, context, site, scopes, first)?;
     Ok(())
 }
 
 /// A loop of a body, and the next label behind it. Its place is not in its lines.
 #[cycle(statements)]
-fn repetition(
+fn repetition<H: Heap>(
+    heap: H,
     emitter: &mut Emitter,
     context: &Context,
     body: &Rc<Node>,
@@ -100,19 +105,20 @@ fn repetition(
     requires names { NamesAreThere (program_in context.now) context.now.procedure (seen_statement body.now.value) }
     requires labels { first + (labels (seen_statement body.now.value) + 2) < 2 ^ 32 }
     ensures lines { let text = statement_text context.now scopes.now first (Loop 0 (seen_statement body.now.value)) in
-        OnOk result (emitter.new ≡ emitter.old ++ text) }
+        OnOkUnless (H.may_refuse heap) result (emitter.new ≡ emitter.old ++ text) }
     ensures next { IfOk result (λ next. next ≡ first + (labels (seen_statement body.now.value) + 2)) }
 {
-    emitter.plain(Some(first), PitonOp::NoOp)?;
+    emitter.plain(heap, Some(first), PitonOp::NoOp)?;
     let inner = Scopes::InLoop(first + 1, &*scopes);
-    let next = statement(emitter, context, body, &inner, first + 2)?;
-    jump_to_normal(emitter, first, first + 1)?;
+    let next = statement(heap, emitter, context, body, &inner, first + 2)?;
+    jump_to_normal(heap, emitter, first, first + 1)?;
     Ok(next)
 }
 
 /// The body of a `begin` with these conditions, whose handler has the first label.
 #[cycle(statements)]
-fn guarded(
+fn guarded<H: Heap>(
+    heap: H,
     emitter: &mut Emitter,
     context: &Context,
     body: &Rc<Node>,
@@ -126,17 +132,18 @@ fn guarded(
     ensures lines { let inside = InBegin (map seen_cond conds.now.value.items) first ∷ env scopes.now in
         let code = lines (program_in context.now) context.now.procedure inside (first + 2) in
         let text = map (written (names_of context.now)) (code (seen_statement body.now.value)) in
-        OnOk result (emitter.new ≡ emitter.old ++ text) }
+        OnOkUnless (H.may_refuse heap) result (emitter.new ≡ emitter.old ++ text) }
     ensures next { IfOk result (λ next. next ≡ first + 2 + labels (seen_statement body.now.value)) }
 {
-    let handled = Handled::new(emitter.alloc(), conds.as_slice())?;
+    let handled = Handled::new(heap, conds.as_slice())?;
     let inner = Scopes::InBegin(&handled, first, &*scopes);
-    statement(emitter, context, body, &inner, first + 2)
+    statement(heap, emitter, context, body, &inner, first + 2)
 }
 
 /// The second statement of two, and behind it the label where both go on.
 #[cycle(statements)]
-fn second(
+fn second<H: Heap>(
+    heap: H,
     emitter: &mut Emitter,
     context: &Context,
     node: &Rc<Node>,
@@ -150,17 +157,18 @@ fn second(
     ensures lines { let names = names_of context.now in
         let code = lines (program_in context.now) context.now.procedure (env scopes.now) first in
         let text = map (written names) (code (seen_statement node.now.value) ++ Marked label i.NoOp ∷ []) in
-        OnOk result (emitter.new ≡ emitter.old ++ text) }
+        OnOkUnless (H.may_refuse heap) result (emitter.new ≡ emitter.old ++ text) }
     ensures next { IfOk result (λ next. next ≡ first + labels (seen_statement node.now.value)) }
 {
-    let next = statement(emitter, context, node, scopes, first)?;
-    emitter.plain(Some(label), PitonOp::NoOp)?;
+    let next = statement(heap, emitter, context, node, scopes, first)?;
+    emitter.plain(heap, Some(label), PitonOp::NoOp)?;
     Ok(next)
 }
 
 /// A statement whose first label is this one, and the next label behind it.
 #[cycle(statements)]
-pub(crate) fn statement(
+pub(crate) fn statement<H: Heap>(
+    heap: H,
     emitter: &mut Emitter,
     context: &Context,
     node: &Rc<Node>,
@@ -171,42 +179,42 @@ pub(crate) fn statement(
     requires names { NamesAreThere (program_in context.now) context.now.procedure (seen_statement node.now.value) }
     requires labels { first + labels (seen_statement node.now.value) < 2 ^ 32 }
     ensures lines { let text = statement_text context.now scopes.now first (seen_statement node.now.value) in
-        OnOk result (emitter.new ≡ emitter.old ++ text) }
+        OnOkUnless (H.may_refuse heap) result (emitter.new ≡ emitter.old ++ text) }
     ensures next { IfOk result (λ next. next ≡ first + labels (seen_statement node.now.value)) }
 {
     match &**node {
         Node::NoOp(_) => {
-            emitter.plain(None, PitonOp::NoOp)?;
+            emitter.plain(heap, None, PitonOp::NoOp)?;
             Ok(first)
         }
         Node::Signal(_, cond) => {
-            raise(emitter, context, scopes, None, *cond)?;
+            raise(heap, emitter, context, scopes, None, *cond)?;
             Ok(first)
         }
         Node::Seq(nodes) => {
-            let next = parts(emitter, context, nodes, scopes, first)?;
+            let next = parts(heap, emitter, context, nodes, scopes, first)?;
             Ok(next)
         }
-        Node::Loop(_, body) => repetition(emitter, context, body, scopes, first),
+        Node::Loop(_, body) => repetition(heap, emitter, context, body, scopes, first),
         Node::If(_, variable, yes, no) => {
-            branch(emitter, context, *variable, first)?;
-            let behind = statement(emitter, context, yes, scopes, first + 2)?;
-            jump_over(emitter, first + 1, first)?;
-            let next = second(emitter, context, no, scopes, behind, first + 1)?;
+            branch(heap, emitter, context, *variable, first)?;
+            let behind = statement(heap, emitter, context, yes, scopes, first + 2)?;
+            jump_over(heap, emitter, first + 1, first)?;
+            let next = second(heap, emitter, context, no, scopes, behind, first + 1)?;
             Ok(next)
         }
         Node::Begin(_, body, conds, arm) => {
-            let behind = guarded(emitter, context, body, conds, scopes, first)?;
-            jump_to_normal(emitter, first + 1, first)?;
-            let next = second(emitter, context, arm, scopes, behind, first + 1)?;
+            let behind = guarded(heap, emitter, context, body, conds, scopes, first)?;
+            jump_to_normal(heap, emitter, first + 1, first)?;
+            let next = second(heap, emitter, context, arm, scopes, behind, first + 1)?;
             Ok(next)
         }
         Node::Call(site) => {
-            call(emitter, context, site, scopes, first)?;
+            call(heap, emitter, context, site, scopes, first)?;
             Ok(first + 3 + site.conds.len() as u32)
         }
         Node::Apply(site) => {
-            apply(emitter, context, scopes, site)?;
+            apply(heap, emitter, context, scopes, site)?;
             Ok(first)
         }
     }
@@ -214,7 +222,8 @@ pub(crate) fn statement(
 
 /// The parts of a sequence.
 #[cycle(statements)]
-fn parts(
+fn parts<H: Heap>(
+    heap: H,
     emitter: &mut Emitter,
     context: &Context,
     parts: &Rc<Vec<Rc<Node>>>,
@@ -226,12 +235,12 @@ fn parts(
         NamesAreThere (program_in context.now) context.now.procedure parts }
     requires labels { first + labels (seen_statements parts.now.value.items) < 2 ^ 32 }
     ensures lines { let text = statement_text context.now scopes.now first (seen_statements parts.now.value.items) in
-        OnOk result (emitter.new ≡ emitter.old ++ text) }
+        OnOkUnless (H.may_refuse heap) result (emitter.new ≡ emitter.old ++ text) }
     ensures next { IfOk result (λ next. next ≡ first + labels (seen_statements parts.now.value.items)) }
 {
     let mut next = first;
     for index in 0..parts.len() {
-        next = statement(emitter, context, &parts[index], scopes, next)?;
+        next = statement(heap, emitter, context, &parts[index], scopes, next)?;
     }
     Ok(next)
 }

@@ -1,6 +1,7 @@
 //! The system of a source.
 
-ghost use Rattle.std.specs.Prelude.{◌≡◌, ◌^◌, ◌++◌, ◌≤◌, length, map, pos, OnOk, IfOk};
+ghost use Rattle.std.specs.Prelude.{◌≡◌, ◌^◌, ◌++◌, ◌∷◌, [], ◌≤◌, length, map, pos};
+ghost use Rattle.stack_heap.specs.Heaps.{IfOkUnless, OnOkUnless};
 ghost use Rattle.gypsy_check.specs.Accepted.{IsAccepted};
 ghost use Rattle.gypsy_syntax.specs.Resolved.{program_of};
 ghost use Rattle.gypsy_syntax.specs.Views.SourceView.{proc_of, source_of};
@@ -20,47 +21,49 @@ use gypsy_predef::instruction_text::{condition_area, number};
 use gypsy_space::{Needs, Procedure, Program};
 use gypsy_syntax::{Proc, Source};
 use piton_syntax::{Area, Number, System, WordItem, WordText};
+use stack_heap::Heap;
 use stack_text::{Memory, Name};
-use std::alloc::Global;
 
 /// The names of procedures.
-fn procedure_names(names: &mut Vec<Name>, procs: &[Proc]) -> Result<(), Memory>
-    ensures { OnOk result (names.new.items ≡ names.old.items ++ map (λ p. p.name.name) (map proc_of procs.now)) }
+fn procedure_names<H: Heap>(heap: H, names: &mut Vec<Name>, procs: &[Proc]) -> Result<(), Memory>
+    ensures { OnOkUnless (H.may_refuse heap) result
+        (names.new.items ≡ names.old.items ++ map (λ p. p.name.name) (map proc_of procs.now)) }
 {
     for proc in procs {
-        names.push(proc.name.name.clone()?)?;
+        heap.push(names, proc.name.name.copied(heap)?)?;
     }
     Ok(())
 }
 
 /// The names of programs.
-fn body_names(names: &mut Vec<Name>, bodies: &[piton_syntax::Program]) -> Result<(), Memory>
-    ensures { OnOk result (names.new.items ≡ names.old.items ++ map (λ b. b.name.name) bodies.now) }
+fn body_names<H: Heap>(heap: H, names: &mut Vec<Name>, bodies: &[piton_syntax::Program]) -> Result<(), Memory>
+    ensures { OnOkUnless (H.may_refuse heap) result
+        (names.new.items ≡ names.old.items ++ map (λ b. b.name.name) bodies.now) }
 {
     for body in bodies {
-        names.push(body.name.name.clone()?)?;
+        heap.push(names, body.name.name.copied(heap)?)?;
     }
     Ok(())
 }
 
 /// The names of all programs: the procedures, and then the predefined ones.
-fn program_names(
-    alloc: Global,
+fn program_names<H: Heap>(
+    heap: H,
     source: &Source,
     bodies: &[piton_syntax::Program],
 ) -> Result<Vec<Name>, Memory>
     requires { bodies.now ≡ body_texts }
-    ensures { IfOk result (λ names. names.items ≡ program_texts (source_of source.now)) }
+    ensures { IfOkUnless (H.may_refuse heap) result (λ names. names.items ≡ program_texts (source_of source.now)) }
 {
-    let mut names = Vec::new(alloc);
-    procedure_names(&mut names, source.procs.as_slice())?;
-    body_names(&mut names, bodies)?;
+    let mut names = Vec::new(heap.handle());
+    procedure_names(heap, &mut names, source.procs.as_slice())?;
+    body_names(heap, &mut names, bodies)?;
     Ok(names)
 }
 
 /// The programs of procedures.
-fn procedures(
-    alloc: Global,
+fn procedures<H: Heap>(
+    heap: H,
     program: &Program,
     needs: &Needs,
     programs: &[Name],
@@ -71,35 +74,46 @@ fn procedures(
     requires needs { AreNeeds (seen_program program.now) needs.now.procedures.items }
     requires small { AreSmall needs.now.procedures.items }
     ensures { let texts = procedures_with (seen_program program.now) programs.now 0 (map proc_of procs.now) in
-        IfOk result (λ made. made.items ≡ texts) }
+        IfOkUnless (H.may_refuse heap) result (λ made. made.items ≡ texts) }
 {
-    let mut made = Vec::new(alloc);
+    let mut made = Vec::new(heap.handle());
     for (number, proc) in procs.iter().enumerate() {
-        made.push(procedure(alloc, program, needs, programs, proc, number as u32)?)?;
+        heap.push(&mut made, procedure(heap, program, needs, programs, proc, number as u32)?)?;
     }
     Ok(made)
 }
 
 /// The stack at the start: main's formals, all 0 or false, and its locals.
-fn opening(alloc: Global, main: &Procedure) -> Result<Vec<WordText>, Memory>
-    ensures { IfOk result (λ stack. stack.items ≡ opening_text (seen_proc main.now)) }
+fn opening<H: Heap>(heap: H, main: &Procedure) -> Result<Vec<WordText>, Memory>
+    ensures { IfOkUnless (H.may_refuse heap) result (λ stack. stack.items ≡ opening_text (seen_proc main.now)) }
 {
-    let mut stack = Vec::new(alloc);
-    formal_words(&mut stack, main.formals.as_slice())?;
-    local_words(&mut stack, main.locals.as_slice())?;
+    let mut stack = Vec::new(heap.handle());
+    formal_words(heap, &mut stack, main.formals.as_slice())?;
+    local_words(heap, &mut stack, main.locals.as_slice())?;
     Ok(stack)
 }
 
 /// The area that holds the condition, which is normal at the start.
-fn area(alloc: Global) -> Result<Area, Memory>
-    ensures { IfOk result (λ area. area ≡ area_text) }
+fn area<H: Heap>(heap: H) -> Result<Area, Memory>
+    ensures { IfOkUnless (H.may_refuse heap) result (λ area. area ≡ area_text) }
 {
     let item = WordItem::Nat(number(NORMAL));
+    let mut words = heap.with_room(1)?;
+    heap.push(&mut words, WordText { place: 0, item })?;
     Ok(Area {
         place: 0,
-        name: condition_area(alloc)?,
-        words: vec![in alloc; WordText { place: 0, item }]?,
+        name: condition_area(heap)?,
+        words,
     })
+}
+
+/// The areas: that of the condition alone.
+fn areas<H: Heap>(heap: H) -> Result<Vec<Area>, Memory>
+    ensures { IfOkUnless (H.may_refuse heap) result (λ areas. areas.items ≡ area_text ∷ []) }
+{
+    let mut areas = heap.with_room(1)?;
+    heap.push(&mut areas, area(heap)?)?;
+    Ok(areas)
 }
 
 /// A size or an address that stands nowhere.
@@ -110,8 +124,8 @@ fn unplaced_size(size: u32) -> Number
 }
 
 /// The programs of a source, and the predefined ones behind them.
-fn programs(
-    alloc: Global,
+fn programs<H: Heap>(
+    heap: H,
     source: &Source,
     program: &Program,
     needs: &Needs,
@@ -123,24 +137,24 @@ fn programs(
     requires small { AreSmall needs.now.procedures.items }
     ensures { let s = source_of source.now in
         let texts = procedures_with (seen_program program.now) (program_texts s) 0 s.procs ++ body_texts in
-        IfOk result (λ made. made.items ≡ texts) }
+        IfOkUnless (H.may_refuse heap) result (λ made. made.items ≡ texts) }
 {
-    let mut bodies = bodies(alloc)?;
-    let names = program_names(alloc, source, bodies.as_slice())?;
+    let mut bodies = bodies(heap)?;
+    let names = program_names(heap, source, bodies.as_slice())?;
     let mut made = procedures(
-        alloc,
+        heap,
         program,
         needs,
         names.as_slice(),
         source.procs.as_slice(),
     )?;
-    made.append(&mut bodies)?;
+    heap.append(&mut made, &mut bodies)?;
     Ok(made)
 }
 
 /// The system of a source, with these sizes of the stacks and this base.
-pub(crate) fn system(
-    alloc: Global,
+pub(crate) fn system<H: Heap>(
+    heap: H,
     source: &Source,
     program: &Program,
     needs: &Needs,
@@ -153,16 +167,17 @@ pub(crate) fn system(
     requires small { AreSmall needs.now.procedures.items }
     requires accepted { IsAccepted (source_of source.now) }
     requires few { total_words (program_of (source_of source.now)) ≤ 2 ^ 20 }
-    ensures { IfOk result (λ system. system ≡ generated (source_of source.now) (stack_sizes ctrl temp) base) }
+    ensures { IfOkUnless (H.may_refuse heap) result
+        (λ system. system ≡ generated (source_of source.now) (stack_sizes ctrl temp) base) }
 {
     Ok(System {
         place: 0,
-        main: source.main.name.unplaced()?,
+        main: source.main.name.unplaced(heap)?,
         ctrl: unplaced_size(ctrl),
         temp: unplaced_size(temp),
         base: unplaced_size(base),
-        areas: vec![in alloc; area(alloc)?]?,
-        stack: opening(alloc, procedure_at(program, program.main))?,
-        programs: programs(alloc, source, program, needs)?,
+        areas: areas(heap)?,
+        stack: opening(heap, procedure_at(program, program.main))?,
+        programs: programs(heap, source, program, needs)?,
     })
 }

@@ -1,6 +1,7 @@
 //! Words of values.
 
-ghost use Rattle.std.specs.Prelude.{◌≡◌, ◌++◌, ◌≤◌, map, OnOk};
+ghost use Rattle.std.specs.Prelude.{◌≡◌, ◌++◌, ◌≤◌, map};
+ghost use Rattle.stack_heap.specs.Heaps.{OnOkUnless};
 ghost use Rattle.gypsy_syntax.specs.Effects.{item_of_value};
 ghost use Rattle.gypsy_syntax.specs.Programs.{words_of};
 ghost use Rattle.gypsy_space.specs.Nodes.{held_shapes, held_values};
@@ -11,6 +12,7 @@ ghost use Rattle.gypsy_codegen.specs.Written.{item_text};
 
 use gypsy_predef::instruction_text::number;
 use piton_syntax::{WordItem, WordText};
+use stack_heap::Heap;
 use stack_text::{Kind, Memory, Name, Shape, Value};
 
 /// An item of a value as a word.
@@ -35,55 +37,59 @@ pub(crate) fn simple_word(value: &Value) -> WordItem
 }
 
 /// The words of items.
-fn item_words(words: &mut Vec<WordText>, kind: Kind, items: &[i32]) -> Result<(), Memory>
-    ensures { OnOk result (words.new.items ≡ words.old.items ++ word_texts (map (word_of_item kind) items.now)) }
+fn item_words<H: Heap>(heap: H, words: &mut Vec<WordText>, kind: Kind, items: &[i32]) -> Result<(), Memory>
+    ensures { OnOkUnless (H.may_refuse heap) result
+        (words.new.items ≡ words.old.items ++ word_texts (map (word_of_item kind) items.now)) }
 {
     for item in items {
         let item = word_item(kind, *item);
-        words.push(WordText { place: 0, item })?;
+        heap.push(words, WordText { place: 0, item })?;
     }
     Ok(())
 }
 
 /// The words of a value.
-fn value_words(words: &mut Vec<WordText>, value: &Value) -> Result<(), Memory>
-    ensures { OnOk result (words.new.items ≡ words.old.items ++ word_texts (words_of_value value.now)) }
+fn value_words<H: Heap>(heap: H, words: &mut Vec<WordText>, value: &Value) -> Result<(), Memory>
+    ensures { OnOkUnless (H.may_refuse heap) result
+        (words.new.items ≡ words.old.items ++ word_texts (words_of_value value.now)) }
 {
-    item_words(words, value.shape.kind, value.items.as_slice())
+    item_words(heap, words, value.shape.kind, value.items.as_slice())
 }
 
 /// The words of locals.
-pub(crate) fn local_words(words: &mut Vec<WordText>, locals: &[(Name, Value)]) -> Result<(), Memory>
-    ensures { OnOk result
+pub(crate) fn local_words<H: Heap>(heap: H, words: &mut Vec<WordText>, locals: &[(Name, Value)]) -> Result<(), Memory>
+    ensures { OnOkUnless (H.may_refuse heap) result
         (words.new.items ≡ words.old.items ++ word_texts (words_of_values (held_values locals.now))) }
 {
     for (_, value) in locals {
-        value_words(words, value)?;
+        value_words(heap, words, value)?;
     }
     Ok(())
 }
 
 /// The words of a variable whose items are all 0, or false.
-fn zero_words(words: &mut Vec<WordText>, shape: Shape) -> Result<(), Memory>
-    ensures { OnOk result (words.new.items ≡ words.old.items ++ word_texts (words_of_value (zero_value shape))) }
+fn zero_words<H: Heap>(heap: H, words: &mut Vec<WordText>, shape: Shape) -> Result<(), Memory>
+    ensures { OnOkUnless (H.may_refuse heap) result
+        (words.new.items ≡ words.old.items ++ word_texts (words_of_value (zero_value shape))) }
 {
     for _made in 0..shape.item_count() {
         let item = word_item(shape.kind, 0);
-        words.push(WordText { place: 0, item })?;
+        heap.push(words, WordText { place: 0, item })?;
     }
     Ok(())
 }
 
 /// The words of formals before they are given values.
-pub(crate) fn formal_words(
+pub(crate) fn formal_words<H: Heap>(
+    heap: H,
     words: &mut Vec<WordText>,
     formals: &[(Name, Shape)],
 ) -> Result<(), Memory>
-    ensures { OnOk result (words.new.items ≡
+    ensures { OnOkUnless (H.may_refuse heap) result (words.new.items ≡
         words.old.items ++ word_texts (words_of_values (map zero_value (held_shapes formals.now)))) }
 {
     for (_, shape) in formals {
-        zero_words(words, *shape)?;
+        zero_words(heap, words, *shape)?;
     }
     Ok(())
 }

@@ -16,7 +16,7 @@ one_more context q p (Var b) args = refl
 one_more context q p (Lit v) args = refl
 
 pub loop-arg-preserved : goal.loop-arg-preserved
-loop-arg-preserved c =
+loop-arg-preserved g c =
     let context = c.args.context.now in
     let q = seen_program context.program.now in
     let p = context.procedure in

@@ -8,7 +8,7 @@ use Rattle.gypsy_codegen.specs.Written.{written}
 use Rattle.gypsy_codegen.proofs.apply.push_args.Given as goal
 
 abbrev pub invariant-loop-arg : goal.invariant-loop-arg
-invariant-loop-arg l = record {
+invariant-loop-arg g l = record {
   words : Each (ArgHasWord (seen_program l.context.program.now) l.context.procedure) (map seen_arg (drop l.arg-index l.args));
   lines :
       l.emitter ++ map (written (names_of l.context))

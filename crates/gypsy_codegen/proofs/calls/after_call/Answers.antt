@@ -13,7 +13,7 @@ use Rattle.gypsy_codegen.proofs.CodeLaws.{after_is}
 use Rattle.gypsy_codegen.proofs.calls.after_call.Goals as goal
 
 pub returns : goal.returns
-returns c =
+returns g c =
     let context = c.args.context.now in
     let q = seen_program context.program.now in
     let scopes = env c.args.scopes.now in

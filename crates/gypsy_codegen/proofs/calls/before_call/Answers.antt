@@ -8,12 +8,12 @@ use Rattle.gypsy_codegen.proofs.FineLaws.{locals_few}
 use Rattle.gypsy_codegen.proofs.calls.before_call.Goals as goal
 
 pub push_locals-requires : goal.push_locals-requires
-push_locals-requires c =
+push_locals-requires g c =
     subst (λ (p : Proc). local_words p ≤ 65536) (sym c.procedure_at.ensures)
     (locals_few (seen_program c.args.context.now.program.now) c.requires.ready.fits c.args.site.now.callee)
 
 pub returns : goal.returns
-returns c =
+returns g c =
     let context = c.args.context.now in
     let site = c.args.site.now in
     let actuals = c.in_ok-push_actuals.ensures in

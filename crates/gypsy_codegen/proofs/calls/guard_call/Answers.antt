@@ -5,7 +5,7 @@ use Rattle.gypsy_codegen.proofs.CodeLaws.{guard_is}
 use Rattle.gypsy_codegen.proofs.calls.guard_call.Goals as goal
 
 pub returns : goal.returns
-returns c =
+returns g c =
     let context = c.args.context.now in
     guard_is (names_of context) (call_need (seen_program context.program.now) c.args.callee) c.args.to
     c.temporary_call_need-temporary.result c.control_call_need-control.result

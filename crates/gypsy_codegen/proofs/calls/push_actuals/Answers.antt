@@ -10,7 +10,7 @@ use Rattle.gypsy_codegen.proofs.WriteLaws.{more_next}
 use Rattle.gypsy_codegen.proofs.calls.push_actuals.Goals as goal
 
 pub loop-actual-preserved : goal.loop-actual-preserved
-loop-actual-preserved c =
+loop-actual-preserved g c =
     let context = c.args.context.now in
     let q = seen_program context.program.now in
     let p = context.procedure in

@@ -8,7 +8,7 @@ use Rattle.gypsy_codegen.specs.Written.{written}
 use Rattle.gypsy_codegen.proofs.calls.push_actuals.Given as goal
 
 abbrev pub invariant-loop-actual : goal.invariant-loop-actual
-invariant-loop-actual l = record {
+invariant-loop-actual g l = record {
   words : Each (HasWord (seen_program l.context.program.now) l.context.procedure) (drop l.actual-index l.actuals);
   lines :
       l.emitter ++ map (written (names_of l.context))

@@ -8,7 +8,7 @@ use Rattle.gypsy_codegen.proofs.WriteLaws.{numbered_next}
 use Rattle.gypsy_codegen.proofs.calls.raise_labels.Goals as goal
 
 pub loop-number-preserved : goal.loop-number-preserved
-loop-number-preserved c =
+loop-number-preserved g c =
     let first = c.args.first in
     let k = c.loop-number.number in
     numbered_next (λ (n : ℕ) (ds : List Condition). map label_arg (raise_labels (first + n) (map seen_cond ds))) c.args.conds.now k Leave

@@ -6,7 +6,7 @@ use Rattle.gypsy_codegen.specs.Written.{written}
 use Rattle.gypsy_codegen.proofs.calls.raises.Given as goal
 
 abbrev pub invariant-loop-number : goal.invariant-loop-number
-invariant-loop-number l =
+invariant-loop-number g l =
     l.emitter ++ map (written (names_of l.context))
     (marked_raises (seen_program l.context.program.now) l.context.procedure (env l.scopes) (l.first + l.number)
     (map seen_cond (drop l.number l.conds))) ≡

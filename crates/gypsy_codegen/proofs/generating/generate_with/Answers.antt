@@ -12,13 +12,13 @@ use Rattle.gypsy_codegen.proofs.AnswerLaws.{are_few, are_modest, none_of, limits
 use Rattle.gypsy_codegen.proofs.generating.generate_with.Goals as goal
 
 pub size_fault-requires-clause-few : goal.size_fault-requires-clause-few
-size_fault-requires-clause-few c = are_few (source_of c.args.accepted.now) c.requires.accepted c.args.needs.now.procedures.items c.requires.needs
+size_fault-requires-clause-few g c = are_few (source_of c.args.accepted.now) c.requires.accepted c.args.needs.now.procedures.items c.requires.needs
 
 pub size_fault-requires-clause-modest : goal.size_fault-requires-clause-modest
-size_fault-requires-clause-modest c = are_modest (source_of c.args.accepted.now) c.requires.accepted c.args.needs.now.procedures.items c.requires.needs
+size_fault-requires-clause-modest g c = are_modest (source_of c.args.accepted.now) c.requires.accepted c.args.needs.now.procedures.items c.requires.needs
 
 pub system-requires-clause-few : goal.system-requires-clause-few
-system-requires-clause-few c =
+system-requires-clause-few g c =
     let s = source_of c.args.accepted.now in
     let sizes = stack_sizes c.args.ctrl c.args.temp in
     let none = none_of (seen_program c.args.program.now) (program_of s) sizes c.size_fault.result c.requires.program c.size_fault.ensures
@@ -27,7 +27,7 @@ system-requires-clause-few c =
     subst (λ (t : Source). total_words (program_of (source_of t)) ≤ 2 ^ 20) (sym c.source.ensures.value) limits.few_words
 
 pub checked-requires-clause-form : goal.checked-requires-clause-form
-checked-requires-clause-form c =
+checked-requires-clause-form g c =
     let s = source_of c.args.accepted.now in
     let sizes = stack_sizes c.args.ctrl c.args.temp in
     let none = none_of (seen_program c.args.program.now) (program_of s) sizes c.size_fault.result c.requires.program c.size_fault.ensures
@@ -38,7 +38,7 @@ checked-requires-clause-form c =
     subst KeepsForm (sym made) (c.generated_is_acceptable.ensures s sizes c.args.base c.requires.accepted limits).form
 
 pub checked-requires-clause-rules : goal.checked-requires-clause-rules
-checked-requires-clause-rules c =
+checked-requires-clause-rules g c =
     let s = source_of c.args.accepted.now in
     let sizes = stack_sizes c.args.ctrl c.args.temp in
     let none = none_of (seen_program c.args.program.now) (program_of s) sizes c.size_fault.result c.requires.program c.size_fault.ensures
@@ -49,7 +49,7 @@ checked-requires-clause-rules c =
     ap violations made ∙ (c.generated_is_acceptable.ensures s sizes c.args.base c.requires.accepted limits).rules
 
 pub returns-clause-value : goal.returns-clause-value
-returns-clause-value c =
+returns-clause-value g c =
     let s = source_of c.args.accepted.now in
     let sizes = stack_sizes c.args.ctrl c.args.temp in
     let none = none_of (seen_program c.args.program.now) (program_of s) sizes c.size_fault.result c.requires.program c.size_fault.ensures
@@ -59,7 +59,7 @@ returns-clause-value c =
     generation_is s sizes c.args.base c.in_ok-made.made c.in_ok-system.system none made c.in_ok-made.ensures.kept
 
 pub returns-clause-runs : goal.returns-clause-runs
-returns-clause-runs c =
+returns-clause-runs g c =
     let s = source_of c.args.accepted.now in
     let sizes = stack_sizes c.args.ctrl c.args.temp in
     let none = none_of (seen_program c.args.program.now) (program_of s) sizes c.size_fault.result c.requires.program c.size_fault.ensures
@@ -72,7 +72,7 @@ returns-clause-runs c =
     c.in_ok-made.ensures.known (c.in_ok-made.ensures.kept ∙ made)
 
 pub returns-clause-words : goal.returns-clause-words
-returns-clause-words c =
+returns-clause-words g c =
     let s = source_of c.args.accepted.now in
     let sizes = stack_sizes c.args.ctrl c.args.temp in
     let none = none_of (seen_program c.args.program.now) (program_of s) sizes c.size_fault.result c.requires.program c.size_fault.ensures

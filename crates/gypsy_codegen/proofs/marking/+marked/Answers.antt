@@ -5,19 +5,19 @@ use Rattle.gypsy_space.proofs.NodeLaws.{seen_statement-seq}
 use Rattle.gypsy_codegen.proofs.marking.+marked.Goals as goal
 
 pub statement-parts-requires : goal.statement-parts-requires
-statement-parts-requires t c =
+statement-parts-requires g t c =
     let k : seen_statement c.args.node.now.value ≡ seen_statements c.in-Seq.nodes.value.items =
     ap seen_statement (sym c.deref.ensures ∙ c.in-Seq.is) ∙ seen_statement-seq c.in-Seq.nodes in
     (search (rules, the_lemmas), (c.requires.known, (rw k at c.requires.names, rw k at c.requires.room)))
 
 pub statement-returns-in_ok-next-in-Seq-clause-marks : goal.statement-returns-in_ok-next-in-Seq-clause-marks
-statement-returns-in_ok-next-in-Seq-clause-marks t c =
+statement-returns-in_ok-next-in-Seq-clause-marks g t c =
     let k : seen_statement c.args.node.now.value ≡ seen_statements c.in-Seq.nodes.value.items =
     ap seen_statement (sym c.deref.ensures ∙ c.in-Seq.is) ∙ seen_statement-seq c.in-Seq.nodes in
     rw k c.in_ok-next-in-Seq.ensures.marks
 
 pub statement-returns-in_ok-next-in-Seq-clause-next : goal.statement-returns-in_ok-next-in-Seq-clause-next
-statement-returns-in_ok-next-in-Seq-clause-next t c =
+statement-returns-in_ok-next-in-Seq-clause-next g t c =
     let k : seen_statement c.args.node.now.value ≡ seen_statements c.in-Seq.nodes.value.items =
     ap seen_statement (sym c.deref.ensures ∙ c.in-Seq.is) ∙ seen_statement-seq c.in-Seq.nodes in
     rw k c.in_ok-next-in-Seq.ensures.next

@@ -8,7 +8,7 @@ use Rattle.gypsy_codegen.proofs.marking.+marked.Given as goal
 
 -- what is listed, and the parts that are still to come, are all
 abbrev pub invariant-parts-loop-index : goal.invariant-parts-loop-index
-invariant-parts-loop-index l = record {
+invariant-parts-loop-index g l = record {
   names : NamesAreThere (marked_program l.marking) l.marking.procedure (seen_statements (drop l.index l.parts.value.items));
   next :
       l.next + size (marked_program l.marking) (seen_statements (drop l.index l.parts.value.items)) ≡

@@ -12,7 +12,7 @@ use Rattle.gypsy_codegen.proofs.MarkingLaws.{marks_next, marks_end, names_of_bod
 use Rattle.gypsy_codegen.proofs.marking.marks_with.Goals as goal
 
 pub overflow_cast-marking : goal.overflow_cast-marking
-overflow_cast-marking c =
+overflow_cast-marking g c =
     let s = source_of c.args._accepted.now in
     let few = (keeps_fits s c.requires.accepted.form).few_procs in
     let same : length (seen_program c.args.program.now).procs ≡ length (program_of s).procs = ap (λ (q : Program). length q.procs) c.requires.program in
@@ -27,13 +27,13 @@ overflow_cast-marking c =
     )
 
 pub procedure-requires-clause-names : goal.procedure-requires-clause-names
-procedure-requires-clause-names c =
+procedure-requires-clause-names g c =
     let q = seen_program c.args.program.now in
     let fits : ProgramFits q = subst ProgramFits (sym c.requires.program) c.requires.accepted.fits in
     names_of_body q fits c.loop-number.number
 
 pub procedure-requires-clause-room : goal.procedure-requires-clause-room
-procedure-requires-clause-room c =
+procedure-requires-clause-room g c =
     let q = seen_program c.args.program.now in
     let fits : ProgramFits q = subst ProgramFits (sym c.requires.program) c.requires.accepted.fits in
     let few : total_words q ≤ 2 ^ 20 = subst (λ (r : Program). total_words r ≤ 2 ^ 20) (sym c.requires.program) c.requires.words in
@@ -42,7 +42,7 @@ procedure-requires-clause-room c =
     body_small q fits few c.loop-number.number lt
 
 pub loop-number-preserved : goal.loop-number-preserved
-loop-number-preserved c =
+loop-number-preserved g c =
     let q = seen_program c.args.program.now in
     let lt : c.loop-number.number < length q.procs =
     omega (arith, length-map c.args.program.now.procedures.items seen_proc, c.loop-number-test.true, c.len-number-end.ensures) in
@@ -52,7 +52,7 @@ loop-number-preserved c =
     }
 
 pub returns : goal.returns
-returns c =
+returns g c =
     let q = seen_program c.args.program.now in
     let ge : length q.procs ≤ c.loop-number.number =
     omega (arith, length-map c.args.program.now.procedures.items seen_proc, c.loop-number-test.false, c.len-number-end.ensures) in

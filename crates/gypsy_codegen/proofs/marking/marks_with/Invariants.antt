@@ -6,7 +6,7 @@ use Rattle.gypsy_codegen.proofs.marking.marks_with.Given as goal
 
 -- what is listed, and the marks of the procedures that are still to come, are all
 abbrev pub invariant-loop-number : goal.invariant-loop-number
-invariant-loop-number l = record {
+invariant-loop-number g l = record {
   marks :
       l.listed.items ++ flat_map (procedure_marks (seen_program l.program)) (count_from l.number (length (seen_program l.program).procs - l.number)) ≡
       marks_of (seen_program l.program);

@@ -35,7 +35,7 @@ fewer_words shapes k size d there is =
     ap words_of (drop-item shapes k s there (get_or_default shapes k d s there)) ∙ ap (λ (m : ℕ). m + words_of (drop (k + 1) shapes)) (sym is)
 
 pub loop-number-preserved : goal.loop-number-preserved
-loop-number-preserved c =
+loop-number-preserved g c =
     let names : List (List ℕ) = c.args.names.now in
     let shapes : List Shape = c.args.shapes.now in
     let k = c.loop-number.number in
@@ -45,7 +45,7 @@ loop-number-preserved c =
     let lt : k < length names = omega (arith, there, c.requires.each) in
     let words : words_of (drop k shapes) ≡ size + words_of (drop (k + 1) shapes) = fewer_words shapes k size _ there c.item_count.ensures in
     let made = c.loop-number.temporaries.items in
-    let pushed : c.push.new.self.items ≡ made ++ (unplaced (get_or names k []), written_word nameless (Nat at)) ∷ [] = search rules in
+    let pushed : c.push.new.items.items ≡ made ++ (unplaced (get_or names k []), written_word nameless (Nat at)) ∷ [] = search rules in
     let rest : List (Named × WordText) = temporaries_of nameless (drop (k + 1) names) (map (λ i. Nat i) (starts (at + size) (drop (k + 1) shapes))) in
     record {
       words = omega (arith, words, c.loop-number.invariant.words);

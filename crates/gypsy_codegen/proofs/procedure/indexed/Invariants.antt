@@ -7,7 +7,7 @@ use Rattle.gypsy_codegen.specs.WordsOf.{starts}
 use Rattle.gypsy_codegen.proofs.procedure.indexed.Given as goal
 
 abbrev pub invariant-loop-number : goal.invariant-loop-number
-invariant-loop-number l = record {
+invariant-loop-number g l = record {
   words : l.first + words_of (drop l.number l.shapes) ≡ words_of l.shapes;
   made :
       l.temporaries.items ++ temporaries_of nameless (drop l.number l.names) (map (λ at. Nat at) (starts l.first (drop l.number l.shapes))) ≡

@@ -7,7 +7,7 @@ use Rattle.gypsy_codegen.proofs.CodeLaws.{procedure_is}
 use Rattle.gypsy_codegen.proofs.procedure.procedure.Goals as goal
 
 pub returns : goal.returns
-returns c =
+returns g c =
     let q = seen_program c.args.program.now in
     let formals = c.in_ok-formals.ensures in
     let temporaries = c.in_ok-temporaries.ensures in

@@ -16,25 +16,25 @@ use Rattle.gypsy_codegen.specs.Written.{Line, Plain, Marked}
 use Rattle.gypsy_codegen.proofs.statement.+statements.Goals as goal
 
 pub statement-parts-requires : goal.statement-parts-requires
-statement-parts-requires t c =
+statement-parts-requires g t c =
     let k : seen_statement c.args.node.now.value ≡ seen_statements c.in-Seq.nodes.value.items =
     ap seen_statement (sym c.deref.ensures ∙ c.in-Seq.is) ∙ seen_statement-seq c.in-Seq.nodes in
     (search (rules, the_lemmas), (c.requires.ready, (rw k at c.requires.names, rw k at c.requires.labels)))
 
 pub statement-returns-in_ok-next-in-Seq-clause-lines : goal.statement-returns-in_ok-next-in-Seq-clause-lines
-statement-returns-in_ok-next-in-Seq-clause-lines t c =
+statement-returns-in_ok-next-in-Seq-clause-lines g t c =
     let k : seen_statement c.args.node.now.value ≡ seen_statements c.in-Seq.nodes.value.items =
     ap seen_statement (sym c.deref.ensures ∙ c.in-Seq.is) ∙ seen_statement-seq c.in-Seq.nodes in
     rw k c.in_ok-next-in-Seq.ensures.lines
 
 pub statement-returns-in_ok-next-in-Seq-clause-next : goal.statement-returns-in_ok-next-in-Seq-clause-next
-statement-returns-in_ok-next-in-Seq-clause-next t c =
+statement-returns-in_ok-next-in-Seq-clause-next g t c =
     let k : seen_statement c.args.node.now.value ≡ seen_statements c.in-Seq.nodes.value.items =
     ap seen_statement (sym c.deref.ensures ∙ c.in-Seq.is) ∙ seen_statement-seq c.in-Seq.nodes in
     rw k c.in_ok-next-in-Seq.ensures.next
 
 pub statement-returns-in_ok-next-in-If-clause-lines : goal.statement-returns-in_ok-next-in-If-clause-lines
-statement-returns-in_ok-next-in-If-clause-lines t c =
+statement-returns-in_ok-next-in-If-clause-lines g t c =
     let context = c.args.context.now in
     let q = seen_program context.program.now in
     let p = context.procedure in
@@ -56,7 +56,7 @@ statement-returns-in_ok-next-in-If-clause-lines t c =
     (both_are n (Plain (i.Jump (l + 1)) ∷ Marked l i.NoOp ∷ []) otherwise _ _ _ c.in_ok-jump_over-in-If.ensures second_part)))
 
 pub repetition-returns-clause-lines : goal.repetition-returns-clause-lines
-repetition-returns-clause-lines t c =
+repetition-returns-clause-lines g t c =
     let context = c.args.context.now in
     let q = seen_program context.program.now in
     let p = context.procedure in
@@ -69,13 +69,13 @@ repetition-returns-clause-lines t c =
     (both_are n inside end _ _ _ c.in_ok-next.ensures.lines c.in_ok-jump_to_normal.ensures)
 
 pub second-returns-clause-lines : goal.second-returns-clause-lines
-second-returns-clause-lines t c =
+second-returns-clause-lines g t c =
     let context = c.args.context.now in
     let code = lines (seen_program context.program.now) context.procedure (env c.args.scopes.now) c.args.first (seen_statement c.args.node.now.value) in
     both_are (names_of context) code (Marked c.args.label i.NoOp ∷ []) _ _ _ c.in_ok-next.ensures.lines c.in_ok-plain.ensures
 
 pub statement-returns-in_ok-next-in-Begin-clause-lines : goal.statement-returns-in_ok-next-in-Begin-clause-lines
-statement-returns-in_ok-next-in-Begin-clause-lines t c =
+statement-returns-in_ok-next-in-Begin-clause-lines g t c =
     let context = c.args.context.now in
     let q = seen_program context.program.now in
     let p = context.procedure in

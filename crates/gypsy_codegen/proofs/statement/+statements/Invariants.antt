@@ -7,7 +7,7 @@ use Rattle.gypsy_codegen.proofs.statement.+statements.Given as goal
 
 -- what is written, and the parts that are still to come, are all
 abbrev pub invariant-parts-loop-index : goal.invariant-parts-loop-index
-invariant-parts-loop-index l = record {
+invariant-parts-loop-index g l = record {
   names : NamesAreThere (seen_program l.context.program.now) l.context.procedure (seen_statements (drop l.index l.parts.value.items));
   next : l.next + labels (seen_statements (drop l.index l.parts.value.items)) ≡ l.first + labels (seen_statements l.parts.value.items);
   lines :

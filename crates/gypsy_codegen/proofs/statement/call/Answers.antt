@@ -10,7 +10,7 @@ use Rattle.gypsy_codegen.proofs.CodeLaws.{both_are}
 use Rattle.gypsy_codegen.proofs.statement.call.Goals as goal
 
 pub returns : goal.returns
-returns c =
+returns g c =
     let context = c.args.context.now in
     let q = seen_program context.program.now in
     let p = context.procedure in

@@ -5,7 +5,7 @@ use Rattle.gypsy_codegen.proofs.WritableLaws.{opening_is}
 use Rattle.gypsy_codegen.proofs.system.opening.Goals as goal
 
 pub returns : goal.returns
-returns c =
+returns g c =
     let main = seen_proc c.args.main.now in
     let zeros = c.in_ok-formal_words.ensures in
     let values = c.in_ok-local_words.ensures in

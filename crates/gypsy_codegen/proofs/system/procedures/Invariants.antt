@@ -6,7 +6,7 @@ use Rattle.gypsy_codegen.specs.Internal.Views.{AreWritable}
 use Rattle.gypsy_codegen.proofs.system.procedures.Given as goal
 
 abbrev pub invariant-loop-number : goal.invariant-loop-number
-invariant-loop-number l = record {
+invariant-loop-number g l = record {
   writable : AreWritable (seen_program l.program) l.programs l.number (map proc_of (drop l.number l.procs));
   made :
       l.made.items ++ procedures_with (seen_program l.program) l.programs l.number (map proc_of (drop l.number l.procs)) ≡

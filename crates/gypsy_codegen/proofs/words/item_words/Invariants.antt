@@ -5,6 +5,6 @@ use Rattle.gypsy_codegen.specs.Written.{written_word}
 use Rattle.gypsy_codegen.proofs.words.item_words.Given as goal
 
 abbrev pub invariant-loop-item : goal.invariant-loop-item
-invariant-loop-item l =
+invariant-loop-item g l =
     l.words.items ++ map (written_word nameless) (map (word_of_item l.kind) (drop l.item-index l.items)) ≡
     l.initial.words.items ++ map (written_word nameless) (map (word_of_item l.kind) l.items)

@@ -6,6 +6,6 @@ use Rattle.gypsy_codegen.specs.Written.{written_word}
 use Rattle.gypsy_codegen.proofs.words.zero_words.Given as goal
 
 abbrev pub invariant-loop-made : goal.invariant-loop-made
-invariant-loop-made l =
+invariant-loop-made g l =
     l.words.items ++ map (written_word nameless) (map (word_of_item l.shape.kind) (replicate (l._made-end - l._made) (pos 0))) ≡
     l.initial.words.items ++ map (written_word nameless) (map (word_of_item l.shape.kind) (replicate l._made-end (pos 0)))

@@ -50,7 +50,7 @@ more c conds k d old new lt is now so_far =
     ∙ so_far
 
 pub loop-cond-preserved : goal.loop-cond-preserved
-loop-cond-preserved c =
+loop-cond-preserved g c =
     let conds : List Condition = c.args.conds.now in
     let k = c.loop-cond.cond-index in
     let lt = c.loop-cond-test.true in
