@@ -4,7 +4,7 @@ use Rattle.std.specs.Prelude.{◌^◌}
 use Rattle.std.proofs.lemmas.Bool.{lt-ltb, le-ltb}
 use Rattle.stack_text.specs.declared.breach.Breach.{Breach}
 use Rattle.stack_text.specs.Breaches.{least}
-use Rattle.stack_text.specs.Gives.{Fails}
+use Rattle.stack_text.specs.Gives.{FailsUnless}
 use Rattle.stack_text.specs.Results.{◌>>=◌}
 use Rattle.fm_image.specs.Image.{ImageOf}
 use Rattle.fm_image.specs.Spelling.{spelling}
@@ -15,7 +15,7 @@ use Rattle.piton_semantics.specs.Fits.{system_in}
 use Rattle.piton_semantics.specs.Placed.{placed}
 use Rattle.piton_linker.specs.declared.fault.LinkFault.{LinkFault}
 use Rattle.piton_linker.specs.declared.fault.LinkFault.TheVariants as link
-use Rattle.piton_linker.specs.Layouts.{IsFault}
+use Rattle.piton_linker.specs.Layouts.{IsFaultUnless}
 use Rattle.gypsy_syntax.specs.declared.fault.GypsyFault.{GypsyFault}
 use Rattle.gypsy_syntax.specs.declared.fault.GypsyFault.TheVariants as gypsy
 use Rattle.gypsy_syntax.specs.GypsyReading as syntax
@@ -24,7 +24,7 @@ use Rattle.gypsy_syntax.specs.Sources.{SourceOf}
 use Rattle.gypsy_syntax.specs.Resolved.{program_of}
 use Rattle.gypsy_check.specs.declared.fault.CheckFault.{CheckFault}
 use Rattle.gypsy_check.specs.declared.fault.CheckFault.TheVariants as check
-use Rattle.gypsy_check.specs.GypsyChecking.{IsLeast}
+use Rattle.gypsy_check.specs.GypsyChecking.{IsLeastUnless}
 use Rattle.gypsy_check.specs.Rules.{violations}
 use Rattle.gypsy_space.specs.Needs.{StackSizes, stack_sizes}
 use Rattle.gypsy_codegen.specs.Generated.{generated_view}
@@ -40,17 +40,18 @@ use Rattle.stack_build.specs.Build.{generated_by, built_with, placed_size, linke
 
 -- ---- reading and checking
 
-pub reading_fails : (e : GypsyFault) (text : List ℕ) → Fails (syntax.fault_of e) (gypsy_in text) → Fails (fault_of (reading_fault e)) (accepted_source text)
+pub reading_fails : (memory : Type 0) (e : GypsyFault) (text : List ℕ) → FailsUnless memory (syntax.fault_of e) (gypsy_in text)
+    → FailsUnless memory (fault_of (reading_fault e)) (accepted_source text)
 unfolding accepted_source
-reading_fails (gypsy.Text rule place) text h = ap accepted_by h
-reading_fails (gypsy.Form rule place) text h = ap accepted_by h
-reading_fails gypsy.Memory text h = tt
+reading_fails memory (gypsy.Text rule place) text h = ap accepted_by h
+reading_fails memory (gypsy.Form rule place) text h = ap accepted_by h
+reading_fails memory gypsy.Memory text h = h
 
-pub checking_fails : (e : CheckFault) (text : List ℕ) (source : SourceOf) → gypsy_in text ≡ Ok source → IsLeast source e
-    → Fails (fault_of (checking_fault e)) (accepted_source text)
+pub checking_fails : (memory : Type 0) (e : CheckFault) (text : List ℕ) (source : SourceOf) → gypsy_in text ≡ Ok source
+    → IsLeastUnless memory source e → FailsUnless memory (fault_of (checking_fault e)) (accepted_source text)
 unfolding accepted_source
-checking_fails (check.Violation rule place) text source h e = ap accepted_by h ∙ ap (accepted_unless source) e
-checking_fails check.Memory text source h e = tt
+checking_fails memory (check.Violation rule place) text source h e = ap accepted_by h ∙ ap (accepted_unless source) e
+checking_fails memory check.Memory text source h e = e
 
 pub accepted_found : (text : List ℕ) (source : SourceOf) → gypsy_in text ≡ Ok source → violations source ≡ [] → accepted_source text ≡ Ok source
 unfolding accepted_source
@@ -58,14 +59,14 @@ accepted_found text source h e = ap accepted_by h ∙ ap (λ (breaches : List Br
 
 -- ---- generating and linking
 
-pub generating_fails : (e : GenFault) (s : SourceOf) (sizes : StackSizes) (base : ℕ) → Fails (generating.fault_of e) (generation s sizes base)
-    → Fails (fault_of (generating_fault e)) (source_built s sizes base)
+pub generating_fails : (memory : Type 0) (e : GenFault) (s : SourceOf) (sizes : StackSizes) (base : ℕ)
+    → FailsUnless memory (generating.fault_of e) (generation s sizes base) → FailsUnless memory (fault_of (generating_fault e)) (source_built s sizes base)
 unfolding source_built
-generating_fails gen.Size s sizes base h = ap (λ (r : Result SystemOf GenFault). generated_by r >>= linked_of s sizes base) h
-generating_fails (gen.Control need) s sizes base h = ap (λ (r : Result SystemOf GenFault). generated_by r >>= linked_of s sizes base) h
-generating_fails (gen.Temporary need) s sizes base h = ap (λ (r : Result SystemOf GenFault). generated_by r >>= linked_of s sizes base) h
-generating_fails (gen.Words count) s sizes base h = ap (λ (r : Result SystemOf GenFault). generated_by r >>= linked_of s sizes base) h
-generating_fails gen.Memory s sizes base h = tt
+generating_fails memory gen.Size s sizes base h = ap (λ (r : Result SystemOf GenFault). generated_by r >>= linked_of s sizes base) h
+generating_fails memory (gen.Control need) s sizes base h = ap (λ (r : Result SystemOf GenFault). generated_by r >>= linked_of s sizes base) h
+generating_fails memory (gen.Temporary need) s sizes base h = ap (λ (r : Result SystemOf GenFault). generated_by r >>= linked_of s sizes base) h
+generating_fails memory (gen.Words count) s sizes base h = ap (λ (r : Result SystemOf GenFault). generated_by r >>= linked_of s sizes base) h
+generating_fails memory gen.Memory s sizes base h = h
 
 module _ (s : SourceOf) (sizes : StackSizes) (base : ℕ) (out : SystemOf) (made : generation s sizes base ≡ Ok out) where
   built_large : 2 ^ 20 < placed_size s sizes base → source_built s sizes base ≡ Err (fault.Words (placed_size s sizes base))
@@ -82,13 +83,13 @@ module _ (s : SourceOf) (sizes : StackSizes) (base : ℕ) (out : SystemOf) (made
       ∙ ap (λ (b : Bool). cond b (Err (fault.Words (placed_size s sizes base))) (Ok (built_with s sizes base out)))
       (le-ltb (2 ^ 20) (placed_size s sizes base) small)
 
-  pub linking_fails : (e : LinkFault) (system : SystemView) → system ≡ generated_view (program_of s) sizes base → IsFault system e
-      → Fails (fault_of (linking_fault e)) (source_built s sizes base)
-  linking_fails (link.Large words) system is h =
+  pub linking_fails : (memory : Type 0) (e : LinkFault) (system : SystemView) → system ≡ generated_view (program_of s) sizes base
+      → IsFaultUnless memory system e → FailsUnless memory (fault_of (linking_fault e)) (source_built s sizes base)
+  linking_fails memory (link.Large words) system is h =
       let count : words ≡ placed_size s sizes base = h.0 ∙ ap (λ (v : SystemView). (placed v).size) is in
       let large : 2 ^ 20 < placed_size s sizes base = subst (λ (v : SystemView). 2 ^ 20 < (placed v).size) is h.1 in
       built_large large ∙ ap (λ (n : ℕ). Err (fault.Words n)) (sym count)
-  linking_fails link.Memory system is h = tt
+  linking_fails memory link.Memory system is h = h
 
 -- what was made is what is to be built
 pub built_is : (s : SourceOf) (sizes : StackSizes) (base : ℕ) (piton : CheckedOf) (image : ImageOf) (bytes : List ℕ)
@@ -107,14 +108,16 @@ built_is s sizes base piton image bytes made is view small image_is bytes_are =
 -- ---- the whole
 
 -- what follows a fault is that fault
-stays : {X Y : Type 0} (o : Option BuildFault) (r : Result X BuildFault) (go : X → Result Y BuildFault) → Fails o r → Fails o (r >>= go)
-stays None r go h = tt
-stays (Some f) r go h = ap (λ (z : Result _ BuildFault). z >>= go) h
+stays : {X Y : Type 0} (memory : Type 0) (o : Option BuildFault) (r : Result X BuildFault) (go : X → Result Y BuildFault)
+    → FailsUnless memory o r → FailsUnless memory o (r >>= go)
+stays memory None r go h = h
+stays memory (Some f) r go h = ap (λ (z : Result _ BuildFault). z >>= go) h
 
-pub text_fails : (e : BuildFault) (text : List ℕ) (ctrl temp base : ℕ) → Fails (fault_of e) (accepted_source text)
-    → Fails (fault_of e) (built text ctrl temp base)
+pub text_fails : (memory : Type 0) (e : BuildFault) (text : List ℕ) (ctrl temp base : ℕ) → FailsUnless memory (fault_of e) (accepted_source text)
+    → FailsUnless memory (fault_of e) (built text ctrl temp base)
 unfolding built
-text_fails e text ctrl temp base h = stays (fault_of e) (accepted_source text) (λ source. source_built source (stack_sizes ctrl temp) base) h
+text_fails memory e text ctrl temp base h =
+    stays memory (fault_of e) (accepted_source text) (λ source. source_built source (stack_sizes ctrl temp) base) h
 
 pub text_builds : (text : List ℕ) (ctrl temp base : ℕ) (source : SourceOf) → accepted_source text ≡ Ok source
     → built text ctrl temp base ≡ source_built source (stack_sizes ctrl temp) base

@@ -128,11 +128,11 @@ can_run acceptable s sizes b text values accepted is image read =
     }
 
 -- values that break a rule
-pub values_failed : (s : SourceOf) (sizes : StackSizes) (b : BuiltOf) (text : List ℕ) (error : ValuesFault) → source_built s sizes 0 ≡ Ok b
-    → common.Fails (values_rule error) (values_in b.image.slots text)
-    → common.Fails (start_fault_of (values_fault error)) (built_start s sizes text)
+pub values_failed : (memory : Type 0) (s : SourceOf) (sizes : StackSizes) (b : BuiltOf) (text : List ℕ) (error : ValuesFault)
+    → source_built s sizes 0 ≡ Ok b → common.FailsUnless memory (values_rule error) (values_in b.image.slots text)
+    → common.FailsUnless memory (start_fault_of (values_fault error)) (built_start s sizes text)
 unfolding built_start
-values_failed s sizes b text (Refused rule place) is fails =
+values_failed memory s sizes b text (Refused rule place) is fails =
     ap (λ (r : Result BuiltOf BuildFault). or_build r >>= with_text text) is
     ∙ ap (λ (v : Result (List ValueOf) (ℕ × ℕ)). or_values v >>= λ values. Ok (record { checked = b.piton; image = b.image; values = values })) fails
-values_failed s sizes b text Memory is fails = tt
+values_failed memory s sizes b text Memory is fails = fails

@@ -12,7 +12,7 @@ use Rattle.fm_words.specs.Word.{is_int}
 use Rattle.fm_image.specs.declared.slot.Slot.{Slot}
 use Rattle.fm_image.specs.Limits.{is_image}
 use Rattle.fm_loader.specs.declared.fault.ValuesFault.{ValuesFault}
-use Rattle.fm_loader.specs.Rules.{GivesValues}
+use Rattle.fm_loader.specs.Rules.{GivesValuesUnless}
 use Rattle.fm_loader.specs.Values.{values_in, HaveOwnNames}
 use Rattle.fm_loader.proofs.ImageLaws.{own_names}
 use Rattle.fm_loader.proofs.ValuesLaws.{values_fit, values_are, values_have_32_bits}
@@ -107,8 +107,8 @@ formals_own_names s accepted = subst (IsDistinct bytes_eq) (sym (names-slots_fro
 pub formals_take : (s : SourceOf) (text : List ℕ) (values : List ValueOf) → IsAccepted s → values_in (formal_slots s) text ≡ Ok values → FitsFormals s values
 formals_take s text values accepted read = takes s 0 text values accepted (formals_own_names s accepted) read
 
-pub fits_from : {X : Type 0} (s : SourceOf) (slots : List Slot) (text : List ℕ) (view : X → List ValueOf) (result : Result X ValuesFault) → IsAccepted s
-    → slots ≡ formal_slots s →
-    GivesValues view result (values_in slots text) → IfOk result (λ x. FitsFormals s (view x))
-fits_from s slots text view (Ok x) accepted is gives = formals_take s text (view x) accepted (ap (λ (z : List Slot). values_in z text) (sym is) ∙ gives)
-fits_from s slots text view (Err fault) accepted is gives = tt
+pub fits_from : {X : Type 0} (memory : Type 0) (s : SourceOf) (slots : List Slot) (text : List ℕ) (view : X → List ValueOf)
+    (result : Result X ValuesFault) → IsAccepted s → slots ≡ formal_slots s →
+    GivesValuesUnless memory view result (values_in slots text) → IfOk result (λ x. FitsFormals s (view x))
+fits_from memory s slots text view (Ok x) accepted is gives = formals_take s text (view x) accepted (ap (λ (z : List Slot). values_in z text) (sym is) ∙ gives)
+fits_from memory s slots text view (Err fault) accepted is gives = tt

@@ -68,9 +68,9 @@ abbrev pub fault_of : BuildFault → Option BuildFault
 fault_of Memory = None
 fault_of fault = Some fault
 
--- the call returned exactly what the definition gives, seen through the view; out of memory alone is free
-abbrev pub GivesBuilt : {X Y : Type 0} → (X → Y) → Result X BuildFault → Result Y BuildFault → Type 0
-GivesBuilt view result value = common.Gives fault_of view result value
+-- the call returned exactly what the definition gives, seen through the view; memory runs out only where it was refused
+abbrev pub GivesBuiltUnless : {X Y : Type 0} → Type 0 → (X → Y) → Result X BuildFault → Result Y BuildFault → Type 0
+GivesBuiltUnless refused view result value = common.GivesUnless refused fault_of view result value
 
 -- ---- the source in a text
 

@@ -41,9 +41,13 @@ abbrev pub start_fault_of : StartFault → Option StartFault
 start_fault_of (Build build.Memory) = None
 start_fault_of fault = Some fault
 
--- the call returned exactly what the definition gives, seen through the view; out of memory alone is free
+-- the call returned exactly what the definition gives, seen through the view; memory runs out only where it was refused
+abbrev pub GivesStartUnless : {X Y : Type 0} → Type 0 → (X → Y) → Result X StartFault → Result Y StartFault → Type 0
+GivesStartUnless refused view result value = common.GivesUnless refused start_fault_of view result value
+
+-- the same of callers that pass the library's heap, of which nothing says when it refuses
 abbrev pub GivesStart : {X Y : Type 0} → (X → Y) → Result X StartFault → Result Y StartFault → Type 0
-GivesStart view result value = common.Gives start_fault_of view result value
+GivesStart view result value = GivesStartUnless (Unit {0}) view result value
 
 -- what is built, or why nothing is
 abbrev pub or_build : {X : Type 0} → Result X BuildFault → Result X StartFault

@@ -4,7 +4,7 @@ ghost use Rattle.piton_syntax.specs.PitonReading.{KeepsForm};
 ghost use Rattle.gypsy_check.specs.Accepted.{IsAccepted};
 ghost use Rattle.gypsy_space.specs.Needs.{stack_sizes};
 ghost use Rattle.gypsy_syntax.specs.Views.SourceView.{source_of};
-ghost use Rattle.stack_build.specs.Build.{GivesBuilt, accepted_source, source_built, compiled, built, Builds, BuildsText};
+ghost use Rattle.stack_build.specs.Build.{GivesBuiltUnless, accepted_source, source_built, compiled, built, Builds, BuildsText};
 
 use crate::fault::BuildFault;
 use crate::imaging::image;
@@ -14,7 +14,7 @@ use gypsy_codegen::generate_with;
 use gypsy_space::{Program, needs_with, resolve};
 use gypsy_syntax::read_gypsy;
 use piton_check::Checked;
-use std::alloc::Global;
+use stack_heap::Heap;
 use std::marker::Model;
 
 /// What is built from a source.
@@ -59,12 +59,12 @@ impl Built {
 /// # Errors
 ///
 /// `Text`, `Form` or `Rule`; or out of memory.
-pub fn accept(alloc: Global, text: &[u8]) -> Result<Accepted, BuildFault>
+pub fn accept<H: Heap>(heap: H, text: &[u8]) -> Result<Accepted, BuildFault>
     requires { length text.now ≤ 2 ^ 31 }
     ensures { GivesBuilt source_of result (accepted_source text.now) }
 {
-    let source = read_gypsy(alloc, text)?;
-    Ok(check(alloc, source)?)
+    let source = read_gypsy(heap, text)?;
+    Ok(check(heap, source)?)
 }
 
 /// What an image was made of: the accepted source, and its program.
@@ -77,24 +77,24 @@ pub struct Origins {
 }
 
 /// What is built of an accepted source, and the source's program.
-fn build_program(
-    alloc: Global,
+fn build_program<H: Heap>(
+    heap: H,
     accepted: &Accepted,
     ctrl: u32,
     temp: u32,
     base: u32,
 ) -> Result<(Built, Program), BuildFault>
     requires { base ≤ 2 ^ 31 }
-    ensures value { GivesBuilt (λ made. made.0) result
+    ensures value { GivesBuiltUnless (H.may_refuse heap) (λ made. made.0) result
         (source_built (source_of accepted.now) (stack_sizes ctrl temp) base) }
     ensures implements { IfOk result (λ made. Builds (source_of accepted.now) (stack_sizes ctrl temp) made.0) }
     ensures accepted { IfOk result (λ _. IsAccepted (source_of accepted.now)) }
 {
-    let program = resolve(alloc, accepted)?;
-    let needs = needs_with(alloc, accepted, &program)?;
-    let piton = generate_with(alloc, accepted, &program, &needs, ctrl, temp, base)?;
-    let image = image(alloc, accepted, &program, &needs, &piton)?;
-    let bytes = write_image(alloc, &image)?;
+    let program = resolve(heap, accepted)?;
+    let needs = needs_with(heap, accepted, &program)?;
+    let piton = generate_with(heap, accepted, &program, &needs, ctrl, temp, base)?;
+    let image = image(heap, accepted, &program, &needs, &piton)?;
+    let bytes = write_image(heap, &image)?;
     let built = Built {
         piton,
         image,
@@ -108,20 +108,20 @@ fn build_program(
 /// # Errors
 ///
 /// `Size`, `Control`, `Temporary` or `Words`; or out of memory.
-pub fn build_accepted(
-    alloc: Global,
+pub fn build_accepted<H: Heap>(
+    heap: H,
     accepted: &Accepted,
     ctrl: u32,
     temp: u32,
     base: u32,
 ) -> Result<Built, BuildFault>
     requires { base ≤ 2 ^ 31 }
-    ensures value { GivesBuilt (λ built. built) result
+    ensures value { GivesBuiltUnless (H.may_refuse heap) (λ built. built) result
         (source_built (source_of accepted.now) (stack_sizes ctrl temp) base) }
     ensures implements { IfOk result (Builds (source_of accepted.now) (stack_sizes ctrl temp)) }
     ensures accepted { IfOk result (λ _. IsAccepted (source_of accepted.now)) }
 {
-    let (built, _program) = build_program(alloc, accepted, ctrl, temp, base)?;
+    let (built, _program) = build_program(heap, accepted, ctrl, temp, base)?;
     Ok(built)
 }
 
@@ -133,8 +133,8 @@ pub fn build_accepted(
 /// The first reason in the order of `BuildFault` for which there is none, where `Words` is the sum of the code's words alone;
 /// or out of memory.
 #[tactic(auto, unfolding(crate::specs::Build::compiled))]
-pub fn compile(
-    alloc: Global,
+pub fn compile<H: Heap>(
+    heap: H,
     text: &[u8],
     ctrl: u32,
     temp: u32,
@@ -142,13 +142,14 @@ pub fn compile(
 ) -> Result<Checked, BuildFault>
     requires text { length text.now ≤ 2 ^ 31 }
     requires base { base ≤ 2 ^ 31 }
-    ensures system { GivesBuilt (λ checked. checked.system) result (compiled text.now ctrl temp base) }
+    ensures system { GivesBuiltUnless (H.may_refuse heap) (λ checked. checked.system) result
+        (compiled text.now ctrl temp base) }
     ensures form { IfOk result (λ checked. KeepsForm checked.system) }
 {
-    let accepted = accept(alloc, text)?;
-    let program = resolve(alloc, &accepted)?;
-    let needs = needs_with(alloc, &accepted, &program)?;
-    Ok(generate_with(alloc, &accepted, &program, &needs, ctrl, temp, base)?)
+    let accepted = accept(heap, text)?;
+    let program = resolve(heap, &accepted)?;
+    let needs = needs_with(heap, &accepted, &program)?;
+    Ok(generate_with(heap, &accepted, &program, &needs, ctrl, temp, base)?)
 }
 
 /// Builds the image of a source, as `build` does, and keeps what it was made of.
@@ -156,8 +157,8 @@ pub fn compile(
 /// # Errors
 ///
 /// Those of `build`.
-pub fn build_with_origins(
-    alloc: Global,
+pub fn build_with_origins<H: Heap>(
+    heap: H,
     text: &[u8],
     ctrl: u32,
     temp: u32,
@@ -165,11 +166,11 @@ pub fn build_with_origins(
 ) -> Result<(Built, Origins), BuildFault>
     requires text { length text.now ≤ 2 ^ 31 }
     requires base { base ≤ 2 ^ 31 }
-    ensures value { GivesBuilt (λ made. made.0) result (built text.now ctrl temp base) }
+    ensures value { GivesBuiltUnless (H.may_refuse heap) (λ made. made.0) result (built text.now ctrl temp base) }
     ensures implements { IfOk result (λ made. BuildsText text.now ctrl temp made.0) }
 {
-    let accepted = accept(alloc, text)?;
-    let (built, program) = build_program(alloc, &accepted, ctrl, temp, base)?;
+    let accepted = accept(heap, text)?;
+    let (built, program) = build_program(heap, &accepted, ctrl, temp, base)?;
     Ok((built, Origins { accepted, program }))
 }
 
@@ -183,8 +184,8 @@ pub fn build_with_origins(
 /// # Errors
 ///
 /// The first reason in the order of `BuildFault` for which there is no image; or out of memory.
-pub fn build(
-    alloc: Global,
+pub fn build<H: Heap>(
+    heap: H,
     text: &[u8],
     ctrl: u32,
     temp: u32,
@@ -192,11 +193,11 @@ pub fn build(
 ) -> Result<Built, BuildFault>
     requires text { length text.now ≤ 2 ^ 31 }
     requires base { base ≤ 2 ^ 31 }
-    // What is built, and each fault, are those of the text, the two sizes and the base. Out of memory alone is free.
-    ensures value { GivesBuilt (λ built. built) result (built text.now ctrl temp base) }
+    // What is built, and each fault, are those of the text, the two sizes and the base. Memory runs out only where the heap may refuse.
+    ensures value { GivesBuiltUnless (H.may_refuse heap) (λ built. built) result (built text.now ctrl temp base) }
     // The image does what the source means, and its file can be read again.
     ensures implements { IfOk result (BuildsText text.now ctrl temp) }
 {
-    let (built, _origins) = build_with_origins(alloc, text, ctrl, temp, base)?;
+    let (built, _origins) = build_with_origins(heap, text, ctrl, temp, base)?;
     Ok(built)
 }

@@ -7,7 +7,7 @@ ghost use Rattle.fm_loader.specs.Loaded.{Fits};
 ghost use Rattle.piton_semantics.specs.Fits.{system_in};
 ghost use Rattle.piton_semantics.specs.Placed.{placed};
 ghost use Rattle.piton_semantics.specs.StateView.{IsSeen};
-ghost use Rattle.stack_build.specs.Starts.{GivesStart, CanRun, built_start, system_start, image_start};
+ghost use Rattle.stack_build.specs.Starts.{GivesStartUnless, CanRun, built_start, system_start, image_start};
 
 use crate::building::{Built, build_accepted};
 use crate::start_fault::StartFault;
@@ -19,20 +19,21 @@ use gypsy_check::Accepted;
 use gypsy_codegen::generated_is_acceptable;
 use piton_check::Checked;
 use piton_machine::State;
+use stack_heap::Heap;
 use stack_text::Value;
-use std::alloc::Global;
 
 /// The Piton system and the image that are built of an accepted source, and the values that a text gives the image's slots.
 #[tactic(auto, unfolding(crate::specs::Starts::built_start))]
-fn built_start(
-    alloc: Global,
+fn built_start<H: Heap>(
+    heap: H,
     accepted: &Accepted,
     control: u32,
     temporary: u32,
     text: &[u8],
 ) -> Result<(Checked, Image, Vec<Value>), StartFault>
     requires { length text.now ≤ 2 ^ 31 }
-    ensures start { GivesStart (λ start. record { checked = start.0; image = start.1; values = start.2.items }) result
+    ensures start { GivesStartUnless (H.may_refuse heap)
+        (λ start. record { checked = start.0; image = start.1; values = start.2.items }) result
         (built_start (source_of accepted.now) (stack_sizes control temporary) text.now) }
     ensures runs { IfOk result (λ start.
         CanRun (source_of accepted.now) record { checked = start.0; image = start.1; values = start.2.items }) }
@@ -43,8 +44,8 @@ fn built_start(
         piton,
         image,
         bytes: _,
-    } = build_accepted(alloc, accepted, control, temporary, 0)?;
-    let values = read_values(alloc, text, &image.slots)?;
+    } = build_accepted(heap, accepted, control, temporary, 0)?;
+    let values = read_values(heap, text, &image.slots)?;
     Ok((piton, image, values))
 }
 
@@ -76,22 +77,22 @@ pub struct ImageStart {
 ///
 /// `Build` with the fault by which nothing is built for such stacks; else `Values`; or out of memory.
 #[tactic(auto, unfolding(crate::specs::Starts::system_start))]
-pub fn start_system(
-    alloc: Global,
+pub fn start_system<H: Heap>(
+    heap: H,
     accepted: &Accepted,
     control: u32,
     temporary: u32,
     values: &[u8],
 ) -> Result<SystemStart, StartFault>
     requires { length values.now ≤ 2 ^ 31 }
-    ensures start { GivesStart (λ start. start) result
+    ensures start { GivesStartUnless (H.may_refuse heap) (λ start. start) result
         (system_start (source_of accepted.now) (stack_sizes control temporary) values.now) }
     ensures seen { IfOk result (λ start. IsSeen (system_in start.checked) start.state) }
     ensures small { IfOk result (λ start. (placed (system_in start.checked)).size ≤ 2 ^ 20) }
 {
-    let (checked, image, values) = built_start(alloc, accepted, control, temporary, values)?;
-    let stack = with_values(alloc, &values, checked.resolved().stack.as_slice())?;
-    let state = State::start_with(alloc, &checked, &stack)?;
+    let (checked, image, values) = built_start(heap, accepted, control, temporary, values)?;
+    let stack = with_values(heap, &values, checked.resolved().stack.as_slice())?;
+    let state = State::start_with(heap, &checked, &stack)?;
     Ok(SystemStart {
         checked,
         image,
@@ -106,18 +107,18 @@ pub fn start_system(
 ///
 /// `Build` with the fault by which nothing is built for such stacks; else `Values`; or out of memory.
 #[tactic(auto, unfolding(crate::specs::Starts::image_start))]
-pub fn start_image(
-    alloc: Global,
+pub fn start_image<H: Heap>(
+    heap: H,
     accepted: &Accepted,
     control: u32,
     temporary: u32,
     values: &[u8],
 ) -> Result<ImageStart, StartFault>
     requires { length values.now ≤ 2 ^ 31 }
-    ensures start { GivesStart (λ start. (start.image, start.machine.state)) result
+    ensures start { GivesStartUnless (H.may_refuse heap) (λ start. (start.image, start.machine.state)) result
         (image_start (source_of accepted.now) (stack_sizes control temporary) values.now) }
 {
-    let (_, image, values) = built_start(alloc, accepted, control, temporary, values)?;
-    let machine = load(alloc, &image, &values)?;
+    let (_, image, values) = built_start(heap, accepted, control, temporary, values)?;
+    let machine = load(heap, &image, &values)?;
     Ok(ImageStart { image, machine })
 }

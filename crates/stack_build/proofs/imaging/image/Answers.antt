@@ -19,25 +19,25 @@ use Rattle.stack_build.proofs.TakesLaws.{formals_short}
 use Rattle.stack_build.proofs.imaging.image.Goals as goal
 
 pub overflow_cast-result : goal.overflow_cast-result
-overflow_cast-result c = omega (
+overflow_cast-result g c = omega (
   arith,
   areas_below c.args.piton.now c.layout_behind-parts.result c.requires.checked c.in_ok-linked.ensures.small
       c.layout_behind-parts.ensures,
 )
 
 pub overflow_cast-bottom : goal.overflow_cast-bottom
-overflow_cast-bottom c =
+overflow_cast-bottom g c =
     omega (arith, end_below c.args.piton.now c.layout_behind-parts.result c.requires.checked c.in_ok-linked.ensures.small c.layout_behind-parts.ensures)
 
 pub slots_from-requires : goal.slots_from-requires
-slots_from-requires c =
+slots_from-requires g c =
     let s : SourceOf = source_of c.args.accepted.now in
     let same : source_of c.source-source.result.now ≡ s = ap (λ (t : Source). source_of t) c.source-source.ensures.value in
     let formals : c.shown_formals.result.now ≡ shown_formals s = c.shown_formals.ensures ∙ ap shown_formals same in
     subst HaveShortArrays (sym formals) (formals_short s c.source-source.ensures.accepted)
 
 pub invariant_of-result : goal.invariant_of-result
-invariant_of-result c =
+invariant_of-result g c =
     let linked = c.in_ok-linked.ensures in
     let s : SourceOf = source_of c.args.accepted.now in
     let system : SystemView = system_in c.args.piton.now in
@@ -54,13 +54,13 @@ invariant_of-result c =
     let slots : c.in_ok-slots_from.field-0.items ≡ slots_from (c.layout_behind-parts.result.end - 1) (shown_formals s) =
     c.in_ok-slots_from.ensures ∙ ap (λ (ds : List Decl). slots_from (c.layout_behind-parts.result.end - 1) ds)
     (c.shown_formals.ensures ∙ ap shown_formals same) in
-    let made = c.in_ok-procedures.ensures system generated (rw c.deref.ensures.value linked.places) in
+    let made = c.in_ok-procedures.ensures.tables system generated (rw c.deref.ensures.value linked.places) in
     parts_fit c.args.piton.now (shown_formals s) (shown_conditions s) (source_tables s system) c.requires.checked linked.small shows fit _
     (parts_are c.args.piton.now (shown_formals s) (shown_conditions s) (source_tables s system) c.layout_behind-parts.result
     _ _ _ _ c.layout_behind-parts.ensures (c.linked.view_is ∙ linked.image) names slots made)
 
 pub returns-clause-image : goal.returns-clause-image
-returns-clause-image c =
+returns-clause-image g c =
     let linked = c.in_ok-linked.ensures in
     let s : SourceOf = source_of c.args.accepted.now in
     let system : SystemView = system_in c.args.piton.now in
@@ -70,6 +70,6 @@ returns-clause-image c =
     let slots : c.in_ok-slots_from.field-0.items ≡ slots_from (c.layout_behind-parts.result.end - 1) (shown_formals s) =
     c.in_ok-slots_from.ensures ∙ ap (λ (ds : List Decl). slots_from (c.layout_behind-parts.result.end - 1) ds)
     (c.shown_formals.ensures ∙ ap shown_formals same) in
-    let made = c.in_ok-procedures.ensures system c.requires.generated (rw c.deref.ensures.value linked.places) in
+    let made = c.in_ok-procedures.ensures.tables system c.requires.generated (rw c.deref.ensures.value linked.places) in
     parts_are c.args.piton.now (shown_formals s) (shown_conditions s) (source_tables s system) c.layout_behind-parts.result
     _ _ _ _ c.layout_behind-parts.ensures (c.linked.view_is ∙ linked.image) names slots made

@@ -3,4 +3,4 @@ use Rattle.display_maps.specs.Reading.{space_name}
 use Rattle.stack_build.proofs.imaging.names.Given as goal
 
 abbrev pub invariant-loop-condition : goal.invariant-loop-condition
-invariant-loop-condition l = l.names.items ++ map (λ n. n.name) (drop l.condition-index l.conditions) ≡ space_name ∷ map (λ n. n.name) l.conditions
+invariant-loop-condition g l = l.names.items ++ map (λ n. n.name) (drop l.condition-index l.conditions) ≡ space_name ∷ map (λ n. n.name) l.conditions

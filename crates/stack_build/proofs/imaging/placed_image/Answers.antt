@@ -4,19 +4,19 @@ use Rattle.stack_build.proofs.ImageLimits.{placed_fits}
 use Rattle.stack_build.proofs.imaging.placed_image.Goals as goal
 
 pub bare_image-image-requires-clause-sized : goal.bare_image-image-requires-clause-sized
-bare_image-image-requires-clause-sized c =
+bare_image-image-requires-clause-sized g c =
     let linked = c.in_ok-base.ensures in
     rw (linked.base, linked.size) (placed_fits (system_in c.args.piton.now) c.requires.sound linked.small).sized
 
 pub bare_image-image-requires-clause-inside : goal.bare_image-image-requires-clause-inside
-bare_image-image-requires-clause-inside c =
+bare_image-image-requires-clause-inside g c =
     let linked = c.in_ok-base.ensures in
     rw (linked.base, linked.size, linked.final_pc) (placed_fits (system_in c.args.piton.now) c.requires.sound linked.small).inside
 
 pub bare_image-image-requires-clause-sixteen : goal.bare_image-image-requires-clause-sixteen
-bare_image-image-requires-clause-sixteen c = ap (λ (rs : List ℕ). length rs) c.in_ok-base.ensures.registers
+bare_image-image-requires-clause-sixteen g c = ap (λ (rs : List ℕ). length rs) c.in_ok-base.ensures.registers
 
 pub bare_image-image-requires-clause-few : goal.bare_image-image-requires-clause-few
-bare_image-image-requires-clause-few c =
+bare_image-image-requires-clause-few g c =
     let linked = c.in_ok-base.ensures in
     rw (linked.words, linked.size) (placed_fits (system_in c.args.piton.now) c.requires.sound linked.small).few

@@ -11,7 +11,7 @@ use Rattle.stack_build.proofs.ListingLaws.{procedure_is, procedure_next, names_a
 use Rattle.stack_build.proofs.tables.procedures.Goals as goal
 
 pub procedure-requires : goal.procedure-requires
-procedure-requires c =
+procedure-requires g c =
     let k = c.loop-number.number in
     let procs : List ProcOf = map proc_of c.args.procs.now in
     let proc : ProcOf = proc_of c.index-procs-number.result in
@@ -25,7 +25,7 @@ procedure-requires c =
     record { few = few_found found proc names (few_at procs k proc c.requires.declares.few lt is) }
 
 pub unreachable-requires : goal.unreachable-requires
-unreachable-requires c =
+unreachable-requires g c =
     let k = c.loop-number.number in
     let procs : List ProcOf = map proc_of c.args.procs.now in
     let lt : k < length procs = omega (arith, length-map c.args.procs.now proc_of, c.loop-number-test.true) in
@@ -34,7 +34,7 @@ unreachable-requires c =
     not_missing c.args.program.now.procedures.items procs k c.requires.declares.names lt none
 
 pub loop-number-preserved : goal.loop-number-preserved
-loop-number-preserved c =
+loop-number-preserved g c =
     let k = c.loop-number.number in
     let q = seen_program c.args.program.now in
     let procs : List ProcOf = map proc_of c.args.procs.now in
@@ -47,6 +47,6 @@ loop-number-preserved c =
     ap (λ (ps : List Procedure). slice_get ps k) (sym c.deref.ensures.value) ∙ sym c.in-Some.ensures in
     let names = names_at c.args.program.now.procedures.items procs k found proc c.requires.declares.names there lt is in
     let info = c.in_ok-procedure-in-Some.ensures ∙ procedure_is c.args.program.now k proc found there names in
-    let now : c.push.new.self.items ≡ c.loop-number.infos.items ++ procedure_info q k proc ∷ [] =
+    let now : c.push.new.items.items ≡ c.loop-number.infos.items ++ procedure_info q k proc ∷ [] =
     c.in_ok-push-in-Some.ensures.items ∙ ap (λ (x : ProcedureOf). c.loop-number.infos.items ++ x ∷ []) info in
-    procedure_next q procs k proc c.loop-number.infos.items c.push.new.self.items _ lt is now c.loop-number.invariant
+    procedure_next q procs k proc c.loop-number.infos.items c.push.new.items.items _ lt is now c.loop-number.invariant

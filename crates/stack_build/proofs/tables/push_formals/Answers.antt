@@ -4,7 +4,7 @@ use Rattle.stack_build.proofs.ListingLaws.{one_more, info_next}
 use Rattle.stack_build.proofs.tables.push_formals.Goals as goal
 
 pub loop-formal-preserved : goal.loop-formal-preserved
-loop-formal-preserved c =
+loop-formal-preserved g c =
     let pushed = c.in_ok-push_variable.ensures in
     let number = one_more _ _ _ pushed in
     record {

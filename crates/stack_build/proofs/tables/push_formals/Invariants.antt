@@ -4,7 +4,7 @@ use Rattle.stack_build.proofs.tables.push_formals.Given as goal
 
 -- the variables so far and those of what is left are all, and there is room for them
 abbrev pub invariant-loop-formal : goal.invariant-loop-formal
-invariant-loop-formal l = record {
+invariant-loop-formal g l = record {
   listed :
       l.variables.items ++ formal_infos (offset_in l.order) (length l.variables.items) (drop l.formal-index l.formals) ≡
       l.initial.variables.items ++ formal_infos (offset_in l.order) (length l.initial.variables.items) l.formals;

@@ -4,7 +4,7 @@ use Rattle.stack_build.proofs.ListingLaws.{one_more, info_next}
 use Rattle.stack_build.proofs.tables.push_locals.Goals as goal
 
 pub loop-local-preserved : goal.loop-local-preserved
-loop-local-preserved c =
+loop-local-preserved g c =
     let pushed = rw c.shape_of.ensures at c.in_ok-push_variable.ensures in
     let number = one_more _ _ _ pushed in
     record {

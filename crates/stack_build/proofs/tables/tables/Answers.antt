@@ -11,14 +11,14 @@ use Rattle.stack_build.proofs.ListingLaws.{declares, tables_are}
 use Rattle.stack_build.proofs.tables.tables.Goals as goal
 
 pub procedures-requires : goal.procedures-requires
-procedures-requires c =
+procedures-requires g c =
     let s = source_of c.args.accepted.now in
     let same : map proc_of c.as_slice.result.now ≡ s.procs =
     ap (λ (ps : List Proc). map proc_of ps) c.as_slice.ensures.value ∙ ap (λ (t : Source). (source_of t).procs) c.source-source.ensures.value in
     record { declares = subst (Declares c.args.program.now) (sym same) (declares s c.args.program.now c.source-source.ensures.accepted c.requires.names) }
 
-pub returns : goal.returns
-returns c = λ system generated places.
+pub returns-clause-tables : goal.returns-clause-tables
+returns-clause-tables g c = λ system generated places.
     let s = source_of c.args.accepted.now in
     let same : map proc_of c.as_slice.result.now ≡ s.procs =
     ap (λ (ps : List Proc). map proc_of ps) c.as_slice.ensures.value ∙ ap (λ (t : Source). (source_of t).procs) c.source-source.ensures.value in

@@ -6,11 +6,11 @@ use Rattle.gypsy_codegen.proofs.WriteLaws.{more_next}
 use Rattle.stack_build.proofs.value_words.push_items.Goals as goal
 
 pub loop-item-preserved : goal.loop-item-preserved
-loop-item-preserved c =
+loop-item-preserved g c =
     let items = c.args.items.now in
     let k = c.loop-item.item-index in
     let z : ℤ = get_or items k (pos 0) in
     let word = word_of_item c.args.kind z in
-    let pushed : c.push.new.self.items ≡ c.loop-item.words.items ++ word ∷ [] = search rules in
-    more_next (λ (zs : List ℤ). map (word_of_item c.args.kind) zs) items k z (word ∷ []) c.loop-item.words.items c.push.new.self.items _
+    let pushed : c.push.new.items.items ≡ c.loop-item.words.items ++ word ∷ [] = search rules in
+    more_next (λ (zs : List ℤ). map (word_of_item c.args.kind) zs) items k z (word ∷ []) c.loop-item.words.items c.push.new.items.items _
     c.loop-item-test.true (get_or_default items k (pos 0) z c.loop-item-test.true) refl pushed c.loop-item.invariant
