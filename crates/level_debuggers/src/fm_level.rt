@@ -1,6 +1,7 @@
 //! A run of the processor.
 
-ghost use Rattle.std.specs.Prelude.{◌≡◌, ◌++◌, OnOk};
+ghost use Rattle.std.specs.Prelude.{◌≡◌, ◌++◌};
+ghost use Rattle.stack_heap.specs.Heaps.{OnOkUnless};
 ghost use Rattle.level_debuggers.specs.FmLevels.{word_line};
 
 use crate::advance::{Advance, Stop};
@@ -11,28 +12,29 @@ use display_maps::{push_reading, read_at, read_up};
 use fm_image::Image;
 use fm_machine::{Machine, Outside};
 use fm_show::{hex_digits, show_machine};
+use stack_heap::Heap;
 use stack_text::Memory;
-use std::alloc::Global;
 use std::marker::Model;
 
 /// Appends the line of a word, or that the address is outside the window.
-fn push_word(
-    alloc: Global,
+fn push_word<H: Heap>(
+    heap: H,
     text: &mut Vec<u8>,
     address: u32,
     word: Option<u32>,
 ) -> Result<(), Memory>
-    ensures { OnOk result (text.new.items ≡ text.old.items ++ word_line address word) }
+    ensures { OnOkUnless (H.may_refuse heap) result (text.new.items ≡ text.old.items ++ word_line address word) }
 {
-    text.extend_from_slice(hex_digits(alloc, address)?.as_bytes())?;
+    heap.extend_from_slice(text, &hex_digits(address))?;
     match word {
         Some(word) => {
-            text.extend_from_slice(b" ")?;
-            text.extend_from_slice(hex_digits(alloc, word)?.as_bytes())?;
+            heap.extend_from_slice(text, b" ")?;
+            heap.extend_from_slice(text, &hex_digits(word))?;
         }
-        None => text.extend_from_slice(b" outside")?,
+        None => heap.extend_from_slice(text, b" outside")?,
     }
-    Ok(text.extend_from_slice(b"\n")?)
+    heap.extend_from_slice(text, b"\n")?;
+    Ok(())
 }
 
 /// A machine that runs an image.
@@ -51,7 +53,8 @@ impl Model for FmLevel {
 }
 
 impl FmLevel {
-    ghost use Rattle.std.specs.Prelude.{◌≡◌, IfOk};
+    ghost use Rattle.std.specs.Prelude.{◌≡◌};
+    ghost use Rattle.stack_heap.specs.Heaps.{IfOkUnless};
     ghost use Rattle.fm_show.specs.Listing.{machine_listing};
     ghost use Rattle.level_debuggers.specs.Steps.{IsAdvance};
     ghost use Rattle.level_debuggers.specs.FmLevels.{fm_depth, fm_event, fm_next, fm_over, fm_stands, fm_up, word_lines};
@@ -120,10 +123,10 @@ impl FmLevel {
     }
 
     /// The number of steps, the registers and the flags, as lines.
-    pub(crate) fn show(&self, alloc: Global, steps: u64) -> Result<Vec<u8>, Memory>
-        ensures { IfOk result (λ text. text.items ≡ machine_listing self.now.state steps) }
+    pub(crate) fn show<H: Heap>(&self, heap: H, steps: u64) -> Result<Vec<u8>, Memory>
+        ensures { IfOkUnless (H.may_refuse heap) result (λ text. text.items ≡ machine_listing self.now.state steps) }
     {
-        show_machine(alloc, &self.machine, steps)
+        show_machine(heap, &self.machine, steps)
     }
 
     /// Whether r15 has this address.
@@ -135,28 +138,28 @@ impl FmLevel {
 
     /// So many words of memory from an address on, as lines; behind the last address of 32 bits comes 0.
     #[tactic(auto, using(crate::proofs::WordLaws::next_word, crate::proofs::WordLaws::no_words))]
-    pub(crate) fn words(&self, alloc: Global, address: u32, count: u32) -> Result<Vec<u8>, Memory>
-        ensures { IfOk result (λ text. text.items ≡ word_lines self.now.state address count) }
+    pub(crate) fn words<H: Heap>(&self, heap: H, address: u32, count: u32) -> Result<Vec<u8>, Memory>
+        ensures { IfOkUnless (H.may_refuse heap) result (λ text. text.items ≡ word_lines self.now.state address count) }
     {
-        let mut text = Vec::new(alloc);
+        let mut text = Vec::new(heap.handle());
         for place in 0..count {
             let there = address.wrapping_add(place);
-            push_word(alloc, &mut text, there, self.machine.peek(there))?;
+            push_word(heap, &mut text, there, self.machine.peek(there))?;
         }
         Ok(text)
     }
 
     /// What the memory says of the variables, as lines: at the end of those of the image's slots, and before it of those
     /// of the procedure at whose mark the machine stands; elsewhere `no mark`.
-    pub(crate) fn up(&self, alloc: Global) -> Result<Vec<u8>, Memory>
-        ensures { IfOk result (λ text. text.items ≡ fm_up self.now) }
+    pub(crate) fn up<H: Heap>(&self, heap: H) -> Result<Vec<u8>, Memory>
+        ensures { IfOkUnless (H.may_refuse heap) result (λ text. text.items ≡ fm_up self.now) }
     {
         if !self.is_over() {
-            return mark_text(alloc, read_at(alloc, &self.machine, &self.image)?);
+            return mark_text(heap, read_at(heap, &self.machine, &self.image)?);
         }
-        let reading = read_up(alloc, &self.machine, &self.image)?;
-        let mut text = Vec::new(alloc);
-        push_reading(alloc, &mut text, &self.image, &reading)?;
+        let reading = read_up(heap, &self.machine, &self.image)?;
+        let mut text = Vec::new(heap.handle());
+        push_reading(heap, &mut text, &self.image, &reading)?;
         Ok(text)
     }
 }

@@ -1,14 +1,15 @@
 //! A run of a source.
 
 use crate::advance::Advance;
+use crate::tally_lines::push_counted;
 use crate::watch::Event;
 use display_maps::push_run;
 use gypsy_check::Accepted;
 use gypsy_meaning::Meaning;
 use gypsy_semantics::Current;
 use gypsy_space::Needs;
+use stack_heap::Heap;
 use stack_text::{Memory, Name, Value};
-use std::alloc::Global;
 
 /// A run of an accepted source.
 #[derive(Drop)]
@@ -19,7 +20,8 @@ pub(crate) struct GypsyLevel {
 }
 
 impl GypsyLevel {
-    ghost use Rattle.std.specs.Prelude.{◌≡◌, ◌++◌, map, IfOk, OnOk, OnErr};
+    ghost use Rattle.std.specs.Prelude.{◌≡◌, ◌++◌, map, OnErr};
+    ghost use Rattle.stack_heap.specs.Heaps.{IfOkUnless, OnOkUnless};
     ghost use Rattle.gypsy_semantics.specs.Views.RunView.{depth_at, values_at};
     ghost use Rattle.gypsy_semantics.specs.Views.Shown.{condition_at, names_at};
     ghost use Rattle.level_debuggers.specs.Steps.{IsAdvance};
@@ -68,9 +70,10 @@ impl GypsyLevel {
     }
 
     /// Makes a step. Where memory runs out nothing has changed.
-    pub(crate) fn advance(&mut self, alloc: Global) -> Result<Advance, Memory>
+    pub(crate) fn advance<H: Heap>(&mut self, heap: H) -> Result<Advance, Memory>
         requires { Belongs self.old }
-        ensures step { IfOk result (IsAdvance gypsy_next (gypsy_of self.old) (gypsy_of self.new)) }
+        ensures step { IfOkUnless (H.may_refuse heap) result
+            (IsAdvance gypsy_next (gypsy_of self.old) (gypsy_of self.new)) }
         ensures unchanged { OnErr result (gypsy_of self.new ≡ gypsy_of self.old) }
         ensures belongs { Belongs self.new }
     {
@@ -79,7 +82,7 @@ impl GypsyLevel {
         }
         let place = self.meaning.place();
         let depth = self.depth();
-        self.meaning.step(alloc, &self.accepted, &self.needs)?;
+        self.meaning.step(heap, &self.accepted, &self.needs)?;
         Ok(Advance::Makes(Event {
             place,
             depth,
@@ -88,34 +91,36 @@ impl GypsyLevel {
     }
 
     /// Appends the line of the place.
-    fn push_place(&self, alloc: Global, text: &mut Vec<u8>) -> Result<(), Memory>
+    fn push_place<H: Heap>(&self, heap: H, text: &mut Vec<u8>) -> Result<(), Memory>
         requires { Belongs self.now }
-        ensures { OnOk result (text.new.items ≡ text.old.items ++ gypsy_place_line (gypsy_of self.now)) }
+        ensures { OnOkUnless (H.may_refuse heap) result
+            (text.new.items ≡ text.old.items ++ gypsy_place_line (gypsy_of self.now)) }
     {
         if self.is_over() {
-            return Ok(text.extend_from_slice(b"ended\n")?);
+            heap.extend_from_slice(text, b"ended\n")?;
+            return Ok(());
         }
         let place = self.meaning.place();
         let depth = self.depth();
-        let line = format!(in alloc; "at {place} depth {depth}\n")?;
-        Ok(text.extend_from_slice(line.as_bytes())?)
+        push_counted(heap, text, b"at ", u64::from(place), b" depth ")?;
+        push_counted(heap, text, b"", u64::from(depth), b"\n")
     }
 
     /// The place, the condition, and the variables of the active procedure, as lines.
-    pub(crate) fn show(&self, alloc: Global) -> Result<Vec<u8>, Memory>
+    pub(crate) fn show<H: Heap>(&self, heap: H) -> Result<Vec<u8>, Memory>
         requires { Belongs self.now }
-        ensures { IfOk result (λ text. text.items ≡ gypsy_listing (gypsy_of self.now)) }
+        ensures { IfOkUnless (H.may_refuse heap) result (λ text. text.items ≡ gypsy_listing (gypsy_of self.now)) }
     {
-        let mut text = Vec::new(alloc);
-        self.push_place(alloc, &mut text)?;
-        push_run(alloc, &mut text, self.condition(), self.variables())?;
+        let mut text = Vec::new(heap.handle());
+        self.push_place(heap, &mut text)?;
+        push_run(heap, &mut text, self.condition(), self.variables())?;
         Ok(text)
     }
 
     /// The line that says that the run is one of the source itself.
-    pub(crate) fn up(alloc: Global) -> Result<Vec<u8>, Memory>
-        ensures { IfOk result (λ text. text.items ≡ gypsy_up) }
+    pub(crate) fn up<H: Heap>(heap: H) -> Result<Vec<u8>, Memory>
+        ensures { IfOkUnless (H.may_refuse heap) result (λ text. text.items ≡ gypsy_up) }
     {
-        Ok(b"top\n".to_vec(alloc)?)
+        Ok(heap.copied(b"top\n")?)
     }
 }

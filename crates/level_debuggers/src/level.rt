@@ -6,8 +6,8 @@ use crate::gypsy_level::GypsyLevel;
 use crate::piton_level::PitonLevel;
 use crate::runner::Runner;
 use debug_script::Place;
+use stack_heap::Heap;
 use stack_text::{Memory, Name};
-use std::alloc::Global;
 
 /// A run at one of the levels.
 #[derive(Drop)]
@@ -19,15 +19,16 @@ pub(crate) enum Level {
 
 impl Level {
     ghost use Rattle.std.specs.Prelude.{◌≡◌, IfOk, OnErr};
+    ghost use Rattle.stack_heap.specs.Heaps.{IfOkUnless};
     ghost use Rattle.std.specs.Option.{option_map};
     ghost use Rattle.level_debuggers.specs.Levels.{IsRunner, level_of, next_of, program_named, has_places, show_text, stands_at, up_text, words_text};
     ghost use Rattle.level_debuggers.specs.Views.Belonging.{IsLevel, level_seen};
     ghost use Rattle.level_debuggers.specs.Steps.{IsAdvance, is_over};
 
     /// The level of a runner. The only error is out of memory.
-    pub(crate) fn new(alloc: Global, runner: Runner) -> Result<Level, Memory>
+    pub(crate) fn new<H: Heap>(heap: H, runner: Runner) -> Result<Level, Memory>
         requires { IsRunner runner }
-        ensures seen { IfOk result (λ level. level_seen level ≡ level_of runner) }
+        ensures seen { IfOkUnless (H.may_refuse heap) result (λ level. level_seen level ≡ level_of runner) }
         ensures is { IfOk result IsLevel }
     {
         Ok(match runner {
@@ -44,7 +45,7 @@ impl Level {
                 checked,
                 image,
                 state,
-            } => Level::Piton(PitonLevel::new(alloc, checked, image, state)?),
+            } => Level::Piton(PitonLevel::new(heap, checked, image, state)?),
             Runner::Fm { image, machine } => Level::Fm(FmLevel::new(image, machine)),
         })
     }
@@ -83,14 +84,15 @@ impl Level {
     }
 
     /// Makes a step. Where memory runs out nothing has changed.
-    pub(crate) fn advance(&mut self, alloc: Global) -> Result<Advance, Memory>
+    pub(crate) fn advance<H: Heap>(&mut self, heap: H) -> Result<Advance, Memory>
         requires { IsLevel self.old }
-        ensures step { IfOk result (IsAdvance next_of (level_seen self.old) (level_seen self.new)) }
+        ensures step { IfOkUnless (H.may_refuse heap) result
+            (IsAdvance next_of (level_seen self.old) (level_seen self.new)) }
         ensures unchanged { OnErr result (level_seen self.new ≡ level_seen self.old) }
         ensures is { IsLevel self.new }
     {
         match self {
-            Level::Gypsy(level) => level.advance(alloc),
+            Level::Gypsy(level) => level.advance(heap),
             Level::Piton(level) => Ok(level.advance()),
             Level::Fm(level) => Ok(level.advance()),
         }
@@ -107,25 +109,25 @@ impl Level {
     }
 
     /// What is shown of the run, after so many steps of its session.
-    pub(crate) fn show(&self, alloc: Global, steps: u64) -> Result<Vec<u8>, Memory>
+    pub(crate) fn show<H: Heap>(&self, heap: H, steps: u64) -> Result<Vec<u8>, Memory>
         requires { IsLevel self.now }
-        ensures { IfOk result (λ text. text.items ≡ show_text (level_seen self.now) steps) }
+        ensures { IfOkUnless (H.may_refuse heap) result (λ text. text.items ≡ show_text (level_seen self.now) steps) }
     {
         match self {
-            Level::Gypsy(level) => level.show(alloc),
-            Level::Piton(level) => level.show(alloc),
-            Level::Fm(level) => level.show(alloc, steps),
+            Level::Gypsy(level) => level.show(heap),
+            Level::Piton(level) => level.show(heap),
+            Level::Fm(level) => level.show(heap, steps),
         }
     }
 
     /// What is known of the variables of the source.
-    pub(crate) fn up(&self, alloc: Global) -> Result<Vec<u8>, Memory>
-        ensures { IfOk result (λ text. text.items ≡ up_text (level_seen self.now)) }
+    pub(crate) fn up<H: Heap>(&self, heap: H) -> Result<Vec<u8>, Memory>
+        ensures { IfOkUnless (H.may_refuse heap) result (λ text. text.items ≡ up_text (level_seen self.now)) }
     {
         match self {
-            Level::Gypsy(_level) => GypsyLevel::up(alloc),
-            Level::Piton(level) => level.up(alloc),
-            Level::Fm(level) => level.up(alloc),
+            Level::Gypsy(_level) => GypsyLevel::up(heap),
+            Level::Piton(level) => level.up(heap),
+            Level::Fm(level) => level.up(heap),
         }
     }
 
@@ -156,17 +158,17 @@ impl Level {
     }
 
     /// So many words of memory from an address on, as lines, of a run that has one.
-    pub(crate) fn words(
+    pub(crate) fn words<H: Heap>(
         &self,
-        alloc: Global,
+        heap: H,
         address: u32,
         count: u32,
     ) -> Result<Option<Vec<u8>>, Memory>
-        ensures { IfOk result (λ text.
+        ensures { IfOkUnless (H.may_refuse heap) result (λ text.
             option_map (λ t. t.items) text ≡ words_text (level_seen self.now) address count) }
     {
         match self {
-            Level::Fm(level) => Ok(Some(level.words(alloc, address, count)?)),
+            Level::Fm(level) => Ok(Some(level.words(heap, address, count)?)),
             Level::Gypsy(_) | Level::Piton(_) => Ok(None),
         }
     }

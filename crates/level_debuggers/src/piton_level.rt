@@ -14,8 +14,8 @@ use piton_linker::PlacedSystem;
 use piton_machine::State;
 use piton_semantics::Stepped;
 use piton_words::Word;
+use stack_heap::Heap;
 use stack_text::{Memory, Name};
-use std::alloc::Global;
 use std::marker::Model;
 
 /// A state of a run of a system, and the image of the system. The system's addresses are made once, and serve each reading.
@@ -39,7 +39,8 @@ impl Model for PitonLevel {
 }
 
 impl PitonLevel {
-    ghost use Rattle.std.specs.Prelude.{◌≡◌, ◌≤◌, ◌^◌, IfOk, slice_get};
+    ghost use Rattle.std.specs.Prelude.{◌≡◌, ◌≤◌, ◌^◌, slice_get};
+    ghost use Rattle.stack_heap.specs.Heaps.{IfOkUnless};
     ghost use Rattle.piton_semantics.specs.Addresses.{numbers};
     ghost use Rattle.piton_semantics.specs.Fits.{Each, IsWordOf, system_in};
     ghost use Rattle.piton_semantics.specs.StateView.{IsSeen};
@@ -53,18 +54,19 @@ impl PitonLevel {
     ghost use Rattle.level_debuggers.specs.Standings.{standing_of};
 
     /// The level of a run, with its system's addresses. The only error is out of memory.
-    pub(crate) fn new(
-        alloc: Global,
+    pub(crate) fn new<H: Heap>(
+        heap: H,
         checked: Checked,
         image: Image,
         state: State,
     ) -> Result<PitonLevel, Memory>
         requires seen { IsSeen (system_in checked) state }
         requires small { (placed (system_in checked)).size ≤ 2 ^ 20 }
-        ensures { IfOk result (λ level. level ≡ record { checked = checked; image = image; seen = state }) }
+        ensures { IfOkUnless (H.may_refuse heap) result
+            (λ level. level ≡ record { checked = checked; image = image; seen = state }) }
     {
         Ok(PitonLevel {
-            placed: PlacedSystem::new(alloc, checked)?,
+            placed: PlacedSystem::new(heap, checked)?,
             image,
             state,
         })
@@ -125,28 +127,29 @@ impl PitonLevel {
     }
 
     /// The place, the locals of the newest frame, and the stack, as lines.
-    pub(crate) fn show(&self, alloc: Global) -> Result<Vec<u8>, Memory>
-        ensures { IfOk result (λ text. text.items ≡ piton_listing self.now.checked.system self.now.seen.state) }
+    pub(crate) fn show<H: Heap>(&self, heap: H) -> Result<Vec<u8>, Memory>
+        ensures { IfOkUnless (H.may_refuse heap) result
+            (λ text. text.items ≡ piton_listing self.now.checked.system self.now.seen.state) }
     {
-        piton_listing(alloc, self.placed.checked().system(), &self.state)
+        piton_listing(heap, self.placed.checked().system(), &self.state)
     }
 
     /// The numbers of the stack's elements, from the bottom up.
-    fn elements(&self, alloc: Global) -> Result<Vec<u32>, Memory>
-        ensures { IfOk result (λ numbers. numbers.items
+    fn elements<H: Heap>(&self, heap: H) -> Result<Vec<u32>, Memory>
+        ensures { IfOkUnless (H.may_refuse heap) result (λ numbers. numbers.items
             ≡ element_numbers (system_in self.now.checked) self.now.seen.state) }
     {
-        self.placed.numbers(alloc, self.state.stack())
+        self.placed.numbers(heap, self.state.stack())
     }
 
     /// The numbers of the words of all areas, one area after the other.
     #[tactic(auto, using(crate::proofs::AreaLaws::few_areas, crate::proofs::AreaLaws::same_count))]
-    fn area_numbers(&self, alloc: Global) -> Result<Vec<u32>, Memory>
-        ensures { IfOk result (λ made. made.items
+    fn area_numbers<H: Heap>(&self, heap: H) -> Result<Vec<u32>, Memory>
+        ensures { IfOkUnless (H.may_refuse heap) result (λ made. made.items
             ≡ numbers (addresses_of (system_in self.now.checked)) (area_words self.now.seen.state)) }
     {
-        let words = area_words(alloc, self.placed.checked().resolved(), &self.state)?;
-        self.placed.numbers(alloc, &words)
+        let words = area_words(heap, self.placed.checked().resolved(), &self.state)?;
+        self.placed.numbers(heap, &words)
     }
 
     /// Whether the stack has an element for each item of the image's slots.
@@ -158,35 +161,36 @@ impl PitonLevel {
     }
 
     /// What the state says of the variables.
-    fn reading(&self, alloc: Global, elements: &[u32]) -> Result<Reading, Memory>
+    fn reading<H: Heap>(&self, heap: H, elements: &[u32]) -> Result<Reading, Memory>
         requires { elements.now ≡ element_numbers (system_in self.now.checked) self.now.seen.state }
-        ensures { IfOk result (λ read.
+        ensures { IfOkUnless (H.may_refuse heap) result (λ read.
             read ≡ piton_reading_of (system_in self.now.checked) self.now.image self.now.seen.state) }
     {
         let layout = self.placed.layout();
-        let areas = self.area_numbers(alloc)?;
+        let areas = self.area_numbers(heap)?;
         Ok(Reading {
             condition: condition(
+                heap,
                 &self.image.conditions,
                 self.image.condition_address,
                 layout.areas_start,
                 &areas,
             )?,
-            items: variables(alloc, layout.end, elements, &self.image.slots)?,
+            items: variables(heap, layout.end, elements, &self.image.slots)?,
         })
     }
 
     /// At the end what the state says of the variables, as lines; where that cannot be read `no mark`.
-    fn end(&self, alloc: Global) -> Result<Vec<u8>, Memory>
-        ensures { IfOk result (λ text. text.items ≡ piton_end self.now) }
+    fn end<H: Heap>(&self, heap: H) -> Result<Vec<u8>, Memory>
+        ensures { IfOkUnless (H.may_refuse heap) result (λ text. text.items ≡ piton_end self.now) }
     {
-        let elements = self.elements(alloc)?;
+        let elements = self.elements(heap)?;
         if !self.is_covered(&elements) {
-            return no_mark(alloc);
+            return no_mark(heap);
         }
-        let reading = self.reading(alloc, &elements)?;
-        let mut text = Vec::new(alloc);
-        push_reading(alloc, &mut text, &self.image, &reading)?;
+        let reading = self.reading(heap, &elements)?;
+        let mut text = Vec::new(heap.handle());
+        push_reading(heap, &mut text, &self.image, &reading)?;
         Ok(text)
     }
 
@@ -231,25 +235,26 @@ impl PitonLevel {
     }
 
     /// Where the state stands.
-    fn standing<'a>(&'a self, alloc: Global) -> Result<PitonAt<'a>, Memory>
-        ensures { IfOk result (λ run. standing_of run ≡ piton_at (system_in self.now.checked) self.now.seen.state) }
+    fn standing<'a, H: Heap>(&'a self, heap: H) -> Result<PitonAt<'a>, Memory>
+        ensures { IfOkUnless (H.may_refuse heap) result
+            (λ run. standing_of run ≡ piton_at (system_in self.now.checked) self.now.seen.state) }
     {
         Ok(PitonAt {
             level: self,
-            areas: self.area_numbers(alloc)?,
+            areas: self.area_numbers(heap)?,
         })
     }
 
     /// What the state says of the variables, as lines: at the end of those of the image's slots, and before it of those of
     /// the procedure at whose mark it stands; elsewhere, and where that cannot be read, `no mark`.
     #[tactic(auto, unfolding(crate::specs::PitonReadings::piton_up))]
-    pub(crate) fn up(&self, alloc: Global) -> Result<Vec<u8>, Memory>
-        ensures { IfOk result (λ text. text.items ≡ piton_up self.now) }
+    pub(crate) fn up<H: Heap>(&self, heap: H) -> Result<Vec<u8>, Memory>
+        ensures { IfOkUnless (H.may_refuse heap) result (λ text. text.items ≡ piton_up self.now) }
     {
         if self.is_over() {
-            return self.end(alloc);
+            return self.end(heap);
         }
-        let standing = self.standing(alloc)?;
-        mark_text(alloc, read_from(alloc, &standing, &self.image)?)
+        let standing = self.standing(heap)?;
+        mark_text(heap, read_from(heap, &standing, &self.image)?)
     }
 }

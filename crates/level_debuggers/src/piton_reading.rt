@@ -1,6 +1,7 @@
 //! What a run of Piton's machine says of variables.
 
-ghost use Rattle.std.specs.Prelude.{◌≡◌, ◌≤◌, IfOk, length, map, unwrap_or};
+ghost use Rattle.std.specs.Prelude.{◌≡◌, ◌≤◌, length, map, unwrap_or};
+ghost use Rattle.stack_heap.specs.Heaps.{IfOkUnless};
 ghost use Rattle.std.specs.List.{list_all};
 ghost use Rattle.std.specs.Option.{option_map};
 ghost use Rattle.stack_text.specs.Values.{item_count};
@@ -14,8 +15,8 @@ use fm_image::Slot;
 use piton_check::Resolved;
 use piton_machine::State;
 use piton_words::Word;
+use stack_heap::Heap;
 use stack_text::{Memory, Name};
-use std::alloc::Global;
 
 /// The element at an address, where the stack ends below `above`; 0 where there is none.
 fn element_at(above: u64, elements: &[u32], address: u32) -> u32
@@ -42,34 +43,34 @@ pub(crate) fn covers_all(above: u64, elements: &[u32], slots: &[Slot]) -> bool
 }
 
 /// The items of a variable, from its address downwards.
-fn items_of(alloc: Global, above: u64, elements: &[u32], slot: &Slot) -> Result<Vec<Shown>, Memory>
-    ensures { IfOk result (λ items. items.items
+fn items_of<H: Heap>(heap: H, above: u64, elements: &[u32], slot: &Slot) -> Result<Vec<Shown>, Memory>
+    ensures { IfOkUnless (H.may_refuse heap) result (λ items. items.items
         ≡ map (item_of slot.now.shape.kind)
         (elements_down above elements.now slot.now.address (item_count slot.now.shape))) }
 {
-    let mut items = Vec::new(alloc);
+    let mut items = Vec::new(heap.handle());
     let mut address = slot.address;
     for _ in 0..slot.shape.item_count() {
-        items.push(item_of(slot.shape.kind, element_at(above, elements, address)))?;
+        heap.push(&mut items, item_of(slot.shape.kind, element_at(above, elements, address)))?;
         address = address.saturating_sub(1);
     }
     Ok(items)
 }
 
 /// The variables, each by its name and its items.
-pub(crate) fn variables(
-    alloc: Global,
+pub(crate) fn variables<H: Heap>(
+    heap: H,
     above: u64,
     elements: &[u32],
     slots: &[Slot],
 ) -> Result<Vec<(Name, Vec<Shown>)>, Memory>
-    ensures { IfOk result (λ variables.
+    ensures { IfOkUnless (H.may_refuse heap) result (λ variables.
         map (λ item. (item.0, item.1.items)) variables.items ≡ map (variable_at above elements.now) slots.now) }
 {
-    let mut variables = Vec::new(alloc);
+    let mut variables = Vec::new(heap.handle());
     for slot in slots {
-        let items = items_of(alloc, above, elements, slot)?;
-        variables.push((slot.name.clone()?, items))?;
+        let items = items_of(heap, above, elements, slot)?;
+        heap.push(&mut variables, (slot.name.copied(heap)?, items))?;
     }
     Ok(variables)
 }
@@ -94,17 +95,21 @@ fn number_at(start: u64, numbers: &[u32], address: u32) -> u32
 }
 
 /// The condition that the number at an image's condition address says, where the first of these stands at `start`.
-pub(crate) fn condition(
+pub(crate) fn condition<H: Heap>(
+    heap: H,
     names: &[Name],
     address: Option<u32>,
     start: u64,
     numbers: &[u32],
 ) -> Result<Option<Shown>, Memory>
-    ensures { IfOk result (λ condition. condition
+    ensures { IfOkUnless (H.may_refuse heap) result (λ condition. condition
         ≡ option_map (λ a. condition_of names.now (unwrap_or (word_at start numbers.now a) 0)) address) }
 {
     match address {
-        Some(address) => Ok(Some(condition_of(names, number_at(start, numbers, address))?)),
+        Some(address) => {
+            let condition = condition_of(heap, names, number_at(start, numbers, address))?;
+            Ok(Some(condition))
+        }
         None => Ok(None),
     }
 }
@@ -118,18 +123,18 @@ fn area_count(checked: &Resolved) -> u32
 }
 
 /// The words of all areas of a state of a system, one area after the other.
-pub(crate) fn area_words(
-    alloc: Global,
+pub(crate) fn area_words<H: Heap>(
+    heap: H,
     checked: &Resolved,
     state: &State,
 ) -> Result<Vec<Word>, Memory>
     requires few { length (system_view checked.now).areas ≤ 1000 }
     requires same { length state.now.state.areas ≡ length (system_view checked.now).areas }
-    ensures { IfOk result (λ words. words.items ≡ area_words state.now.state) }
+    ensures { IfOkUnless (H.may_refuse heap) result (λ words. words.items ≡ area_words state.now.state) }
 {
-    let mut words = Vec::new(alloc);
+    let mut words = Vec::new(heap.handle());
     for area in 0..area_count(checked) {
-        words.extend_from_slice(state.area(area))?;
+        heap.extend_from_slice(&mut words, state.area(area))?;
     }
     Ok(words)
 }

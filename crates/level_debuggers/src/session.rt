@@ -10,8 +10,8 @@ use crate::seats::{note_all, take_first};
 use crate::watch::{Event, Rule, Tally, Watch};
 use debug_script::Place;
 use piton_semantics::ErrorKind;
+use stack_heap::Heap;
 use stack_text::{Memory, Name};
-use std::alloc::Global;
 use thiserror::Error;
 
 /// How a call of `step` ended.
@@ -61,6 +61,7 @@ pub struct Session {
 
 impl Session {
     ghost use Rattle.std.specs.Prelude.{◌≡◌, [], map, IfOk, OnOk, OnErr, Some, None};
+    ghost use Rattle.stack_heap.specs.Heaps.{IfOkUnless};
     ghost use Rattle.std.specs.Option.{option_map};
     ghost use Rattle.level_debuggers.specs.Levels.{IsRunner, has_places, level_of, program_named, show_text, up_text, words_text};
     ghost use Rattle.level_debuggers.specs.Arrivals.{arrived};
@@ -71,13 +72,13 @@ impl Session {
 
     /// A session of a runner that has made no step, with these watches waiting. Room for all of them to be attached is
     /// taken here, and that of the addresses of a system of Piton.
-    pub fn new(
-        alloc: Global,
+    pub fn new<H: Heap>(
+        heap: H,
         runner: Runner,
         watches: Vec<Box<dyn Watch>>,
     ) -> Result<Session, Memory>
         requires { IsRunner runner }
-        ensures session { IfOk result (λ session. session_of (λ w. watching w) session
+        ensures session { IfOkUnless (H.may_refuse heap) result (λ session. session_of (λ w. watching w) session
             ≡ record {
               level = level_of runner;
               steps = 0;
@@ -86,9 +87,9 @@ impl Session {
             }) }
         ensures is { IfOk result IsSession }
     {
-        let attached = Vec::with_capacity(alloc, watches.len())?;
+        let attached = heap.with_room(watches.len())?;
         Ok(Session {
-            level: Level::new(alloc, runner)?,
+            level: Level::new(heap, runner)?,
             steps: 0,
             waiting: watches,
             attached,
@@ -153,16 +154,16 @@ impl Session {
     /// # Errors
     ///
     /// Out of memory: the steps that were made stand, and a further call goes on from them (`sessions_go_on`).
-    pub fn step(&mut self, alloc: Global, n: u64) -> Result<SessionRun, Memory>
+    pub fn step<H: Heap>(&mut self, heap: H, n: u64) -> Result<SessionRun, Memory>
         requires { IsSession self.old }
-        ensures ran { IfOk result (λ run. stepped n (session_of (λ w. watching w) self.old)
+        ensures ran { IfOkUnless (H.may_refuse heap) result (λ run. stepped n (session_of (λ w. watching w) self.old)
             ≡ record { run = run; session = session_of (λ w. watching w) self.new }) }
         ensures memory { OnErr result (HasMadeSome n (session_of (λ w. watching w) self.old)
             (session_of (λ w. watching w) self.new)) }
         ensures is { IsSession self.new }
     {
         for made in 0..n {
-            match self.level.advance(alloc)? {
+            match self.level.advance(heap)? {
                 Advance::Over => return Ok(SessionRun::Ended { count: made }),
                 Advance::Stops(stop) => return Ok(stop.after(self.steps)),
                 Advance::Makes(event) => self.note(&event),
@@ -190,9 +191,9 @@ impl Session {
     /// # Errors
     ///
     /// Out of memory: the steps that were made stand.
-    pub fn until(&mut self, alloc: Global, place: &Place, limit: u64) -> Result<Arrival, Memory>
+    pub fn until<H: Heap>(&mut self, heap: H, place: &Place, limit: u64) -> Result<Arrival, Memory>
         requires { IsSession self.old }
-        ensures ran { IfOk result (λ arrival.
+        ensures ran { IfOkUnless (H.may_refuse heap) result (λ arrival.
             arrived place.now limit (session_of (λ w. watching w) self.old)
             ≡ record { arrival = arrival; session = session_of (λ w. watching w) self.new }) }
         ensures memory { OnErr result (HasMadeSome limit (session_of (λ w. watching w) self.old)
@@ -203,7 +204,7 @@ impl Session {
             if self.level.stands_at(place) {
                 return Ok(Arrival::There { count: made });
             }
-            match self.level.advance(alloc)? {
+            match self.level.advance(heap)? {
                 Advance::Over => return Ok(Arrival::Elsewhere(SessionRun::Ended { count: made })),
                 Advance::Stops(stop) => return Ok(Arrival::Elsewhere(stop.after(self.steps))),
                 Advance::Makes(event) => self.note(&event),
@@ -222,11 +223,12 @@ impl Session {
     /// comes 0. `None` exactly at the other levels, where runs have no such memory.
     ///
     /// The only error is out of memory.
-    pub fn words(&self, alloc: Global, address: u32, count: u32) -> Result<Option<Vec<u8>>, Memory>
+    pub fn words<H: Heap>(&self, heap: H, address: u32, count: u32) -> Result<Option<Vec<u8>>, Memory>
         ensures { let session = session_of (λ w. watching w) self.now in
-            IfOk result (λ text. option_map (λ t. t.items) text ≡ words_text session.level address count) }
+            IfOkUnless (H.may_refuse heap) result
+                (λ text. option_map (λ t. t.items) text ≡ words_text session.level address count) }
     {
-        self.level.words(alloc, address, count)
+        self.level.words(heap, address, count)
     }
 
     /// The name of the program at a position, in a run of Piton's machine; where there is none there, that of the main program.
@@ -244,12 +246,12 @@ impl Session {
     /// up. At the level of the FM9001: the session's number of steps, the registers and the flags.
     ///
     /// The only error is out of memory.
-    pub fn show(&self, alloc: Global) -> Result<Vec<u8>, Memory>
+    pub fn show<H: Heap>(&self, heap: H) -> Result<Vec<u8>, Memory>
         requires { IsSession self.now }
         ensures { let session = session_of (λ w. watching w) self.now in
-            IfOk result (λ text. text.items ≡ show_text session.level session.steps) }
+            IfOkUnless (H.may_refuse heap) result (λ text. text.items ≡ show_text session.level session.steps) }
     {
-        self.level.show(alloc, self.steps)
+        self.level.show(heap, self.steps)
     }
 
     /// What the run says of the variables of its source, as lines. At the level of Micro-Gypsy: `top`. At the end of a run
@@ -262,11 +264,11 @@ impl Session {
     /// this needs is not there: `no mark`.
     ///
     /// The only error is out of memory.
-    pub fn up(&self, alloc: Global) -> Result<Vec<u8>, Memory>
+    pub fn up<H: Heap>(&self, heap: H) -> Result<Vec<u8>, Memory>
         ensures { let session = session_of (λ w. watching w) self.now in
-            IfOk result (λ text. text.items ≡ up_text session.level) }
+            IfOkUnless (H.may_refuse heap) result (λ text. text.items ≡ up_text session.level) }
     {
-        self.level.up(alloc)
+        self.level.up(heap)
     }
 
     /// Hands the run back as it stands: a session can begin with it again. Each watch, waiting or attached, is dropped. It

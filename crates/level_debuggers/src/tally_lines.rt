@@ -1,48 +1,68 @@
 //! Tallies as lines.
 
-ghost use Rattle.std.specs.Prelude.{◌≡◌, ◌++◌, OnOk};
+ghost use Rattle.std.specs.Prelude.{◌≡◌, ◌++◌};
+ghost use Rattle.stack_heap.specs.Heaps.{OnOkUnless};
+ghost use Rattle.std.specs.Fmt.{decimal};
 ghost use Rattle.level_debuggers.specs.Transcripts.{last_said, places_said, tally_said};
 
 use crate::watch::{Rule, Tally};
+use fm_show::push_number;
+use stack_heap::Heap;
 use stack_text::Memory;
-use std::alloc::Global;
+
+/// Appends a number between two texts.
+pub(crate) fn push_counted<H: Heap>(
+    heap: H,
+    text: &mut Vec<u8>,
+    before: &[u8],
+    number: u64,
+    after: &[u8],
+) -> Result<(), Memory>
+    ensures { OnOkUnless (H.may_refuse heap) result
+        (text.new.items ≡ text.old.items ++ (before.now ++ decimal number ++ after.now)) }
+{
+    heap.extend_from_slice(text, before)?;
+    push_number(heap, text, number)?;
+    heap.extend_from_slice(text, after)?;
+    Ok(())
+}
 
 /// Appends places, each behind a space.
-fn push_places(alloc: Global, text: &mut Vec<u8>, places: &[u32]) -> Result<(), Memory>
-    ensures { OnOk result (text.new.items ≡ text.old.items ++ places_said places.now) }
+fn push_places<H: Heap>(heap: H, text: &mut Vec<u8>, places: &[u32]) -> Result<(), Memory>
+    ensures { OnOkUnless (H.may_refuse heap) result (text.new.items ≡ text.old.items ++ places_said places.now) }
 {
     for place in places {
-        text.extend_from_slice(b" ")?;
-        text.extend_from_slice(place.to_string(alloc)?.as_bytes())?;
+        heap.extend_from_slice(text, b" ")?;
+        push_number(heap, text, *place)?;
     }
     Ok(())
 }
 
 /// Appends the line of the latest places that a tally has.
-fn push_last(alloc: Global, text: &mut Vec<u8>, tally: &Tally) -> Result<(), Memory>
-    ensures { OnOk result (text.new.items ≡ text.old.items ++ last_said tally.now) }
+fn push_last<H: Heap>(heap: H, text: &mut Vec<u8>, tally: &Tally) -> Result<(), Memory>
+    ensures { OnOkUnless (H.may_refuse heap) result (text.new.items ≡ text.old.items ++ last_said tally.now) }
 {
     let earlier = 8 - tally.count.min(8) as usize;
-    text.extend_from_slice(b"last")?;
-    push_places(alloc, text, &tally.last[earlier..])?;
-    Ok(text.extend_from_slice(b"\n")?)
+    heap.extend_from_slice(text, b"last")?;
+    push_places(heap, text, &tally.last[earlier..])?;
+    heap.extend_from_slice(text, b"\n")?;
+    Ok(())
 }
 
 /// Appends the line of a tally that was kept by a rule.
-pub(crate) fn push_tally(
-    alloc: Global,
+pub(crate) fn push_tally<H: Heap>(
+    heap: H,
     text: &mut Vec<u8>,
     rule: Rule,
     tally: &Tally,
 ) -> Result<(), Memory>
-    ensures { OnOk result (text.new.items ≡ text.old.items ++ tally_said rule tally.now) }
+    ensures { OnOkUnless (H.may_refuse heap) result (text.new.items ≡ text.old.items ++ tally_said rule tally.now) }
 {
     let (count, peak) = (tally.count, tally.peak);
-    let line = match rule {
-        Rule::Count => format!(in alloc; "count {count}\n")?,
-        Rule::Cost => format!(in alloc; "cost {count}\n")?,
-        Rule::Peak => format!(in alloc; "peak {peak}\n")?,
-        Rule::Last => return push_last(alloc, text, tally),
-    };
-    Ok(text.extend_from_slice(line.as_bytes())?)
+    match rule {
+        Rule::Count => push_counted(heap, text, b"count ", count, b"\n"),
+        Rule::Cost => push_counted(heap, text, b"cost ", count, b"\n"),
+        Rule::Peak => push_counted(heap, text, b"peak ", u64::from(peak), b"\n"),
+        Rule::Last => push_last(heap, text, tally),
+    }
 }

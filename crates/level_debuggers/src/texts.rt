@@ -1,25 +1,26 @@
 //! Texts of a session.
 
-ghost use Rattle.std.specs.Prelude.{◌≡◌, IfOk};
+ghost use Rattle.std.specs.Prelude.{◌≡◌};
+ghost use Rattle.stack_heap.specs.Heaps.{IfOkUnless};
 ghost use Rattle.level_debuggers.specs.Texts.{mark_text, no_mark};
 
 use display_maps::{ReadingAt, report_at};
+use stack_heap::Heap;
 use stack_text::Memory;
-use std::alloc::Global;
 
 /// The line where nothing is known of the source.
-pub(crate) fn no_mark(alloc: Global) -> Result<Vec<u8>, Memory>
-    ensures { IfOk result (λ text. text.items ≡ no_mark) }
+pub(crate) fn no_mark<H: Heap>(heap: H) -> Result<Vec<u8>, Memory>
+    ensures { IfOkUnless (H.may_refuse heap) result (λ text. text.items ≡ no_mark) }
 {
-    Ok(b"no mark\n".to_vec(alloc)?)
+    Ok(heap.copied(b"no mark\n")?)
 }
 
 /// What is read at a mark, as lines; or that there is none.
-pub(crate) fn mark_text(alloc: Global, read: Option<ReadingAt>) -> Result<Vec<u8>, Memory>
-    ensures { IfOk result (λ text. text.items ≡ mark_text read) }
+pub(crate) fn mark_text<H: Heap>(heap: H, read: Option<ReadingAt>) -> Result<Vec<u8>, Memory>
+    ensures { IfOkUnless (H.may_refuse heap) result (λ text. text.items ≡ mark_text read) }
 {
     match read {
-        Some(read) => report_at(alloc, &read),
-        None => no_mark(alloc),
+        Some(read) => report_at(heap, &read),
+        None => no_mark(heap),
     }
 }

@@ -1,6 +1,7 @@
 //! Scripts, line by line.
 
 ghost use Rattle.std.specs.Prelude.{◌≡◌, ◌++◌, IfOk, OnErr};
+ghost use Rattle.stack_heap.specs.Heaps.{IfOkUnless};
 ghost use Rattle.level_debuggers.specs.Views.Sessions.{IsSession, session_of};
 ghost use Rattle.level_debuggers.specs.Transcripts.{IsLeftBy, IsLeftIn, IsSaid, arrival_end, arrival_text, attach_said, attached_word, detach_said, followed, rule_of_word, run_end, run_text, said_to, until_said, words_said};
 ghost use Rattle.level_debuggers.specs.Levels.{words_text};
@@ -9,11 +10,11 @@ ghost use Rattle.level_debuggers.specs.Walks.{HasMadeSome};
 use crate::arrival::Arrival;
 use crate::script_end::ScriptEnd;
 use crate::session::{Session, SessionRun};
-use crate::tally_lines::push_tally;
+use crate::tally_lines::{push_counted, push_tally};
 use crate::watch::Rule;
 use debug_script::{Command, Line, Place, WatchWord};
+use stack_heap::Heap;
 use stack_text::Memory;
-use std::alloc::Global;
 
 /// The rule of a watch that a script names.
 fn rule_of_word(watch: WatchWord) -> Rule
@@ -28,32 +29,32 @@ fn rule_of_word(watch: WatchWord) -> Rule
 }
 
 /// Appends what the end of a call of `step` says; and how the script ends where a step was refused.
-fn push_run(alloc: Global, text: &mut Vec<u8>, run: SessionRun) -> Result<Option<ScriptEnd>, Memory>
-    ensures text { IfOk result (λ end. text.new.items ≡ text.old.items ++ run_text run) }
+fn push_run<H: Heap>(heap: H, text: &mut Vec<u8>, run: SessionRun) -> Result<Option<ScriptEnd>, Memory>
+    ensures text { IfOkUnless (H.may_refuse heap) result (λ end. text.new.items ≡ text.old.items ++ run_text run) }
     ensures end { IfOk result (λ end. end ≡ run_end run) }
 {
-    let line = match run {
-        SessionRun::Moved { count } => format!(in alloc; "stepped {count}\n")?,
-        SessionRun::Ended { count } => format!(in alloc; "stepped {count} ended\n")?,
+    match run {
+        SessionRun::Moved { count } => {
+            push_counted(heap, text, b"stepped ", count, b"\n")?;
+            Ok(None)
+        }
+        SessionRun::Ended { count } => {
+            push_counted(heap, text, b"stepped ", count, b" ended\n")?;
+            Ok(None)
+        }
         SessionRun::Error {
             kind,
             program,
             place,
             after,
-        } => {
-            return Ok(Some(ScriptEnd::Error {
-                kind,
-                program,
-                place,
-                after,
-            }));
-        }
-        SessionRun::Outside { address, after } => {
-            return Ok(Some(ScriptEnd::Outside { address, after }));
-        }
-    };
-    text.extend_from_slice(line.as_bytes())?;
-    Ok(None)
+        } => Ok(Some(ScriptEnd::Error {
+            kind,
+            program,
+            place,
+            after,
+        })),
+        SessionRun::Outside { address, after } => Ok(Some(ScriptEnd::Outside { address, after })),
+    }
 }
 
 /// The line that says that a watch was attached.
@@ -69,14 +70,15 @@ fn attached_line(watch: WatchWord) -> &'static [u8]
 }
 
 /// Attaches a watch, by the command of a line.
-fn push_attach(
+fn push_attach<H: Heap>(
+    heap: H,
     session: &mut Session,
     line: u32,
     watch: WatchWord,
     text: &mut Vec<u8>,
 ) -> Result<Option<ScriptEnd>, Memory>
     requires { IsSession session.old }
-    ensures said { IfOk result (λ end.
+    ensures said { IfOkUnless (H.may_refuse heap) result (λ end.
         IsSaid (attach_said line watch (session_of (λ w. watching w) session.old))
         text.old.items text.new.items end (session_of (λ w. watching w) session.new)) }
     ensures memory { OnErr result (session_of (λ w. watching w) session.new
@@ -85,7 +87,7 @@ fn push_attach(
 {
     match session.attach(rule_of_word(watch)) {
         Ok(()) => {
-            text.extend_from_slice(attached_line(watch))?;
+            heap.extend_from_slice(text, attached_line(watch))?;
             Ok(None)
         }
         Err(_absent) => Ok(Some(ScriptEnd::NoneWaits { line })),
@@ -93,15 +95,15 @@ fn push_attach(
 }
 
 /// Detaches a watch, by the command of a line.
-fn push_detach(
-    alloc: Global,
+fn push_detach<H: Heap>(
+    heap: H,
     session: &mut Session,
     line: u32,
     watch: WatchWord,
     text: &mut Vec<u8>,
 ) -> Result<Option<ScriptEnd>, Memory>
     requires { IsSession session.old }
-    ensures said { IfOk result (λ end.
+    ensures said { IfOkUnless (H.may_refuse heap) result (λ end.
         IsSaid (detach_said line watch (session_of (λ w. watching w) session.old))
         text.old.items text.new.items end (session_of (λ w. watching w) session.new)) }
     ensures memory { OnErr result (session_of (λ w. watching w) session.new
@@ -111,7 +113,7 @@ fn push_detach(
     let rule = rule_of_word(watch);
     match session.detach(rule) {
         Ok(tally) => {
-            push_tally(alloc, text, rule, &tally)?;
+            push_tally(heap, text, rule, &tally)?;
             Ok(None)
         }
         Err(_absent) => Ok(Some(ScriptEnd::NoneAttached { line })),
@@ -119,8 +121,8 @@ fn push_detach(
 }
 
 /// Appends words of memory, by the command of a line.
-fn push_words(
-    alloc: Global,
+fn push_words<H: Heap>(
+    heap: H,
     session: &Session,
     line: u32,
     address: u32,
@@ -128,12 +130,13 @@ fn push_words(
     text: &mut Vec<u8>,
 ) -> Result<Option<ScriptEnd>, Memory>
     ensures { let session = session_of (λ w. watching w) session.now in
-        IfOk result (λ end. IsSaid (words_said line session (words_text session.level address count))
+        IfOkUnless (H.may_refuse heap) result
+            (λ end. IsSaid (words_said line session (words_text session.level address count))
         text.old.items text.new.items end session) }
 {
-    match session.words(alloc, address, count)? {
+    match session.words(heap, address, count)? {
         Some(words) => {
-            text.extend_from_slice(&words)?;
+            heap.extend_from_slice(text, &words)?;
             Ok(None)
         }
         None => Ok(Some(ScriptEnd::OtherLevel { line })),
@@ -141,27 +144,27 @@ fn push_words(
 }
 
 /// Appends what the end of a call of `until` says; and how the script ends where a step was refused.
-fn push_arrival(
-    alloc: Global,
+fn push_arrival<H: Heap>(
+    heap: H,
     text: &mut Vec<u8>,
     arrival: Arrival,
 ) -> Result<Option<ScriptEnd>, Memory>
-    ensures text { IfOk result (λ end. text.new.items ≡ text.old.items ++ arrival_text arrival) }
+    ensures text { IfOkUnless (H.may_refuse heap) result
+        (λ end. text.new.items ≡ text.old.items ++ arrival_text arrival) }
     ensures end { IfOk result (λ end. end ≡ arrival_end arrival) }
 {
     match arrival {
         Arrival::There { count } => {
-            let line = format!(in alloc; "arrived {count}\n")?;
-            text.extend_from_slice(line.as_bytes())?;
+            push_counted(heap, text, b"arrived ", count, b"\n")?;
             Ok(None)
         }
-        Arrival::Elsewhere(run) => push_run(alloc, text, run),
+        Arrival::Elsewhere(run) => push_run(heap, text, run),
     }
 }
 
 /// Goes on to a place, by the command of a line.
-fn push_until(
-    alloc: Global,
+fn push_until<H: Heap>(
+    heap: H,
     session: &mut Session,
     line: u32,
     place: &Place,
@@ -169,7 +172,7 @@ fn push_until(
     text: &mut Vec<u8>,
 ) -> Result<Option<ScriptEnd>, Memory>
     requires { IsSession session.old }
-    ensures said { IfOk result (λ end.
+    ensures said { IfOkUnless (H.may_refuse heap) result (λ end.
         IsSaid (until_said line place.now limit (session_of (λ w. watching w) session.old))
         text.old.items text.new.items end (session_of (λ w. watching w) session.new)) }
     ensures memory { OnErr result (HasMadeSome limit
@@ -179,19 +182,19 @@ fn push_until(
     if !session.has_places(place) {
         return Ok(Some(ScriptEnd::OtherLevel { line }));
     }
-    let arrival = session.until(alloc, place, limit)?;
-    push_arrival(alloc, text, arrival)
+    let arrival = session.until(heap, place, limit)?;
+    push_arrival(heap, text, arrival)
 }
 
 /// Carries out the command of a line, and appends what the session says; and how the script ends, where it ends here.
-pub fn push_answer(
-    alloc: Global,
+pub fn push_answer<H: Heap>(
+    heap: H,
     session: &mut Session,
     line: &Line,
     text: &mut Vec<u8>,
 ) -> Result<Option<ScriptEnd>, Memory>
     requires { IsSession session.old }
-    ensures said { IfOk result (λ end.
+    ensures said { IfOkUnless (H.may_refuse heap) result (λ end.
         IsSaid (said_to line.now (session_of (λ w. watching w) session.old))
         text.old.items text.new.items end (session_of (λ w. watching w) session.new)) }
     ensures memory { OnErr result (IsLeftBy line.now.line line.now.command
@@ -200,24 +203,24 @@ pub fn push_answer(
 {
     match &line.command {
         Command::Step { count } => {
-            let run = session.step(alloc, *count)?;
-            push_run(alloc, text, run)
+            let run = session.step(heap, *count)?;
+            push_run(heap, text, run)
         }
         Command::Show => {
-            text.extend_from_slice(session.show(alloc)?.as_slice())?;
+            heap.extend_from_slice(text, session.show(heap)?.as_slice())?;
             Ok(None)
         }
         Command::Up => {
-            text.extend_from_slice(session.up(alloc)?.as_slice())?;
+            heap.extend_from_slice(text, session.up(heap)?.as_slice())?;
             Ok(None)
         }
-        Command::Attach { watch } => push_attach(session, line.line, *watch, text),
-        Command::Detach { watch } => push_detach(alloc, session, line.line, *watch, text),
+        Command::Attach { watch } => push_attach(heap, session, line.line, *watch, text),
+        Command::Detach { watch } => push_detach(heap, session, line.line, *watch, text),
         Command::Words { address, count } => {
-            push_words(alloc, session, line.line, *address, *count, text)
+            push_words(heap, session, line.line, *address, *count, text)
         }
         Command::Until { place, limit } => {
-            push_until(alloc, session, line.line, place, *limit, text)
+            push_until(heap, session, line.line, place, *limit, text)
         }
     }
 }
@@ -228,14 +231,14 @@ pub fn push_answer(
 /// # Errors
 ///
 /// Out of memory: the commands and the steps that were carried out stand; no clause says what the text holds then.
-pub fn follow(
-    alloc: Global,
+pub fn follow<H: Heap>(
+    heap: H,
     session: &mut Session,
     lines: &[Line],
     text: &mut Vec<u8>,
 ) -> Result<ScriptEnd, Memory>
     requires { IsSession session.old }
-    ensures followed { IfOk result (λ end.
+    ensures followed { IfOkUnless (H.may_refuse heap) result (λ end.
         followed text.old.items lines.now (session_of (λ w. watching w) session.old)
         ≡ record {
           text = text.new.items;
@@ -247,7 +250,7 @@ pub fn follow(
     ensures is { IsSession session.new }
 {
     for line in lines {
-        if let Some(end) = push_answer(alloc, session, line, text)? {
+        if let Some(end) = push_answer(heap, session, line, text)? {
             return Ok(end);
         }
     }

@@ -8,7 +8,7 @@ use Rattle.level_debuggers.proofs.ElementLaws.{elements_next}
 use Rattle.level_debuggers.proofs.piton_reading.items_of.Goals as goal
 
 pub loop-preserved : goal.loop-preserved
-loop-preserved c =
+loop-preserved g c =
     let elements : List ℕ = c.args.elements.now in
     let kind : Kind = c.args.slot.now.shape.kind in
     let n : ℕ = item_count c.args.slot.now.shape in
@@ -17,7 +17,7 @@ loop-preserved c =
     let rest : List Shown = map (item_of kind) (elements_down c.args.above elements (c.loop.address - 1) left) in
     let below : c.saturating_sub-address.result ≡ c.loop.address - 1 = search rules in
     let item : c.item_of.result ≡ item_of kind (element_at c.args.above elements c.loop.address) = search rules in
-    ap (λ (a : ℕ). c.push.new.self.items ++ map (item_of kind) (elements_down c.args.above elements a left)) below
+    ap (λ (a : ℕ). c.push.new.items.items ++ map (item_of kind) (elements_down c.args.above elements a left)) below
     ∙ ap (λ (xs : List Shown). xs ++ rest) c.in_ok-push.ensures.items
     ∙ append_assoc so_far (c.item_of.result ∷ []) rest
     ∙ ap (λ (x : Shown). so_far ++ x ∷ rest) item

@@ -6,6 +6,6 @@ use Rattle.level_debuggers.proofs.piton_reading.items_of.Given as goal
 
 -- the items so far and those of what is left are those of the whole variable
 abbrev pub invariant-loop : goal.invariant-loop
-invariant-loop l =
+invariant-loop g l =
     l.items.items ++ map (item_of l.slot.shape.kind) (elements_down l.above l.elements l.address (item_count l.slot.shape - l.counter))
     ≡ map (item_of l.slot.shape.kind) (elements_down l.above l.elements l.slot.address (item_count l.slot.shape))
