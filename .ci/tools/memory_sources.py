@@ -273,7 +273,7 @@ MISTAKES = [
     Mistake("crates/fm_image/src/writing.rt", "    let name = name.bytes();", "    Err(AllocFailed { value: 1 })?;", "AllocFailed"),
     Mistake("crates/fm_image/src/writing.rt", "extend_from_slice(bytes, name)?", "extend_from_slice(bytes, name).map_err(|_| Memory)?", "Memory"),
     # An arm of another fault, of any fault, of out of memory or another fault, and of a test of something else.
-    Mistake("crates/command_replies/src/show.rt", "Ok(Plan::verdict_alone(alloc, Verdict::Image { rule, place }))", "Err(Memory)", "Memory"),
+    Mistake("crates/command_replies/src/show.rt", "Ok(Plan::verdict_alone(heap.handle(), Verdict::Image { rule, place }))", "Err(Memory)", "Memory"),
     Mistake("crates/command_replies/src/show.rt", "Err(ImageFault::Memory) =>", "Err(_) =>", "Err(Memory)"),
     Mistake("crates/command_replies/src/show.rt", "Err(ImageFault::Memory) =>", "Err(ImageFault::Memory | ImageFault::Other) =>", "Err(Memory)"),
     Mistake("crates/command_line/src/status.rt", "== io::ErrorKind::OutOfMemory =>", "== io::ErrorKind::NotFound =>", "Status::OutOfMemory"),

@@ -1,7 +1,8 @@
 //! What commands reply, and the commands that read no source of Micro-Gypsy: what each makes of its texts.
 #![tactic(auto)]
 
-ghost use Rattle.std.specs.Prelude.{◌≡◌, IfOk};
+ghost use Rattle.std.specs.Prelude.{◌≡◌};
+ghost use Rattle.stack_heap.specs.Heaps.{IfOkUnless};
 ghost use Rattle.command_replies.specs.Plans.{pending_reply};
 ghost use Rattle.command_replies.specs.Replies.{reply_of};
 
@@ -22,15 +23,15 @@ pub use image_run::ImageRun;
 pub use piton_text::read_checked;
 pub use plan::{Pending, Plan};
 pub use reply::{Reply, RuleLetter, SizeOf, Verdict, text_rule_number};
+use stack_heap::Heap;
 use stack_text::Memory;
-use std::alloc::Global;
 
 /// The reply of what a plan has left.
-pub fn complete(alloc: Global, pending: Pending) -> Result<Reply, Memory>
-    ensures { IfOk result (λ reply. reply_of reply ≡ pending_reply pending) }
+pub fn complete<H: Heap>(heap: H, pending: Pending) -> Result<Reply, Memory>
+    ensures { IfOkUnless (H.may_refuse heap) result (λ reply. reply_of reply ≡ pending_reply pending) }
 {
     match pending {
         Pending::Reply(reply) => Ok(reply),
-        Pending::Run(run) => run::run_image(alloc, &run),
+        Pending::Run(run) => run::run_image(heap, &run),
     }
 }

@@ -1,5 +1,6 @@
 //! The command `migrate`.
 ghost use Rattle.std.specs.Prelude.{◌≡◌, Some, IfOk};
+ghost use Rattle.stack_heap.specs.Heaps.{IfOkUnless};
 ghost use Rattle.fm_image.specs.Limits.{in_version_2};
 ghost use Rattle.fm_image.specs.Spelling.{spelling};
 ghost use Rattle.command_replies.specs.Commands.Migrate.{migrate_stored, migrate_reply};
@@ -10,29 +11,30 @@ use crate::plan::Plan;
 use crate::reply::Verdict;
 use command_line::FileName;
 use fm_image::{Image, ImageFault, in_version_2, read_image, write_image};
+use stack_heap::Heap;
 use stack_text::{Memory, Seq};
-use std::alloc::Global;
 
 /// What `migrate` stores under this name, and what is left to do.
-pub fn prepare(alloc: Global, image: &[u8], name: &FileName) -> Result<Plan, Memory>
-    ensures stored { IfOk result (λ plan. plan.stored ≡ migrate_stored image.now) }
+pub fn prepare<H: Heap>(heap: H, image: &[u8], name: &FileName) -> Result<Plan, Memory>
+    ensures stored { IfOkUnless (H.may_refuse heap) result (λ plan. plan.stored ≡ migrate_stored image.now) }
     ensures reply { IfOk result (λ plan. pending_reply plan.pending ≡ migrate_reply name.now image.now) }
 {
-    match read_image(alloc, image) {
-        Ok(image) => store(alloc, image, name),
+    match read_image(heap, image) {
+        Ok(image) => store(heap, image, name),
         Err(ImageFault::Refused { rule, place }) => {
-            Ok(Plan::verdict_alone(alloc, Verdict::Image { rule, place }))
+            Ok(Plan::verdict_alone(heap.handle(), Verdict::Image { rule, place }))
         }
         Err(ImageFault::Memory) => Err(Memory),
     }
 }
 
 /// Stores the file of an image in version 2, and says under which name.
-fn store(alloc: Global, image: Image, name: &FileName) -> Result<Plan, Memory>
-    ensures stored { IfOk result (λ plan. plan.stored ≡ Some (spelling (in_version_2 image))) }
+fn store<H: Heap>(heap: H, image: Image, name: &FileName) -> Result<Plan, Memory>
+    ensures stored { IfOkUnless (H.may_refuse heap) result
+        (λ plan. plan.stored ≡ Some (spelling (in_version_2 image))) }
     ensures reply { IfOk result (λ plan. pending_reply plan.pending ≡ written_reply name.now) }
 {
     let image = in_version_2(image);
-    let file = Seq::from_vec(write_image(alloc, &image)?);
-    Plan::written(alloc, name, file)
+    let file = Seq::from_vec(write_image(heap, &image)?);
+    Plan::written(heap, name, file)
 }

@@ -1,5 +1,6 @@
 //! The command `mini`.
 ghost use Rattle.std.specs.Prelude.{◌≡◌, ◌≤◌, ◌^◌, Some, IfOk, length};
+ghost use Rattle.stack_heap.specs.Heaps.{IfOkUnless};
 ghost use Rattle.gypsy_syntax.specs.Printed.{gypsy_text};
 ghost use Rattle.gypsy_syntax.specs.Views.SourceView.{source_of};
 ghost use Rattle.command_replies.specs.Commands.Mini.{mini_stored, mini_reply};
@@ -12,24 +13,24 @@ use command_line::FileName;
 use gypsy_check::Accepted;
 use gypsy_syntax::print_gypsy;
 use mini_gypsy::{MiniFault, lower};
+use stack_heap::Heap;
 use stack_text::{Memory, Seq};
-use std::alloc::Global;
 
 /// What `mini` stores under this name, and what is left to do.
-pub fn prepare(alloc: Global, program: &[u8], name: &FileName) -> Result<Plan, Memory>
+pub fn prepare<H: Heap>(heap: H, program: &[u8], name: &FileName) -> Result<Plan, Memory>
     requires { length program.now ≤ 2 ^ 20 }
-    ensures stored { IfOk result (λ plan. plan.stored ≡ mini_stored program.now) }
+    ensures stored { IfOkUnless (H.may_refuse heap) result (λ plan. plan.stored ≡ mini_stored program.now) }
     ensures reply { IfOk result (λ plan. pending_reply plan.pending ≡ mini_reply name.now program.now) }
 {
-    match lower(alloc, program) {
-        Ok(accepted) => store(alloc, &accepted, name),
+    match lower(heap, program) {
+        Ok(accepted) => store(heap, &accepted, name),
         Err(
             MiniFault::Refused {
                 rule: number,
                 place,
             },
         ) => Ok(Plan::verdict_alone(
-            alloc,
+            heap.handle(),
             Verdict::Refused {
                 letter: RuleLetter::Y,
                 number,
@@ -41,10 +42,11 @@ pub fn prepare(alloc: Global, program: &[u8], name: &FileName) -> Result<Plan, M
 }
 
 /// Stores the text of an accepted source, and says under which name.
-fn store(alloc: Global, accepted: &Accepted, name: &FileName) -> Result<Plan, Memory>
-    ensures stored { IfOk result (λ plan. plan.stored ≡ Some (gypsy_text (source_of accepted.now))) }
+fn store<H: Heap>(heap: H, accepted: &Accepted, name: &FileName) -> Result<Plan, Memory>
+    ensures stored { IfOkUnless (H.may_refuse heap) result
+        (λ plan. plan.stored ≡ Some (gypsy_text (source_of accepted.now))) }
     ensures reply { IfOk result (λ plan. pending_reply plan.pending ≡ written_reply name.now) }
 {
-    let file = Seq::from_vec(print_gypsy(alloc, accepted.source())?);
-    Plan::written(alloc, name, file)
+    let file = Seq::from_vec(print_gypsy(heap, accepted.source())?);
+    Plan::written(heap, name, file)
 }

@@ -4,6 +4,8 @@ use crate::image_run::ImageRun;
 use crate::reply::{Reply, Verdict};
 use command_line::FileName;
 use fm_image::{Image, write_image};
+use fm_show::push_number;
+use stack_heap::Heap;
 use stack_text::{Memory, Seq};
 use std::alloc::Global;
 
@@ -27,32 +29,35 @@ pub struct Plan {
 
 impl Plan {
     ghost use Rattle.std.specs.Prelude.{◌≡◌, Some, None, IfOk, codes};
+    ghost use Rattle.stack_heap.specs.Heaps.{IfOkUnless};
     ghost use Rattle.stack_text.specs.Lines.{line};
     ghost use Rattle.fm_image.specs.Spelling.{spelling};
     ghost use Rattle.command_replies.specs.Replies.{built_reply, written_reply, verdict_alone, all_said};
     ghost use Rattle.command_replies.specs.Plans.{pending_reply};
 
     /// Stores nothing, and replies a verdict alone. It takes no memory.
-    pub fn verdict_alone(alloc: Global, verdict: Verdict) -> Plan
+    pub fn verdict_alone(handle: Global, verdict: Verdict) -> Plan
         ensures stored { result.stored ≡ None }
         ensures reply { pending_reply result.pending ≡ verdict_alone verdict }
     {
         Plan {
             stored: None,
-            pending: Pending::Reply(Reply::verdict_alone(alloc, verdict)),
+            pending: Pending::Reply(Reply::verdict_alone(handle, verdict)),
         }
     }
 
     /// Stores an image's file, and says how many words its window has.
-    pub fn stores_image(alloc: Global, size: u32, file: Seq<u8>) -> Result<Plan, Memory>
-        ensures stored { IfOk result (λ plan. plan.stored ≡ Some file) }
+    pub fn stores_image<H: Heap>(heap: H, size: u32, file: Seq<u8>) -> Result<Plan, Memory>
+        ensures stored { IfOkUnless (H.may_refuse heap) result (λ plan. plan.stored ≡ Some file) }
         ensures reply { IfOk result (λ plan. pending_reply plan.pending ≡ built_reply size) }
     {
-        let said = format!(in alloc; "built {size}\n")?;
+        let mut said = heap.copied(b"built ")?;
+        push_number(heap, &mut said, size)?;
+        heap.push(&mut said, b'\n')?;
         Ok(Plan {
             stored: Some(file),
             pending: Pending::Reply(Reply {
-                said: Seq::from_vec(said.into_bytes()),
+                said: Seq::from_vec(said),
                 verdict: Verdict::Done,
                 machine: None,
             }),
@@ -60,16 +65,17 @@ impl Plan {
     }
 
     /// Stores a file, and says under which name.
-    pub fn written(alloc: Global, name: &FileName, file: Seq<u8>) -> Result<Plan, Memory>
-        ensures stored { IfOk result (λ plan. plan.stored ≡ Some file) }
+    pub fn written<H: Heap>(heap: H, name: &FileName, file: Seq<u8>) -> Result<Plan, Memory>
+        ensures stored { IfOkUnless (H.may_refuse heap) result (λ plan. plan.stored ≡ Some file) }
         ensures reply { IfOk result (λ plan. pending_reply plan.pending ≡ written_reply name.now) }
     {
-        let name = name.as_str();
-        let said = format!(in alloc; "written {name}\n")?;
+        let mut said = heap.copied(b"written ")?;
+        heap.extend_from_slice(&mut said, name.as_str().as_bytes())?;
+        heap.push(&mut said, b'\n')?;
         Ok(Plan {
             stored: Some(file),
             pending: Pending::Reply(Reply {
-                said: Seq::from_vec(said.into_bytes()),
+                said: Seq::from_vec(said),
                 verdict: Verdict::Done,
                 machine: None,
             }),
@@ -92,19 +98,19 @@ impl Plan {
     }
 
     /// Stores an image, and says how many words its window has.
-    pub fn holds_image(alloc: Global, image: &Image) -> Result<Plan, Memory>
-        ensures stored { IfOk result (λ plan. plan.stored ≡ Some (spelling image.now)) }
+    pub fn holds_image<H: Heap>(heap: H, image: &Image) -> Result<Plan, Memory>
+        ensures stored { IfOkUnless (H.may_refuse heap) result (λ plan. plan.stored ≡ Some (spelling image.now)) }
         ensures reply { IfOk result (λ plan. pending_reply plan.pending ≡ built_reply image.now.size) }
     {
-        let file = Seq::from_vec(write_image(alloc, image)?);
-        Plan::stores_image(alloc, image.size, file)
+        let file = Seq::from_vec(write_image(heap, image)?);
+        Plan::stores_image(heap, image.size, file)
     }
 
     /// Stores nothing, and replies that a text was accepted.
-    pub fn says_ok(alloc: Global) -> Result<Plan, Memory>
-        ensures stored { IfOk result (λ plan. plan.stored ≡ None) }
+    pub fn says_ok<H: Heap>(heap: H) -> Result<Plan, Memory>
+        ensures stored { IfOkUnless (H.may_refuse heap) result (λ plan. plan.stored ≡ None) }
         ensures reply { IfOk result (λ plan. pending_reply plan.pending ≡ all_said (line (codes "ok"))) }
     {
-        Ok(Plan::all_said(Seq::from_vec(b"ok\n".to_vec(alloc)?)))
+        Ok(Plan::all_said(Seq::from_vec(heap.copied(b"ok\n")?)))
     }
 }

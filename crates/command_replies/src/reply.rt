@@ -1,13 +1,15 @@
 //! What a command replies.
-ghost use Rattle.std.specs.Prelude.{◌≡◌, ◌++◌, IfOk, codes};
+ghost use Rattle.std.specs.Prelude.{◌≡◌, ◌++◌, codes};
+ghost use Rattle.stack_heap.specs.Heaps.{IfOkUnless};
 ghost use Rattle.std.specs.Fmt.{decimal};
 ghost use Rattle.stack_text.specs.Lines.{line};
 ghost use Rattle.command_replies.specs.Replies.{letter_text, text_rule_number, size_of_text, kind_text, verdict_line};
 
 use command_line::Status;
 use fm_machine::Machine;
-use fm_show::hex_digits;
+use fm_show::{hex_digits, push_number};
 use piton_semantics::ErrorKind;
+use stack_heap::Heap;
 use stack_text::{Memory, Name, Seq, TextRule};
 use std::alloc::Global;
 
@@ -146,84 +148,115 @@ fn size_of_text(of: SizeOf) -> &'static str
 }
 
 /// The line of a text that breaks a rule.
-fn refused_line(
-    alloc: Global,
+fn refused_line<H: Heap>(
+    heap: H,
     letter: RuleLetter,
     number: u8,
     place: u32,
 ) -> Result<Vec<u8>, Memory>
-    ensures { IfOk result (λ line. line.items ≡ verdict_line (Verdict.Refused letter number place)) }
+    ensures { IfOkUnless (H.may_refuse heap) result
+        (λ line. line.items ≡ verdict_line (Verdict.Refused letter number place)) }
 {
-    let letter = letter_text(letter);
-    Ok(format!(in alloc; "refused {letter}{number} at {place}\n")?.into_bytes())
+    let mut text = heap.copied(b"refused ")?;
+    heap.extend_from_slice(&mut text, letter_text(letter).as_bytes())?;
+    push_number(heap, &mut text, number)?;
+    heap.extend_from_slice(&mut text, b" at ")?;
+    push_number(heap, &mut text, place)?;
+    heap.push(&mut text, b'\n')?;
+    Ok(text)
 }
 
 /// The line of a rule, after this front, that is broken at a place.
-fn broken_line(alloc: Global, front: &str, rule: u8, place: u64) -> Result<Vec<u8>, Memory>
-    ensures { IfOk result (λ text. text.items ≡ line (front.now ++ decimal rule ++ codes " at " ++ decimal place)) }
+fn broken_line<H: Heap>(heap: H, front: &str, rule: u8, place: u64) -> Result<Vec<u8>, Memory>
+    ensures { IfOkUnless (H.may_refuse heap) result
+        (λ text. text.items ≡ line (front.now ++ decimal rule ++ codes " at " ++ decimal place)) }
 {
-    Ok(format!(in alloc; "{front}{rule} at {place}\n")?.into_bytes())
+    let mut text = heap.copied(front.as_bytes())?;
+    push_number(heap, &mut text, rule)?;
+    heap.extend_from_slice(&mut text, b" at ")?;
+    push_number(heap, &mut text, place)?;
+    heap.push(&mut text, b'\n')?;
+    Ok(text)
 }
 
 /// The line of values that break a rule.
-fn values_line(alloc: Global, rule: u8, place: u32) -> Result<Vec<u8>, Memory>
-    ensures { IfOk result (λ line. line.items ≡ verdict_line (Verdict.Values rule place)) }
+fn values_line<H: Heap>(heap: H, rule: u8, place: u32) -> Result<Vec<u8>, Memory>
+    ensures { IfOkUnless (H.may_refuse heap) result (λ line. line.items ≡ verdict_line (Verdict.Values rule place)) }
 {
-    broken_line(alloc, "values V", rule, u64::from(place))
+    broken_line(heap, "values V", rule, u64::from(place))
 }
 
 /// The line of an image that breaks a rule.
-fn image_line(alloc: Global, rule: u8, place: u64) -> Result<Vec<u8>, Memory>
-    ensures { IfOk result (λ line. line.items ≡ verdict_line (Verdict.Image rule place)) }
+fn image_line<H: Heap>(heap: H, rule: u8, place: u64) -> Result<Vec<u8>, Memory>
+    ensures { IfOkUnless (H.may_refuse heap) result (λ line. line.items ≡ verdict_line (Verdict.Image rule place)) }
 {
-    broken_line(alloc, "image I", rule, place)
+    broken_line(heap, "image I", rule, place)
 }
 
 /// The line of a run that did not come to its end.
-fn unfinished_line(alloc: Global, limit: u64) -> Result<Vec<u8>, Memory>
-    ensures { IfOk result (λ line. line.items ≡ verdict_line (Verdict.Unfinished limit)) }
+fn unfinished_line<H: Heap>(heap: H, limit: u64) -> Result<Vec<u8>, Memory>
+    ensures { IfOkUnless (H.may_refuse heap) result (λ line. line.items ≡ verdict_line (Verdict.Unfinished limit)) }
 {
-    Ok(format!(in alloc; "unfinished {limit}\n")?.into_bytes())
+    let mut text = heap.copied(b"unfinished ")?;
+    push_number(heap, &mut text, limit)?;
+    heap.push(&mut text, b'\n')?;
+    Ok(text)
 }
 
 /// The line of an address outside the window.
-fn outside_line(alloc: Global, address: u32, count: u64) -> Result<Vec<u8>, Memory>
-    ensures { IfOk result (λ line. line.items ≡ verdict_line (Verdict.Outside address count)) }
+fn outside_line<H: Heap>(heap: H, address: u32, count: u64) -> Result<Vec<u8>, Memory>
+    ensures { IfOkUnless (H.may_refuse heap) result
+        (λ line. line.items ≡ verdict_line (Verdict.Outside address count)) }
 {
-    let address = hex_digits(alloc, address)?;
-    Ok(format!(in alloc; "outside {address} after {count}\n")?.into_bytes())
+    let mut text = heap.copied(b"outside ")?;
+    heap.extend_from_slice(&mut text, &hex_digits(address))?;
+    heap.extend_from_slice(&mut text, b" after ")?;
+    push_number(heap, &mut text, count)?;
+    heap.push(&mut text, b'\n')?;
+    Ok(text)
 }
 
 /// The line of a script that breaks a rule.
-fn script_line(alloc: Global, rule: u8, line: u32) -> Result<Vec<u8>, Memory>
-    ensures { IfOk result (λ text. text.items ≡ verdict_line (Verdict.Script rule line)) }
+fn script_line<H: Heap>(heap: H, rule: u8, line: u32) -> Result<Vec<u8>, Memory>
+    ensures { IfOkUnless (H.may_refuse heap) result (λ text. text.items ≡ verdict_line (Verdict.Script rule line)) }
 {
-    Ok(format!(in alloc; "script D{rule} at line {line}\n")?.into_bytes())
+    let mut text = heap.copied(b"script D")?;
+    push_number(heap, &mut text, rule)?;
+    heap.extend_from_slice(&mut text, b" at line ")?;
+    push_number(heap, &mut text, line)?;
+    heap.push(&mut text, b'\n')?;
+    Ok(text)
 }
 
 /// The line of a procedure that reaches itself.
-fn recursive_line(alloc: Global, procedure: &Name) -> Result<Vec<u8>, Memory>
-    ensures { IfOk result (λ line. line.items ≡ verdict_line (Verdict.Recursive procedure.now)) }
+fn recursive_line<H: Heap>(heap: H, procedure: &Name) -> Result<Vec<u8>, Memory>
+    ensures { IfOkUnless (H.may_refuse heap) result
+        (λ line. line.items ≡ verdict_line (Verdict.Recursive procedure.now)) }
 {
-    let mut line = b"recursive ".to_vec(alloc)?;
-    line.extend_from_slice(procedure.bytes())?;
-    line.push(b'\n')?;
-    Ok(line)
+    let mut text = heap.copied(b"recursive ")?;
+    heap.extend_from_slice(&mut text, procedure.bytes())?;
+    heap.push(&mut text, b'\n')?;
+    Ok(text)
 }
 
 /// The line of a certificate that breaks a rule.
-fn certificate_line(alloc: Global, rule: u8, place: u32) -> Result<Vec<u8>, Memory>
-    ensures { IfOk result (λ line. line.items ≡ verdict_line (Verdict.Certificate rule place)) }
+fn certificate_line<H: Heap>(heap: H, rule: u8, place: u32) -> Result<Vec<u8>, Memory>
+    ensures { IfOkUnless (H.may_refuse heap) result
+        (λ line. line.items ≡ verdict_line (Verdict.Certificate rule place)) }
 {
-    broken_line(alloc, "certificate Z", rule, u64::from(place))
+    broken_line(heap, "certificate Z", rule, u64::from(place))
 }
 
 /// The line of a size that is refused.
-fn size_line(alloc: Global, of: SizeOf, need: u64) -> Result<Vec<u8>, Memory>
-    ensures { IfOk result (λ line. line.items ≡ verdict_line (Verdict.Size of need)) }
+fn size_line<H: Heap>(heap: H, of: SizeOf, need: u64) -> Result<Vec<u8>, Memory>
+    ensures { IfOkUnless (H.may_refuse heap) result (λ line. line.items ≡ verdict_line (Verdict.Size of need)) }
 {
-    let of = size_of_text(of);
-    Ok(format!(in alloc; "size {of} {need}\n")?.into_bytes())
+    let mut text = heap.copied(b"size ")?;
+    heap.extend_from_slice(&mut text, size_of_text(of).as_bytes())?;
+    heap.push(&mut text, b' ')?;
+    push_number(heap, &mut text, need)?;
+    heap.push(&mut text, b'\n')?;
+    Ok(text)
 }
 
 /// Why a step of Piton is refused.
@@ -240,24 +273,31 @@ fn kind_text(kind: ErrorKind) -> &'static str
 }
 
 /// The line of a run of Piton that met an error.
-fn error_line(
-    alloc: Global,
+fn error_line<H: Heap>(
+    heap: H,
     kind: ErrorKind,
     program: &Name,
     place: u32,
     count: u64,
 ) -> Result<Vec<u8>, Memory>
-    ensures { IfOk result (λ line. line.items ≡ verdict_line (Verdict.Error kind program.now place count)) }
+    ensures { IfOkUnless (H.may_refuse heap) result
+        (λ line. line.items ≡ verdict_line (Verdict.Error kind program.now place count)) }
 {
-    let kind = kind_text(kind);
-    let mut line = format!(in alloc; "error {kind} at ")?.into_bytes();
-    line.extend_from_slice(program.bytes())?;
-    line.extend_from_slice(format!(in alloc; " {place} after {count}\n")?.as_bytes())?;
-    Ok(line)
+    let mut text = heap.copied(b"error ")?;
+    heap.extend_from_slice(&mut text, kind_text(kind).as_bytes())?;
+    heap.extend_from_slice(&mut text, b" at ")?;
+    heap.extend_from_slice(&mut text, program.bytes())?;
+    heap.push(&mut text, b' ')?;
+    push_number(heap, &mut text, place)?;
+    heap.extend_from_slice(&mut text, b" after ")?;
+    push_number(heap, &mut text, count)?;
+    heap.push(&mut text, b'\n')?;
+    Ok(text)
 }
 
 impl Verdict {
-    ghost use Rattle.std.specs.Prelude.{◌≡◌, IfOk};
+    ghost use Rattle.std.specs.Prelude.{◌≡◌};
+    ghost use Rattle.stack_heap.specs.Heaps.{IfOkUnless};
     ghost use Rattle.command_replies.specs.Replies.{status_of, verdict_line};
 
     /// The exit status.
@@ -282,32 +322,32 @@ impl Verdict {
     }
 
     /// The last line, or nothing where all is said.
-    pub fn line(&self, alloc: Global) -> Result<Vec<u8>, Memory>
-        ensures { IfOk result (λ line. line.items ≡ verdict_line self.now) }
+    pub fn line<H: Heap>(&self, heap: H) -> Result<Vec<u8>, Memory>
+        ensures { IfOkUnless (H.may_refuse heap) result (λ line. line.items ≡ verdict_line self.now) }
     {
         match self {
-            Verdict::Done | Verdict::SomeUnfinished => Ok(Vec::new(alloc)),
-            Verdict::Usage => Ok(b"usage\n".to_vec(alloc)?),
+            Verdict::Done | Verdict::SomeUnfinished => Ok(Vec::new(heap.handle())),
+            Verdict::Usage => Ok(heap.copied(b"usage\n")?),
             Verdict::Refused {
                 letter,
                 number,
                 place,
-            } => refused_line(alloc, *letter, *number, *place),
-            Verdict::Values { rule, place } => values_line(alloc, *rule, *place),
-            Verdict::Image { rule, place } => image_line(alloc, *rule, *place),
-            Verdict::Unfinished { limit } => unfinished_line(alloc, *limit),
-            Verdict::Outside { address, count } => outside_line(alloc, *address, *count),
+            } => refused_line(heap, *letter, *number, *place),
+            Verdict::Values { rule, place } => values_line(heap, *rule, *place),
+            Verdict::Image { rule, place } => image_line(heap, *rule, *place),
+            Verdict::Unfinished { limit } => unfinished_line(heap, *limit),
+            Verdict::Outside { address, count } => outside_line(heap, *address, *count),
             Verdict::Error {
                 kind,
                 program,
                 place,
                 count,
-            } => error_line(alloc, *kind, program, *place, *count),
-            Verdict::Script { rule, line } => script_line(alloc, *rule, *line),
-            Verdict::NotPlain => Ok(b"not plain\n".to_vec(alloc)?),
-            Verdict::Recursive { procedure } => recursive_line(alloc, procedure),
-            Verdict::Certificate { rule, place } => certificate_line(alloc, *rule, *place),
-            Verdict::Size { of, need } => size_line(alloc, *of, *need),
+            } => error_line(heap, *kind, program, *place, *count),
+            Verdict::Script { rule, line } => script_line(heap, *rule, *line),
+            Verdict::NotPlain => Ok(heap.copied(b"not plain\n")?),
+            Verdict::Recursive { procedure } => recursive_line(heap, procedure),
+            Verdict::Certificate { rule, place } => certificate_line(heap, *rule, *place),
+            Verdict::Size { of, need } => size_line(heap, *of, *need),
         }
     }
 }
@@ -328,11 +368,11 @@ impl Reply {
     ghost use Rattle.command_replies.specs.Replies.{verdict_alone, reply_of};
 
     /// A verdict alone. It takes no memory.
-    pub fn verdict_alone(alloc: Global, verdict: Verdict) -> Reply
+    pub fn verdict_alone(handle: Global, verdict: Verdict) -> Reply
         ensures { reply_of result ≡ verdict_alone verdict }
     {
         Reply {
-            said: Seq::new(alloc),
+            said: Seq::new(handle),
             verdict,
             machine: None,
         }
