@@ -8,7 +8,7 @@ use Rattle.stack_text.specs.Options.{◌>>=◌}
 use Rattle.command_line.specs.declared.command.TaskFiles.{TaskFiles}
 use Rattle.command_line.specs.declared.words.reader.WordsFault.{WordsFault}
 use Rattle.command_line.specs.declared.words.reader.WordsFault.TheVariants.{Usage, Memory}
-use Rattle.command_line.specs.CommandWords.{CommandWords, Reads, spelled, task, unless_ended, tasks_within}
+use Rattle.command_line.specs.CommandWords.{CommandWords, ReadsWordsUnless, spelled, task, unless_ended, tasks_within}
 
 -- with these tasks before the others
 abbrev pub with_tasks : List TaskFiles → Option (List TaskFiles) → Option (List TaskFiles)
@@ -27,10 +27,10 @@ module _ (front : List TaskFiles) (most done : ℕ) (words : CommandWords) (all 
       let one_less : most - done ≡ suc (most - (done + 1)) = omega (arith, lt) in
       subst (λ n. with_tasks front (tasks_within n words) ≡ all) one_less so_far
 
-  pub task_fails : (fault : WordsFault) → Reads {X = TaskFiles × CommandWords} (λ found. found) (Err fault) (task words)
-      → Reads {X = List TaskFiles} (λ tasks. tasks) (Err fault) all
-  task_fails Usage none = sym (subst (λ first. with_tasks front (behind first) ≡ all) none opened)
-  task_fails Memory none = tt
+  pub task_fails : (refused : Type 0) (fault : WordsFault) → ReadsWordsUnless {X = TaskFiles × CommandWords} refused (λ found. found) (Err fault) (task words)
+      → ReadsWordsUnless {X = List TaskFiles} refused (λ tasks. tasks) (Err fault) all
+  task_fails refused Usage none = sym (subst (λ first. with_tasks front (behind first) ≡ all) none opened)
+  task_fails refused Memory refuses = refuses
 
   module _ (read : TaskFiles) (after : List (String Global)) (is : task words ≡ Some (read, spelled after)) where
     read_on : with_tasks front (behind (Some (read, spelled after))) ≡ all

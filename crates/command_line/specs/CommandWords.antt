@@ -19,11 +19,11 @@ CommandWords = List (List ℕ)
 abbrev pub spelled : List (String Global) → CommandWords
 spelled words = map (λ word. string_bytes word) words
 
--- What a call read, seen by view, is what the words have, and it is refused exactly where they have nothing; out of memory is free.
-abbrev pub Reads : {X Y : Type 0} → (X → Y) → Result X WordsFault → Option Y → Type 0
-Reads view (Ok x) found = found ≡ Some (view x)
-Reads view (Err Usage) found = found ≡ None
-Reads view (Err Memory) found = Unit {0}
+-- What a call read, seen by view, is what the words have, and it is refused exactly where they have nothing, unless memory was refused.
+abbrev pub ReadsWordsUnless : {X Y : Type 0} → Type 0 → (X → Y) → Result X WordsFault → Option Y → Type 0
+ReadsWordsUnless refused view (Ok x) found = found ≡ Some (view x)
+ReadsWordsUnless refused view (Err Usage) found = found ≡ None
+ReadsWordsUnless refused view (Err Memory) found = refused
 
 -- the same of a reader that takes no memory, and so can't run out of it
 abbrev pub ReadsExactly : {X Y : Type 0} → (X → Y) → Result X WordsFault → Option Y → Type 0

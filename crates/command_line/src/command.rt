@@ -1,11 +1,12 @@
 //! The commands.
-ghost use Rattle.std.specs.Prelude.{◌≡◌, IfOk, map};
+ghost use Rattle.std.specs.Prelude.{◌≡◌, map};
+ghost use Rattle.stack_heap.specs.Heaps.{IfOkUnless};
 ghost use Rattle.command_line.specs.CommandFiles.{task_inputs};
 
 use crate::role::{Role, RoleFile};
 use crate::words::{FileName, Level, ProcedureCount, StackSize, TurnLength};
+use stack_heap::Heap;
 use stack_text::{Memory, Seq};
-use std::alloc::Global;
 
 /// What the words ask for, with the names of the files, the sizes of the two stacks, and the most steps.
 #[derive(Drop)]
@@ -172,56 +173,57 @@ pub struct TaskFiles {
 }
 
 impl Command {
-    ghost use Rattle.std.specs.Prelude.{◌≡◌, IfOk, map};
+    ghost use Rattle.std.specs.Prelude.{◌≡◌, map};
     ghost use Rattle.std.specs.Option.{option_map};
+    ghost use Rattle.stack_heap.specs.Heaps.{IfOkUnless};
     ghost use Rattle.command_line.specs.CommandFiles.{inputs_of, output_of};
 
     /// The files that it reads, in order; out of memory is the only error.
     #[tactic(auto, unfolding(crate::specs::CommandFiles::inputs_of))]
-    pub fn inputs(&self, alloc: Global) -> Result<Vec<RoleFile<'_>>, Memory>
-        ensures { IfOk result (λ inputs.
+    pub fn inputs<H: Heap>(&self, heap: H) -> Result<Vec<RoleFile<'_>>, Memory>
+        ensures { IfOkUnless (H.may_refuse heap) result (λ inputs.
             map (λ input. (input.role, input.name.now)) inputs.items ≡ inputs_of self.now) }
     {
         match self {
             Command::Check { source }
             | Command::Pit { source, .. }
             | Command::Build { source, .. }
-            | Command::Need { source, .. } => Ok(vec![in alloc; Role::Source.file(source)]?),
+            | Command::Need { source, .. } => Ok(heap.copied(&[Role::Source.file(source)])?),
             Command::Mean { source, values, .. } | Command::Go { source, values, .. } => Ok(
-                vec![in alloc; Role::Source.file(source), Role::Values.file(values)]?,
+                heap.copied(&[Role::Source.file(source), Role::Values.file(values)])?,
             ),
             Command::Pcheck { piton }
             | Command::Prun { piton, .. }
-            | Command::Pbuild { piton, .. } => Ok(vec![in alloc; Role::Piton.file(piton)]?),
-            Command::Run { image, values, .. } => Ok(vec![in alloc;
+            | Command::Pbuild { piton, .. } => Ok(heap.copied(&[Role::Piton.file(piton)])?),
+            Command::Run { image, values, .. } => Ok(heap.copied(&[
                 Role::Image.file(image),
                 Role::Values.file(values),
-            ]?),
+            ])?),
             Command::Show { image }
             | Command::Migrate { image, .. }
-            | Command::Unasm { image, .. } => Ok(vec![in alloc; Role::Image.file(image)]?),
-            Command::Asm { assembly, .. } => Ok(vec![in alloc; Role::Assembly.file(assembly)]?),
+            | Command::Unasm { image, .. } => Ok(heap.copied(&[Role::Image.file(image)])?),
+            Command::Asm { assembly, .. } => Ok(heap.copied(&[Role::Assembly.file(assembly)])?),
             Command::Cert {
                 source,
                 certificate,
                 ..
-            } => Ok(vec![in alloc;
+            } => Ok(heap.copied(&[
                 Role::Source.file(source),
                 Role::Certificate.file(certificate),
-            ]?),
+            ])?),
             Command::Debug {
                 source,
                 values,
                 script,
                 ..
-            } => Ok(vec![in alloc;
+            } => Ok(heap.copied(&[
                 Role::Source.file(source),
                 Role::Values.file(values),
                 Role::Script.file(script),
-            ]?),
-            Command::Turns { tasks, .. } => task_inputs(alloc, tasks.as_slice()),
-            Command::Big { .. } => Ok(Vec::new(alloc)),
-            Command::Mini { program, .. } => Ok(vec![in alloc; Role::Infix.file(program)]?),
+            ])?),
+            Command::Turns { tasks, .. } => task_inputs(heap, tasks.as_slice()),
+            Command::Big { .. } => Ok(Vec::new(heap.handle())),
+            Command::Mini { program, .. } => Ok(heap.copied(&[Role::Infix.file(program)])?),
         }
     }
 
@@ -246,14 +248,14 @@ impl Command {
 }
 
 /// The files that the tasks read, task by task; out of memory is the only error.
-fn task_inputs(alloc: Global, tasks: &[TaskFiles]) -> Result<Vec<RoleFile<'_>>, Memory>
-    ensures { IfOk result (λ inputs.
+fn task_inputs<H: Heap>(heap: H, tasks: &[TaskFiles]) -> Result<Vec<RoleFile<'_>>, Memory>
+    ensures { IfOkUnless (H.may_refuse heap) result (λ inputs.
         map (λ input. (input.role, input.name.now)) inputs.items ≡ task_inputs tasks.now) }
 {
-    let mut inputs = Vec::new(alloc);
+    let mut inputs = Vec::new(heap.handle());
     for task in tasks {
-        inputs.push(Role::TaskSource.file(&task.source))?;
-        inputs.push(Role::TaskValues.file(&task.values))?;
+        heap.push(&mut inputs, Role::TaskSource.file(&task.source))?;
+        heap.push(&mut inputs, Role::TaskValues.file(&task.values))?;
     }
     Ok(inputs)
 }

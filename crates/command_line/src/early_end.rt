@@ -1,11 +1,14 @@
 //! Ends before there is a reply.
-ghost use Rattle.std.specs.Prelude.{◌≡◌, IfOk, string_bytes};
+ghost use Rattle.std.specs.Prelude.{◌≡◌};
+ghost use Rattle.stack_heap.specs.Heaps.{IfOkUnless};
 ghost use Rattle.command_line.specs.Ends.{end_line};
 
 use crate::status::Status;
 use crate::words::FileName;
+use itoa::Buffer;
+use stack_heap::Heap;
 use stack_text::Memory;
-use std::alloc::{AllocError, AllocFailed, Global};
+use std::alloc::{AllocError, AllocFailed};
 
 /// Why a command ended before there was a reply.
 #[derive(Drop)]
@@ -21,21 +24,39 @@ pub enum EarlyEnd {
 }
 
 /// The line of a file that is not there.
-fn missing_line(alloc: Global, name: &str) -> Result<String, Memory>
-    ensures { IfOk result (λ line. string_bytes line ≡ end_line (EarlyEnd.Missing name.now)) }
+fn missing_line<H: Heap>(heap: H, name: &str) -> Result<Vec<u8>, Memory>
+    ensures { IfOkUnless (H.may_refuse heap) result (λ line. line.items ≡ end_line (EarlyEnd.Missing name.now)) }
 {
-    Ok(format!(in alloc; "missing {name}\n")?)
+    let mut line = heap.copied(b"missing ")?;
+    heap.extend_from_slice(&mut line, name.as_bytes())?;
+    heap.push(&mut line, b'\n')?;
+    Ok(line)
 }
 
 /// The line of a name at which the shelf failed.
-fn shelf_fault_line(alloc: Global, name: &str) -> Result<String, Memory>
-    ensures { IfOk result (λ line. string_bytes line ≡ end_line (EarlyEnd.ShelfFault name.now)) }
+fn shelf_fault_line<H: Heap>(heap: H, name: &str) -> Result<Vec<u8>, Memory>
+    ensures { IfOkUnless (H.may_refuse heap) result (λ line. line.items ≡ end_line (EarlyEnd.ShelfFault name.now)) }
 {
-    Ok(format!(in alloc; "shelf fault {name}\n")?)
+    let mut line = heap.copied(b"shelf fault ")?;
+    heap.extend_from_slice(&mut line, name.as_bytes())?;
+    heap.push(&mut line, b'\n')?;
+    Ok(line)
+}
+
+/// The line of a file that has more bytes than its role allows.
+fn size_line<H: Heap>(heap: H, limit: u64) -> Result<Vec<u8>, Memory>
+    ensures { IfOkUnless (H.may_refuse heap) result (λ line. line.items ≡ end_line (EarlyEnd.TooLong limit)) }
+{
+    let mut digits = Buffer::new();
+    let mut line = heap.copied(b"size file ")?;
+    heap.extend_from_slice(&mut line, digits.format(limit).as_bytes())?;
+    heap.push(&mut line, b'\n')?;
+    Ok(line)
 }
 
 impl EarlyEnd {
-    ghost use Rattle.std.specs.Prelude.{◌≡◌, IfOk, string_bytes};
+    ghost use Rattle.std.specs.Prelude.{◌≡◌};
+    ghost use Rattle.stack_heap.specs.Heaps.{IfOkUnless};
     ghost use Rattle.command_line.specs.Ends.{end_status, end_line};
 
     /// The exit status.
@@ -51,14 +72,14 @@ impl EarlyEnd {
     }
 
     /// The line that is printed, with its line feed. Out of memory prints nothing. The only error is out of memory.
-    pub fn line(&self, alloc: Global) -> Result<String, Memory>
-        ensures { IfOk result (λ line. string_bytes line ≡ end_line self.now) }
+    pub fn line<H: Heap>(&self, heap: H) -> Result<Vec<u8>, Memory>
+        ensures { IfOkUnless (H.may_refuse heap) result (λ line. line.items ≡ end_line self.now) }
     {
         match self {
-            EarlyEnd::Missing { name } => missing_line(alloc, name.as_str()),
-            EarlyEnd::TooLong { limit } => Ok(format!(in alloc; "size file {limit}\n")?),
-            EarlyEnd::ShelfFault { name } => shelf_fault_line(alloc, name.as_str()),
-            EarlyEnd::OutOfMemory => Ok(String::new(alloc)),
+            EarlyEnd::Missing { name } => missing_line(heap, name.as_str()),
+            EarlyEnd::TooLong { limit } => size_line(heap, *limit),
+            EarlyEnd::ShelfFault { name } => shelf_fault_line(heap, name.as_str()),
+            EarlyEnd::OutOfMemory => Ok(Vec::new(heap.handle())),
         }
     }
 }

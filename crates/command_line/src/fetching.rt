@@ -65,7 +65,7 @@ pub fn gather<S: Shelf>(
     let mut texts = Texts::new(alloc);
     for input in inputs {
         let text = fetch(alloc, shelf, input.role, input.name.as_str())?;
-        texts.push(input.role, text)?;
+        texts.push(alloc, input.role, text)?;
     }
     Ok(texts)
 }

@@ -1,6 +1,7 @@
 //! The texts that a command reads.
 
 use crate::role::Role;
+use stack_heap::Heap;
 use stack_text::Memory;
 use std::alloc::{AllocFailed, Global};
 use std::marker::Model;
@@ -60,7 +61,8 @@ impl Model for Texts {
 }
 
 impl Texts {
-    ghost use Rattle.std.specs.Prelude.{◌≡◌, ◌≤◌, ◌^◌, ◌++◌, ◌∷◌, [], length, map, All, IfOk, OnOk, OnErr};
+    ghost use Rattle.std.specs.Prelude.{◌≡◌, ◌≤◌, ◌^◌, ◌++◌, ◌∷◌, [], length, map, All, IfOk, OnErr};
+    ghost use Rattle.stack_heap.specs.Heaps.{IfOkUnless, OnOkUnless};
     ghost use Rattle.command_line.specs.Gathered.{text_of, texts_of};
     ghost use Rattle.command_line.specs.Roles.{limit_of};
 
@@ -74,12 +76,17 @@ impl Texts {
     }
 
     /// Puts a text after the others. Out of memory leaves them as they were.
-    pub fn push(&mut self, role: Role, text: Text) -> Result<(), AllocFailed<(Role, Text)>>
+    pub fn push<H: Heap>(
+        &mut self,
+        heap: H,
+        role: Role,
+        text: Text,
+    ) -> Result<(), AllocFailed<(Role, Text)>>
         requires { length text ≤ limit_of role }
-        ensures ok { OnOk result (self.new ≡ self.old ++ (role, text) ∷ []) }
+        ensures ok { OnOkUnless (H.may_refuse heap) result (self.new ≡ self.old ++ (role, text) ∷ []) }
         ensures err { OnErr result (self.new ≡ self.old) }
     {
-        self.texts.push((role, text))
+        heap.push(&mut self.texts, (role, text))
     }
 
     /// The bytes of the first text of a role, or none.
@@ -97,14 +104,15 @@ impl Texts {
     }
 
     /// The bytes of all texts of a role, in order; out of memory is the only error.
-    pub fn all_of(&self, alloc: Global, role: Role) -> Result<Vec<&[u8]>, Memory>
-        ensures value { IfOk result (λ texts. map (λ text. text.now) texts.items ≡ texts_of role self.now) }
+    pub fn all_of<H: Heap>(&self, heap: H, role: Role) -> Result<Vec<&[u8]>, Memory>
+        ensures value { IfOkUnless (H.may_refuse heap) result
+            (λ texts. map (λ text. text.now) texts.items ≡ texts_of role self.now) }
         ensures short { IfOk result (λ texts. All (λ text. length text.now ≤ 2 ^ 31) texts.items) }
     {
-        let mut found = Vec::new(alloc);
+        let mut found = Vec::new(heap.handle());
         for text in &self.texts {
             if text.0.is(role) {
-                found.push(text.1.as_slice())?;
+                heap.push(&mut found, text.1.as_slice())?;
             }
         }
         Ok(found)

@@ -1,6 +1,6 @@
 //! What takes memory.
 
-ghost use Rattle.std.specs.Prelude.{◌≡◌, ℕ, ◌+◌, ◌-◌, ◌≤◌, ◌∷◌, [], ◌++◌, length, replicate, take, not, vec_capacity, vec_len, IfOk, OnOk, OnErr, is_ok, if◌then◌else◌};
+ghost use Rattle.std.specs.Prelude.{◌≡◌, ℕ, ◌+◌, ◌-◌, ◌≤◌, ◌∷◌, [], ◌++◌, length, replicate, take, not, vec_capacity, vec_len, string_bytes, IfOk, OnOk, OnErr, is_ok, if◌then◌else◌};
 ghost use Rattle.indexmap.specs.IndexMap.{insert_entry};
 ghost use Rattle.indexmap.specs.IndexSet.{contains, insert_key};
 ghost use Rattle.stack_heap.specs.Heaps.{IfOkUnless, RefusesWithin, room_after};
@@ -66,6 +66,10 @@ pub trait Heap: Copy {
         ensures refused { OnErr result (may_refuse self) }
         ensures room { OnErr result
             (RefusesWithin (may_refuse_room self) (room_after (length items.old.items + more))) };
+
+    /// A text with these characters.
+    fn text(self, text: &str) -> Result<String, AllocError>
+        ensures { IfOkUnless (may_refuse self) result (λ made. string_bytes made ≡ text.now) };
 
     /// Cuts the items to so many, or appends copies of one until they are; or leaves them as they were.
     fn resize<T: Copy>(self, items: &mut Vec<T>, count: usize, item: T) -> Result<(), AllocError>
@@ -149,6 +153,10 @@ impl Heap for Global {
 
     fn reserve<T>(self, items: &mut Vec<T>, more: usize) -> Result<(), AllocError> {
         items.reserve(more)
+    }
+
+    fn text(self, text: &str) -> Result<String, AllocError> {
+        text.to_string(self)
     }
 
     fn resize<T: Copy>(self, items: &mut Vec<T>, count: usize, item: T) -> Result<(), AllocError> {

@@ -46,7 +46,7 @@ fn conclusion_of(alloc: Global, ran: Result<Reply, EarlyEnd>) -> Result<Conclusi
         }
         Err(EarlyEnd::OutOfMemory) => Err(Memory),
         Err(end) => Ok(Conclusion {
-            text: Seq::from_vec(end.line(alloc)?.into_bytes()),
+            text: Seq::from_vec(end.line(alloc)?),
             status: end.status(),
             machine: None,
         }),

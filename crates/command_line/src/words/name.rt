@@ -1,8 +1,9 @@
 //! Names of files.
-ghost use Rattle.std.specs.Prelude.{◌≡◌, IfOk};
+ghost use Rattle.std.specs.Prelude.{◌≡◌};
+ghost use Rattle.stack_heap.specs.Heaps.{IfOkUnless};
 
+use stack_heap::Heap;
 use stack_text::Memory;
-use std::alloc::Global;
 use std::marker::Model;
 
 /// The name of a file. Contracts see its bytes.
@@ -21,11 +22,11 @@ impl Model for FileName {
 
 impl FileName {
     /// A name of these bytes, which it copies; out of memory is the only error.
-    pub fn new(alloc: Global, text: &str) -> Result<FileName, Memory>
-        ensures { IfOk result (λ name. name ≡ text.now) }
+    pub fn new<H: Heap>(heap: H, text: &str) -> Result<FileName, Memory>
+        ensures { IfOkUnless (H.may_refuse heap) result (λ name. name ≡ text.now) }
     {
         Ok(FileName {
-            text: text.to_string(alloc)?,
+            text: heap.text(text)?,
         })
     }
 

@@ -1,12 +1,13 @@
 //! Reads words one after the other.
 ghost use Rattle.std.specs.Prelude.{◌≡◌};
-ghost use Rattle.command_line.specs.CommandWords.{Reads, ReadsExactly, spelled, first, file, size, limit, seed, procedures, debug_level, level_named, turn_length, task, tasks_within, tasks, end};
+ghost use Rattle.command_line.specs.CommandWords.{ReadsWordsUnless, ReadsExactly, spelled, first, file, size, limit, seed, procedures, debug_level, level_named, turn_length, task, tasks_within, tasks, end};
 
 use crate::command::TaskFiles;
 use crate::words::name::FileName;
 use crate::words::number::{ProcedureCount, StackSize, TurnLength, number_within};
+use stack_heap::Heap;
 use stack_text::{MOST_STEPS, MOST_TASKS, Memory, Seq};
-use std::alloc::{AllocFailed, Global};
+use std::alloc::AllocFailed;
 
 /// Why words are no command.
 #[derive(Clone, Copy, PartialEq, Eq)]
@@ -63,11 +64,12 @@ fn first(words: &[String]) -> Result<(&str, &[String]), WordsFault>
 
 /// The name of a file, which is any word.
 #[tactic(auto, unfolding(crate::specs::CommandWords::file))]
-pub fn file(alloc: Global, words: &[String]) -> Result<(FileName, &[String]), WordsFault>
-    ensures { Reads (λ found. (found.0, spelled found.1.now)) result (file (spelled words.now)) }
+pub fn file<H: Heap>(heap: H, words: &[String]) -> Result<(FileName, &[String]), WordsFault>
+    ensures { ReadsWordsUnless (H.may_refuse heap)
+        (λ found. (found.0, spelled found.1.now)) result (file (spelled words.now)) }
 {
     let (word, rest) = first(words)?;
-    Ok((FileName::new(alloc, word)?, rest))
+    Ok((FileName::new(heap, word)?, rest))
 }
 
 /// The size of a stack.
@@ -157,23 +159,24 @@ pub fn turn_length(words: &[String]) -> Result<(TurnLength, &[String]), WordsFau
 
 /// The names of a task's files.
 #[tactic(auto, unfolding(crate::specs::CommandWords::task))]
-fn task(alloc: Global, words: &[String]) -> Result<(TaskFiles, &[String]), WordsFault>
-    ensures { Reads (λ found. (found.0, spelled found.1.now)) result (task (spelled words.now)) }
+fn task<H: Heap>(heap: H, words: &[String]) -> Result<(TaskFiles, &[String]), WordsFault>
+    ensures { ReadsWordsUnless (H.may_refuse heap)
+        (λ found. (found.0, spelled found.1.now)) result (task (spelled words.now)) }
 {
-    let (source, rest) = file(alloc, words)?;
-    let (values, rest) = file(alloc, rest)?;
+    let (source, rest) = file(heap, words)?;
+    let (values, rest) = file(heap, rest)?;
     Ok((TaskFiles { source, values }, rest))
 }
 
 /// The tasks that are all of the words: one or more, and at most so many.
-fn tasks_within(alloc: Global, most: u32, words: &[String]) -> Result<Seq<TaskFiles>, WordsFault>
-    ensures { Reads (λ tasks. tasks) result (tasks_within most (spelled words.now)) }
+fn tasks_within<H: Heap>(heap: H, most: u32, words: &[String]) -> Result<Seq<TaskFiles>, WordsFault>
+    ensures { ReadsWordsUnless (H.may_refuse heap) (λ tasks. tasks) result (tasks_within most (spelled words.now)) }
 {
-    let mut tasks = Seq::new(alloc);
+    let mut tasks = Seq::new(heap.handle());
     let mut rest = words;
     for _ in 0..most {
-        let (read, after) = task(alloc, rest)?;
-        tasks.push(alloc, read)?;
+        let (read, after) = task(heap, rest)?;
+        tasks.push(heap, read)?;
         if after.is_empty() {
             return Ok(tasks);
         }
@@ -184,10 +187,11 @@ fn tasks_within(alloc: Global, most: u32, words: &[String]) -> Result<Seq<TaskFi
 
 /// One to eight tasks, which are all of the words.
 #[tactic(auto, unfolding(crate::specs::CommandWords::tasks))]
-pub fn tasks(alloc: Global, words: &[String]) -> Result<(Seq<TaskFiles>, &[String]), WordsFault>
-    ensures { Reads (λ found. (found.0, spelled found.1.now)) result (tasks (spelled words.now)) }
+pub fn tasks<H: Heap>(heap: H, words: &[String]) -> Result<(Seq<TaskFiles>, &[String]), WordsFault>
+    ensures { ReadsWordsUnless (H.may_refuse heap)
+        (λ found. (found.0, spelled found.1.now)) result (tasks (spelled words.now)) }
 {
-    Ok((tasks_within(alloc, MOST_TASKS, words)?, &[]))
+    Ok((tasks_within(heap, MOST_TASKS, words)?, &[]))
 }
 
 /// No further word.

@@ -1,30 +1,30 @@
 //! The words of each command.
-ghost use Rattle.command_line.specs.CommandWords.{Reads, ReadsExactly, spelled};
+ghost use Rattle.command_line.specs.CommandWords.{ReadsWordsUnless, ReadsExactly, spelled};
 ghost use Rattle.command_line.specs.CommandRows.{check_row, mean_row, pit_row, build_row, pcheck_row, prun_row, pbuild_row, run_row, go_row, show_row, migrate_row, asm_row, unasm_row, need_row, cert_row, debug_row, turns_row, big_row, mini_row, row_of, command_of};
 
 use crate::command::Command;
 use crate::words::reader::{
     WordsFault, debug_level, end, file, limit, procedures, seed, size, tasks, turn_length,
 };
-use std::alloc::Global;
+use stack_heap::Heap;
 
 /// `check SRC`
 #[tactic(auto, unfolding(crate::specs::CommandRows::check_row))]
-fn check_row(alloc: Global, words: &[String]) -> Result<Command, WordsFault>
-    ensures { Reads (λ command. command) result (check_row (spelled words.now)) }
+fn check_row<H: Heap>(heap: H, words: &[String]) -> Result<Command, WordsFault>
+    ensures { ReadsWordsUnless (H.may_refuse heap) (λ command. command) result (check_row (spelled words.now)) }
 {
-    let (source, words) = file(alloc, words)?;
+    let (source, words) = file(heap, words)?;
     end(words)?;
     Ok(Command::Check { source })
 }
 
 /// `mean SRC VALS CTRL TEMP LIMIT`
 #[tactic(auto, unfolding(crate::specs::CommandRows::mean_row))]
-fn mean_row(alloc: Global, words: &[String]) -> Result<Command, WordsFault>
-    ensures { Reads (λ command. command) result (mean_row (spelled words.now)) }
+fn mean_row<H: Heap>(heap: H, words: &[String]) -> Result<Command, WordsFault>
+    ensures { ReadsWordsUnless (H.may_refuse heap) (λ command. command) result (mean_row (spelled words.now)) }
 {
-    let (source, words) = file(alloc, words)?;
-    let (values, words) = file(alloc, words)?;
+    let (source, words) = file(heap, words)?;
+    let (values, words) = file(heap, words)?;
     let (control, words) = size(words)?;
     let (temporary, words) = size(words)?;
     let (limit, words) = limit(words)?;
@@ -40,13 +40,13 @@ fn mean_row(alloc: Global, words: &[String]) -> Result<Command, WordsFault>
 
 /// `pit SRC CTRL TEMP OUT`
 #[tactic(auto, unfolding(crate::specs::CommandRows::pit_row))]
-fn pit_row(alloc: Global, words: &[String]) -> Result<Command, WordsFault>
-    ensures { Reads (λ command. command) result (pit_row (spelled words.now)) }
+fn pit_row<H: Heap>(heap: H, words: &[String]) -> Result<Command, WordsFault>
+    ensures { ReadsWordsUnless (H.may_refuse heap) (λ command. command) result (pit_row (spelled words.now)) }
 {
-    let (source, words) = file(alloc, words)?;
+    let (source, words) = file(heap, words)?;
     let (control, words) = size(words)?;
     let (temporary, words) = size(words)?;
-    let (piton, words) = file(alloc, words)?;
+    let (piton, words) = file(heap, words)?;
     end(words)?;
     Ok(Command::Pit {
         source,
@@ -58,13 +58,13 @@ fn pit_row(alloc: Global, words: &[String]) -> Result<Command, WordsFault>
 
 /// `build SRC CTRL TEMP IMG`
 #[tactic(auto, unfolding(crate::specs::CommandRows::build_row))]
-fn build_row(alloc: Global, words: &[String]) -> Result<Command, WordsFault>
-    ensures { Reads (λ command. command) result (build_row (spelled words.now)) }
+fn build_row<H: Heap>(heap: H, words: &[String]) -> Result<Command, WordsFault>
+    ensures { ReadsWordsUnless (H.may_refuse heap) (λ command. command) result (build_row (spelled words.now)) }
 {
-    let (source, words) = file(alloc, words)?;
+    let (source, words) = file(heap, words)?;
     let (control, words) = size(words)?;
     let (temporary, words) = size(words)?;
-    let (image, words) = file(alloc, words)?;
+    let (image, words) = file(heap, words)?;
     end(words)?;
     Ok(Command::Build {
         source,
@@ -76,20 +76,20 @@ fn build_row(alloc: Global, words: &[String]) -> Result<Command, WordsFault>
 
 /// `pcheck PIT`
 #[tactic(auto, unfolding(crate::specs::CommandRows::pcheck_row))]
-fn pcheck_row(alloc: Global, words: &[String]) -> Result<Command, WordsFault>
-    ensures { Reads (λ command. command) result (pcheck_row (spelled words.now)) }
+fn pcheck_row<H: Heap>(heap: H, words: &[String]) -> Result<Command, WordsFault>
+    ensures { ReadsWordsUnless (H.may_refuse heap) (λ command. command) result (pcheck_row (spelled words.now)) }
 {
-    let (piton, words) = file(alloc, words)?;
+    let (piton, words) = file(heap, words)?;
     end(words)?;
     Ok(Command::Pcheck { piton })
 }
 
 /// `prun PIT LIMIT`
 #[tactic(auto, unfolding(crate::specs::CommandRows::prun_row))]
-fn prun_row(alloc: Global, words: &[String]) -> Result<Command, WordsFault>
-    ensures { Reads (λ command. command) result (prun_row (spelled words.now)) }
+fn prun_row<H: Heap>(heap: H, words: &[String]) -> Result<Command, WordsFault>
+    ensures { ReadsWordsUnless (H.may_refuse heap) (λ command. command) result (prun_row (spelled words.now)) }
 {
-    let (piton, words) = file(alloc, words)?;
+    let (piton, words) = file(heap, words)?;
     let (limit, words) = limit(words)?;
     end(words)?;
     Ok(Command::Prun { piton, limit })
@@ -97,22 +97,22 @@ fn prun_row(alloc: Global, words: &[String]) -> Result<Command, WordsFault>
 
 /// `pbuild PIT IMG`
 #[tactic(auto, unfolding(crate::specs::CommandRows::pbuild_row))]
-fn pbuild_row(alloc: Global, words: &[String]) -> Result<Command, WordsFault>
-    ensures { Reads (λ command. command) result (pbuild_row (spelled words.now)) }
+fn pbuild_row<H: Heap>(heap: H, words: &[String]) -> Result<Command, WordsFault>
+    ensures { ReadsWordsUnless (H.may_refuse heap) (λ command. command) result (pbuild_row (spelled words.now)) }
 {
-    let (piton, words) = file(alloc, words)?;
-    let (image, words) = file(alloc, words)?;
+    let (piton, words) = file(heap, words)?;
+    let (image, words) = file(heap, words)?;
     end(words)?;
     Ok(Command::Pbuild { piton, image })
 }
 
 /// `run IMG VALS BUDGET`
 #[tactic(auto, unfolding(crate::specs::CommandRows::run_row))]
-fn run_row(alloc: Global, words: &[String]) -> Result<Command, WordsFault>
-    ensures { Reads (λ command. command) result (run_row (spelled words.now)) }
+fn run_row<H: Heap>(heap: H, words: &[String]) -> Result<Command, WordsFault>
+    ensures { ReadsWordsUnless (H.may_refuse heap) (λ command. command) result (run_row (spelled words.now)) }
 {
-    let (image, words) = file(alloc, words)?;
-    let (values, words) = file(alloc, words)?;
+    let (image, words) = file(heap, words)?;
+    let (values, words) = file(heap, words)?;
     let (budget, words) = limit(words)?;
     end(words)?;
     Ok(Command::Run {
@@ -124,15 +124,15 @@ fn run_row(alloc: Global, words: &[String]) -> Result<Command, WordsFault>
 
 /// `go SRC VALS CTRL TEMP BUDGET IMG`
 #[tactic(auto, unfolding(crate::specs::CommandRows::go_row))]
-fn go_row(alloc: Global, words: &[String]) -> Result<Command, WordsFault>
-    ensures { Reads (λ command. command) result (go_row (spelled words.now)) }
+fn go_row<H: Heap>(heap: H, words: &[String]) -> Result<Command, WordsFault>
+    ensures { ReadsWordsUnless (H.may_refuse heap) (λ command. command) result (go_row (spelled words.now)) }
 {
-    let (source, words) = file(alloc, words)?;
-    let (values, words) = file(alloc, words)?;
+    let (source, words) = file(heap, words)?;
+    let (values, words) = file(heap, words)?;
     let (control, words) = size(words)?;
     let (temporary, words) = size(words)?;
     let (budget, words) = limit(words)?;
-    let (image, words) = file(alloc, words)?;
+    let (image, words) = file(heap, words)?;
     end(words)?;
     Ok(Command::Go {
         source,
@@ -146,54 +146,54 @@ fn go_row(alloc: Global, words: &[String]) -> Result<Command, WordsFault>
 
 /// `show IMG`
 #[tactic(auto, unfolding(crate::specs::CommandRows::show_row))]
-fn show_row(alloc: Global, words: &[String]) -> Result<Command, WordsFault>
-    ensures { Reads (λ command. command) result (show_row (spelled words.now)) }
+fn show_row<H: Heap>(heap: H, words: &[String]) -> Result<Command, WordsFault>
+    ensures { ReadsWordsUnless (H.may_refuse heap) (λ command. command) result (show_row (spelled words.now)) }
 {
-    let (image, words) = file(alloc, words)?;
+    let (image, words) = file(heap, words)?;
     end(words)?;
     Ok(Command::Show { image })
 }
 
 /// `migrate IMG OUT`
 #[tactic(auto, unfolding(crate::specs::CommandRows::migrate_row))]
-fn migrate_row(alloc: Global, words: &[String]) -> Result<Command, WordsFault>
-    ensures { Reads (λ command. command) result (migrate_row (spelled words.now)) }
+fn migrate_row<H: Heap>(heap: H, words: &[String]) -> Result<Command, WordsFault>
+    ensures { ReadsWordsUnless (H.may_refuse heap) (λ command. command) result (migrate_row (spelled words.now)) }
 {
-    let (image, words) = file(alloc, words)?;
-    let (output, words) = file(alloc, words)?;
+    let (image, words) = file(heap, words)?;
+    let (output, words) = file(heap, words)?;
     end(words)?;
     Ok(Command::Migrate { image, output })
 }
 
 /// `asm TEXT IMG`
 #[tactic(auto, unfolding(crate::specs::CommandRows::asm_row))]
-fn asm_row(alloc: Global, words: &[String]) -> Result<Command, WordsFault>
-    ensures { Reads (λ command. command) result (asm_row (spelled words.now)) }
+fn asm_row<H: Heap>(heap: H, words: &[String]) -> Result<Command, WordsFault>
+    ensures { ReadsWordsUnless (H.may_refuse heap) (λ command. command) result (asm_row (spelled words.now)) }
 {
-    let (assembly, words) = file(alloc, words)?;
-    let (image, words) = file(alloc, words)?;
+    let (assembly, words) = file(heap, words)?;
+    let (image, words) = file(heap, words)?;
     end(words)?;
     Ok(Command::Asm { assembly, image })
 }
 
 /// `unasm IMG OUT`
 #[tactic(auto, unfolding(crate::specs::CommandRows::unasm_row))]
-fn unasm_row(alloc: Global, words: &[String]) -> Result<Command, WordsFault>
-    ensures { Reads (λ command. command) result (unasm_row (spelled words.now)) }
+fn unasm_row<H: Heap>(heap: H, words: &[String]) -> Result<Command, WordsFault>
+    ensures { ReadsWordsUnless (H.may_refuse heap) (λ command. command) result (unasm_row (spelled words.now)) }
 {
-    let (image, words) = file(alloc, words)?;
-    let (assembly, words) = file(alloc, words)?;
+    let (image, words) = file(heap, words)?;
+    let (assembly, words) = file(heap, words)?;
     end(words)?;
     Ok(Command::Unasm { image, assembly })
 }
 
 /// `need SRC CERT`
 #[tactic(auto, unfolding(crate::specs::CommandRows::need_row))]
-fn need_row(alloc: Global, words: &[String]) -> Result<Command, WordsFault>
-    ensures { Reads (λ command. command) result (need_row (spelled words.now)) }
+fn need_row<H: Heap>(heap: H, words: &[String]) -> Result<Command, WordsFault>
+    ensures { ReadsWordsUnless (H.may_refuse heap) (λ command. command) result (need_row (spelled words.now)) }
 {
-    let (source, words) = file(alloc, words)?;
-    let (certificate, words) = file(alloc, words)?;
+    let (source, words) = file(heap, words)?;
+    let (certificate, words) = file(heap, words)?;
     end(words)?;
     Ok(Command::Need {
         source,
@@ -203,11 +203,11 @@ fn need_row(alloc: Global, words: &[String]) -> Result<Command, WordsFault>
 
 /// `cert SRC CERT CTRL TEMP`
 #[tactic(auto, unfolding(crate::specs::CommandRows::cert_row))]
-fn cert_row(alloc: Global, words: &[String]) -> Result<Command, WordsFault>
-    ensures { Reads (λ command. command) result (cert_row (spelled words.now)) }
+fn cert_row<H: Heap>(heap: H, words: &[String]) -> Result<Command, WordsFault>
+    ensures { ReadsWordsUnless (H.may_refuse heap) (λ command. command) result (cert_row (spelled words.now)) }
 {
-    let (source, words) = file(alloc, words)?;
-    let (certificate, words) = file(alloc, words)?;
+    let (source, words) = file(heap, words)?;
+    let (certificate, words) = file(heap, words)?;
     let (control, words) = size(words)?;
     let (temporary, words) = size(words)?;
     end(words)?;
@@ -221,15 +221,15 @@ fn cert_row(alloc: Global, words: &[String]) -> Result<Command, WordsFault>
 
 /// `debug LEVEL SRC VALS CTRL TEMP SCRIPT`
 #[tactic(auto, unfolding(crate::specs::CommandRows::debug_row))]
-fn debug_row(alloc: Global, words: &[String]) -> Result<Command, WordsFault>
-    ensures { Reads (λ command. command) result (debug_row (spelled words.now)) }
+fn debug_row<H: Heap>(heap: H, words: &[String]) -> Result<Command, WordsFault>
+    ensures { ReadsWordsUnless (H.may_refuse heap) (λ command. command) result (debug_row (spelled words.now)) }
 {
     let (level, words) = debug_level(words)?;
-    let (source, words) = file(alloc, words)?;
-    let (values, words) = file(alloc, words)?;
+    let (source, words) = file(heap, words)?;
+    let (values, words) = file(heap, words)?;
     let (control, words) = size(words)?;
     let (temporary, words) = size(words)?;
-    let (script, words) = file(alloc, words)?;
+    let (script, words) = file(heap, words)?;
     end(words)?;
     Ok(Command::Debug {
         level,
@@ -243,14 +243,14 @@ fn debug_row(alloc: Global, words: &[String]) -> Result<Command, WordsFault>
 
 /// `turns Q BUDGET CTRL TEMP SRC VALS`, with up to seven further pairs `SRC VALS`
 #[tactic(auto, unfolding(crate::specs::CommandRows::turns_row))]
-fn turns_row(alloc: Global, words: &[String]) -> Result<Command, WordsFault>
-    ensures { Reads (λ command. command) result (turns_row (spelled words.now)) }
+fn turns_row<H: Heap>(heap: H, words: &[String]) -> Result<Command, WordsFault>
+    ensures { ReadsWordsUnless (H.may_refuse heap) (λ command. command) result (turns_row (spelled words.now)) }
 {
     let (turn, words) = turn_length(words)?;
     let (budget, words) = limit(words)?;
     let (control, words) = size(words)?;
     let (temporary, words) = size(words)?;
-    let (tasks, words) = tasks(alloc, words)?;
+    let (tasks, words) = tasks(heap, words)?;
     end(words)?;
     Ok(Command::Turns {
         turn,
@@ -274,51 +274,51 @@ fn big_row(words: &[String]) -> Result<Command, WordsFault>
 
 /// `mini SRC OUT`
 #[tactic(auto, unfolding(crate::specs::CommandRows::mini_row))]
-fn mini_row(alloc: Global, words: &[String]) -> Result<Command, WordsFault>
-    ensures { Reads (λ command. command) result (mini_row (spelled words.now)) }
+fn mini_row<H: Heap>(heap: H, words: &[String]) -> Result<Command, WordsFault>
+    ensures { ReadsWordsUnless (H.may_refuse heap) (λ command. command) result (mini_row (spelled words.now)) }
 {
-    let (program, words) = file(alloc, words)?;
-    let (source, words) = file(alloc, words)?;
+    let (program, words) = file(heap, words)?;
+    let (source, words) = file(heap, words)?;
     end(words)?;
     Ok(Command::Mini { program, source })
 }
 
 /// The command whose name is the word, with the words after it.
 #[tactic(auto, unfolding(crate::specs::CommandRows::row_of))]
-fn row_of(alloc: Global, word: &str, words: &[String]) -> Result<Command, WordsFault>
-    ensures { Reads (λ command. command) result (row_of word.now (spelled words.now)) }
+fn row_of<H: Heap>(heap: H, word: &str, words: &[String]) -> Result<Command, WordsFault>
+    ensures { ReadsWordsUnless (H.may_refuse heap) (λ command. command) result (row_of word.now (spelled words.now)) }
 {
     match word {
-        "check" => check_row(alloc, words),
-        "mean" => mean_row(alloc, words),
-        "pit" => pit_row(alloc, words),
-        "build" => build_row(alloc, words),
-        "pcheck" => pcheck_row(alloc, words),
-        "prun" => prun_row(alloc, words),
-        "pbuild" => pbuild_row(alloc, words),
-        "run" => run_row(alloc, words),
-        "go" => go_row(alloc, words),
-        "show" => show_row(alloc, words),
-        "migrate" => migrate_row(alloc, words),
-        "asm" => asm_row(alloc, words),
-        "unasm" => unasm_row(alloc, words),
-        "need" => need_row(alloc, words),
-        "cert" => cert_row(alloc, words),
-        "debug" => debug_row(alloc, words),
-        "turns" => turns_row(alloc, words),
+        "check" => check_row(heap, words),
+        "mean" => mean_row(heap, words),
+        "pit" => pit_row(heap, words),
+        "build" => build_row(heap, words),
+        "pcheck" => pcheck_row(heap, words),
+        "prun" => prun_row(heap, words),
+        "pbuild" => pbuild_row(heap, words),
+        "run" => run_row(heap, words),
+        "go" => go_row(heap, words),
+        "show" => show_row(heap, words),
+        "migrate" => migrate_row(heap, words),
+        "asm" => asm_row(heap, words),
+        "unasm" => unasm_row(heap, words),
+        "need" => need_row(heap, words),
+        "cert" => cert_row(heap, words),
+        "debug" => debug_row(heap, words),
+        "turns" => turns_row(heap, words),
         "big" => big_row(words),
-        "mini" => mini_row(alloc, words),
+        "mini" => mini_row(heap, words),
         _ => Err(WordsFault::Usage),
     }
 }
 
 /// The command that the words ask for.
 #[tactic(auto, unfolding(crate::specs::CommandRows::command_of))]
-pub fn command_of(alloc: Global, words: &[String]) -> Result<Command, WordsFault>
-    ensures { Reads (λ command. command) result (command_of (spelled words.now)) }
+pub fn command_of<H: Heap>(heap: H, words: &[String]) -> Result<Command, WordsFault>
+    ensures { ReadsWordsUnless (H.may_refuse heap) (λ command. command) result (command_of (spelled words.now)) }
 {
     match words {
         [] => Err(WordsFault::Usage),
-        [word, words @ ..] => row_of(alloc, word.as_str(), words),
+        [word, words @ ..] => row_of(heap, word.as_str(), words),
     }
 }
