@@ -7,7 +7,7 @@ use Rattle.std.specs.List.{list_all}
 use Rattle.std.proofs.lemmas.Bool.{and_parts, and_from, or_parts, eqb-true, eq-eqb, eqb-false, ne_eqb, le-leb, le-ltb, ltb-false}
 use Rattle.std.proofs.lemmas.List.Elements.{All-head, All-tail, All-cons}
 use Rattle.std.proofs.lemmas.List.Sums.{sum_by-cons}
-use Rattle.stack_text.specs.Gives.{Gives}
+use Rattle.stack_text.specs.Gives.{GivesUnless}
 use Rattle.stack_text.specs.Results.{◌>>=◌}
 use Rattle.stack_text.specs.Values.{ValueOf}
 use Rattle.fm_machine.specs.declared.processor.Run.{Run}
@@ -223,14 +223,15 @@ module _ (implement : BuiltImplements) (take : BuiltTakesValues) (at_base : Buil
           by_images (omega arith) few (images_from sizes 0 0 sources) refl h
 
   -- so they are where a call made them
-  pub ready_from : {X : Type 0} (view : X → List NewTask) (sources texts : List (List ℕ)) (images small : List ImageOf) (result : Result X TasksFault)
+  pub ready_from : {X : Type 0} (refused : Type 0) (view : X → List NewTask) (sources texts : List (List ℕ)) (images small : List ImageOf)
+      (result : Result X TasksFault)
       → TasksAreShort sources
       → 1 ≤ length sources → length sources ≤ 8 → images_from sizes 0 0 sources ≡ Ok images → small_enough images ≡ Ok small
-      → Gives fault_of view result (tasks_from texts 0 small)
+      → GivesUnless refused fault_of view result (tasks_from texts 0 small)
       → IfOk result (λ x. AreReady (view x))
   unfolding tasks_of
-  ready_from view sources texts images small (Err fault) short some few built fits made = tt
-  ready_from view sources texts images small (Ok x) short some few built fits made =
+  ready_from refused view sources texts images small (Err fault) short some few built fits made = tt
+  ready_from refused view sources texts images small (Ok x) short some few built fits made =
       let none : eqb (length sources) 0 ≡ false = ne_eqb (length sources) 0 (λ e. omega arith) in
       let many : ltb 8 (length sources) ≡ false = le-ltb 8 (length sources) few in
       let enough : few_enough sources ≡ Ok sources = rw (none, many) refl in

@@ -1,11 +1,12 @@
 //! The command `debug`.
 ghost use Rattle.std.specs.Prelude.{◌≡◌, ◌≤◌, ◌^◌, List, None, Some, IfOk, length};
+ghost use Rattle.stack_heap.specs.Heaps.{IfOkUnless};
 ghost use Rattle.gypsy_space.specs.Needs.{stack_sizes};
 ghost use Rattle.gypsy_syntax.specs.Views.SourceView.{source_of};
 ghost use Rattle.level_debuggers.specs.Levels.{IsRunner, level_of};
 ghost use Rattle.level_debuggers.specs.Views.Sessions.{session_of};
 ghost use Rattle.level_debuggers.specs.Tallies.{Watching};
-ghost use Rattle.stack_build.specs.Starts.{GivesStart};
+ghost use Rattle.stack_build.specs.Starts.{GivesStartUnless};
 ghost use Rattle.debug_script.specs.Scripts.{fault_of, script_of};
 ghost use Rattle.command_line.specs.declared.role.Role.TheVariants as Role;
 ghost use Rattle.command_line.specs.declared.words.reader.Level.TheVariants as Level;
@@ -25,18 +26,19 @@ use gypsy_check::Accepted;
 use gypsy_space::needs;
 use level_debuggers::{Runner, ScriptEnd, Session};
 use stack_build::{StartFault, start_image, start_meaning, start_system};
+use stack_heap::Heap;
 use stack_text::Memory;
 use std::alloc::Global;
 
 /// What is left of `debug` once its texts are there.
-pub fn prepare(
-    alloc: Global,
+pub fn prepare<H: Heap>(
+    heap: H,
     level: Level,
     texts: &Texts,
     control: &StackSize,
     temporary: &StackSize,
 ) -> Result<Work, Memory>
-    ensures stored { IfOk result (λ work. work.stored ≡ None) }
+    ensures stored { IfOkUnless (H.may_refuse heap) result (λ work. work.stored ≡ None) }
     ensures reply { IfOk result (λ work. (watches : List Watching) → left_reply watches work.left
         ≡ debug_reply level (text_of Role.Source texts.now) (text_of Role.Values texts.now) control.now temporary.now
         (text_of Role.Script texts.now) watches) }
@@ -44,33 +46,33 @@ pub fn prepare(
 {
     let (source, values) = (texts.of(Role::Source), texts.of(Role::Values));
     match run_in(
-        alloc,
+        heap,
         level,
         source,
         values,
         control.words(),
         temporary.words(),
     )? {
-        Ok(runner) => script_work(alloc, runner, texts.of(Role::Script)),
-        Err(verdict) => Ok(planned(Plan::verdict_alone(alloc, verdict))),
+        Ok(runner) => script_work(heap, runner, texts.of(Role::Script)),
+        Err(verdict) => Ok(planned(Plan::verdict_alone(heap.handle(), verdict))),
     }
 }
 
 /// A runner of an accepted source's own steps.
-fn gypsy_runner(
-    alloc: Global,
+fn gypsy_runner<H: Heap>(
+    heap: H,
     accepted: Accepted,
     values: &[u8],
     control: u32,
     temporary: u32,
 ) -> Result<Runner, StartFault>
     requires { length values.now ≤ 2 ^ 31 }
-    ensures run { GivesStart level_of result
+    ensures run { GivesStartUnless (H.may_refuse heap) level_of result
         (run_at Level.Gypsy (source_of accepted) (stack_sizes control temporary) values.now) }
     ensures is { IfOk result IsRunner }
 {
-    let needs = needs(alloc, &accepted)?;
-    let meaning = start_meaning(alloc, &accepted, &needs, control, temporary, values)?;
+    let needs = needs(heap, &accepted)?;
+    let meaning = start_meaning(heap, &accepted, &needs, control, temporary, values)?;
     Ok(Runner::Gypsy {
         accepted,
         needs,
@@ -79,19 +81,19 @@ fn gypsy_runner(
 }
 
 /// A runner of the system that an accepted source compiles to.
-fn piton_runner(
-    alloc: Global,
+fn piton_runner<H: Heap>(
+    heap: H,
     accepted: &Accepted,
     values: &[u8],
     control: u32,
     temporary: u32,
 ) -> Result<Runner, StartFault>
     requires { length values.now ≤ 2 ^ 31 }
-    ensures run { GivesStart level_of result
+    ensures run { GivesStartUnless (H.may_refuse heap) level_of result
         (run_at Level.Piton (source_of accepted.now) (stack_sizes control temporary) values.now) }
     ensures is { IfOk result IsRunner }
 {
-    let start = start_system(alloc, accepted, control, temporary, values)?;
+    let start = start_system(heap, accepted, control, temporary, values)?;
     Ok(Runner::Piton {
         checked: start.checked,
         image: start.image,
@@ -100,19 +102,19 @@ fn piton_runner(
 }
 
 /// A runner of the image that is built of an accepted source.
-fn image_runner(
-    alloc: Global,
+fn image_runner<H: Heap>(
+    heap: H,
     accepted: &Accepted,
     values: &[u8],
     control: u32,
     temporary: u32,
 ) -> Result<Runner, StartFault>
     requires { length values.now ≤ 2 ^ 31 }
-    ensures run { GivesStart level_of result
+    ensures run { GivesStartUnless (H.may_refuse heap) level_of result
         (run_at Level.Fm9001 (source_of accepted.now) (stack_sizes control temporary) values.now) }
     ensures is { IfOk result IsRunner }
 {
-    let start = start_image(alloc, accepted, control, temporary, values)?;
+    let start = start_image(heap, accepted, control, temporary, values)?;
     Ok(Runner::Fm {
         image: start.image,
         machine: start.machine,
@@ -120,8 +122,8 @@ fn image_runner(
 }
 
 /// The runner of an accepted source, at a level.
-fn run_at(
-    alloc: Global,
+fn run_at<H: Heap>(
+    heap: H,
     level: Level,
     accepted: Accepted,
     values: &[u8],
@@ -129,21 +131,21 @@ fn run_at(
     temporary: u32,
 ) -> Result<Runner, StartFault>
     requires { length values.now ≤ 2 ^ 31 }
-    ensures run { GivesStart level_of result
+    ensures run { GivesStartUnless (H.may_refuse heap) level_of result
         (run_at level (source_of accepted) (stack_sizes control temporary) values.now) }
     ensures is { IfOk result IsRunner }
 {
     match level {
-        Level::Gypsy => gypsy_runner(alloc, accepted, values, control, temporary),
-        Level::Piton => piton_runner(alloc, &accepted, values, control, temporary),
-        Level::Fm9001 => image_runner(alloc, &accepted, values, control, temporary),
+        Level::Gypsy => gypsy_runner(heap, accepted, values, control, temporary),
+        Level::Piton => piton_runner(heap, &accepted, values, control, temporary),
+        Level::Fm9001 => image_runner(heap, &accepted, values, control, temporary),
     }
 }
 
 /// The runner of the source in a text, or the verdict where there is none.
 #[tactic(auto, unfolding(crate::specs::Commands::Debug::run_in))]
-fn run_in(
-    alloc: Global,
+fn run_in<H: Heap>(
+    heap: H,
     level: Level,
     source: &[u8],
     values: &[u8],
@@ -152,38 +154,43 @@ fn run_in(
 ) -> Result<Result<Runner, Verdict>, Memory>
     requires source { length source.now ≤ 2 ^ 31 }
     requires values { length values.now ≤ 2 ^ 31 }
-    ensures run { IfOk result (λ found.
+    ensures run { IfOkUnless (H.may_refuse heap) result (λ found.
         found_run found ≡ run_in level source.now (stack_sizes control temporary) values.now) }
     ensures is { IfOk result (λ found. IfOk found IsRunner) }
 {
-    let accepted = match read_accepted(alloc, source)? {
+    let accepted = match read_accepted(heap, source)? {
         Ok(accepted) => accepted,
         Err(verdict) => return Ok(Err(verdict)),
     };
-    match run_at(alloc, level, accepted, values, control, temporary) {
+    match run_at(heap, level, accepted, values, control, temporary) {
         Ok(runner) => Ok(Ok(runner)),
         Err(fault) => Ok(Err(start_verdict(fault)?)),
     }
 }
 
 /// The plan where a script is refused.
-fn refused_script(alloc: Global, fault: ScriptFault) -> Result<Plan, Memory>
+fn refused_script(handle: Global, fault: ScriptFault) -> Result<Plan, Memory>
     ensures known { IfOk result (λ _. fault_of fault ≡ Some fault) }
+    ensures memory { OnErr result (fault_of fault ≡ None) }
     ensures stored { IfOk result (λ plan. plan.stored ≡ None) }
     ensures reply { IfOk result (λ plan. pending_reply plan.pending ≡ verdict_alone (script_verdict fault)) }
 {
     match fault {
         ScriptFault::Refused { rule, line } => {
-            Ok(Plan::verdict_alone(alloc, Verdict::Script { rule, line }))
+            Ok(Plan::verdict_alone(handle, Verdict::Script { rule, line }))
         }
         ScriptFault::Memory => Err(Memory),
     }
 }
 
 /// How the command ends with its script.
-pub(crate) fn end_verdict(session: &Session, end: ScriptEnd) -> Result<Verdict, Memory>
+pub(crate) fn end_verdict<H: Heap>(
+    heap: H,
+    session: &Session,
+    end: ScriptEnd,
+) -> Result<Verdict, Memory>
     ensures { let session = session_of (λ w. watching (w.vtable, w.value)) session.now in
-        IfOk result (λ verdict. verdict ≡ end_verdict session.level end) }
+        IfOkUnless (H.may_refuse heap) result (λ verdict. verdict ≡ end_verdict session.level end) }
 {
     match end {
         ScriptEnd::Done => Ok(Verdict::Done),
@@ -195,7 +202,7 @@ pub(crate) fn end_verdict(session: &Session, end: ScriptEnd) -> Result<Verdict, 
         } => match session.program_name(program) {
             Some(program) => Ok(Verdict::Error {
                 kind,
-                program: program.clone()?,
+                program: program.copied(heap)?,
                 place,
                 count,
             }),
@@ -212,19 +219,19 @@ pub(crate) fn end_verdict(session: &Session, end: ScriptEnd) -> Result<Verdict, 
 }
 
 /// What is left of a script and the run of its session.
-fn script_work(alloc: Global, runner: Runner, script: &[u8]) -> Result<Work, Memory>
+fn script_work<H: Heap>(heap: H, runner: Runner, script: &[u8]) -> Result<Work, Memory>
     requires script { length script.now ≤ 2 ^ 31 }
     requires runner { IsRunner runner }
-    ensures stored { IfOk result (λ work. work.stored ≡ None) }
+    ensures stored { IfOkUnless (H.may_refuse heap) result (λ work. work.stored ≡ None) }
     ensures reply { IfOk result (λ work. (watches : List Watching) → left_reply watches work.left
         ≡ script_reply (level_of runner) watches (script_of script.now)) }
     ensures is { IfOk result (λ work. IsLeft work.left) }
 {
-    match read_script(alloc, script) {
+    match read_script(heap, script) {
         Ok(lines) => Ok(Work {
             stored: None,
             left: Left::Session(ScriptRun { runner, lines }),
         }),
-        Err(fault) => Ok(planned(refused_script(alloc, fault)?)),
+        Err(fault) => Ok(planned(refused_script(heap.handle(), fault)?)),
     }
 }

@@ -1,5 +1,6 @@
 //! The command `go`: builds a program, stores its image, and runs it.
 ghost use Rattle.std.specs.Prelude.{◌≡◌, ◌≤◌, ◌^◌, Some, IfOk, length};
+ghost use Rattle.stack_heap.specs.Heaps.{IfOkUnless};
 ghost use Rattle.fm_loader.specs.Values.{values_in};
 ghost use Rattle.stack_build.specs.Build.{built};
 ghost use Rattle.stack_commands.specs.Commands.Build.{image_stored};
@@ -13,14 +14,14 @@ use command_replies::Plan;
 use command_replies::run::begin;
 use fm_image::Image;
 use stack_build::{Built, build};
+use stack_heap::Heap;
 use stack_text::{Memory, Seq};
-use std::alloc::Global;
 
 /// What `go` stores, and what is left to do.
 ///
 /// The values are read here, before the store; a refusal of them waits in `pending`, so the image is stored all the same.
-pub fn prepare(
-    alloc: Global,
+pub fn prepare<H: Heap>(
+    heap: H,
     source: &[u8],
     values: &[u8],
     control: &StackSize,
@@ -29,37 +30,37 @@ pub fn prepare(
 ) -> Result<Plan, Memory>
     requires source { length source.now ≤ 2 ^ 31 }
     requires values { length values.now ≤ 2 ^ 31 }
-    ensures stored { IfOk result (λ plan.
+    ensures stored { IfOkUnless (H.may_refuse heap) result (λ plan.
         plan.stored ≡ image_stored (built source.now control.now temporary.now 0)) }
     ensures reply { IfOk result (λ plan.
         pending_reply plan.pending ≡ go_reply (built source.now control.now temporary.now 0) values.now budget) }
 {
-    match build(alloc, source, control.words(), temporary.words(), 0) {
+    match build(heap, source, control.words(), temporary.words(), 0) {
         Ok(
             Built {
                 image,
                 bytes,
                 piton: _,
             },
-        ) => store_and_begin(alloc, bytes, image, values, budget),
-        Err(fault) => refused(alloc, fault),
+        ) => store_and_begin(heap, bytes, image, values, budget),
+        Err(fault) => refused(heap.handle(), fault),
     }
 }
 
 /// Stores an image's file, and begins the image's run on the values of a text.
-fn store_and_begin(
-    alloc: Global,
+fn store_and_begin<H: Heap>(
+    heap: H,
     bytes: Vec<u8>,
     image: Image,
     values: &[u8],
     budget: u64,
 ) -> Result<Plan, Memory>
     requires { length values.now ≤ 2 ^ 31 }
-    ensures stored { IfOk result (λ plan. plan.stored ≡ Some bytes.items) }
+    ensures stored { IfOkUnless (H.may_refuse heap) result (λ plan. plan.stored ≡ Some bytes.items) }
     ensures reply { IfOk result (λ plan.
         pending_reply plan.pending ≡ values_reply image budget (values_in image.slots values.now)) }
 {
-    let pending = begin(alloc, image, values, budget)?;
+    let pending = begin(heap, image, values, budget)?;
     Ok(Plan {
         stored: Some(Seq::from_vec(bytes)),
         pending,

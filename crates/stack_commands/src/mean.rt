@@ -1,5 +1,6 @@
 //! The command `mean`.
 ghost use Rattle.std.specs.Prelude.{◌≡◌, ◌≤◌, ◌^◌, None, IfOk, length, map};
+ghost use Rattle.stack_heap.specs.Heaps.{IfOkUnless};
 ghost use Rattle.gypsy_syntax.specs.Views.SourceView.{source_of};
 ghost use Rattle.gypsy_space.specs.Needs.{stack_sizes};
 ghost use Rattle.gypsy_meaning.specs.Views.Belongs.{BelongsTo};
@@ -11,17 +12,18 @@ use crate::source_text::{read_accepted, start_verdict};
 use command_line::StackSize;
 use command_replies::{Plan, Verdict};
 use display_maps::push_run;
+use fm_show::push_number;
 use gypsy_check::Accepted;
 use gypsy_meaning::Meaning;
 use gypsy_semantics::{Current, MeanRun};
 use gypsy_space::{Needs, needs};
 use stack_build::start_meaning;
+use stack_heap::Heap;
 use stack_text::{Memory, Name, Seq, Value};
-use std::alloc::Global;
 
 /// What is left of `mean` once its texts are there.
-pub fn prepare(
-    alloc: Global,
+pub fn prepare<H: Heap>(
+    heap: H,
     source: &[u8],
     values: &[u8],
     control: &StackSize,
@@ -30,26 +32,26 @@ pub fn prepare(
 ) -> Result<Plan, Memory>
     requires source { length source.now ≤ 2 ^ 31 }
     requires values { length values.now ≤ 2 ^ 31 }
-    ensures stored { IfOk result (λ plan. plan.stored ≡ None) }
+    ensures stored { IfOkUnless (H.may_refuse heap) result (λ plan. plan.stored ≡ None) }
     ensures reply { IfOk result (λ plan.
         pending_reply plan.pending ≡ mean_reply source.now values.now control.now temporary.now limit) }
 {
-    match read_accepted(alloc, source)? {
+    match read_accepted(heap, source)? {
         Ok(accepted) => run_source(
-            alloc,
+            heap,
             &accepted,
             values,
             control.words(),
             temporary.words(),
             limit,
         ),
-        Err(verdict) => Ok(Plan::verdict_alone(alloc, verdict)),
+        Err(verdict) => Ok(Plan::verdict_alone(heap.handle(), verdict)),
     }
 }
 
 /// The run of an accepted source, with stacks of these sizes.
-fn run_source(
-    alloc: Global,
+fn run_source<H: Heap>(
+    heap: H,
     accepted: &Accepted,
     values: &[u8],
     control: u32,
@@ -57,39 +59,39 @@ fn run_source(
     limit: u64,
 ) -> Result<Plan, Memory>
     requires { length values.now ≤ 2 ^ 31 }
-    ensures stored { IfOk result (λ plan. plan.stored ≡ None) }
+    ensures stored { IfOkUnless (H.may_refuse heap) result (λ plan. plan.stored ≡ None) }
     ensures reply { IfOk result (λ plan. pending_reply plan.pending
         ≡ mean_source_reply (source_of accepted.now) (stack_sizes control temporary) values.now limit) }
 {
-    let needs = needs(alloc, accepted)?;
-    match start_meaning(alloc, accepted, &needs, control, temporary, values) {
-        Ok(meaning) => run_meaning(alloc, accepted, &needs, meaning, limit),
-        Err(fault) => Ok(Plan::verdict_alone(alloc, start_verdict(fault)?)),
+    let needs = needs(heap, accepted)?;
+    match start_meaning(heap, accepted, &needs, control, temporary, values) {
+        Ok(meaning) => run_meaning(heap, accepted, &needs, meaning, limit),
+        Err(fault) => Ok(Plan::verdict_alone(heap.handle(), start_verdict(fault)?)),
     }
 }
 
 /// The run of a source's steps from a state on.
 #[tactic(auto, unfolding(crate::specs::Commands::Mean::mean_run_reply))]
-fn run_meaning(
-    alloc: Global,
+fn run_meaning<H: Heap>(
+    heap: H,
     accepted: &Accepted,
     needs: &Needs,
     meaning: Meaning,
     limit: u64,
 ) -> Result<Plan, Memory>
     requires { BelongsTo (source_of accepted.now) needs.now.procedures.items meaning }
-    ensures stored { IfOk result (λ plan. plan.stored ≡ None) }
+    ensures stored { IfOkUnless (H.may_refuse heap) result (λ plan. plan.stored ≡ None) }
     ensures reply { IfOk result (λ plan. pending_reply plan.pending
         ≡ mean_run_reply (source_of accepted.now) (seen meaning) limit) }
 {
     let mut meaning = meaning;
-    let run = meaning.run(alloc, accepted, needs, limit)?;
-    plan_of(alloc, accepted, needs, limit, run, &meaning)
+    let run = meaning.run(heap, accepted, needs, limit)?;
+    plan_of(heap, accepted, needs, limit, run, &meaning)
 }
 
 /// The reply to a run that ended in this way.
-fn plan_of(
-    alloc: Global,
+fn plan_of<H: Heap>(
+    heap: H,
     accepted: &Accepted,
     needs: &Needs,
     limit: u64,
@@ -97,45 +99,50 @@ fn plan_of(
     meaning: &Meaning,
 ) -> Result<Plan, Memory>
     requires { BelongsTo (source_of accepted.now) needs.now.procedures.items meaning.now }
-    ensures stored { IfOk result (λ plan. plan.stored ≡ None) }
+    ensures stored { IfOkUnless (H.may_refuse heap) result (λ plan. plan.stored ≡ None) }
     ensures reply { IfOk result (λ plan. pending_reply plan.pending
         ≡ mean_end_reply (source_of accepted.now) limit run (seen meaning.now)) }
 {
     match run {
-        MeanRun::Ended => Ok(Plan::all_said(ended_text(alloc, accepted, needs, meaning)?)),
-        MeanRun::Spent => Ok(Plan::verdict_alone(alloc, Verdict::Unfinished { limit })),
+        MeanRun::Ended => Ok(Plan::all_said(ended_text(heap, accepted, needs, meaning)?)),
+        MeanRun::Spent => Ok(Plan::verdict_alone(heap.handle(), Verdict::Unfinished { limit })),
     }
 }
 
 /// The lines of how many steps a run made and at which cost, its condition and its variables.
-fn run_text(
-    alloc: Global,
+fn run_text<H: Heap>(
+    heap: H,
     steps: u64,
     counted: u64,
     condition: &Current,
     variables: &[(Name, Value)],
 ) -> Result<Vec<u8>, Memory>
-    ensures { IfOk result (λ text. text.items
+    ensures { IfOkUnless (H.may_refuse heap) result (λ text. text.items
         ≡ said_text steps counted condition.now (map (λ v. v.0) variables.now) (map (λ v. v.1) variables.now)) }
 {
-    let mut text = format!(in alloc; "steps {steps}\ncounted {counted}\n")?.into_bytes();
-    push_run(alloc, &mut text, condition, variables)?;
+    let mut text = heap.copied(b"steps ")?;
+    push_number(heap, &mut text, steps)?;
+    heap.extend_from_slice(&mut text, b"\ncounted ")?;
+    push_number(heap, &mut text, counted)?;
+    heap.push(&mut text, b'\n')?;
+    push_run(heap, &mut text, condition, variables)?;
     Ok(text)
 }
 
 /// What is said of a run that ended.
-fn ended_text(
-    alloc: Global,
+fn ended_text<H: Heap>(
+    heap: H,
     accepted: &Accepted,
     needs: &Needs,
     meaning: &Meaning,
 ) -> Result<Seq<u8>, Memory>
     requires { BelongsTo (source_of accepted.now) needs.now.procedures.items meaning.now }
-    ensures { IfOk result (λ text. text ≡ ended_text (source_of accepted.now) (seen meaning.now)) }
+    ensures { IfOkUnless (H.may_refuse heap) result
+        (λ text. text ≡ ended_text (source_of accepted.now) (seen meaning.now)) }
 {
     let (steps, counted) = (meaning.steps(), meaning.counted());
     let text = run_text(
-        alloc,
+        heap,
         steps,
         counted,
         meaning.condition(),

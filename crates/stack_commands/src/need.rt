@@ -1,5 +1,6 @@
 //! The command `need`.
 ghost use Rattle.std.specs.Prelude.{◌≡◌, ◌≤◌, ◌<◌, ◌^◌, [], Some, IfOk, get_or, length, map};
+ghost use Rattle.stack_heap.specs.Heaps.{IfOkUnless};
 ghost use Rattle.gypsy_syntax.specs.Resolved.{procedure_names, program_of};
 ghost use Rattle.gypsy_syntax.specs.Views.SourceView.{proc_of, source_of};
 ghost use Rattle.gypsy_space.specs.Events.{AreNeeds, AreSmall};
@@ -11,38 +12,40 @@ ghost use Rattle.command_replies.specs.Replies.{all_said};
 
 use crate::source_text::read_accepted;
 use command_replies::{Pending, Plan, Reply, Verdict};
+use fm_show::push_number;
 use gypsy_check::Accepted;
 use gypsy_space::{Needs, needs};
 use gypsy_syntax::Proc;
 use space_cert::{CertFault, Certificate, certify, print_certificate, sizes_for};
+use stack_heap::Heap;
 use stack_text::{Memory, Name, Seq};
-use std::alloc::Global;
 
 /// What `need` stores, and what is left to do.
-pub fn prepare(alloc: Global, source: &[u8]) -> Result<Plan, Memory>
+pub fn prepare<H: Heap>(heap: H, source: &[u8]) -> Result<Plan, Memory>
     requires { length source.now ≤ 2 ^ 31 }
-    ensures stored { IfOk result (λ plan. plan.stored ≡ need_stored source.now) }
+    ensures stored { IfOkUnless (H.may_refuse heap) result (λ plan. plan.stored ≡ need_stored source.now) }
     ensures reply { IfOk result (λ plan. pending_reply plan.pending ≡ need_reply source.now) }
 {
-    match read_accepted(alloc, source)? {
-        Ok(accepted) => certify_source(alloc, &accepted),
-        Err(verdict) => Ok(Plan::verdict_alone(alloc, verdict)),
+    match read_accepted(heap, source)? {
+        Ok(accepted) => certify_source(heap, &accepted),
+        Err(verdict) => Ok(Plan::verdict_alone(heap.handle(), verdict)),
     }
 }
 
 /// The certificate of an accepted source, or the procedure that reaches itself.
 #[tactic(auto, unfolding(crate::specs::Commands::Need::certified_stored, crate::specs::Commands::Need::certified_reply))]
-fn certify_source(alloc: Global, accepted: &Accepted) -> Result<Plan, Memory>
-    ensures stored { IfOk result (λ plan. plan.stored ≡ certified_stored (source_of accepted.now)) }
+fn certify_source<H: Heap>(heap: H, accepted: &Accepted) -> Result<Plan, Memory>
+    ensures stored { IfOkUnless (H.may_refuse heap) result
+        (λ plan. plan.stored ≡ certified_stored (source_of accepted.now)) }
     ensures reply { IfOk result (λ plan. pending_reply plan.pending ≡ certified_reply (source_of accepted.now)) }
 {
-    let needs = needs(alloc, accepted)?;
-    match certify(alloc, accepted, &needs) {
-        Ok(certificate) => store(alloc, accepted, &needs, &certificate),
+    let needs = needs(heap, accepted)?;
+    match certify(heap, accepted, &needs) {
+        Ok(certificate) => store(heap, accepted, &needs, &certificate),
         Err(CertFault::Recursive { procedure }) => Ok(Plan::verdict_alone(
-            alloc,
+            heap.handle(),
             Verdict::Recursive {
-                procedure: procedure_name(accepted, procedure)?,
+                procedure: procedure_name(heap, accepted, procedure)?,
             },
         )),
         Err(CertFault::Memory) => Err(Memory),
@@ -60,34 +63,39 @@ fn procedure_at(procs: &[Proc], procedure: u32) -> &Proc
 }
 
 /// The name of a procedure.
-fn name_of(proc: &Proc) -> Result<Name, Memory>
-    ensures { IfOk result (λ name. name ≡ proc.now.name.name) }
+fn name_of<H: Heap>(heap: H, proc: &Proc) -> Result<Name, Memory>
+    ensures { IfOkUnless (H.may_refuse heap) result (λ name. name ≡ proc.now.name.name) }
 {
-    Ok(proc.name.name.clone()?)
+    proc.name.name.copied(heap)
 }
 
 /// The name of the procedure at a position of an accepted source.
-fn procedure_name(accepted: &Accepted, procedure: u32) -> Result<Name, Memory>
+fn procedure_name<H: Heap>(heap: H, accepted: &Accepted, procedure: u32) -> Result<Name, Memory>
     requires { procedure < length (program_of (source_of accepted.now)).procs }
-    ensures { IfOk result (λ name. name ≡ get_or (procedure_names (source_of accepted.now)) procedure []) }
+    ensures { IfOkUnless (H.may_refuse heap) result
+        (λ name. name ≡ get_or (procedure_names (source_of accepted.now)) procedure []) }
 {
     let source = accepted.source();
     let procs = source.procs.as_slice();
-    name_of(procedure_at(procs, procedure))
+    name_of(heap, procedure_at(procs, procedure))
 }
 
 /// The lines of the sizes of both stacks.
-fn sizes_text(alloc: Global, sizes: (u64, u64)) -> Result<Seq<u8>, Memory>
-    ensures { IfOk result (λ text. text ≡ sizes_text (as_words sizes)) }
+fn sizes_text<H: Heap>(heap: H, sizes: (u64, u64)) -> Result<Seq<u8>, Memory>
+    ensures { IfOkUnless (H.may_refuse heap) result (λ text. text ≡ sizes_text (as_words sizes)) }
 {
     let (temporary, control) = sizes;
-    let text = format!(in alloc; "control {control}\ntemporary {temporary}\n")?;
-    Ok(Seq::from_vec(text.into_bytes()))
+    let mut text = heap.copied(b"control ")?;
+    push_number(heap, &mut text, control)?;
+    heap.extend_from_slice(&mut text, b"\ntemporary ")?;
+    push_number(heap, &mut text, temporary)?;
+    heap.push(&mut text, b'\n')?;
+    Ok(Seq::from_vec(text))
 }
 
 /// Stores a certificate, and says which sizes it is enough for.
-fn store(
-    alloc: Global,
+fn store<H: Heap>(
+    heap: H,
     accepted: &Accepted,
     needs: &Needs,
     certificate: &Certificate,
@@ -96,13 +104,14 @@ fn store(
     requires needs { AreNeeds (program_of (source_of accepted.now)) needs.now.procedures.items }
     requires small { AreSmall needs.now.procedures.items }
     ensures stored { let names = procedure_names (source_of accepted.now) in
-        IfOk result (λ plan. plan.stored ≡ Some (certificate_text names certificate.now.bounds.items)) }
+        IfOkUnless (H.may_refuse heap) result
+        (λ plan. plan.stored ≡ Some (certificate_text names certificate.now.bounds.items)) }
     ensures reply { let program = program_of (source_of accepted.now) in
         IfOk result (λ plan.
         pending_reply plan.pending ≡ all_said (sizes_text (sizes_for program certificate.now.bounds.items))) }
 {
-    let said = sizes_text(alloc, sizes_for(accepted, needs, certificate))?;
-    let file = print_certificate(alloc, accepted, certificate)?;
+    let said = sizes_text(heap, sizes_for(accepted, needs, certificate))?;
+    let file = print_certificate(heap, accepted, certificate)?;
     Ok(Plan {
         stored: Some(Seq::from_vec(file)),
         pending: Pending::Reply(Reply {

@@ -1,5 +1,6 @@
 //! The command `pbuild`.
 ghost use Rattle.std.specs.Prelude.{◌≡◌, ◌≤◌, ◌^◌, IfOk, length};
+ghost use Rattle.stack_heap.specs.Heaps.{IfOkUnless};
 ghost use Rattle.piton_check.specs.PitonChecking.{IsChecked};
 ghost use Rattle.piton_semantics.specs.Fits.{system_in};
 ghost use Rattle.stack_commands.specs.Commands.Pbuild.{linked_stored, linked_reply, pbuild_stored, pbuild_reply};
@@ -9,31 +10,32 @@ use command_replies::{Plan, SizeOf, Verdict, read_checked};
 use piton_check::Checked;
 use piton_linker::LinkFault;
 use stack_build::linked_image;
+use stack_heap::Heap;
 use stack_text::Memory;
-use std::alloc::Global;
 
 /// What `pbuild` stores, and what is left to do.
-pub fn prepare(alloc: Global, piton: &[u8]) -> Result<Plan, Memory>
+pub fn prepare<H: Heap>(heap: H, piton: &[u8]) -> Result<Plan, Memory>
     requires { length piton.now ≤ 2 ^ 31 }
-    ensures stored { IfOk result (λ plan. plan.stored ≡ pbuild_stored piton.now) }
+    ensures stored { IfOkUnless (H.may_refuse heap) result (λ plan. plan.stored ≡ pbuild_stored piton.now) }
     ensures reply { IfOk result (λ plan. pending_reply plan.pending ≡ pbuild_reply piton.now) }
 {
-    match read_checked(alloc, piton)? {
-        Ok(checked) => link_system(alloc, &checked),
-        Err(verdict) => Ok(Plan::verdict_alone(alloc, verdict)),
+    match read_checked(heap, piton)? {
+        Ok(checked) => link_system(heap, &checked),
+        Err(verdict) => Ok(Plan::verdict_alone(heap.handle(), verdict)),
     }
 }
 
 /// Links a checked system.
-fn link_system(alloc: Global, checked: &Checked) -> Result<Plan, Memory>
+fn link_system<H: Heap>(heap: H, checked: &Checked) -> Result<Plan, Memory>
     requires { IsChecked checked.now }
-    ensures stored { IfOk result (λ plan. plan.stored ≡ linked_stored (system_in checked.now)) }
+    ensures stored { IfOkUnless (H.may_refuse heap) result
+        (λ plan. plan.stored ≡ linked_stored (system_in checked.now)) }
     ensures reply { IfOk result (λ plan. pending_reply plan.pending ≡ linked_reply (system_in checked.now)) }
 {
-    match linked_image(alloc, checked) {
-        Ok(image) => Plan::holds_image(alloc, &image),
+    match linked_image(heap, checked) {
+        Ok(image) => Plan::holds_image(heap, &image),
         Err(LinkFault::Large { words: need }) => Ok(Plan::verdict_alone(
-            alloc,
+            heap.handle(),
             Verdict::Size {
                 of: SizeOf::Words,
                 need,

@@ -70,7 +70,7 @@ fn print_end<K: Sink>(
     ensures failed { IsErrOf result PutFault.Failed → Rose (K.faults out.old) (K.faults out.new) }
     ensures faults { K.faults out.old ≤ K.faults out.new }
 {
-    let Ok(verdict) = end_verdict(session, end) else {
+    let Ok(verdict) = end_verdict(alloc, session, end) else {
         return Err(PutFault::Memory);
     };
     let Ok(line) = verdict.line(alloc) else {

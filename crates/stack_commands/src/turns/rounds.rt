@@ -1,6 +1,7 @@
 //! Runs tasks by turns, and tells how each of them ended.
 ghost use Rattle.std.specs.Prelude.{◌≡◌, ◌≤◌, ◌<◌, ℕ, length, slice_get, Some, IfOk};
 ghost use Rattle.std.specs.List.{list_all};
+ghost use Rattle.stack_heap.specs.Heaps.{IfOkUnless};
 ghost use Rattle.display_maps.specs.Reading.{reading};
 ghost use Rattle.display_maps.specs.Report.{report_text};
 ghost use Rattle.fm_turns.specs.declared.context.TaskContext.{TaskContext};
@@ -15,9 +16,10 @@ ghost use Rattle.stack_commands.specs.Commands.Turns.{round_line, tasks_reply};
 use command_replies::{Reply, Verdict};
 use display_maps::report;
 use fm_image::Image;
+use fm_show::push_number;
 use fm_turns::{Task, Turns, TurnsFault, each_ends_as_alone};
+use stack_heap::Heap;
 use stack_text::{Memory, Seq, Value};
-use std::alloc::Global;
 
 /// Goes round until no task runs any more, or the turns have come to the budget.
 fn go_round(turns: &mut Turns, turn: u64, budget: u64)
@@ -35,12 +37,16 @@ fn go_round(turns: &mut Turns, turn: u64, budget: u64)
 }
 
 /// The line of a task and of the round in which it ended.
-fn round_line(alloc: Global, i: u32, round: u64) -> Result<Vec<u8>, Memory>
+fn round_line<H: Heap>(heap: H, i: u32, round: u64) -> Result<Vec<u8>, Memory>
     requires { i ≤ 8 }
-    ensures { IfOk result (λ line. line.items ≡ round_line i round) }
+    ensures { IfOkUnless (H.may_refuse heap) result (λ line. line.items ≡ round_line i round) }
 {
-    let number = i + 1;
-    Ok(format!(in alloc; "task {number} round {round}\n")?.into_bytes())
+    let mut line = heap.copied(b"task ")?;
+    push_number(heap, &mut line, i + 1)?;
+    heap.extend_from_slice(&mut line, b" round ")?;
+    push_number(heap, &mut line, round)?;
+    heap.push(&mut line, b'\n')?;
+    Ok(line)
 }
 
 /// The round in which a task came to how it stands; none was made where it still runs.
@@ -56,58 +62,62 @@ fn round_in(state: Task) -> u64
 }
 
 /// The report of a task that came to its end after so many instructions.
-fn task_report(alloc: Global, turns: &Turns, i: u32, count: u64) -> Result<Vec<u8>, Memory>
+fn task_report<H: Heap>(heap: H, turns: &Turns, i: u32, count: u64) -> Result<Vec<u8>, Memory>
     requires { i < length turns.now.contexts }
-    ensures { IfOk result (λ text. (context : TaskContext) → slice_get turns.now.contexts i ≡ Some context
+    ensures { IfOkUnless (H.may_refuse heap) result
+        (λ text. (context : TaskContext) → slice_get turns.now.contexts i ≡ Some context
         → text.items ≡ report_text context.image (reading context.image (own_machine turns.now context)) count) }
 {
-    let reading = turns.read(alloc, i)?;
-    report(alloc, turns.image(i), &reading, count)
+    let reading = turns.read(heap, i)?;
+    report(heap, turns.image(i), &reading, count)
 }
 
 /// What the run of a task came to, that stands so.
-fn end_text(
-    alloc: Global,
+fn end_text<H: Heap>(
+    heap: H,
     turns: &Turns,
     i: u32,
     state: Task,
     budget: u64,
 ) -> Result<Vec<u8>, Memory>
     requires { i < length turns.now.contexts }
-    ensures { IfOk result (λ text. (context : TaskContext) → slice_get turns.now.contexts i ≡ Some context
+    ensures { IfOkUnless (H.may_refuse heap) result
+        (λ text. (context : TaskContext) → slice_get turns.now.contexts i ≡ Some context
         → text.items ≡ end_text budget context.image (reading context.image (own_machine turns.now context)) state) }
 {
     match state {
-        Task::Ended { count, .. } => task_report(alloc, turns, i, count),
+        Task::Ended { count, .. } => task_report(heap, turns, i, count),
         Task::Running { .. } | Task::Spent { .. } => {
-            Verdict::Unfinished { limit: budget }.line(alloc)
+            Verdict::Unfinished { limit: budget }.line(heap)
         }
-        Task::Outside { address, count, .. } => Verdict::Outside { address, count }.line(alloc),
+        Task::Outside { address, count, .. } => Verdict::Outside { address, count }.line(heap),
     }
 }
 
 /// What is told of a task.
-fn task_text(alloc: Global, turns: &Turns, i: u32, budget: u64) -> Result<Vec<u8>, Memory>
+fn task_text<H: Heap>(heap: H, turns: &Turns, i: u32, budget: u64) -> Result<Vec<u8>, Memory>
     requires there { i < length turns.now.contexts }
     requires few { i ≤ 8 }
-    ensures { IfOk result (λ text. (context : TaskContext) → slice_get turns.now.contexts i ≡ Some context
+    ensures { IfOkUnless (H.may_refuse heap) result
+        (λ text. (context : TaskContext) → slice_get turns.now.contexts i ≡ Some context
         → text.items ≡ told_of budget turns.now i context) }
 {
     let state = turns.task(i);
-    let mut text = round_line(alloc, i, round_in(state))?;
-    text.extend_from_slice(end_text(alloc, turns, i, state, budget)?.as_slice())?;
+    let mut text = round_line(heap, i, round_in(state))?;
+    heap.extend_from_slice(&mut text, end_text(heap, turns, i, state, budget)?.as_slice())?;
     Ok(text)
 }
 
 /// What is told of all tasks.
-fn tasks_text(alloc: Global, turns: &Turns, count: u32, budget: u64) -> Result<Vec<u8>, Memory>
+fn tasks_text<H: Heap>(heap: H, turns: &Turns, count: u32, budget: u64) -> Result<Vec<u8>, Memory>
     requires all { length turns.now.contexts ≡ count }
     requires few { count ≤ 8 }
-    ensures { IfOk result (λ text. text.items ≡ told_from budget turns.now 0 turns.now.contexts) }
+    ensures { IfOkUnless (H.may_refuse heap) result
+        (λ text. text.items ≡ told_from budget turns.now 0 turns.now.contexts) }
 {
-    let mut text = Vec::new(alloc);
+    let mut text = Vec::new(heap.handle());
     for i in 0..count {
-        text.extend_from_slice(task_text(alloc, turns, i, budget)?.as_slice())?;
+        heap.extend_from_slice(&mut text, task_text(heap, turns, i, budget)?.as_slice())?;
     }
     Ok(text)
 }
@@ -133,12 +143,12 @@ fn have_ended(turns: &Turns, count: u32) -> bool
 }
 
 /// The reply once no task runs any more.
-fn told_reply(alloc: Global, turns: &Turns, count: u32, budget: u64) -> Result<Reply, Memory>
+fn told_reply<H: Heap>(heap: H, turns: &Turns, count: u32, budget: u64) -> Result<Reply, Memory>
     requires all { length turns.now.contexts ≡ count }
     requires few { count ≤ 8 }
-    ensures { IfOk result (λ reply. reply_of reply ≡ told_reply budget turns.now) }
+    ensures { IfOkUnless (H.may_refuse heap) result (λ reply. reply_of reply ≡ told_reply budget turns.now) }
 {
-    let said = tasks_text(alloc, turns, count, budget)?;
+    let said = tasks_text(heap, turns, count, budget)?;
     let verdict = if have_ended(turns, count) {
         Verdict::Done
     } else {
@@ -152,13 +162,13 @@ fn told_reply(alloc: Global, turns: &Turns, count: u32, budget: u64) -> Result<R
 }
 
 /// The tasks as they begin.
-fn begin(alloc: Global, tasks: Vec<(Image, Vec<Value>)>) -> Result<Turns, Memory>
+fn begin<H: Heap>(heap: H, tasks: Vec<(Image, Vec<Value>)>) -> Result<Turns, Memory>
     requires fit { AllFit (new_tasks tasks.items) }
     requires ready { AreReady (new_tasks tasks.items) }
-    ensures turns { IfOk result (λ turns. turns ≡ side_by_side (new_tasks tasks.items)) }
+    ensures turns { IfOkUnless (H.may_refuse heap) result (λ turns. turns ≡ side_by_side (new_tasks tasks.items)) }
     ensures within { IfOk result (λ turns. (budget : ℕ) → AreWithin budget turns.contexts) }
 {
-    match Turns::new(alloc, tasks) {
+    match Turns::new(heap, tasks) {
         Ok(turns) => Ok(turns),
         Err(TurnsFault::Memory) => Err(Memory),
         Err(_) => unreachable!(),
@@ -166,8 +176,8 @@ fn begin(alloc: Global, tasks: Vec<(Image, Vec<Value>)>) -> Result<Turns, Memory
 }
 
 /// Runs tasks by turns, and replies how each of them ended.
-pub fn run_by_turns(
-    alloc: Global,
+pub fn run_by_turns<H: Heap>(
+    heap: H,
     tasks: Vec<(Image, Vec<Value>)>,
     turn: u64,
     budget: u64,
@@ -175,11 +185,12 @@ pub fn run_by_turns(
     requires some { 1 ≤ turn }
     requires fit { AllFit (new_tasks tasks.items) }
     requires ready { AreReady (new_tasks tasks.items) }
-    ensures { IfOk result (λ reply. reply_of reply ≡ tasks_reply turn budget (new_tasks tasks.items)) }
+    ensures { IfOkUnless (H.may_refuse heap) result
+        (λ reply. reply_of reply ≡ tasks_reply turn budget (new_tasks tasks.items)) }
 {
     each_ends_as_alone();
     let count = tasks.len() as u32;
-    let mut turns = begin(alloc, tasks)?;
+    let mut turns = begin(heap, tasks)?;
     go_round(&mut turns, turn, budget);
-    told_reply(alloc, &turns, count, budget)
+    told_reply(heap, &turns, count, budget)
 }

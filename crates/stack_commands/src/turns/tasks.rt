@@ -1,6 +1,6 @@
 //! Makes tasks of the texts of sources and of their values.
-ghost use Rattle.std.specs.Prelude.{◌≡◌, ◌≤◌, ◌^◌, All, IfOk, length, map, slice_index_or, [], Ok};
-ghost use Rattle.stack_text.specs.Gives.{Gives};
+ghost use Rattle.std.specs.Prelude.{◌≡◌, ◌≤◌, ◌^◌, All, IfOk, length, map, slice_index_or, [], Ok, ⊥};
+ghost use Rattle.stack_text.specs.Gives.{GivesUnless};
 ghost use Rattle.fm_loader.specs.Loaded.{Fits};
 ghost use Rattle.fm_loader.specs.Values.{values_in};
 ghost use Rattle.fm_turns.specs.Starting.{new_tasks, AllFit};
@@ -15,8 +15,9 @@ use fm_image::Image;
 use fm_loader::{ValuesFault, read_image_values};
 use fm_words::MOST_WINDOW;
 use stack_build::{build, builds_implement, builds_stay_inside};
+use stack_heap::Heap;
 use stack_text::{MOST_TASKS, Memory, Value};
-use std::alloc::{AllocFailed, Global};
+use std::alloc::AllocFailed;
 
 /// The most tasks.
 const TASKS: usize = MOST_TASKS as usize;
@@ -65,8 +66,8 @@ fn size_of(image: &Image) -> u32
 }
 
 /// The image of a task's source, in a window from `base` on.
-fn build_task(
-    alloc: Global,
+fn build_task<H: Heap>(
+    heap: H,
     i: u32,
     source: &[u8],
     control: u32,
@@ -76,9 +77,10 @@ fn build_task(
     requires source { length source.now ≤ 2 ^ 31 }
     requires base { base ≤ 2 ^ 31 }
     requires few { i ≤ 8 }
-    ensures { Gives fault_of (λ image. image) result (image_or_fault i (built source.now control temporary base)) }
+    ensures { GivesUnless (H.may_refuse heap) fault_of (λ image. image) result
+        (image_or_fault i (built source.now control temporary base)) }
 {
-    match build(alloc, source, control, temporary, base) {
+    match build(heap, source, control, temporary, base) {
         Ok(built) => Ok(built.image),
         Err(fault) => Err(TasksFault::Refused {
             number: i + 1,
@@ -88,24 +90,24 @@ fn build_task(
 }
 
 /// The images of sources, in windows that lie side by side from 0 on.
-fn build_tasks(
-    alloc: Global,
+fn build_tasks<H: Heap>(
+    heap: H,
     sources: &[&[u8]],
     control: u32,
     temporary: u32,
 ) -> Result<Vec<Image>, TasksFault>
     requires sources { All (λ text. length text.now ≤ 2 ^ 31) sources.now }
     requires few { length sources.now ≤ 8 }
-    ensures images { Gives fault_of (λ images. images.items) result
+    ensures images { GivesUnless (H.may_refuse heap) fault_of (λ images. images.items) result
         (images_from (stack_sizes control temporary) 0 0 (map (λ text. text.now) sources.now)) }
     ensures count { IfOk result (λ images. length images.items ≡ length sources.now) }
 {
-    let mut images = Vec::new(alloc);
+    let mut images = Vec::new(heap.handle());
     let mut base = 0;
     for (i, source) in sources.iter().enumerate() {
-        let image = build_task(alloc, i as u32, source, control, temporary, base)?;
+        let image = build_task(heap, i as u32, source, control, temporary, base)?;
         base += size_of(&image);
-        images.push(image)?;
+        heap.push(&mut images, image)?;
     }
     Ok(images)
 }
@@ -125,7 +127,7 @@ fn word_count(images: &[Image]) -> u64
 /// The images, if their windows have at most 2^20 words together.
 fn small_enough(images: Vec<Image>) -> Result<Vec<Image>, TasksFault>
     requires { length images.items ≤ 8 }
-    ensures images { Gives fault_of (λ images. images.items) result (small_enough images.items) }
+    ensures images { GivesUnless ⊥ fault_of (λ images. images.items) result (small_enough images.items) }
     ensures count { IfOk result (λ small. length small.items ≡ length images.items) }
 {
     let words = word_count(images.as_slice());
@@ -148,14 +150,14 @@ fn text_at<'a>(texts: &[&'a [u8]], i: u32) -> &'a [u8]
 }
 
 /// The values of a task for its image.
-fn read_task(alloc: Global, i: u32, image: &Image, text: &[u8]) -> Result<Vec<Value>, TasksFault>
+fn read_task<H: Heap>(heap: H, i: u32, image: &Image, text: &[u8]) -> Result<Vec<Value>, TasksFault>
     requires text { length text.now ≤ 2 ^ 31 }
     requires few { i ≤ 8 }
-    ensures value { Gives fault_of (λ values. values.items) result
+    ensures value { GivesUnless (H.may_refuse heap) fault_of (λ values. values.items) result
         (values_or_fault i (values_in image.now.slots text.now)) }
     ensures fits { IfOk result (λ values. Fits image.now.slots values.items) }
 {
-    match read_image_values(alloc, text, image) {
+    match read_image_values(heap, text, image) {
         Ok(values) => Ok(values),
         Err(ValuesFault::Refused { rule, place }) => Err(TasksFault::Refused {
             number: i + 1,
@@ -166,22 +168,22 @@ fn read_task(alloc: Global, i: u32, image: &Image, text: &[u8]) -> Result<Vec<Va
 }
 
 /// Each image with its values.
-fn read_tasks(
-    alloc: Global,
+fn read_tasks<H: Heap>(
+    heap: H,
     images: Vec<Image>,
     texts: &[&[u8]],
 ) -> Result<Vec<(Image, Vec<Value>)>, TasksFault>
     requires texts { All (λ text. length text.now ≤ 2 ^ 31) texts.now }
     requires few { length images.items ≤ 8 }
-    ensures tasks { Gives fault_of (λ tasks. new_tasks tasks.items) result
+    ensures tasks { GivesUnless (H.may_refuse heap) fault_of (λ tasks. new_tasks tasks.items) result
         (tasks_from (map (λ text. text.now) texts.now) 0 images.items) }
     ensures fit { IfOk result (λ tasks. AllFit (new_tasks tasks.items)) }
 {
-    let mut tasks = Vec::new(alloc);
+    let mut tasks = Vec::new(heap.handle());
     let mut i = 0;
     for image in images {
-        let values = read_task(alloc, i, &image, text_at(texts, i))?;
-        tasks.push((image, values))?;
+        let values = read_task(heap, i, &image, text_at(texts, i))?;
+        heap.push(&mut tasks, (image, values))?;
         i += 1;
     }
     Ok(tasks)
@@ -189,8 +191,8 @@ fn read_tasks(
 
 /// The tasks of sources and texts of values, for stacks of these sizes.
 #[tactic(auto, unfolding(crate::specs::Commands::Turns::tasks_of))]
-pub fn new_tasks(
-    alloc: Global,
+pub fn new_tasks<H: Heap>(
+    heap: H,
     sources: &[&[u8]],
     texts: &[&[u8]],
     control: u32,
@@ -198,7 +200,7 @@ pub fn new_tasks(
 ) -> Result<Vec<(Image, Vec<Value>)>, TasksFault>
     requires sources { All (λ text. length text.now ≤ 2 ^ 31) sources.now }
     requires texts { All (λ text. length text.now ≤ 2 ^ 31) texts.now }
-    ensures tasks { Gives fault_of (λ tasks. new_tasks tasks.items) result
+    ensures tasks { GivesUnless (H.may_refuse heap) fault_of (λ tasks. new_tasks tasks.items) result
         (tasks_of (stack_sizes control temporary) (map (λ text. text.now) sources.now)
         (map (λ text. text.now) texts.now)) }
     ensures fit { IfOk result (λ tasks. AllFit (new_tasks tasks.items)) }
@@ -209,6 +211,6 @@ pub fn new_tasks(
     if sources.is_empty() || sources.len() > TASKS {
         return Err(TasksFault::Count);
     }
-    let images = build_tasks(alloc, sources, control, temporary)?;
-    read_tasks(alloc, small_enough(images)?, texts)
+    let images = build_tasks(heap, sources, control, temporary)?;
+    read_tasks(heap, small_enough(images)?, texts)
 }

@@ -5,7 +5,7 @@ use Rattle.stack_commands.proofs.MeanLaws.{said_is}
 use Rattle.stack_commands.proofs.mean.ended_text.Goals as goal
 
 pub returns : goal.returns
-returns c =
+returns g c =
     let source = source_of c.args.accepted.now in
     let needs = c.args.needs.now.procedures.items in
     c.from_vec.ensures

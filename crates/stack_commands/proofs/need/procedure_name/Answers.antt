@@ -6,7 +6,7 @@ use Rattle.gypsy_syntax.specs.Views.SourceView.{proc_of, source_of}
 use Rattle.stack_commands.proofs.need.procedure_name.Goals as goal
 
 pub procedure_at-requires : goal.procedure_at-requires
-procedure_at-requires c =
+procedure_at-requires g c =
     let s = source_of c.args.accepted.now in
     let procs = c.args.accepted.now.procs.items in
     let here : c.args.procedure < length procs = omega (arith, c.requires, length-map s.procs (procedure_of s), length-map procs proc_of) in

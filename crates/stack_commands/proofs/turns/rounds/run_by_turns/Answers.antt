@@ -8,7 +8,7 @@ use Rattle.stack_commands.proofs.TurnsLaws.{first_images, tells_alone}
 use Rattle.stack_commands.proofs.turns.rounds.run_by_turns.Goals as goal
 
 pub returns : goal.returns
-returns c =
+returns g c =
     let tasks : List NewTask = new_tasks c.args.tasks.items in
     let before : TurnsOf = c.in_ok-turns.turns in
     let after : TurnsOf = c.go_round.new.turns in

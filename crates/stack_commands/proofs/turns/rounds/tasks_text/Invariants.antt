@@ -4,4 +4,4 @@ use Rattle.stack_commands.proofs.turns.rounds.tasks_text.Given as goal
 
 -- the text so far, and that of the tasks that are left, are that of all
 abbrev pub invariant-loop-i : goal.invariant-loop-i
-invariant-loop-i l = l.text.items ++ told_from l.budget l.turns l.i (drop l.i l.turns.contexts) ≡ told_from l.budget l.turns 0 l.turns.contexts
+invariant-loop-i g l = l.text.items ++ told_from l.budget l.turns l.i (drop l.i l.turns.contexts) ≡ told_from l.budget l.turns 0 l.turns.contexts
