@@ -23,7 +23,12 @@ use stack_heap::Heap;
 use stack_text::{Memory, Shape};
 
 /// An argument, pushed: the index of a variable, or a literal.
-fn push_arg<H: Heap>(heap: H, emitter: &mut Emitter, context: &Context, arg: &Argument) -> Result<(), Memory>
+fn push_arg<H: Heap>(
+    heap: H,
+    emitter: &mut Emitter,
+    context: &Context,
+    arg: &Argument,
+) -> Result<(), Memory>
     requires ready { IsReady context.now }
     requires word { ArgHasWord (program_in context.now) context.now.procedure (seen_arg arg.now) }
     ensures { let pushed = push_args (program_in context.now) context.now.procedure (seen_arg arg.now ∷ []) in
@@ -36,7 +41,12 @@ fn push_arg<H: Heap>(heap: H, emitter: &mut Emitter, context: &Context, arg: &Ar
 }
 
 /// The arguments, pushed.
-fn push_args<H: Heap>(heap: H, emitter: &mut Emitter, context: &Context, args: &[Argument]) -> Result<(), Memory>
+fn push_args<H: Heap>(
+    heap: H,
+    emitter: &mut Emitter,
+    context: &Context,
+    args: &[Argument],
+) -> Result<(), Memory>
     requires ready { IsReady context.now }
     requires words { Each (ArgHasWord (program_in context.now) context.now.procedure) (map seen_arg args.now) }
     ensures { let pushed = push_args (program_in context.now) context.now.procedure (map seen_arg args.now) in
@@ -60,7 +70,12 @@ fn array_length(shapes: &[Shape], args: &[Argument], at: usize) -> u32
 }
 
 /// The length that the array rows push last.
-fn push_length<H: Heap>(heap: H, emitter: &mut Emitter, context: &Context, call: &Application) -> Result<(), Memory>
+fn push_length<H: Heap>(
+    heap: H,
+    emitter: &mut Emitter,
+    context: &Context,
+    call: &Application,
+) -> Result<(), Memory>
     ensures { let pushed = length_code context.now.shapes.now call.now.which (map seen_arg call.now.args.items) in
         OnOkUnless (H.may_refuse heap) result (emitter.new ≡ emitter.old ++ code_in context.now pushed) }
 {

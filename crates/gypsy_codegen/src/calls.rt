@@ -96,7 +96,11 @@ fn constants<H: Heap>(heap: H, emitter: &mut Emitter, words: Vec<WordText>) -> R
 }
 
 /// The words of the locals of a callee, pushed.
-fn push_words<H: Heap>(heap: H, emitter: &mut Emitter, locals: &[(Name, Value)]) -> Result<(), Memory>
+fn push_words<H: Heap>(
+    heap: H,
+    emitter: &mut Emitter,
+    locals: &[(Name, Value)],
+) -> Result<(), Memory>
     ensures { OnOkUnless (H.may_refuse heap) result
         (emitter.new ≡ emitter.old ++ local_constants (held_values locals.now)) }
 {
@@ -106,7 +110,12 @@ fn push_words<H: Heap>(heap: H, emitter: &mut Emitter, locals: &[(Name, Value)])
 }
 
 /// The indices of the locals of a callee, pushed. The locals have so many words together.
-fn push_indices<H: Heap>(heap: H, emitter: &mut Emitter, locals: &[(Name, Value)], words: u64) -> Result<(), Memory>
+fn push_indices<H: Heap>(
+    heap: H,
+    emitter: &mut Emitter,
+    locals: &[(Name, Value)],
+    words: u64,
+) -> Result<(), Memory>
     requires all { words_of (map (λ v. v.shape) (held_values locals.now)) ≡ words }
     requires few { words ≤ 65536 }
     ensures { OnOkUnless (H.may_refuse heap) result (emitter.new ≡
@@ -122,7 +131,12 @@ fn push_indices<H: Heap>(heap: H, emitter: &mut Emitter, locals: &[(Name, Value)
 }
 
 /// The indices of the actuals, pushed.
-fn push_actuals<H: Heap>(heap: H, emitter: &mut Emitter, context: &Context, actuals: &[u32]) -> Result<(), Memory>
+fn push_actuals<H: Heap>(
+    heap: H,
+    emitter: &mut Emitter,
+    context: &Context,
+    actuals: &[u32],
+) -> Result<(), Memory>
     requires ready { IsReady context.now }
     requires words { Each (HasWord (program_in context.now) context.now.procedure) actuals.now }
     ensures { let pushed = push_actuals (program_in context.now) context.now.procedure actuals.now in
@@ -158,7 +172,13 @@ fn push_locals<H: Heap>(heap: H, emitter: &mut Emitter, callee: &Procedure) -> R
 }
 
 /// Half of a guard: what an instruction pushes as free words is compared with what is needed, and fewer go to a label.
-fn guard<H: Heap>(heap: H, emitter: &mut Emitter, free: PitonOp, need: u64, to: u32) -> Result<(), Memory>
+fn guard<H: Heap>(
+    heap: H,
+    emitter: &mut Emitter,
+    free: PitonOp,
+    need: u64,
+    to: u32,
+) -> Result<(), Memory>
     ensures { OnOkUnless (H.may_refuse heap) result (emitter.new ≡ emitter.old ++ half_guard free need to) }
 {
     emitter.plain(heap, None, free)?;
@@ -209,7 +229,12 @@ pub(crate) fn before_call<H: Heap>(
 
 /// The jump by the condition that a call left: to the first label for leave and for routineerror, to the second where it is
 /// normal, to the third for spaceerror, and to those that follow for the condition actuals.
-fn jump_by_condition<H: Heap>(heap: H, emitter: &mut Emitter, first: u32, conds: &[Condition]) -> Result<(), Memory>
+fn jump_by_condition<H: Heap>(
+    heap: H,
+    emitter: &mut Emitter,
+    first: u32,
+    conds: &[Condition],
+) -> Result<(), Memory>
     requires { first + 3 + length conds.now < 2 ^ 32 }
     ensures { let others = raise_labels (first + 3) (map seen_cond conds.now) in
         let targets = first ∷ first ∷ (first + 1) ∷ (first + 2) ∷ others in
@@ -287,9 +312,30 @@ pub(crate) fn after_call<H: Heap>(
     emitter.of_number(heap, PitonOp::PopStar, words)?;
     emitter.area(heap, PitonOp::PushGlobal)?;
     jump_by_condition(heap, emitter, first, site.conds.as_slice())?;
-    raise(heap, emitter, context, scopes, Some(first), Condition::Routine)?;
-    raise(heap, emitter, context, scopes, Some(first + 2), Condition::Space)?;
-    raises(heap, emitter, context, scopes, first + 3, site.conds.as_slice())?;
+    raise(
+        heap,
+        emitter,
+        context,
+        scopes,
+        Some(first),
+        Condition::Routine,
+    )?;
+    raise(
+        heap,
+        emitter,
+        context,
+        scopes,
+        Some(first + 2),
+        Condition::Space,
+    )?;
+    raises(
+        heap,
+        emitter,
+        context,
+        scopes,
+        first + 3,
+        site.conds.as_slice(),
+    )?;
     emitter.plain(heap, Some(first + 1), PitonOp::NoOp)?;
     Ok(())
 }

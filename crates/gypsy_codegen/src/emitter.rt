@@ -68,14 +68,24 @@ impl Emitter {
     }
 
     /// An instruction without arguments.
-    pub(crate) fn plain<H: Heap>(&mut self, heap: H, label: Option<u32>, op: PitonOp) -> Result<(), Memory>
+    pub(crate) fn plain<H: Heap>(
+        &mut self,
+        heap: H,
+        label: Option<u32>,
+        op: PitonOp,
+    ) -> Result<(), Memory>
         ensures { OnOkUnless (H.may_refuse heap) result (self.new ≡ self.old ++ labelled label op [] ∷ []) }
     {
         self.put(heap, label, op, Vec::new(heap.handle()))
     }
 
     /// An instruction of a number of words.
-    pub(crate) fn of_number<H: Heap>(&mut self, heap: H, op: PitonOp, count: u64) -> Result<(), Memory>
+    pub(crate) fn of_number<H: Heap>(
+        &mut self,
+        heap: H,
+        op: PitonOp,
+        count: u64,
+    ) -> Result<(), Memory>
         ensures { let args = arg.Number (number (pos count)) ∷ [] in
             OnOkUnless (H.may_refuse heap) result (self.new ≡ self.old ++ instruction None op args ∷ []) }
     {
@@ -86,7 +96,12 @@ impl Emitter {
 
     /// An instruction of a name.
     #[inline(always)]
-    pub(crate) fn of_name<H: Heap>(&mut self, heap: H, op: PitonOp, name: Named) -> Result<(), Memory>
+    pub(crate) fn of_name<H: Heap>(
+        &mut self,
+        heap: H,
+        op: PitonOp,
+        name: Named,
+    ) -> Result<(), Memory>
         ensures { OnOkUnless (H.may_refuse heap) result
             (self.new ≡ self.old ++ instruction None op (arg.Name name ∷ []) ∷ []) }
     {
@@ -95,7 +110,12 @@ impl Emitter {
 
     /// A `push-constant`.
     #[inline(always)]
-    pub(crate) fn constant<H: Heap>(&mut self, heap: H, label: Option<u32>, item: WordItem) -> Result<(), Memory>
+    pub(crate) fn constant<H: Heap>(
+        &mut self,
+        heap: H,
+        label: Option<u32>,
+        item: WordItem,
+    ) -> Result<(), Memory>
         ensures { OnOkUnless (H.may_refuse heap) result
             (self.new ≡ self.old ++ constant (option_map label_name label) item ∷ []) }
     {
@@ -122,7 +142,13 @@ impl Emitter {
     }
 
     /// A test, and the jump to a label.
-    pub(crate) fn test<H: Heap>(&mut self, heap: H, op: PitonOp, kind: TestKind, to: u32) -> Result<(), Memory>
+    pub(crate) fn test<H: Heap>(
+        &mut self,
+        heap: H,
+        op: PitonOp,
+        kind: TestKind,
+        to: u32,
+    ) -> Result<(), Memory>
         ensures { let args = arg.Test kind ∷ label_arg to ∷ [] in
             OnOkUnless (H.may_refuse heap) result (self.new ≡ self.old ++ instruction None op args ∷ []) }
     {

@@ -26,7 +26,11 @@ pub(crate) fn label_named<H: Heap>(heap: H, label: u32) -> Result<Named, Memory>
 }
 
 /// Appends a label to the arguments of an instruction.
-pub(crate) fn push_label<H: Heap>(heap: H, args: &mut Vec<ArgText>, label: u32) -> Result<(), Memory>
+pub(crate) fn push_label<H: Heap>(
+    heap: H,
+    args: &mut Vec<ArgText>,
+    label: u32,
+) -> Result<(), Memory>
     ensures { OnOkUnless (H.may_refuse heap) result (args.new.items ≡ args.old.items ++ label_arg label ∷ []) }
 {
     let name = label_named(heap, label)?;

@@ -45,15 +45,24 @@ struct Marking<'a, 'b> {
 }
 
 /// A mark of the procedure.
-fn note<H: Heap>(heap: H, marks: &mut Vec<MarkAt>, marking: &Marking, at: u32, place: u32) -> Result<(), Memory>
+fn note<H: Heap>(
+    heap: H,
+    marks: &mut Vec<MarkAt>,
+    marking: &Marking,
+    at: u32,
+    place: u32,
+) -> Result<(), Memory>
     ensures { OnOkUnless (H.may_refuse heap) result
         (marks.new.items ≡ marks.old.items ++ mark_at marking.now.procedure at place ∷ []) }
 {
-    heap.push(marks, MarkAt {
-        program: marking.procedure,
-        at,
-        place,
-    })?;
+    heap.push(
+        marks,
+        MarkAt {
+            program: marking.procedure,
+            at,
+            place,
+        },
+    )?;
     Ok(())
 }
 
@@ -232,7 +241,13 @@ fn parts<H: Heap>(
 }
 
 /// What stands behind a body of so many instructions.
-fn tail<H: Heap>(heap: H, marks: &mut Vec<MarkAt>, marking: &Marking, at: u32, place: u32) -> Result<(), Memory>
+fn tail<H: Heap>(
+    heap: H,
+    marks: &mut Vec<MarkAt>,
+    marking: &Marking,
+    at: u32,
+    place: u32,
+) -> Result<(), Memory>
     requires { at ≤ 2 ^ 21 }
     ensures { OnOkUnless (H.may_refuse heap) result
         (marks.new.items ≡ marks.old.items ++ tail_marks marking.now.procedure at place) }

@@ -75,7 +75,11 @@ fn frame_names<H: Heap>(
 }
 
 /// The shapes of formals.
-fn formal_shapes<H: Heap>(heap: H, shapes: &mut Vec<Shape>, formals: &[(Name, Shape)]) -> Result<(), Memory>
+fn formal_shapes<H: Heap>(
+    heap: H,
+    shapes: &mut Vec<Shape>,
+    formals: &[(Name, Shape)],
+) -> Result<(), Memory>
     ensures { OnOkUnless (H.may_refuse heap) result (shapes.new.items ≡ shapes.old.items ++ held_shapes formals.now) }
 {
     for (_, shape) in formals {
@@ -85,7 +89,11 @@ fn formal_shapes<H: Heap>(heap: H, shapes: &mut Vec<Shape>, formals: &[(Name, Sh
 }
 
 /// The shapes of locals.
-fn local_shapes<H: Heap>(heap: H, shapes: &mut Vec<Shape>, locals: &[(Name, Value)]) -> Result<(), Memory>
+fn local_shapes<H: Heap>(
+    heap: H,
+    shapes: &mut Vec<Shape>,
+    locals: &[(Name, Value)],
+) -> Result<(), Memory>
     ensures { OnOkUnless (H.may_refuse heap) result
         (shapes.new.items ≡ shapes.old.items ++ map (λ v. v.shape) (held_values locals.now)) }
 {
@@ -194,7 +202,14 @@ fn instructions<H: Heap>(heap: H, context: &Context) -> Result<Vec<InstrText>, M
     let words = context.needs.need_of(context.procedure).code_words;
     let mut emitter = Emitter::with_capacity(heap, (words / WORDS_EACH) as usize)?;
     let found = procedure_at(context.program, context.procedure);
-    statement(heap, &mut emitter, context, &found.body, &Scopes::Outside, 2)?;
+    statement(
+        heap,
+        &mut emitter,
+        context,
+        &found.body,
+        &Scopes::Outside,
+        2,
+    )?;
     tail(heap, &mut emitter)?;
     Ok(emitter.into_instrs())
 }

@@ -37,7 +37,12 @@ fn normal<H: Heap>(heap: H, emitter: &mut Emitter, label: u32) -> Result<(), Mem
 }
 
 /// A jump, and behind it the label from which on the condition is normal again.
-fn jump_to_normal<H: Heap>(heap: H, emitter: &mut Emitter, to: u32, label: u32) -> Result<(), Memory>
+fn jump_to_normal<H: Heap>(
+    heap: H,
+    emitter: &mut Emitter,
+    to: u32,
+    label: u32,
+) -> Result<(), Memory>
     ensures { let text = instruction None op.Jump (label_arg to ∷ []) ∷ normal_text label in
         OnOkUnless (H.may_refuse heap) result (emitter.new ≡ emitter.old ++ text) }
 {
@@ -55,7 +60,13 @@ fn jump_over<H: Heap>(heap: H, emitter: &mut Emitter, to: u32, label: u32) -> Re
 }
 
 /// The test of an `if`, and the jump to a label where it is false.
-fn branch<H: Heap>(heap: H, emitter: &mut Emitter, context: &Context, variable: u32, to: u32) -> Result<(), Memory>
+fn branch<H: Heap>(
+    heap: H,
+    emitter: &mut Emitter,
+    context: &Context,
+    variable: u32,
+    to: u32,
+) -> Result<(), Memory>
     requires ready { IsReady context.now }
     requires word { HasWord (program_in context.now) context.now.procedure variable }
     ensures { let at = offset (program_in context.now) context.now.procedure variable in

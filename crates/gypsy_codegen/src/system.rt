@@ -36,7 +36,11 @@ fn procedure_names<H: Heap>(heap: H, names: &mut Vec<Name>, procs: &[Proc]) -> R
 }
 
 /// The names of programs.
-fn body_names<H: Heap>(heap: H, names: &mut Vec<Name>, bodies: &[piton_syntax::Program]) -> Result<(), Memory>
+fn body_names<H: Heap>(
+    heap: H,
+    names: &mut Vec<Name>,
+    bodies: &[piton_syntax::Program],
+) -> Result<(), Memory>
     ensures { OnOkUnless (H.may_refuse heap) result
         (names.new.items ≡ names.old.items ++ map (λ b. b.name.name) bodies.now) }
 {
@@ -78,7 +82,10 @@ fn procedures<H: Heap>(
 {
     let mut made = Vec::new(heap.handle());
     for (number, proc) in procs.iter().enumerate() {
-        heap.push(&mut made, procedure(heap, program, needs, programs, proc, number as u32)?)?;
+        heap.push(
+            &mut made,
+            procedure(heap, program, needs, programs, proc, number as u32)?,
+        )?;
     }
     Ok(made)
 }

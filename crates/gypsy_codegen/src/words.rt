@@ -37,7 +37,12 @@ pub(crate) fn simple_word(value: &Value) -> WordItem
 }
 
 /// The words of items.
-fn item_words<H: Heap>(heap: H, words: &mut Vec<WordText>, kind: Kind, items: &[i32]) -> Result<(), Memory>
+fn item_words<H: Heap>(
+    heap: H,
+    words: &mut Vec<WordText>,
+    kind: Kind,
+    items: &[i32],
+) -> Result<(), Memory>
     ensures { OnOkUnless (H.may_refuse heap) result
         (words.new.items ≡ words.old.items ++ word_texts (map (word_of_item kind) items.now)) }
 {
@@ -57,7 +62,11 @@ fn value_words<H: Heap>(heap: H, words: &mut Vec<WordText>, value: &Value) -> Re
 }
 
 /// The words of locals.
-pub(crate) fn local_words<H: Heap>(heap: H, words: &mut Vec<WordText>, locals: &[(Name, Value)]) -> Result<(), Memory>
+pub(crate) fn local_words<H: Heap>(
+    heap: H,
+    words: &mut Vec<WordText>,
+    locals: &[(Name, Value)],
+) -> Result<(), Memory>
     ensures { OnOkUnless (H.may_refuse heap) result
         (words.new.items ≡ words.old.items ++ word_texts (words_of_values (held_values locals.now))) }
 {

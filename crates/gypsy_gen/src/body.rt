@@ -42,7 +42,10 @@ fn arguments<H: Heap>(heap: H, variables: &[Variable]) -> Result<Vec<Arg>, Memor
 {
     let mut args = Vec::new(heap.handle());
     for variable in variables {
-        heap.push(&mut args, Arg::Variable(Named::unplaced(heap, variable.name())?))?;
+        heap.push(
+            &mut args,
+            Arg::Variable(Named::unplaced(heap, variable.name())?),
+        )?;
     }
     Ok(args)
 }

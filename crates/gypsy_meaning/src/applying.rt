@@ -42,7 +42,12 @@ fn target(args: &[Argument]) -> u32
 }
 
 /// Raises routineerror over what is below the call.
-fn fail<H: Heap>(heap: H, which: Predef, outcome: Outcome, work: &mut Work) -> Result<Advance, Memory>
+fn fail<H: Heap>(
+    heap: H,
+    which: Predef,
+    outcome: Outcome,
+    work: &mut Work,
+) -> Result<Advance, Memory>
     ensures done { IfOkUnless (H.may_refuse heap) result (λ a. (i : Item) (w : List Item) → work_of work.old ≡ i ∷ w →
         RaisesOn which outcome w (work_of work.new) a) }
     ensures unchanged { IfErr result (λ e. work.new ≡ work.old) }

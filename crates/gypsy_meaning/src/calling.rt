@@ -111,7 +111,12 @@ impl Meaning {
     }
 
     /// Makes the step of a call without room, which costs this event: spaceerror is raised.
-    fn raise_space<H: Heap>(&mut self, heap: H, needs: &Needs, event: CostEvent) -> Result<(), Memory>
+    fn raise_space<H: Heap>(
+        &mut self,
+        heap: H,
+        needs: &Needs,
+        event: CostEvent,
+    ) -> Result<(), Memory>
         requires small { AreSmall needs.now.procedures.items }
         requires plain { IsPlain event }
         requires turn { RaisesSpace self.old event }

@@ -96,7 +96,7 @@ impl Meaning {
         requires small { AreSmall needs.now.procedures.items }
         ensures opening { let q = program_of (source_of accepted.now) in
             IfOkUnless (H.may_refuse heap) result
-        (λ o. IfSome o (λ m. seen m ≡ opening q (stack_sizes ctrl temp) values.now)) }
+            (λ o. IfSome o (λ m. seen m ≡ opening q (stack_sizes ctrl temp) values.now)) }
         ensures belongs { IfOk result (λ o. IfSome o (BelongsTo (source_of accepted.now) needs.now.procedures.items)) }
         ensures none { IfOk result (λ o. IfNone o
             (CanStart (program_of (source_of accepted.now)) values.now (stack_sizes ctrl temp) → ⊥)) }

@@ -66,7 +66,11 @@ fn append_locals<H: Heap>(heap: H, names: &mut Vec<Name>, locals: &[Local]) -> R
     Ok(())
 }
 
-fn append_conditions<H: Heap>(heap: H, conditions: &mut Vec<Current>, names: &[Named]) -> Result<(), Memory>
+fn append_conditions<H: Heap>(
+    heap: H,
+    conditions: &mut Vec<Current>,
+    names: &[Named],
+) -> Result<(), Memory>
     ensures { OnOkUnless (H.may_refuse heap) result
         (conditions.new.items ≡ conditions.old.items ++ shown_names (map (λ n. n.name) names.now)) }
 {

@@ -44,7 +44,12 @@ impl Model for Work {
 }
 
 /// Keeps so many items, and moves what was made on them.
-fn change<H: Heap>(heap: H, items: &mut Vec<Item>, kept: usize, added: &mut Vec<Item>) -> Result<(), Memory>
+fn change<H: Heap>(
+    heap: H,
+    items: &mut Vec<Item>,
+    kept: usize,
+    added: &mut Vec<Item>,
+) -> Result<(), Memory>
     ensures done { IfOkUnless (H.may_refuse heap) result
         (λ u. items.new.items ≡ take kept items.old.items ++ added.old.items) }
     ensures unchanged { IfErr result (λ e. items.new.items ≡ items.old.items) }
@@ -135,7 +140,7 @@ impl Work {
     /// Raises a condition above this work, and tells whether it was caught.
     pub fn raise<H: Heap>(&mut self, heap: H, cond: Condition) -> Result<bool, Memory>
         ensures done { IfOkUnless (H.may_refuse heap) result
-        (λ caught. (p : ℕ) (x : List ValueOf) (fs : List Frame) (t : Tally) →
+            (λ caught. (p : ℕ) (x : List ValueOf) (fs : List Frame) (t : Tally) →
             raise (seen_cond cond) p x (work_of self.old) fs t
             ≡ machine.At p x (work_of self.new) fs (caught_spend caught t)) }
         ensures unchanged { IfErr result (λ e. self.new ≡ self.old) }
@@ -150,7 +155,7 @@ impl Work {
     /// Takes the top off, raises a condition, and tells whether it was caught.
     pub fn raise_below<H: Heap>(&mut self, heap: H, cond: Condition) -> Result<bool, Memory>
         ensures done { IfOkUnless (H.may_refuse heap) result
-        (λ caught. (i : machine.Item) (w : List machine.Item) → work_of self.old ≡ i ∷ w →
+            (λ caught. (i : machine.Item) (w : List machine.Item) → work_of self.old ≡ i ∷ w →
             (p : ℕ) (x : List ValueOf) (fs : List Frame) (t : Tally) →
             raise (seen_cond cond) p x w fs t ≡ machine.At p x (work_of self.new) fs (caught_spend caught t)) }
         ensures unchanged { IfErr result (λ e. self.new ≡ self.old) }
@@ -165,7 +170,7 @@ impl Work {
     /// What a step does with this work. Where it changes the work alone, the work is changed.
     pub fn turn<H: Heap>(&mut self, heap: H, variables: &[(Name, Value)]) -> Result<Turn, Memory>
         ensures done { IfOkUnless (H.may_refuse heap) result
-        (IsTurn (held_values variables.now) (work_of self.old) (λ k. work_of self.new)) }
+            (IsTurn (held_values variables.now) (work_of self.old) (λ k. work_of self.new)) }
         ensures stays { IfOk result (Stays self.old self.new) }
         ensures unchanged { IfErr result (λ e. self.new ≡ self.old) }
     {

@@ -140,7 +140,12 @@ impl Meaning {
     }
 
     /// Makes the step of a condition that leaves a procedure for which another waits; `false` where none waits.
-    pub(crate) fn leave_call<H: Heap>(&mut self, heap: H, needs: &Needs, cond: Condition) -> Result<bool, Memory>
+    pub(crate) fn leave_call<H: Heap>(
+        &mut self,
+        heap: H,
+        needs: &Needs,
+        cond: Condition,
+    ) -> Result<bool, Memory>
         requires small { AreSmall needs.now.procedures.items }
         requires turn { Leaves (seen_cond cond) (work_of self.old.work) }
         ensures done { IfOkUnless (H.may_refuse heap) result (λ b. MatchBool b

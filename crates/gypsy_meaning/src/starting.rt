@@ -30,11 +30,7 @@ pub fn copied<H: Heap>(heap: H, values: &[Value]) -> Result<Vec<Value>, Memory>
 }
 
 /// Copies of values, under the first names.
-fn formals<H: Heap>(
-    heap: H,
-    names: &[Name],
-    values: &[Value],
-) -> Result<Vec<(Name, Value)>, Memory>
+fn formals<H: Heap>(heap: H, names: &[Name], values: &[Value]) -> Result<Vec<(Name, Value)>, Memory>
     requires { length values.now ≤ length names.now }
     ensures values { IfOkUnless (H.may_refuse heap) result (λ r. held_values r.items ≡ values.now) }
     ensures names { IfOk result (λ r. held_names r.items ≡ take (length values.now) names.now) }

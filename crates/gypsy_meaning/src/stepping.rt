@@ -17,12 +17,7 @@ use std::rc::Rc;
 
 impl Meaning {
     /// Makes the step of a call.
-    fn call<H: Heap>(
-        &mut self,
-        heap: H,
-        needs: &Needs,
-        site: Rc<CallSite>,
-    ) -> Result<Moved, Memory>
+    fn call<H: Heap>(&mut self, heap: H, needs: &Needs, site: Rc<CallSite>) -> Result<Moved, Memory>
         requires ready { IsReady needs.now.procedures.items self.old }
         requires turn { IsCall site.value (work_of self.old.work) }
         ensures done { IfOkUnless (H.may_refuse heap) result (Does self.old self.new) }

@@ -96,18 +96,33 @@ fn signal<H: Heap>(
 }
 
 /// Puts *back* and a loop's body on the work.
-fn enter_loop<H: Heap>(heap: H, place: u32, body: &Rc<Node>, added: &mut Vec<Item>) -> Result<Advance, Memory>
+fn enter_loop<H: Heap>(
+    heap: H,
+    place: u32,
+    body: &Rc<Node>,
+    added: &mut Vec<Item>,
+) -> Result<Advance, Memory>
     requires { added.old.items ≡ [] }
     ensures { let statement = program.Loop place (seen_statement body.now.value) in
         IfOkUnless (H.may_refuse heap) result (λ a. (x : List ValueOf) (w : List machine.Item) →
         GoesOn x (machine.Do statement ∷ w) (work_on added.new.items w) a) }
 {
-    put_opened(heap, Item::Back(place, heap.shared_again(body)?), body, added)?;
+    put_opened(
+        heap,
+        Item::Back(place, heap.shared_again(body)?),
+        body,
+        added,
+    )?;
     Ok(plain(CostEvent::LoopRound))
 }
 
 /// Puts a loop on the work, to be done again.
-fn loop_again<H: Heap>(heap: H, place: u32, body: &Rc<Node>, added: &mut Vec<Item>) -> Result<Advance, Memory>
+fn loop_again<H: Heap>(
+    heap: H,
+    place: u32,
+    body: &Rc<Node>,
+    added: &mut Vec<Item>,
+) -> Result<Advance, Memory>
     requires { added.old.items ≡ [] }
     ensures { IfOkUnless (H.may_refuse heap) result (λ a. (x : List ValueOf) (w : List machine.Item) →
         GoesOn x (machine.Back place (seen_statement body.now.value) ∷ w) (work_on added.new.items w) a) }
@@ -132,7 +147,12 @@ fn branch<H: Heap>(
         GoesOn x (machine.Do statement ∷ w) (work_on added.new.items w) a) }
 {
     if test {
-        put_opened(heap, Item::JoinThen(place, heap.shared_again(no)?), yes, added)?;
+        put_opened(
+            heap,
+            Item::JoinThen(place, heap.shared_again(no)?),
+            yes,
+            added,
+        )?;
         Ok(plain(CostEvent::IfTrue))
     } else {
         put_opened(heap, Item::JoinOne(place), no, added)?;

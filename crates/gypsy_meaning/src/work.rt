@@ -68,12 +68,21 @@ fn put_guard<H: Heap>(
         IfOkUnless (H.may_refuse heap) result
         (λ u. (w : List machine.Item) → work_on work.new.items w ≡ guard ∷ work_on work.old.items w) }
 {
-    put(heap, work, Item::Guard(place, heap.shared_again(conds)?, heap.shared_again(arm)?))?;
+    put(
+        heap,
+        work,
+        Item::Guard(place, heap.shared_again(conds)?, heap.shared_again(arm)?),
+    )?;
     Ok(())
 }
 
 /// Puts the parts of a sequence from a position on on top.
-fn put_parts<H: Heap>(heap: H, parts: &Rc<Vec<Rc<Node>>>, from: usize, work: &mut Vec<Item>) -> Result<(), Memory>
+fn put_parts<H: Heap>(
+    heap: H,
+    parts: &Rc<Vec<Rc<Node>>>,
+    from: usize,
+    work: &mut Vec<Item>,
+) -> Result<(), Memory>
     ensures items { IfOkUnless (H.may_refuse heap) result
         (λ u. take (length work.old.items) work.new.items ≡ work.old.items) }
     ensures seen { let statements = seen_statements (drop from parts.now.value.items) in
@@ -127,7 +136,12 @@ pub fn open_parts<H: Heap>(
 }
 
 /// Puts an item that opens to itself, and a statement on it, opened.
-pub fn put_opened<H: Heap>(heap: H, item: Item, node: &Rc<Node>, work: &mut Vec<Item>) -> Result<(), Memory>
+pub fn put_opened<H: Heap>(
+    heap: H,
+    item: Item,
+    node: &Rc<Node>,
+    work: &mut Vec<Item>,
+) -> Result<(), Memory>
     requires { (w : List machine.Item) → settle (item_of item ∷ w) ≡ item_of item ∷ w }
     ensures { IfOkUnless (H.may_refuse heap) result (λ u. (w : List machine.Item) →
         work_on work.new.items w ≡ open_on (seen_statement node.now.value) (item_of item ∷ work_on work.old.items w)) }
@@ -139,7 +153,12 @@ pub fn put_opened<H: Heap>(heap: H, item: Item, node: &Rc<Node>, work: &mut Vec<
 
 /// Opens what is on top of the first items. It answers how many of them stay; what is above them goes to `added`, which is
 /// empty before.
-pub fn settled<H: Heap>(heap: H, items: &[Item], below: usize, added: &mut Vec<Item>) -> Result<usize, Memory>
+pub fn settled<H: Heap>(
+    heap: H,
+    items: &[Item],
+    below: usize,
+    added: &mut Vec<Item>,
+) -> Result<usize, Memory>
     requires within { below ≤ length items.now }
     requires empty { added.old.items ≡ [] }
     ensures { IfOkUnless (H.may_refuse heap) result (λ kept.

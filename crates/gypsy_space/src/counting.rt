@@ -223,7 +223,11 @@ pub fn needs<H: Heap>(heap: H, accepted: &Accepted) -> Result<Needs, Memory>
 }
 
 /// The same, for callers that have the program of the source.
-pub fn needs_with<H: Heap>(heap: H, _accepted: &Accepted, program: &Program) -> Result<Needs, Memory>
+pub fn needs_with<H: Heap>(
+    heap: H,
+    _accepted: &Accepted,
+    program: &Program,
+) -> Result<Needs, Memory>
     requires program { seen_program program.now ≡ program_of (source_of _accepted.now) }
     requires accepted { IsAccepted (source_of _accepted.now) }
     ensures exact { IfOkUnless (H.may_refuse heap) result

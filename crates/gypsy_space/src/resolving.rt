@@ -397,9 +397,7 @@ fn statement<H: Heap>(heap: H, callees: &Callees, proc: &Proc, stmt: &Stmt) -> R
             let nodes = statements(heap, callees, proc, parts.as_slice())?;
             Ok(Node::Seq(heap.shared(nodes)?))
         }
-        Stmt::Loop { place, body } => {
-            Ok(Node::Loop(*place, shared(heap, callees, proc, body)?))
-        }
+        Stmt::Loop { place, body } => { Ok(Node::Loop(*place, shared(heap, callees, proc, body)?)) }
         Stmt::If {
             place,
             test,

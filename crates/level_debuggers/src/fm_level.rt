@@ -138,7 +138,12 @@ impl FmLevel {
 
     /// So many words of memory from an address on, as lines; behind the last address of 32 bits comes 0.
     #[tactic(auto, using(crate::proofs::WordLaws::next_word, crate::proofs::WordLaws::no_words))]
-    pub(crate) fn words<H: Heap>(&self, heap: H, address: u32, count: u32) -> Result<Vec<u8>, Memory>
+    pub(crate) fn words<H: Heap>(
+        &self,
+        heap: H,
+        address: u32,
+        count: u32,
+    ) -> Result<Vec<u8>, Memory>
         ensures { IfOkUnless (H.may_refuse heap) result (λ text. text.items ≡ word_lines self.now.state address count) }
     {
         let mut text = Vec::new(heap.handle());

@@ -43,7 +43,12 @@ pub(crate) fn covers_all(above: u64, elements: &[u32], slots: &[Slot]) -> bool
 }
 
 /// The items of a variable, from its address downwards.
-fn items_of<H: Heap>(heap: H, above: u64, elements: &[u32], slot: &Slot) -> Result<Vec<Shown>, Memory>
+fn items_of<H: Heap>(
+    heap: H,
+    above: u64,
+    elements: &[u32],
+    slot: &Slot,
+) -> Result<Vec<Shown>, Memory>
     ensures { IfOkUnless (H.may_refuse heap) result (λ items. items.items
         ≡ map (item_of slot.now.shape.kind)
         (elements_down above elements.now slot.now.address (item_count slot.now.shape))) }
@@ -51,7 +56,10 @@ fn items_of<H: Heap>(heap: H, above: u64, elements: &[u32], slot: &Slot) -> Resu
     let mut items = Vec::new(heap.handle());
     let mut address = slot.address;
     for _ in 0..slot.shape.item_count() {
-        heap.push(&mut items, item_of(slot.shape.kind, element_at(above, elements, address)))?;
+        heap.push(
+            &mut items,
+            item_of(slot.shape.kind, element_at(above, elements, address)),
+        )?;
         address = address.saturating_sub(1);
     }
     Ok(items)

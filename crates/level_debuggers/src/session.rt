@@ -223,10 +223,15 @@ impl Session {
     /// comes 0. `None` exactly at the other levels, where runs have no such memory.
     ///
     /// The only error is out of memory.
-    pub fn words<H: Heap>(&self, heap: H, address: u32, count: u32) -> Result<Option<Vec<u8>>, Memory>
+    pub fn words<H: Heap>(
+        &self,
+        heap: H,
+        address: u32,
+        count: u32,
+    ) -> Result<Option<Vec<u8>>, Memory>
         ensures { let session = session_of (λ w. watching w) self.now in
             IfOkUnless (H.may_refuse heap) result
-                (λ text. option_map (λ t. t.items) text ≡ words_text session.level address count) }
+            (λ text. option_map (λ t. t.items) text ≡ words_text session.level address count) }
     {
         self.level.words(heap, address, count)
     }

@@ -29,7 +29,11 @@ fn rule_of_word(watch: WatchWord) -> Rule
 }
 
 /// Appends what the end of a call of `step` says; and how the script ends where a step was refused.
-fn push_run<H: Heap>(heap: H, text: &mut Vec<u8>, run: SessionRun) -> Result<Option<ScriptEnd>, Memory>
+fn push_run<H: Heap>(
+    heap: H,
+    text: &mut Vec<u8>,
+    run: SessionRun,
+) -> Result<Option<ScriptEnd>, Memory>
     ensures text { IfOkUnless (H.may_refuse heap) result (λ end. text.new.items ≡ text.old.items ++ run_text run) }
     ensures end { IfOk result (λ end. end ≡ run_end run) }
 {
@@ -131,7 +135,7 @@ fn push_words<H: Heap>(
 ) -> Result<Option<ScriptEnd>, Memory>
     ensures { let session = session_of (λ w. watching w) session.now in
         IfOkUnless (H.may_refuse heap) result
-            (λ end. IsSaid (words_said line session (words_text session.level address count))
+        (λ end. IsSaid (words_said line session (words_text session.level address count))
         text.old.items text.new.items end session) }
 {
     match session.words(heap, address, count)? {

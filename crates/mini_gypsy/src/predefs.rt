@@ -31,7 +31,12 @@ pub(crate) fn call_constant<H: Heap>(
 }
 
 /// A call on two variables.
-pub(crate) fn call_two<H: Heap>(heap: H, which: Predef, to: Named, from: Named) -> Result<Stmt, Memory>
+pub(crate) fn call_two<H: Heap>(
+    heap: H,
+    which: Predef,
+    to: Named,
+    from: Named,
+) -> Result<Stmt, Memory>
     ensures { IfOkUnless (H.may_refuse heap) result
         (λ made. stmt_of made ≡ new_predef 0 which (variable to ∷ variable from ∷ [])) }
 {

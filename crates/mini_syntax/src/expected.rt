@@ -178,53 +178,72 @@ fn expect<H: Heap>(heap: H, stack: &mut Vec<Expected>, what: Push) -> Result<(),
     match what {
         Push::Nothing => {}
         Push::Operand => heap.extend_from_slice(stack, &[Expected::Operand])?,
-        Push::Bracket => heap.extend_from_slice(stack, &[
-            Expected::Mark(Mark::Close),
-            Expected::MoreExpression { compared: false },
-            Expected::Operand,
-        ])?,
-        Push::OperandAndMore { compared } => heap.extend_from_slice(stack, &[
-            Expected::MoreExpression { compared },
-            Expected::Operand,
-        ])?,
-        Push::Declaration => heap.extend_from_slice(stack, &[
-            Expected::MoreDeclarations,
-            Expected::Mark(Mark::Semicolon),
-            Expected::Name,
-        ])?,
-        Push::Assignment => heap.extend_from_slice(stack, &[
-            Expected::MoreStatements,
-            Expected::Mark(Mark::Semicolon),
-            Expected::MoreExpression { compared: false },
-            Expected::Operand,
-            Expected::Mark(Mark::Becomes),
-        ])?,
-        Push::Loop => heap.extend_from_slice(stack, &[
-            Expected::MoreStatements,
-            Expected::Mark(Mark::CloseBlock),
-            Expected::MoreStatements,
-            Expected::Mark(Mark::OpenBlock),
-            Expected::MoreExpression { compared: false },
-            Expected::Operand,
-        ])?,
-        Push::Branch => heap.extend_from_slice(stack, &[
-            Expected::MoreStatements,
-            Expected::Mark(Mark::CloseBlock),
-            Expected::MoreStatements,
-            Expected::Mark(Mark::OpenBlock),
-            Expected::Else,
-            Expected::Mark(Mark::CloseBlock),
-            Expected::MoreStatements,
-            Expected::Mark(Mark::OpenBlock),
-            Expected::MoreExpression { compared: false },
-            Expected::Operand,
-        ])?,
+        Push::Bracket => heap.extend_from_slice(
+            stack,
+            &[
+                Expected::Mark(Mark::Close),
+                Expected::MoreExpression { compared: false },
+                Expected::Operand,
+            ],
+        )?,
+        Push::OperandAndMore { compared } => heap.extend_from_slice(
+            stack,
+            &[Expected::MoreExpression { compared }, Expected::Operand],
+        )?,
+        Push::Declaration => heap.extend_from_slice(
+            stack,
+            &[
+                Expected::MoreDeclarations,
+                Expected::Mark(Mark::Semicolon),
+                Expected::Name,
+            ],
+        )?,
+        Push::Assignment => heap.extend_from_slice(
+            stack,
+            &[
+                Expected::MoreStatements,
+                Expected::Mark(Mark::Semicolon),
+                Expected::MoreExpression { compared: false },
+                Expected::Operand,
+                Expected::Mark(Mark::Becomes),
+            ],
+        )?,
+        Push::Loop => heap.extend_from_slice(
+            stack,
+            &[
+                Expected::MoreStatements,
+                Expected::Mark(Mark::CloseBlock),
+                Expected::MoreStatements,
+                Expected::Mark(Mark::OpenBlock),
+                Expected::MoreExpression { compared: false },
+                Expected::Operand,
+            ],
+        )?,
+        Push::Branch => heap.extend_from_slice(
+            stack,
+            &[
+                Expected::MoreStatements,
+                Expected::Mark(Mark::CloseBlock),
+                Expected::MoreStatements,
+                Expected::Mark(Mark::OpenBlock),
+                Expected::Else,
+                Expected::Mark(Mark::CloseBlock),
+                Expected::MoreStatements,
+                Expected::Mark(Mark::OpenBlock),
+                Expected::MoreExpression { compared: false },
+                Expected::Operand,
+            ],
+        )?,
     }
     Ok(())
 }
 
 /// Takes a token of the kind, if it is expected.
-pub(crate) fn take<H: Heap>(heap: H, stack: &mut Vec<Expected>, kind: TokenKind) -> Result<bool, Memory>
+pub(crate) fn take<H: Heap>(
+    heap: H,
+    stack: &mut Vec<Expected>,
+    kind: TokenKind,
+) -> Result<bool, Memory>
     ensures { IfOkUnless (H.may_refuse heap) result (λ taken. Takes stack.old.items kind taken stack.new.items) }
 {
     while let Some(top) = stack.pop() {

@@ -225,7 +225,11 @@ fn lexeme(text: &[u8], found: TokenSpan) -> Lexeme<'_>
 }
 
 /// Keeps one more token.
-fn keep<'a, H: Heap>(heap: H, lexemes: &mut Vec<Lexeme<'a>>, lexeme: Lexeme<'a>) -> Result<(), Memory>
+fn keep<'a, H: Heap>(
+    heap: H,
+    lexemes: &mut Vec<Lexeme<'a>>,
+    lexeme: Lexeme<'a>,
+) -> Result<(), Memory>
     ensures { OnOkUnless (H.may_refuse heap) result (lexemes.new.items ≡ lexemes.old.items ++ lexeme.entry ∷ []) }
 {
     heap.push(lexemes, lexeme)?;

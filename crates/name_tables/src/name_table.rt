@@ -52,12 +52,7 @@ impl<'a, V: Copy> NameTable<'a, V> {
     /// # Errors
     ///
     /// `Memory` where the heap refuses it for a new name; the table is then as it was.
-    pub fn enter<H: Heap>(
-        &mut self,
-        heap: H,
-        name: &'a [u8],
-        value: V,
-    ) -> Result<bool, Memory>
+    pub fn enter<H: Heap>(&mut self, heap: H, name: &'a [u8], value: V) -> Result<bool, Memory>
         ensures known { IfOkUnless (H.may_refuse heap) result
             (λ is_known. is_known ≡ is_some (look_up self.old name.now)) }
         ensures entered { OnOk result ((other : List ℕ) →

@@ -76,7 +76,11 @@ fn append_callees<H: Heap>(heap: H, calls: &mut Vec<u32>, node: &Rc<Node>) -> Re
 
 /// Appends the callees of the calls in the parts of a sequence.
 #[cycle(statements)]
-fn append_all<H: Heap>(heap: H, calls: &mut Vec<u32>, parts: &Rc<Vec<Rc<Node>>>) -> Result<(), Memory>
+fn append_all<H: Heap>(
+    heap: H,
+    calls: &mut Vec<u32>,
+    parts: &Rc<Vec<Rc<Node>>>,
+) -> Result<(), Memory>
     ensures { OnOkUnless (H.may_refuse heap) result
         (calls.new.items ≡ calls.old.items ++ callees (seen_statements parts.now.value.items)) }
 {
@@ -204,7 +208,11 @@ fn least_certificate<H: Heap>(
 ///
 /// A procedure that main reaches reaches itself: the first one in the source. Then no certificate covers the source, at any
 /// sizes. Or out of memory. Time and memory are linear in the source.
-pub fn certify<H: Heap>(heap: H, accepted: &Accepted, needs: &Needs) -> Result<Certificate, CertFault>
+pub fn certify<H: Heap>(
+    heap: H,
+    accepted: &Accepted,
+    needs: &Needs,
+) -> Result<Certificate, CertFault>
     requires needs { AreNeeds (program_of (source_of accepted.now)) needs.now.procedures.items }
     requires small { AreSmall needs.now.procedures.items }
     ensures least { MatchResult result (λ c. AreLeastBounds (program_of (source_of accepted.now)) c.bounds.items)

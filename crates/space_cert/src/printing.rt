@@ -30,7 +30,12 @@ fn print_bound<H: Heap>(heap: H, out: &mut Vec<u8>, bound: u64) -> Result<(), Me
 }
 
 /// Appends the entry of a procedure.
-fn print_entry<H: Heap>(heap: H, out: &mut Vec<u8>, name: &Name, bound: (u64, u64)) -> Result<(), Memory>
+fn print_entry<H: Heap>(
+    heap: H,
+    out: &mut Vec<u8>,
+    name: &Name,
+    bound: (u64, u64),
+) -> Result<(), Memory>
     ensures { OnOkUnless (H.may_refuse heap) result
         (out.new.items ≡ out.old.items ++ tree_text (entry_tree name.now bound)) }
 {
@@ -67,7 +72,12 @@ fn print_entries<H: Heap>(
 
 /// Appends a certificate.
 #[tactic(auto, unfolding(crate::specs::CertText::certificate_text))]
-fn print_all<H: Heap>(heap: H, out: &mut Vec<u8>, procs: &[Proc], bounds: &[Option<(u64, u64)>]) -> Result<(), Memory>
+fn print_all<H: Heap>(
+    heap: H,
+    out: &mut Vec<u8>,
+    procs: &[Proc],
+    bounds: &[Option<(u64, u64)>],
+) -> Result<(), Memory>
     requires { length bounds.now ≡ length procs.now }
     ensures { OnOkUnless (H.may_refuse heap) result
         (out.new.items ≡ out.old.items ++ certificate_text (names_of procs.now) bounds.now) }

@@ -66,7 +66,7 @@ impl Search {
     fn new<H: Heap>(heap: H, calls: &[Vec<u32>], main: u32) -> Result<Search, Memory>
         requires { main < length calls.now }
         ensures search { IfOkUnless (H.may_refuse heap) result
-        (λ s. IsSearch (seen_calls calls.now) main (search_of s)) }
+            (λ s. IsSearch (seen_calls calls.now) main (search_of s)) }
         ensures main { IfOk result (λ s. s.main ≡ main) }
     {
         let mut marks = filled(heap, Mark::New, calls.len())?;
@@ -116,7 +116,7 @@ impl Search {
         requires marked { All (λ p. p < length self.old.marks.items) self.old.entered.items }
         requires there { self.old.top.first ≤ length self.old.entered.items }
         ensures closed { OnOkUnless (H.may_refuse heap) result
-        (search_of self.new ≡ with_top_done (search_of self.old)) }
+            (search_of self.new ≡ with_top_done (search_of self.old)) }
         ensures main { self.new.main ≡ self.old.main }
     {
         while self.entered.len() > self.top.first {
@@ -156,7 +156,7 @@ impl Search {
         requires search { IsSearch (seen_calls calls.now) self.old.main (with_call procedure (search_of self.old)) }
         requires of_top { self.old.top.from ≤ length self.old.todo.items }
         ensures search { OnOkUnless (H.may_refuse heap) result
-        (IsSearch (seen_calls calls.now) self.new.main (search_of self.new)) }
+            (IsSearch (seen_calls calls.now) self.new.main (search_of self.new)) }
         ensures less { OnOkUnless (H.may_refuse heap) result (left_to_do (seen_calls calls.now) (search_of self.new)
             < left_to_do (seen_calls calls.now) (with_call procedure (search_of self.old))) }
         ensures main { self.new.main ≡ self.old.main }
@@ -181,7 +181,7 @@ impl Search {
         requires marked { All (λ p. p < length self.old.marks.items) self.old.entered.items }
         requires there { self.old.top.first ≤ length self.old.entered.items }
         ensures finished { IfOkUnless (H.may_refuse heap) result
-        (λ more. HasFinished (search_of self.old) (search_of self.new) more) }
+            (λ more. HasFinished (search_of self.old) (search_of self.new) more) }
         ensures main { self.new.main ≡ self.old.main }
     {
         self.close(heap)?;
@@ -200,7 +200,7 @@ impl Search {
         requires few { length calls.now < 2 ^ 32 }
         requires search { IsSearch (seen_calls calls.now) self.old.main (search_of self.old) }
         ensures advanced { IfOkUnless (H.may_refuse heap) result
-        (λ more. HasAdvanced (seen_calls calls.now) self.old.main (search_of self.old)
+            (λ more. HasAdvanced (seen_calls calls.now) self.old.main (search_of self.old)
             (search_of self.new) more) }
         ensures main { self.new.main ≡ self.old.main }
     {
@@ -227,7 +227,11 @@ pub(crate) struct CallOrder {
 }
 
 /// The procedures that main reaches.
-pub(crate) fn call_order<H: Heap>(heap: H, calls: &[Vec<u32>], main: u32) -> Result<CallOrder, Memory>
+pub(crate) fn call_order<H: Heap>(
+    heap: H,
+    calls: &[Vec<u32>],
+    main: u32,
+) -> Result<CallOrder, Memory>
     requires there { main < length calls.now }
     requires calls { AreCalls (seen_calls calls.now) }
     requires few { length calls.now < 2 ^ 32 }

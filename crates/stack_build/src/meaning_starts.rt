@@ -71,12 +71,5 @@ pub fn start_meaning<H: Heap>(
         return Err(StartFault::Build(shortage));
     }
     let values = read_formals(heap, accepted, values)?;
-    Ok(Meaning::start(
-        heap,
-        accepted,
-        needs,
-        values.as_slice(),
-        control,
-        temporary,
-    )?)
+    Ok(Meaning::start(heap, accepted, needs, values.as_slice(), control, temporary)?)
 }

@@ -211,7 +211,11 @@ fn address_among(places: &[Vec<u32>], mark: &MarkAt) -> u32
 }
 
 /// The marks with their addresses.
-fn marks_among<H: Heap>(heap: H, places: &[Vec<u32>], listed: &[MarkAt]) -> Result<Vec<Mark>, Memory>
+fn marks_among<H: Heap>(
+    heap: H,
+    places: &[Vec<u32>],
+    listed: &[MarkAt],
+) -> Result<Vec<Mark>, Memory>
     ensures { IfOkUnless (H.may_refuse heap) result (λ marks.
         marks.items ≡ map (mark_among (map (λ row. row.items) places.now)) listed.now) }
 {

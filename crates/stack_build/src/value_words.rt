@@ -21,7 +21,12 @@ fn word_of_item(kind: Kind, item: i32) -> Word
 }
 
 /// Appends the words of items.
-fn push_items<H: Heap>(heap: H, words: &mut Vec<Word>, kind: Kind, items: &[i32]) -> Result<(), Memory>
+fn push_items<H: Heap>(
+    heap: H,
+    words: &mut Vec<Word>,
+    kind: Kind,
+    items: &[i32],
+) -> Result<(), Memory>
     ensures { OnOkUnless (H.may_refuse heap) result
         (words.new.items ≡ words.old.items ++ map (word_of_item kind) items.now) }
 {

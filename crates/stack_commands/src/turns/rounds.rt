@@ -104,7 +104,10 @@ fn task_text<H: Heap>(heap: H, turns: &Turns, i: u32, budget: u64) -> Result<Vec
 {
     let state = turns.task(i);
     let mut text = round_line(heap, i, round_in(state))?;
-    heap.extend_from_slice(&mut text, end_text(heap, turns, i, state, budget)?.as_slice())?;
+    heap.extend_from_slice(
+        &mut text,
+        end_text(heap, turns, i, state, budget)?.as_slice(),
+    )?;
     Ok(text)
 }
 
