@@ -7,7 +7,7 @@ use Rattle.fm_words.proofs.FlagsLaws.{bit_small}
 use Rattle.fm_machine.specs.State.{Fm}
 use Rattle.fm_code.specs.InstructionWords.{reg, push, pop as pop_of, mov}
 use Rattle.fm_code.specs.Templates.{prelude_code, temporaries_code, carry_code, mult2_carry_code}
-use Rattle.fm_code.specs.Execution.{Parts, CodeAt}
+use Rattle.fm_code.specs.Execution.{Parts, CodeAt, view}
 use Rattle.fm_code.specs.CodeRows.{MoveRows, JumpRows, WordRows, TestRows, HasRoom, framed}
 use Rattle.fm_code.proofs.RunLaws.{RunsToView, executes, with_count, with_temp}
 use Rattle.fm_code.proofs.MoveLaws as moves
@@ -24,7 +24,7 @@ use Rattle.fm_words.specs.declared.condition.Cc.TheVariants.{Cs, Vs, Lt}
 use Rattle.fm_words.specs.Word.{signed_of, is_int, is_nat, word_of_int, wrapped}
 use Rattle.fm_code.specs.Flags.{flags_of_word}
 
-pub move_rows : (P : Parts) (f pc : ℕ) (ctrl temp areas : List ℕ) → MoveRows P f pc ctrl temp areas
+pub move_rows : (P : Parts) (f pc : ℕ) (ctrl temp areas : List ℕ) → MoveRows P (view f pc ctrl temp areas)
 move_rows P f pc ctrl temp areas =
     record {
       push_constant = λ w room. executes (λ s h code. moves.push_constant w h code room) refl;
@@ -63,7 +63,7 @@ length-framed xs ts f after ctrl =
     let c = length-reverse xs in
     omega arith
 
-pub jump_rows : (P : Parts) (f pc : ℕ) (ctrl temp areas : List ℕ) → JumpRows P f pc ctrl temp areas
+pub jump_rows : (P : Parts) (f pc : ℕ) (ctrl temp areas : List ℕ) → JumpRows P (view f pc ctrl temp areas)
 jump_rows P f pc ctrl temp areas =
     record {
       jump = λ to. executes (λ s h code. jumps.jump to h code) refl;
@@ -145,7 +145,7 @@ module _ {P : Parts} {n : ℕ} {s : Fm} {f pc : ℕ} {ctrl temp areas : List ℕ
       let sum : (x + x) % 2 ^ 32 ≡ wrapped (pos 2 *ℤ pos x) = omega arith in
       with_temp (words.mult2_carry x h code (omega arith)) (λ i. sum i ∷ bit_of (over i) ∷ temp)
 
-pub word_rows : (P : Parts) (f pc : ℕ) (ctrl temp areas : List ℕ) → WordRows P f pc ctrl temp areas
+pub word_rows : (P : Parts) (f pc : ℕ) (ctrl temp areas : List ℕ) → WordRows P (view f pc ctrl temp areas)
 word_rows P f pc ctrl temp areas =
     record {
       eq = λ y x. executes (λ s h code. words.eq y x h code) refl;

@@ -50,7 +50,7 @@ offset_fits lens a o x h = ⊎_elim negative (λ le. le) (cases_lt o x)
 
 module _ (P : Parts) (A : Addresses) (lens : List ℕ) (IsPlace : ℕ → ℕ → Type 0) (IsProgram : ℕ → Type 0) (is : TellApart A lens IsPlace IsProgram)
     (f pc : ℕ) (ctrl temp areas : List ℕ) where
-  rows : WordRows P f pc ctrl temp areas
+  rows : WordRows P (view f pc ctrl temp areas)
   rows = word_rows P f pc ctrl temp areas
 
   W : Word → Type 0
