@@ -67,6 +67,8 @@ impl<R: Files + Drop> Shelf for FolderShelf<R> {
 
     ghost got = { λ s _ _. s };
 
+    ghost may_refuse = { Unit {0} };
+
     fn fetch(&mut self, alloc: Global, name: &str, limit: u64) -> Result<Vec<u8>, FetchFault>
         ensures length { IfOk result (λ bytes. length bytes.items ≤ limit) }
         ensures counts { NoneFell (for_each_name self.old) (for_each_name self.new) }

@@ -17,6 +17,9 @@
 //! `gave`, `got` and `took` say what a device is after a call that went well. By them a caller's clause tells which calls it
 //! made, in which order and with what, over every device.
 //!
+//! `may_refuse` says whether a device may have no memory for a call. It is told of the type, so no clause has to say that a call
+//! leaves it. Standard output takes none, and of the other three devices nothing is known.
+//!
 //! # The edge
 //!
 //! `FolderShelf` and `StdoutSink` open a stream and hand it to a function that is generic over `Read`
@@ -37,7 +40,8 @@
 //!    of this crate. Such clauses replace the trait's and have to imply them. Repeat
 //!    `counts` (of a sink, `faults`), since a model doesn't show that a count fits a `u64`.
 //! 4. `gave` and `got` are what that value is after such a call: the shelf itself where it is as before.
-//! 5. `files`, where they are told, is a list: a file that is stored again keeps its place, and a new
+//! 5. `may_refuse` is `⊥` where no call returns out of memory, and else `Unit {0}`.
+//! 6. `files`, where they are told, is a list: a file that is stored again keeps its place, and a new
 //!    name comes last.
 #![tactic(auto)]
 

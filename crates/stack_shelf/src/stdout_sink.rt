@@ -43,6 +43,8 @@ impl<P: Print + Drop> Sink for StdoutSink<P> {
 
     ghost took = { λ s _. s };
 
+    ghost may_refuse = { ⊥ };
+
     fn put(&mut self, bytes: &[u8]) -> Result<(), PutFault>
         ensures faults { self.old ≤ self.new }
         ensures after { self.new ≡ faults_after_put self.old result }
