@@ -1,4 +1,3 @@
-use Rattle.std.proofs.Common.{◌∙◌}
 use Rattle.debug_script.proofs.WordLaws.{smaller, next_word, all_words}
 use Rattle.debug_script.proofs.line.words_of.Goals as goal
 
