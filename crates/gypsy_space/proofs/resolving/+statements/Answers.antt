@@ -21,17 +21,9 @@ pub statement-statements-requires : goal.statement-statements-requires
 statement-statements-requires g t c =
     let parts = c.in-Seq.parts.items in
     let k : stmt_of c.args.stmt.now ≡ seq c.in-Seq.place (parts_of_list parts) = ap stmt_of c.in-Seq.is ∙ stmt_of-seq c.in-Seq.place c.in-Seq.parts in
-    let constants = subst (λ (b : StmtOf). ConstantsFit b) k c.requires.constants in (
-      search (rules, the_lemmas),
-      (
-        c.requires.callees,
-        (
-          c.requires.form,
-          All-same (λ (s : Text). ConstantsFit (stmt_of s)) c.as_slice.result.now parts c.as_slice.ensures.value
-              (parts_fit parts constants),
-        ),
-      ),
-    )
+    let constants = subst (λ (b : StmtOf). ConstantsFit b) k c.requires.constants in
+    let fit = All-same (λ (s : Text). ConstantsFit (stmt_of s)) c.as_slice.result.now parts c.as_slice.ensures.value (parts_fit parts constants) in
+    λ κs lives. (search (rules, the_lemmas), (lives, (c.requires.callees, (c.requires.form, fit))))
 
 pub statement-application-requires-clause-constants : goal.statement-application-requires-clause-constants
 statement-application-requires-clause-constants g t c =
