@@ -36,7 +36,7 @@ while_statement-block-requires g t c =
     let begun = after_kind more (expression (a_block more)) l (kind.Word word.While) c.requires.awaits c.next-place.ensures k (λ rest. refl) in
     let less = one_less (token_seen l) (left_of c.args.cursor.now) (left_of c.next-place.new.self) c.next-place.ensures in
     let no_more = read_shrinks c.in_ok-test.ensures in
-    (omega (arith, less, no_more), (c.requires.scope, block_first more (expression_passed (a_block more) begun c.in_ok-test.ensures)))
+    λ κs lives. (omega (arith, less, no_more), (lives, (c.requires.scope, block_first more (expression_passed (a_block more) begun c.in_ok-test.ensures))))
 
 pub while_statement-returns : goal.while_statement-returns
 while_statement-returns g t c =
@@ -64,7 +64,7 @@ if_statement-block-requires g t c =
     let begun = after_kind more (expression (a_block rest)) l (kind.Word word.If) c.requires.awaits c.next-place.ensures k (λ st. refl) in
     let less = one_less (token_seen l) (left_of c.args.cursor.now) (left_of c.next-place.new.self) c.next-place.ensures in
     let no_more = read_shrinks c.in_ok-test.ensures in
-    (omega (arith, less, no_more), (c.requires.scope, block_first rest (expression_passed (a_block rest) begun c.in_ok-test.ensures)))
+    λ κs lives. (omega (arith, less, no_more), (lives, (c.requires.scope, block_first rest (expression_passed (a_block rest) begun c.in_ok-test.ensures))))
 
 pub if_statement-next-requires : goal.if_statement-next-requires
 if_statement-next-requires g t c =
@@ -85,7 +85,8 @@ if_statement-block-requires-2 g t c =
     let none_more = block_shrinks c.in_ok-then.ensures in
     let fewer = one_less (token_seen c.next.result) (left_of c.block.new.cursor) (left_of c.next.new.self) c.next.ensures in
     let other = block_passed rest (expression_passed (a_block rest) begun c.in_ok-test.ensures) c.in_ok-then.ensures in
-    (omega (arith, less, no_more, none_more, fewer), (c.requires.scope, block_first more (else_passed (a_block more) c.next.result other c.next.ensures)))
+    let awaited = block_first more (else_passed (a_block more) c.next.result other c.next.ensures) in
+    λ κs lives. (omega (arith, less, no_more, none_more, fewer), (lives, (c.requires.scope, awaited)))
 
 pub if_statement-returns : goal.if_statement-returns
 if_statement-returns g t c =
@@ -107,10 +108,12 @@ pub statement-assignment-requires-clause-begun : goal.statement-assignment-requi
 statement-assignment-requires-clause-begun g t c = sym (ap Some c.in-Assignment.is) ∙ c.requires.begun
 
 pub statement-while_statement-requires : goal.statement-while_statement-requires
-statement-while_statement-requires g t c = (omega arith, (c.requires.scope, (c.requires.awaits, sym (ap Some c.in-While.is) ∙ c.requires.begun)))
+statement-while_statement-requires g t c = λ κs lives.
+    (omega arith, (lives, (c.requires.scope, (c.requires.awaits, sym (ap Some c.in-While.is) ∙ c.requires.begun))))
 
 pub statement-if_statement-requires : goal.statement-if_statement-requires
-statement-if_statement-requires g t c = (omega arith, (c.requires.scope, (c.requires.awaits, sym (ap Some c.in-If.is) ∙ c.requires.begun)))
+statement-if_statement-requires g t c = λ κs lives.
+    (omega arith, (lives, (c.requires.scope, (c.requires.awaits, sym (ap Some c.in-If.is) ∙ c.requires.begun))))
 
 -- ---- blocks
 
@@ -124,7 +127,7 @@ pub block-statements-requires : goal.block-statements-requires
 block-statements-requires g t c =
     let opened = mark_passed mark.OpenBlock c.mark.result after_open c.requires.awaits c.mark.ensures in
     let less = shrinks (left_of c.args.cursor.now) (mark_at c.mark.result mark.OpenBlock ∷ []) (left_of c.mark.new.self) c.mark.ensures in
-    (omega (arith, less), (c.requires.scope, first_awaited wants.MoreStatements (wants.Mark mark.CloseBlock ∷ []) opened))
+    λ κs lives. (omega (arith, less), (lives, (c.requires.scope, first_awaited wants.MoreStatements (wants.Mark mark.CloseBlock ∷ []) opened)))
 
 pub block-mark-requires-2 : goal.block-mark-requires-2
 block-mark-requires-2 g t c =
@@ -148,7 +151,7 @@ statements-loop-kind-init g t c = record {
 pub statements-statement-requires : goal.statements-statement-requires
 statements-statement-requires g t c =
     let before = so_far_shrinks c.loop-kind.invariant.read in
-    (omega (arith, before), (c.requires.scope, (c.loop-kind.invariant.awaits, c.in-Some.ensures ∙ ap statement_kind c.kind.ensures)))
+    λ κs lives. (omega (arith, before), (lives, (c.requires.scope, (c.loop-kind.invariant.awaits, c.in-Some.ensures ∙ ap statement_kind c.kind.ensures))))
 
 pub statements-loop-kind-preserved : goal.statements-loop-kind-preserved
 statements-loop-kind-preserved g t c = record {

@@ -47,12 +47,15 @@ factor-factor-requires g t c =
     let l = c.next-token.result in
     let op = c.in-Some-Operator.op in
     let k = opens_prefix op l.kind (rw c.in-Some-Operator.field-0-is at c.in-Some-Operator.ensures) in
-    let less = one_less (token_seen l) (left_of c.args.cursor.now) (left_of c.next-token.new.self) c.next-token.ensures in (
+    let less = one_less (token_seen l) (left_of c.args.cursor.now) (left_of c.next-token.new.self) c.next-token.ensures in λ κs lives. (
       omega (arith, less),
       (
-        c.requires.scope,
-        after_kind (wants.Operand ∷ []) (wants.Operand ∷ []) l (prefix_kind op) c.requires.awaits
-            c.next-token.ensures k (λ rest. prefix_goes_on op rest),
+        lives,
+        (
+          c.requires.scope,
+          after_kind (wants.Operand ∷ []) (wants.Operand ∷ []) l (prefix_kind op) c.requires.awaits
+              c.next-token.ensures k (λ rest. prefix_goes_on op rest),
+        ),
       ),
     )
 
@@ -73,7 +76,7 @@ factor-expression-requires g t c =
     let less = one_less (token_seen l) (left_of c.args.cursor.now) (left_of c.next-token.new.self) c.next-token.ensures in
     let opened = after_kind (wants.Operand ∷ []) (expression (wants.Mark mark.Close ∷ [])) l (kind.Mark mark.Open) c.requires.awaits
     c.next-token.ensures k (λ rest. refl) in
-    (omega (arith, less), (c.requires.scope, expression_first (wants.Mark mark.Close ∷ []) opened))
+    λ κs lives. (omega (arith, less), (lives, (c.requires.scope, expression_first (wants.Mark mark.Close ∷ []) opened)))
 
 pub factor-mark-requires : goal.factor-mark-requires
 factor-mark-requires g t c =
@@ -95,7 +98,7 @@ factor-unreachable-requires g t c = operand_is c.next-token.result c.requires.aw
 -- ---- an operand, and operators with their right operands
 
 pub expression_within-factor-requires : goal.expression_within-factor-requires
-expression_within-factor-requires g t c = (omega arith, (c.requires.scope, first_operand c.requires.awaits))
+expression_within-factor-requires g t c = λ κs lives. (omega arith, (lives, (c.requires.scope, first_operand c.requires.awaits)))
 
 pub expression_within-loop-op-init : goal.expression_within-loop-op-init
 expression_within-loop-op-init g t c = begun c.requires.awaits c.in_ok-left.ensures
@@ -106,7 +109,7 @@ expression_within-expression_within-requires g t c =
     let less = one_less (token_seen l) (left_of c.loop-op.cursor) (left_of c.next-place.new.self) c.next-place.ensures in
     let before = going_shrinks c.loop-op.invariant in
     let comes = c.in-Some.ensures ∙ ap (infix_within c.args.level) c.kind.ensures in
-    (omega (arith, less, before), (c.requires.scope, right_awaited c.loop-op.invariant l c.next-place.ensures comes))
+    λ κs lives. (omega (arith, less, before), (lives, (c.requires.scope, right_awaited c.loop-op.invariant l c.next-place.ensures comes)))
 
 pub expression_within-loop-op-preserved : goal.expression_within-loop-op-preserved
 expression_within-loop-op-preserved g t c =
@@ -129,4 +132,4 @@ expression_within-returns g t c = done c.loop-op.invariant (c.in_default.ensures
 -- ---- a whole expression
 
 pub expression-expression_within-requires : goal.expression-expression_within-requires
-expression-expression_within-requires g t c = (omega arith, (c.requires.scope, expression_operand c.requires.awaits))
+expression-expression_within-requires g t c = λ κs lives. (omega arith, (lives, (c.requires.scope, expression_operand c.requires.awaits)))
