@@ -17,7 +17,8 @@ append_statement-append_statements-requires g t c =
     let k : statement_in c.args.statement.now ≡ While (exp_of c.in-While.test) (block_in c.in-While.body.items) =
     ap statement_in c.in-While.is ∙ statement_in-while c.in-While.test c.in-While.body in
     let fine = subst (λ (s : Stmt). AreFine sorts s) k c.requires in
-    (search (rules, the_lemmas), subst (λ (ss : List Statement). AreFine sorts (block_in ss)) (sym c.as_slice.ensures.value) fine.1)
+    let body = subst (λ (ss : List Statement). AreFine sorts (block_in ss)) (sym c.as_slice.ensures.value) fine.1 in
+    λ κs lives. (search (rules, the_lemmas), (lives, body))
 
 pub append_statement-append_while-requires : goal.append_statement-append_while-requires
 append_statement-append_while-requires g t c =
@@ -39,7 +40,8 @@ append_statement-append_statements-requires-in-If g t c =
     let k : statement_in c.args.statement.now ≡ If (exp_of c.in-If.test) (block_in c.in-If.then.items) (block_in c.in-If.otherwise.items) =
     ap statement_in c.in-If.is ∙ statement_in-if c.in-If.test c.in-If.then c.in-If.otherwise in
     let fine = subst (λ (s : Stmt). AreFine sorts s) k c.requires in
-    (search (rules, the_lemmas), subst (λ (ss : List Statement). AreFine sorts (block_in ss)) (sym c.as_slice-in-If.ensures.value) fine.1)
+    let body = subst (λ (ss : List Statement). AreFine sorts (block_in ss)) (sym c.as_slice-in-If.ensures.value) fine.1 in
+    λ κs lives. (search (rules, the_lemmas), (lives, body))
 
 pub append_statement-append_statements-requires-in-If-2 : goal.append_statement-append_statements-requires-in-If-2
 append_statement-append_statements-requires-in-If-2 g t c =
@@ -47,7 +49,8 @@ append_statement-append_statements-requires-in-If-2 g t c =
     let k : statement_in c.args.statement.now ≡ If (exp_of c.in-If.test) (block_in c.in-If.then.items) (block_in c.in-If.otherwise.items) =
     ap statement_in c.in-If.is ∙ statement_in-if c.in-If.test c.in-If.then c.in-If.otherwise in
     let fine = subst (λ (s : Stmt). AreFine sorts s) k c.requires in
-    (search (rules, the_lemmas), subst (λ (ss : List Statement). AreFine sorts (block_in ss)) (sym c.as_slice-in-If-2.ensures.value) fine.2)
+    let body = subst (λ (ss : List Statement). AreFine sorts (block_in ss)) (sym c.as_slice-in-If-2.ensures.value) fine.2 in
+    λ κs lives. (search (rules, the_lemmas), (lives, body))
 
 pub append_statement-returns-in_ok-append_while-in-While : goal.append_statement-returns-in_ok-append_while-in-While
 append_statement-returns-in_ok-append_while-in-While g t c =
@@ -81,11 +84,10 @@ append_statement-returns-in_ok-append_if-in-If g t c =
 
 pub append_statements-append_statement-requires : goal.append_statements-append_statement-requires
 append_statements-append_statement-requires g t c =
-    let sorts = map (λ d. d.sort) c.args.declared.now in (
-      search (rules, the_lemmas),
-      (fine_next sorts c.args.statements.now c.loop-statement.statement-index c.statement-item.result
-          c.loop-statement-test.true c.statement-item.is c.loop-statement.invariant.fine).0,
-    )
+    let sorts = map (λ d. d.sort) c.args.declared.now in
+    let fine = fine_next sorts c.args.statements.now c.loop-statement.statement-index c.statement-item.result
+    c.loop-statement-test.true c.statement-item.is c.loop-statement.invariant.fine in
+    λ κs lives. (search (rules, the_lemmas), (lives, fine.0))
 
 pub append_statements-loop-statement-preserved : goal.append_statements-loop-statement-preserved
 append_statements-loop-statement-preserved g t c =
