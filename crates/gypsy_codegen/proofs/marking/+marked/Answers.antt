@@ -8,7 +8,7 @@ pub statement-parts-requires : goal.statement-parts-requires
 statement-parts-requires g t c =
     let k : seen_statement c.args.node.now.value ≡ seen_statements c.in-Seq.nodes.value.items =
     ap seen_statement (sym c.deref.ensures ∙ c.in-Seq.is) ∙ seen_statement-seq c.in-Seq.nodes in
-    (search (rules, the_lemmas), (c.requires.known, (rw k at c.requires.names, rw k at c.requires.room)))
+    λ κs lives. (search (rules, the_lemmas), (lives, (c.requires.known, (rw k at c.requires.names, rw k at c.requires.room))))
 
 pub statement-returns-in_ok-next-in-Seq-clause-marks : goal.statement-returns-in_ok-next-in-Seq-clause-marks
 statement-returns-in_ok-next-in-Seq-clause-marks g t c =
