@@ -14,26 +14,26 @@ use Rattle.command_line.specs.Gathered.{Texts}
 pub rose_from : (before mid after : ℕ) → before ≤ mid → Rose mid after → Rose before after
 rose_from before mid after le rose = omega arith
 
-among : (before mid after : Counts) (names : List (List ℕ)) (name : List ℕ) (end : EarlyEnd) → NoneFell before mid → Contains names name
-    → EndsAt mid after name end → EndsAtOne before after names end
-among before mid after names name (Missing missing) fell in_names ends = (name, in_names, (ends.0, rose_from _ _ _ (fell.absences name) ends.1))
-among before mid after names name (TooLong limit) fell in_names ends = (name, in_names, rose_from _ _ _ (fell.overruns name) ends)
-among before mid after names name (ShelfFault failed) fell in_names ends = (name, in_names, (ends.0, rose_from _ _ _ (fell.faults name) ends.1))
-among before mid after names name OutOfMemory fell in_names ends = tt
+among : (refused : Type 0) (before mid after : Counts) (names : List (List ℕ)) (name : List ℕ) (end : EarlyEnd) → NoneFell before mid
+    → Contains names name → EndsAt refused mid after name end → EndsAtOne refused before after names end
+among refused before mid after names name (Missing missing) fell in_names ends = (name, in_names, (ends.0, rose_from _ _ _ (fell.absences name) ends.1))
+among refused before mid after names name (TooLong limit) fell in_names ends = (name, in_names, rose_from _ _ _ (fell.overruns name) ends)
+among refused before mid after names name (ShelfFault failed) fell in_names ends = (name, in_names, (ends.0, rose_from _ _ _ (fell.faults name) ends.1))
+among refused before mid after names name OutOfMemory fell in_names ends = ends
 
 -- an input at a place is one of them
-pub ends_at_input : (before mid after : Counts) (inputs : List RoleFile) (i : ℕ) (input : RoleFile) (name : List ℕ) (end : EarlyEnd)
+pub ends_at_input : (refused : Type 0) (before mid after : Counts) (inputs : List RoleFile) (i : ℕ) (input : RoleFile) (name : List ℕ) (end : EarlyEnd)
     → NoneFell before mid → i < length inputs
-    → input ≡ get_or inputs i input → name ≡ input.name.now → EndsAt mid after name end
-    → EndsAtOne before after (names_of (map (λ (input : RoleFile). (input.role, input.name.now)) inputs)) end
-ends_at_input before mid after inputs i input name end fell lt is named ends =
+    → input ≡ get_or inputs i input → name ≡ input.name.now → EndsAt refused mid after name end
+    → EndsAtOne refused before after (names_of (map (λ (input : RoleFile). (input.role, input.name.now)) inputs)) end
+ends_at_input refused before mid after inputs i input name end fell lt is named ends =
     let pair : RoleFile → Role × List ℕ = λ i. (i.role, i.name.now) in
     let second : Role × List ℕ → List ℕ = λ p. p.1 in
     let lt' : i < length (map pair inputs) = rw length-map lt in
     let at : get_or (map second (map pair inputs)) i name ≡ name =
     get_or-map second (map pair inputs) i (pair input) name lt' ∙ ap second (get_or-map pair inputs i input (pair input) lt)
     ∙ ap (λ (i : RoleFile). i.name.now) (sym is) ∙ sym named in
-    among before mid after _ name end fell (i, rw length-map lt', at) ends
+    among refused before mid after _ name end fell (i, rw length-map lt', at) ends
 
 -- where no file is left, the shelf is what it is after it gave all texts
 pub gave_all : {S : Type 0} (gave : S → List ℕ → List ℕ → S) (before now : S) (inputs : List RoleFile) (i : ℕ) (texts : Texts) → length inputs ≤ i

@@ -174,28 +174,38 @@ mini_row = do
   source ← file
   at_end (Mini program source)
 
+-- the name of each command, and its row
+unfoldable pub rows : List (List ℕ × (CommandWords → Option Command))
+rows =
+    (codes "check", check_row)
+    ∷ (codes "mean", mean_row)
+    ∷ (codes "pit", pit_row)
+    ∷ (codes "build", build_row)
+    ∷ (codes "pcheck", pcheck_row)
+    ∷ (codes "prun", prun_row)
+    ∷ (codes "pbuild", pbuild_row)
+    ∷ (codes "run", run_row)
+    ∷ (codes "go", go_row)
+    ∷ (codes "show", show_row)
+    ∷ (codes "migrate", migrate_row)
+    ∷ (codes "asm", asm_row)
+    ∷ (codes "unasm", unasm_row)
+    ∷ (codes "need", need_row)
+    ∷ (codes "cert", cert_row)
+    ∷ (codes "debug", debug_row)
+    ∷ (codes "turns", turns_row)
+    ∷ (codes "big", big_row)
+    ∷ (codes "mini", mini_row)
+    ∷ []
+
+-- the first row of this name, of these words
+unfoldable pub row_with : List ℕ → List (List ℕ × (CommandWords → Option Command)) → CommandWords → Option Command
+row_with word [] words = None
+row_with word (row ∷ rest) words = if bytes_eq word row.0 then row.1 words else row_with word rest words
+
 -- the row that the first word names, of the words after it
 unfoldable pub row_of : List ℕ → CommandWords → Option Command
-row_of word words =
-    if bytes_eq word (codes "check") then check_row words
-    else (if bytes_eq word (codes "mean") then mean_row words
-    else (if bytes_eq word (codes "pit") then pit_row words
-    else (if bytes_eq word (codes "build") then build_row words
-    else (if bytes_eq word (codes "pcheck") then pcheck_row words
-    else (if bytes_eq word (codes "prun") then prun_row words
-    else (if bytes_eq word (codes "pbuild") then pbuild_row words
-    else (if bytes_eq word (codes "run") then run_row words
-    else (if bytes_eq word (codes "go") then go_row words
-    else (if bytes_eq word (codes "show") then show_row words
-    else (if bytes_eq word (codes "migrate") then migrate_row words
-    else (if bytes_eq word (codes "asm") then asm_row words
-    else (if bytes_eq word (codes "unasm") then unasm_row words
-    else (if bytes_eq word (codes "need") then need_row words
-    else (if bytes_eq word (codes "cert") then cert_row words
-    else (if bytes_eq word (codes "debug") then debug_row words
-    else (if bytes_eq word (codes "turns") then turns_row words
-    else (if bytes_eq word (codes "big") then big_row words
-    else (if bytes_eq word (codes "mini") then mini_row words else None))))))))))))))))))
+row_of word words = row_with word rows words
 
 -- the command that the words ask for, if they do
 unfoldable pub command_of : CommandWords → Option Command

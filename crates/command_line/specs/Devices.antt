@@ -16,17 +16,17 @@ GivesOrEndsEarly view (Err (TooLong limit)) gives = gives ≡ Err (TooLong limit
 GivesOrEndsEarly view (Err (ShelfFault name)) gives = Unit {0}
 GivesOrEndsEarly view (Err OutOfMemory) gives = Unit {0}
 
--- why a command ended early at this name
-abbrev pub EndsAt : Counts → Counts → List ℕ → EarlyEnd → Type 0
-EndsAt before after name (Missing missing) = (missing ≡ name) × Rose (before.absences name) (after.absences name)
-EndsAt before after name (TooLong limit) = Rose (before.overruns name) (after.overruns name)
-EndsAt before after name (ShelfFault failed) = (failed ≡ name) × Rose (before.faults name) (after.faults name)
-EndsAt before after name OutOfMemory = Unit {0}
+-- why a command ended early at this name; out of memory only where memory may be refused
+abbrev pub EndsAt : Type 0 → Counts → Counts → List ℕ → EarlyEnd → Type 0
+EndsAt refused before after name (Missing missing) = (missing ≡ name) × Rose (before.absences name) (after.absences name)
+EndsAt refused before after name (TooLong limit) = Rose (before.overruns name) (after.overruns name)
+EndsAt refused before after name (ShelfFault failed) = (failed ≡ name) × Rose (before.faults name) (after.faults name)
+EndsAt refused before after name OutOfMemory = refused
 
 -- the same for one of these names
-abbrev pub EndsAtOne : Counts → Counts → List (List ℕ) → EarlyEnd → Type 0
-EndsAtOne before after names OutOfMemory = Unit {0}
-EndsAtOne before after names end = (name : List ℕ) × Contains names name × EndsAt before after name end
+abbrev pub EndsAtOne : Type 0 → Counts → Counts → List (List ℕ) → EarlyEnd → Type 0
+EndsAtOne refused before after names OutOfMemory = refused
+EndsAtOne refused before after names end = (name : List ℕ) × Contains names name × EndsAt refused before after name end
 
 -- what a shelf is after it gave these texts for these files, each by a fetch of its own
 abbrev pub gave_each : {S : Type 0} → (S → List ℕ → List ℕ → S) → S → List (Role × List ℕ) → Texts → S
@@ -40,10 +40,10 @@ LeavesPart old new before after name bytes =
     (new ≡ old) ⊎ (PartlyStored old new name bytes × Rose (before.faults name) (after.faults name))
 
 -- a failure at this name, or out of memory
-abbrev pub IsFaultAt : Counts → Counts → List ℕ → EarlyEnd → Type 0
-IsFaultAt before after name (Missing missing) = ⊥
-IsFaultAt before after name (TooLong limit) = ⊥
-IsFaultAt before after name end = EndsAt before after name end
+abbrev pub IsFaultAt : Type 0 → Counts → Counts → List ℕ → EarlyEnd → Type 0
+IsFaultAt refused before after name (Missing missing) = ⊥
+IsFaultAt refused before after name (TooLong limit) = ⊥
+IsFaultAt refused before after name end = EndsAt refused before after name end
 
 -- the lines of a text, each with its line feed; what follows the last line feed is a line too
 abbrev pub onto_first : ℕ → List (List ℕ) → List (List ℕ)

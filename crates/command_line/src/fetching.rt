@@ -1,5 +1,5 @@
 //! Fetches the files that a command reads.
-ghost use Rattle.std.specs.Prelude.{◌≡◌, ◌≤◌, IfErr, IfOk, IfSome, length, map};
+ghost use Rattle.std.specs.Prelude.{◌≡◌, ◌≤◌, ◌⊎◌, IfErr, IfOk, IfSome, length, map};
 ghost use Rattle.stack_shelf.specs.Causes.{NoneFell};
 ghost use Rattle.stack_shelf.specs.Shelf.{fetched};
 ghost use Rattle.command_line.specs.Roles.{limit_of};
@@ -11,30 +11,36 @@ use crate::early_end::EarlyEnd;
 use crate::role::{Role, RoleFile};
 use crate::texts::{Text, Texts};
 use crate::words::FileName;
+use stack_heap::Heap;
 use stack_shelf::{FetchFault, Shelf};
-use std::alloc::Global;
 
 /// The text of one file.
-fn fetch<S: Shelf>(alloc: Global, shelf: &mut S, role: Role, name: &str) -> Result<Text, EarlyEnd>
+fn fetch<H: Heap, S: Shelf>(
+    heap: H,
+    shelf: &mut S,
+    role: Role,
+    name: &str,
+) -> Result<Text, EarlyEnd>
     ensures text { IfSome (S.files shelf.old) (λ files.
         GivesOrEndsEarly (λ text. text) result
         (text_or_end (role, name.now) (fetched files name.now (limit_of role)))) }
     ensures within { IfOk result (λ text. length text ≤ limit_of role) }
     ensures gave { IfOk result (λ text. shelf.new ≡ S.gave shelf.old name.now text) }
-    ensures cause { IfErr result (EndsAt (S.counts shelf.old) (S.counts shelf.new) name.now) }
+    ensures cause { IfErr result (EndsAt (H.may_refuse heap ⊎ S.may_refuse)
+        (S.counts shelf.old) (S.counts shelf.new) name.now) }
     ensures files { S.files shelf.new ≡ S.files shelf.old }
     ensures counts { NoneFell (S.counts shelf.old) (S.counts shelf.new) }
 {
     let limit = role.limit();
-    match shelf.fetch(alloc, name, limit) {
+    match shelf.fetch(heap.handle(), name, limit) {
         Ok(text) => Ok(Text::new(text)),
         Err(FetchFault::Missing) => {
-            let name = FileName::new(alloc, name)?;
+            let name = FileName::new(heap, name)?;
             Err(EarlyEnd::Missing { name })
         }
         Err(FetchFault::TooLong) => Err(EarlyEnd::TooLong { limit }),
         Err(FetchFault::Failed) => {
-            let name = FileName::new(alloc, name)?;
+            let name = FileName::new(heap, name)?;
             Err(EarlyEnd::ShelfFault { name })
         }
         Err(FetchFault::Memory) => Err(EarlyEnd::OutOfMemory),
@@ -45,8 +51,8 @@ fn fetch<S: Shelf>(alloc: Global, shelf: &mut S, role: Role, name: &str) -> Resu
 ///
 /// The first file that is missing, or has more bytes than its role allows, ends the command, and so does a shelf that fails. A
 /// fault is told only where the shelf counted one at one of these names.
-pub fn gather<S: Shelf>(
-    alloc: Global,
+pub fn gather<H: Heap, S: Shelf>(
+    heap: H,
     shelf: &mut S,
     inputs: &[RoleFile],
 ) -> Result<Texts, EarlyEnd>
@@ -57,15 +63,15 @@ pub fn gather<S: Shelf>(
     ensures short { IfOk result AreShort }
     ensures gave { IfOk result (λ texts. shelf.new ≡ gave_each S.gave shelf.old
         (map (λ input. (input.role, input.name.now)) inputs.now) texts) }
-    ensures cause { IfErr result (EndsAtOne (S.counts shelf.old) (S.counts shelf.new)
-        (names_of (map (λ input. (input.role, input.name.now)) inputs.now))) }
+    ensures cause { IfErr result (EndsAtOne (H.may_refuse heap ⊎ S.may_refuse)
+        (S.counts shelf.old) (S.counts shelf.new) (names_of (map (λ input. (input.role, input.name.now)) inputs.now))) }
     ensures files { S.files shelf.new ≡ S.files shelf.old }
     ensures counts { NoneFell (S.counts shelf.old) (S.counts shelf.new) }
 {
-    let mut texts = Texts::new(alloc);
+    let mut texts = Texts::new(heap.handle());
     for input in inputs {
-        let text = fetch(alloc, shelf, input.role, input.name.as_str())?;
-        texts.push(alloc, input.role, text)?;
+        let text = fetch(heap, shelf, input.role, input.name.as_str())?;
+        texts.push(heap, input.role, text)?;
     }
     Ok(texts)
 }

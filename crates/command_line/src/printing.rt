@@ -25,6 +25,7 @@ pub fn print<K: Sink>(out: &mut K, text: &[u8]) -> Result<(), PutFault>
     ensures lines { OnOk result (out.new ≡ took_each K.took out.old (lines_of text.now)) }
     ensures prefix { OnErr result (PrefixAppended (K.taken out.old) (K.taken out.new) text.now) }
     ensures failed { IsErrOf result PutFault.Failed → Rose (K.faults out.old) (K.faults out.new) }
+    ensures refused { IsErrOf result PutFault.Memory → K.may_refuse }
     ensures faults { K.faults out.old ≤ K.faults out.new }
 {
     let mut rest = text;

@@ -1,20 +1,20 @@
 //! Stores the file that a command writes.
-ghost use Rattle.std.specs.Prelude.{◌≡◌, IfErr, OnOk};
+ghost use Rattle.std.specs.Prelude.{◌≡◌, ◌⊎◌, IfErr, OnOk};
 ghost use Rattle.stack_shelf.specs.Causes.{NoneFell};
 ghost use Rattle.stack_shelf.specs.Shelf.{stored};
 ghost use Rattle.command_line.specs.Devices.{LeavesPart, IsFaultAt};
 
 use crate::early_end::EarlyEnd;
 use crate::words::FileName;
+use stack_heap::Heap;
 use stack_shelf::{Shelf, StoreFault};
-use std::alloc::Global;
 
 /// Stores bytes under a name.
 ///
 /// On an error the files are as they were, or the shelf failed, counted a fault at this name, and left no file there or one
 /// with a prefix of the bytes.
-pub fn save<S: Shelf>(
-    alloc: Global,
+pub fn save<H: Heap, S: Shelf>(
+    heap: H,
     shelf: &mut S,
     name: &str,
     bytes: &[u8],
@@ -23,13 +23,14 @@ pub fn save<S: Shelf>(
     ensures got { OnOk result (shelf.new ≡ S.got shelf.old name.now bytes.now) }
     ensures err { IfErr result (λ _. LeavesPart (S.files shelf.old) (S.files shelf.new)
         (S.counts shelf.old) (S.counts shelf.new) name.now bytes.now) }
-    ensures cause { IfErr result (IsFaultAt (S.counts shelf.old) (S.counts shelf.new) name.now) }
+    ensures cause { IfErr result (IsFaultAt (H.may_refuse heap ⊎ S.may_refuse)
+        (S.counts shelf.old) (S.counts shelf.new) name.now) }
     ensures counts { NoneFell (S.counts shelf.old) (S.counts shelf.new) }
 {
     match shelf.store(name, bytes) {
         Ok(()) => Ok(()),
         Err(StoreFault::Failed) => {
-            let name = FileName::new(alloc, name)?;
+            let name = FileName::new(heap, name)?;
             Err(EarlyEnd::ShelfFault { name })
         }
         Err(StoreFault::Memory) => Err(EarlyEnd::OutOfMemory),

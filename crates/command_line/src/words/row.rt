@@ -284,7 +284,7 @@ fn mini_row<H: Heap>(heap: H, words: &[String]) -> Result<Command, WordsFault>
 }
 
 /// The command whose name is the word, with the words after it.
-#[tactic(auto, unfolding(crate::specs::CommandRows::row_of))]
+#[tactic(auto, unfolding(crate::specs::CommandRows::row_of, crate::specs::CommandRows::row_with, crate::specs::CommandRows::rows))]
 fn row_of<H: Heap>(heap: H, word: &str, words: &[String]) -> Result<Command, WordsFault>
     ensures { ReadsWordsUnless (H.may_refuse heap) (λ command. command) result (row_of word.now (spelled words.now)) }
 {

@@ -14,5 +14,5 @@ kept true xs ys text e all one = subst (All IsWithin) (sym e) (All-push IsWithin
 kept false xs ys text e all one = subst (All IsWithin) (sym e) all
 
 pub invariant_of-self : goal.invariant_of-self
-invariant_of-self g c = kept (is_ok c.push.result) c.self.inside.texts.items c.push.new.items (c.args.role, c.args.text) c.push.ensures.items
+invariant_of-self g c = kept (is_ok c.push.result) c.self.inside.texts.items c.push.new.items.items (c.args.role, c.args.text) c.push.ensures.items
     c.self.invariant c.requires
