@@ -1,11 +1,12 @@
 -- Tasks that are loaded one after the other, and what they are then.
 use Rattle.std.proofs.Common.{if◌then◌else◌, ◌≡◌, ℕ, ◌+◌, ◌<◌, ◌≤◌, ◌==◌, List, [], ◌∷◌, ◌++◌, length, map, replicate, Bool, true, false, ltb, leb, eqb, Result}
 use Rattle.std.proofs.Common.{Ok, refl, sym, ap, subst, ◌∙◌, arith, append_assoc}
-use Rattle.std.specs.Prelude.{flat_map, All, slice_index}
+use Rattle.std.specs.Prelude.{flat_map, All, slice_index, Some, Err}
 use Rattle.std.proofs.lemmas.Bool.{and_parts, eqb-true, ne_eqb, le-ltb, lt-leb}
 use Rattle.std.proofs.lemmas.List.{length-replicate}
 use Rattle.std.proofs.lemmas.List.Elements.{All-cons, All-nil, All-head, All-tail}
 use Rattle.std.proofs.lemmas.List.Sums.{sum_by-cons}
+use Rattle.stack_text.specs.Gives.{FailsUnless}
 use Rattle.fm_machine.specs.State.{Fm, zeroed, is_refused}
 use Rattle.fm_image.specs.Image.{ImageOf}
 use Rattle.fm_loader.specs.Loaded.{with_words}
@@ -14,7 +15,7 @@ use Rattle.fm_turns.specs.declared.fault.TurnsFault.{TurnsFault}
 use Rattle.fm_turns.specs.declared.task.Task.TheVariants.{Running, Ended}
 use Rattle.fm_turns.specs.Turns.{TurnsOf, IsPart, IsWithin, AreWithin}
 use Rattle.fm_turns.specs.Starting.{NewTask, machine_of, state_at_start, context_of, first_base, adjoin_from, adjoin, total_size, window_size, started_in}
-use Rattle.fm_turns.specs.Starting.{started, with_tasks}
+use Rattle.fm_turns.specs.Starting.{started, with_tasks, fault_of}
 use Rattle.fm_turns.proofs.LoadedLaws.{with_tasks_laid, length-with_tasks_laid}
 use Rattle.fm_turns.proofs.RoundsLaws.{starts}
 
@@ -122,6 +123,13 @@ starts_as_parts tasks size t contexts h is are =
 pub size_known : {A : Type 0} (items slice : List A) (seen : A → NewTask) (size : ℕ) → Ok size ≡ window_size (map seen slice) → slice ≡ items
     → window_size (map seen items) ≡ Ok size
 size_known {A} items slice seen size h same = ap (λ (xs : List A). window_size (map seen xs)) (sym same) ∙ sym h
+
+-- tasks that have no window can't start
+pub not_started : {A : Type 0} (refused : Type 0) (items slice : List A) (seen : A → NewTask) (fault : TurnsFault) → Err fault ≡ window_size (map seen slice)
+    → slice ≡ items → fault_of fault ≡ Some fault → FailsUnless refused (fault_of fault) (started (map seen items))
+not_started {A} refused items slice seen fault is same known =
+    rw known (ap (λ (r : Result ℕ TurnsFault). started_in r (map seen items))
+    (ap (λ (xs : List A). window_size (map seen xs)) (sym same) ∙ sym is))
 
 pub base_known : {A : Type 0} (items slice : List A) (seen : A → NewTask) (base : ℕ) → base ≡ first_base (map seen slice) → slice ≡ items
     → base ≡ first_base (map seen items)

@@ -1,11 +1,11 @@
 //! How tasks begin.
 
-ghost use Rattle.std.specs.Prelude.{◌≡◌, ◌+◌, ◌≤◌, ◌<◌, ◌^◌, ◌==◌, length, map, All, IfOk, OnOk, IsTrue, false};
+ghost use Rattle.std.specs.Prelude.{◌≡◌, ◌+◌, ◌≤◌, ◌<◌, ◌^◌, ◌==◌, length, map, All, IfOk, IfErr, OnOk, IsTrue, Some, false};
 ghost use Rattle.stack_heap.specs.Heaps.{IfOkUnless};
 ghost use Rattle.fm_machine.specs.State.{is_refused};
 ghost use Rattle.fm_loader.specs.Loaded.{Fits, with_words};
 ghost use Rattle.fm_turns.specs.Starting.{new_task, new_tasks, AllFit, machine_of, context_of, first_base, adjoin};
-ghost use Rattle.fm_turns.specs.Starting.{total_size, window_size, with_tasks};
+ghost use Rattle.fm_turns.specs.Starting.{total_size, window_size, with_tasks, fault_of};
 
 use crate::context::TaskContext;
 use crate::copying::copy_window;
@@ -87,6 +87,7 @@ fn total_size(tasks: &[(Image, Vec<Value>)]) -> u64
 pub(crate) fn window_size(tasks: &[(Image, Vec<Value>)]) -> Result<u32, TurnsFault>
     ensures value { result ≡ window_size (new_tasks tasks.now) }
     ensures window { IfOk result (λ size. is_refused (first_base (new_tasks tasks.now)) size ≡ false) }
+    ensures fault { IfErr result (λ fault. fault_of fault ≡ Some fault) }
 {
     if tasks.is_empty() || tasks.len() > MOST_TASKS as usize {
         return Err(TurnsFault::Count);

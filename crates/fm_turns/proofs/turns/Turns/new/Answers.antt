@@ -1,9 +1,16 @@
 use Rattle.std.proofs.Common.{◌≡◌, ◌∙◌, List, ap}
+use Rattle.std.proofs.lemmas.Result.{err_from_is_err_and}
 use Rattle.fm_machine.specs.State.{Fm, zeroed}
 use Rattle.fm_turns.specs.Starting.{NewTask, new_task, new_tasks, first_base}
 use Rattle.fm_turns.proofs.StartingLaws.{images_begin, starts_above, loaded_all, started_all, starts_as_parts, contexts_begin_within, size_known, base_known}
-use Rattle.fm_turns.proofs.StartingLaws.{window_known}
+use Rattle.fm_turns.proofs.StartingLaws.{window_known, not_started}
 use Rattle.fm_turns.proofs.turns.Turns.new.Goals as goal
+
+pub returns-in_err-size-clause-turns : goal.returns-in_err-size-clause-turns
+returns-in_err-size-clause-turns g c =
+    let p = err_from_is_err_and c.from_residual.result c.from_residual.ensures.1 in
+    rw (p.1, p.2) (not_started (g.H.Heap.may_refuse c.args.heap) c.args.tasks.items c.as_slice.result.now (λ task. new_task task.0 task.1.items)
+    c.in_err-size.field-0.0 c.in_err-size.ensures.value c.as_slice.ensures.value c.in_err-size.ensures.fault)
 
 pub machine-requires : goal.machine-requires
 machine-requires g c =
