@@ -1,0 +1,99 @@
+#!/usr/bin/env python3
+"""Gives up in place of each public function that takes a heap: none may be proved so.
+
+    python3 tools/giving_up.py [--libraries CLONE] CRATE ..
+
+In a copy of each crate the body of such a function is `Err(..)`, out of memory at once, without any answers of its own. The prover checks them
+all; it has to find a goal of each open, since memory may run out only where the heap refuses it. CLONE has the libraries of the crates below,
+as for `quick_check.py`. It prints the functions whose contract lets that body pass, and its status is 0 where there are none.
+"""
+import re
+import shutil
+import subprocess
+import sys
+import tempfile
+from pathlib import Path
+
+from arguments import folder, parser_of
+
+TOP = Path(__file__).resolve().parents[1]
+HEAD = re.compile(r"^( *)pub fn (\w+)<[^()]*\bH: Heap\b", re.M)
+RESULT = re.compile(r"\) -> Result<")
+JUDGED = re.compile(r"^fn (\S+): (no holes$|.*\n(?:(?!^fn ).*\n)*)", re.M)
+
+
+def error_of(signature):
+    """The type of a signature's error, without its arguments, if the function returns one."""
+    found = RESULT.search(signature)
+    if not found:
+        return None
+    depth, at, comma = 1, found.end(), None
+    while depth:
+        letter = signature[at]
+        depth += (letter in "<([") - (letter in ">)]")
+        comma = at if letter == "," and depth == 1 else comma
+        at += 1
+    return signature[comma + 1 : at - 1].split("<")[0].strip(" ,\n")
+
+
+def given_up(text):
+    """A file's text in which each public function over a heap gives up, and their names."""
+    names, end = [], 0
+    made = []
+    for head in HEAD.finditer(text):
+        indent, name = head[1], head[2]
+        opening = re.compile(rf"^(?:{indent}\{{\n|{indent}.*\) -> .*[^;] \{{\n)", re.M).search(text, head.start())
+        closing = text.find(f"\n{indent}}}\n", opening.end() - 1) if opening else -1
+        error = error_of(text[head.start() : opening.end()]) if opening else None
+        if closing < 0 or error is None or HEAD.search(text, head.end(), closing):
+            continue
+        body = "Memory" if error == "Memory" else "AllocError" if error == "AllocError" else f"{error}::{'OutOfMemory' if error == 'EarlyEnd' else 'Memory'}"
+        made += [text[end : opening.end()], f"{indent}    Err({body})"]
+        end = closing
+        names.append(name)
+    return "".join([*made, text[end:]]), names
+
+
+def give_up_in(crate, libraries):
+    """The functions of a crate that gave up with no goal open that memory may be refused, and how many gave up."""
+    with tempfile.TemporaryDirectory(prefix="stack-giving-up-") as room:
+        copy = Path(room)
+        shutil.copy2(TOP / "crates.txt", copy / "crates.txt")
+        shutil.copytree(TOP / "tools", copy / "tools")
+        shutil.copytree(TOP / "crates", copy / "crates", symlinks=True, ignore=shutil.ignore_patterns("must-fail", "out"))
+        changed = {}
+        for file in sorted((copy / "crates" / crate / "src").rglob("*.rt")):
+            text, names = given_up(file.read_text())
+            file.write_text(text)
+            path = file.relative_to(copy / "crates" / crate / "src").with_suffix("")
+            changed |= dict.fromkeys(names, path)
+            for name in names:
+                for answers in (copy / "crates" / crate / "proofs" / path).rglob(name):
+                    shutil.rmtree(answers)
+        libraries = ["--libraries", str(libraries)] if libraries else []
+        words = [sys.executable, copy / "tools" / "quick_check.py", *libraries, crate, "--allow-holes"]
+        for name in changed:
+            words += ["--only", name]
+        ran = subprocess.run(words, cwd=copy, capture_output=True, text=True, errors="replace")
+        told = ran.stdout + ran.stderr
+        judged = {path: said for path, said in JUDGED.findall(told) if path.split("::")[-1] in changed}
+        if not judged:
+            sys.exit(f"{crate}: no function was judged\n{told[-3000:]}")
+        return sorted(path for path, said in judged.items() if "may_refuse" not in said), len(judged)
+
+
+def main():
+    parser = parser_of(__doc__)
+    parser.add_argument("--libraries", type=folder, metavar="CLONE", help="a clone in which `rt ci` was run")
+    parser.add_argument("crates", nargs="+", metavar="CRATE", help="crates of crates.txt")
+    chosen = parser.parse_args()
+    failed = False
+    for crate in chosen.crates:
+        passed, tried = give_up_in(crate, chosen.libraries)
+        print(f"{crate}: {tried} functions gave up, {len(passed)} passed{': ' + ', '.join(passed) if passed else ''}", flush=True)
+        failed |= bool(passed)
+    return 1 if failed else 0
+
+
+if __name__ == "__main__":
+    sys.exit(main())
