@@ -4,8 +4,8 @@
     python3 tools/giving_up.py [--libraries CLONE] CRATE ..
 
 In a copy of each crate the body of such a function is `Err(..)`, out of memory at once, without any answers of its own. The prover checks them
-all; it has to find a goal of each open, since memory may run out only where the heap refuses it. CLONE has the libraries of the crates below,
-as for `quick_check.py`. It prints the functions whose contract lets that body pass, and its status is 0 where there are none.
+all; it has to find a goal of each open, since memory may run out only where the heap refuses it. (What hands back an item at an error, by
+`AllocFailed`, isn't tried.) CLONE has the libraries of the crates below, as for `quick_check.py`. It prints the functions whose contract lets that body pass, and its status is 0 where there are none.
 """
 import re
 import shutil
@@ -18,6 +18,7 @@ from arguments import folder, parser_of
 
 TOP = Path(__file__).resolve().parents[1]
 HEAD = re.compile(r"^( *)pub fn (\w+)<[^()]*\bH: Heap\b", re.M)
+OWNER = re.compile(r"^impl(?:<[^{]*?>)? (\w+)[^{\n]*\{", re.M)
 RESULT = re.compile(r"\) -> Result<")
 JUDGED = re.compile(r"^fn (\S+): (no holes$|.*\n(?:(?!^fn ).*\n)*)", re.M)
 
@@ -45,12 +46,13 @@ def given_up(text):
         opening = re.compile(rf"^(?:{indent}\{{\n|{indent}.*\) -> .*[^;] \{{\n)", re.M).search(text, head.start())
         closing = text.find(f"\n{indent}}}\n", opening.end() - 1) if opening else -1
         error = error_of(text[head.start() : opening.end()]) if opening else None
-        if closing < 0 or error is None or HEAD.search(text, head.end(), closing):
+        if closing < 0 or error in (None, "AllocFailed") or HEAD.search(text, head.end(), closing):
             continue
         body = "Memory" if error == "Memory" else "AllocError" if error == "AllocError" else f"{error}::{'OutOfMemory' if error == 'EarlyEnd' else 'Memory'}"
         made += [text[end : opening.end()], f"{indent}    Err({body})"]
         end = closing
-        names.append(name)
+        owners = OWNER.findall(text, 0, head.start()) if indent else []
+        names.append("::".join([*owners[-1:], name]))
     return "".join([*made, text[end:]]), names
 
 
@@ -61,22 +63,23 @@ def give_up_in(crate, libraries):
         shutil.copy2(TOP / "crates.txt", copy / "crates.txt")
         shutil.copytree(TOP / "tools", copy / "tools")
         shutil.copytree(TOP / "crates", copy / "crates", symlinks=True, ignore=shutil.ignore_patterns("must-fail", "out"))
-        changed = {}
+        changed = set()
         for file in sorted((copy / "crates" / crate / "src").rglob("*.rt")):
             text, names = given_up(file.read_text())
             file.write_text(text)
             path = file.relative_to(copy / "crates" / crate / "src").with_suffix("")
-            changed |= dict.fromkeys(names, path)
+            module = [part for part in path.parts if part not in ("lib", "mod")]
+            changed |= {"::".join([crate, *module, name]) for name in names}
             for name in names:
-                for answers in (copy / "crates" / crate / "proofs" / path).rglob(name):
+                for answers in (copy / "crates" / crate / "proofs" / path).rglob(name.split("::")[-1]):
                     shutil.rmtree(answers)
         libraries = ["--libraries", str(libraries)] if libraries else []
         words = [sys.executable, copy / "tools" / "quick_check.py", *libraries, crate, "--allow-holes"]
-        for name in changed:
+        for name in sorted(changed):
             words += ["--only", name]
         ran = subprocess.run(words, cwd=copy, capture_output=True, text=True, errors="replace")
         told = ran.stdout + ran.stderr
-        judged = {path: said for path, said in JUDGED.findall(told) if path.split("::")[-1] in changed}
+        judged = {path: said for path, said in JUDGED.findall(told) if path in changed}
         if not judged:
             sys.exit(f"{crate}: no function was judged\n{told[-3000:]}")
         return sorted(path for path, said in judged.items() if "may_refuse" not in said), len(judged)
