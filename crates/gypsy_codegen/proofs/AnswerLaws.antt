@@ -1,7 +1,7 @@
 -- What is generated where no limit is passed.
 use Rattle.std.proofs.Common.{◌≡◌, ℕ, suc, ◌+◌, ◌<◌, ◌≤◌, ◌^◌, List, [], ◌∷◌, length, Bool, true, false, cond, Some, None, Option, refl, sym, ap, subst, ◌∙◌}
 use Rattle.std.proofs.Common.{arith}
-use Rattle.std.specs.Prelude.{not, nat_lt, nat_le, ◌&&◌, Ok}
+use Rattle.std.specs.Prelude.{not, nat_lt, nat_le, ◌&&◌, if◌then◌else◌, IfSome, Ok, Err}
 use Rattle.std.proofs.lemmas.Bool.{leb-true, ltb-true, ltb-false, lt-ltb, and_parts}
 use Rattle.std.proofs.lemmas.List.{length-map}
 use Rattle.piton_check.specs.PitonChecking.{CheckedOf, IsChecked}
@@ -25,7 +25,9 @@ use Rattle.gypsy_semantics.specs.Calls.{main_start}
 use Rattle.gypsy_codegen.specs.declared.fault.GenFault.{GenFault}
 use Rattle.gypsy_codegen.specs.declared.fault.GenFault.TheVariants.{Control, Temporary, Size, Words as TooManyWords}
 use Rattle.gypsy_codegen.specs.Acceptable.{code_words_of, total_words, LimitsFit, GeneratedIsAcceptable, SourceRuns}
-use Rattle.gypsy_codegen.specs.Generation.{are_sizes, size_fault, generation, SystemImplements, TakesCodeWords}
+use Rattle.gypsy_codegen.specs.Generation.{are_sizes, fault_of, size_fault, generation, SystemImplements, TakesCodeWords}
+use Rattle.fm_words.specs.WindowLimit.{most_window}
+use Rattle.stack_text.specs.Gives.{FailsUnless}
 use Rattle.stack_text.specs.Results.{unless_fault}
 use Rattle.gypsy_codegen.specs.Generated.{count_from, generated_view}
 use Rattle.gypsy_codegen.specs.Sizes.{ProceduresTakeWords}
@@ -148,6 +150,27 @@ not_some (Some x) h = absurd (h x refl)
 pub none_of : (q r : Program) (sizes : StackSizes) (o : Option GenFault) → q ≡ r → o ≡ size_fault q sizes → ((f : GenFault) → o ≡ Some f → ⊥)
     → size_fault r sizes ≡ None
 none_of q r sizes o e f h = ap (λ (p : Program). size_fault p sizes) (sym e) ∙ sym f ∙ not_some o h
+
+-- a limit that is passed is a fault of the source or of the sizes, and no lack of memory
+first_of_four : (a b c d : Bool) (m n w : ℕ) → IfSome (if a then Some Size else if b then Some (Control m) else if c then Some (Temporary n)
+    else if d then Some (TooManyWords w) else None) (λ f. fault_of f ≡ Some f)
+first_of_four true b c d m n w = refl
+first_of_four false true c d m n w = refl
+first_of_four false false true d m n w = refl
+first_of_four false false false true m n w = refl
+first_of_four false false false false m n w = tt
+
+limit_known : (q : Program) (sizes : StackSizes) → IfSome (size_fault q sizes) (λ f. fault_of f ≡ Some f)
+unfolding size_fault
+limit_known q sizes = first_of_four (not (are_sizes sizes)) (nat_lt sizes.ctrl (main_need q).ctrl) (nat_lt sizes.temp (main_need q).temp)
+    (nat_lt most_window (total_words q)) (main_need q).ctrl (main_need q).temp (total_words q)
+
+pub limit_fails : (refused : Type 0) (s : SourceOf) (sizes : StackSizes) (base : ℕ) (f : GenFault) → size_fault (program_of s) sizes ≡ Some f
+    → FailsUnless refused (fault_of f) (generation s sizes base)
+limit_fails refused s sizes base f passed =
+    let known : fault_of f ≡ Some f = subst (λ (o : Option GenFault). IfSome o (λ g. fault_of g ≡ Some g)) passed (limit_known (program_of s) sizes) in
+    let fails : generation s sizes base ≡ Err f = ap (λ (o : Option GenFault). unless_fault o (generated s sizes base)) passed in
+    subst (λ (o : Option GenFault). FailsUnless refused o (generation s sizes base)) (sym known) fails
 
 -- ---- the checked system
 

@@ -2,13 +2,15 @@ use Rattle.std.proofs.Common.{◌≡◌, ◌≤◌, ◌^◌, ◌∙◌, sym, ap,
 use Rattle.piton_syntax.specs.PitonReading.{KeepsForm}
 use Rattle.piton_check.specs.Violations.{violations}
 use Rattle.gypsy_syntax.specs.declared.proc.Source.{Source}
+use Rattle.gypsy_syntax.specs.Programs.{Program}
 use Rattle.gypsy_syntax.specs.Resolved.{program_of}
 use Rattle.gypsy_syntax.specs.Views.SourceView.{source_of}
 use Rattle.gypsy_space.specs.Needs.{stack_sizes}
 use Rattle.gypsy_space.specs.Nodes.{seen_program}
 use Rattle.gypsy_codegen.specs.Acceptable.{total_words}
+use Rattle.gypsy_codegen.specs.Generation.{size_fault}
 use Rattle.gypsy_codegen.specs.Text.{generated}
-use Rattle.gypsy_codegen.proofs.AnswerLaws.{are_few, are_modest, none_of, limits_fit, generation_is, implements, takes_code_words}
+use Rattle.gypsy_codegen.proofs.AnswerLaws.{are_few, are_modest, none_of, limits_fit, limit_fails, generation_is, implements, takes_code_words}
 use Rattle.gypsy_codegen.proofs.generating.generate_with.Goals as goal
 
 pub size_fault-requires-clause-few : goal.size_fault-requires-clause-few
@@ -47,6 +49,13 @@ checked-requires-clause-rules g c =
     let made : c.in_ok-system.system ≡ generated s sizes c.args.base =
     c.in_ok-system.ensures ∙ ap (λ (t : Source). generated (source_of t) sizes c.args.base) c.source.ensures.value in
     ap violations made ∙ (c.generated_is_acceptable.ensures s sizes c.args.base c.requires.accepted limits).rules
+
+pub returns-in-Some-clause-value : goal.returns-in-Some-clause-value
+returns-in-Some-clause-value g c =
+    let s = source_of c.args.accepted.now in
+    let sizes = stack_sizes c.args.ctrl c.args.temp in
+    let passed = ap (λ (q : Program). size_fault q sizes) (sym c.requires.program) ∙ sym c.size_fault.ensures ∙ c.in-Some.is in
+    limit_fails (g.H.Heap.may_refuse c.args.heap) s sizes c.args.base c.in-Some.fault passed
 
 pub returns-clause-value : goal.returns-clause-value
 returns-clause-value g c =
