@@ -1,7 +1,7 @@
 -- A run of what is built of an accepted source begins with the words of main's variables.
 use Rattle.std.proofs.Common.{◌≡◌, ◌≤◌, ℕ, Bool, true, false, cond, List, ◌++◌, length, drop, map, Option, Some, None, Result, Ok, Err, refl, sym, ap, subst}
 use Rattle.std.proofs.Common.{◌∙◌, arith}
-use Rattle.std.specs.Prelude.{◌^◌, IsTrue, nat_lt}
+use Rattle.std.specs.Prelude.{◌^◌, if◌then◌else◌, IfSome, IsTrue, nat_lt}
 use Rattle.std.proofs.Math.Seq.{drop-append_seam}
 use Rattle.std.proofs.lemmas.Bool.{ltb-false}
 use Rattle.stack_text.specs.Results.{◌>>=◌, unless_fault}
@@ -23,8 +23,9 @@ use Rattle.gypsy_syntax.specs.Programs.{proc_at}
 use Rattle.gypsy_syntax.specs.Resolved.{program_of}
 use Rattle.gypsy_syntax.specs.ValuesFit.{VarsFit}
 use Rattle.gypsy_check.specs.Accepted.{IsAccepted}
-use Rattle.gypsy_space.specs.Needs.{StackSizes}
+use Rattle.gypsy_space.specs.Needs.{StackSizes, main_need}
 use Rattle.gypsy_semantics.specs.Calls.{main_start}
+use Rattle.gypsy_semantics.specs.Views.RunView.{opening}
 use Rattle.gypsy_codegen.specs.declared.fault.GenFault.{GenFault}
 use Rattle.gypsy_codegen.specs.Acceptable.{GeneratedIsAcceptable}
 use Rattle.gypsy_codegen.specs.Generation.{size_fault}
@@ -38,12 +39,15 @@ use Rattle.gypsy_codegen.proofs.StackLaws.{values_words}
 use Rattle.stack_build.specs.declared.fault.BuildFault.{BuildFault}
 use Rattle.stack_build.specs.declared.fault.BuildFault.TheVariants as fault
 use Rattle.stack_build.specs.Build.{BuiltOf, generated_by, built_with, placed_size, linked_of, source_built}
-use Rattle.stack_build.specs.Image.{image_of}
+use Rattle.stack_build.specs.Image.{formal_slots, image_of}
 use Rattle.stack_build.specs.Implements.{FitsFormals}
 use Rattle.stack_build.proofs.Initial.{is_initial}
 use Rattle.stack_build.proofs.MainLaws.{zero_values}
 use Rattle.stack_build.proofs.TakesLaws.{takes_values}
+use Rattle.stack_build.specs.declared.start_fault.StartFault.{StartFault}
+use Rattle.stack_build.specs.declared.start_fault.StartFault.TheVariants.{Build}
 use Rattle.stack_build.specs.Starts.{values_fault, start_fault_of, or_build, or_values, with_text, built_start, with_values, main_words, CanRun}
+use Rattle.stack_build.specs.Starts.{shortage_of, unless_short, gypsy_start}
 
 -- 1. What is built.
 
@@ -136,3 +140,26 @@ values_failed memory s sizes b text (Refused rule place) is fails =
     ap (λ (r : Result BuiltOf BuildFault). or_build r >>= with_text text) is
     ∙ ap (λ (v : Result (List ValueOf) (ℕ × ℕ)). or_values v >>= λ values. Ok (record { checked = b.piton; image = b.image; values = values })) fails
 values_failed memory s sizes b text Memory is fails = fails
+
+-- 4. A stack that is smaller than main itself needs is a fault of the sizes, and no lack of memory.
+
+first_of_two : (a b : Bool) (m n : ℕ) → IfSome (if a then Some (fault.Control m) else (if b then Some (fault.Temporary n) else None))
+    (λ f. start_fault_of (Build f) ≡ Some (Build f))
+first_of_two true b m n = refl
+first_of_two false true m n = refl
+first_of_two false false m n = tt
+
+shortage_known : (need sizes : StackSizes) → IfSome (shortage_of need sizes) (λ f. start_fault_of (Build f) ≡ Some (Build f))
+shortage_known need sizes = first_of_two (nat_lt sizes.ctrl need.ctrl) (nat_lt sizes.temp need.temp) need.ctrl need.temp
+
+pub short_fails : (memory : Type 0) (s : SourceOf) (sizes : StackSizes) (text : List ℕ) (f : BuildFault)
+    → shortage_of (main_need (program_of s)) sizes ≡ Some f → common.FailsUnless memory (start_fault_of (Build f)) (gypsy_start s sizes text)
+unfolding gypsy_start
+short_fails memory s sizes text f short =
+    let known : start_fault_of (Build f) ≡ Some (Build f) =
+    subst (λ (o : Option BuildFault). IfSome o (λ g. start_fault_of (Build g) ≡ Some (Build g))) short
+    (shortage_known (main_need (program_of s)) sizes) in
+    let fails : gypsy_start s sizes text ≡ Err (Build f) =
+    ap (λ (o : Option BuildFault). unless_short o (or_values (values_in (formal_slots s) text)
+    >>= λ values. Ok (opening (program_of s) sizes values))) short in
+    subst (λ (o : Option StartFault). common.FailsUnless memory o (gypsy_start s sizes text)) (sym known) fails

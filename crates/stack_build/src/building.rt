@@ -61,7 +61,7 @@ impl Built {
 /// `Text`, `Form` or `Rule`; or out of memory.
 pub fn accept<H: Heap>(heap: H, text: &[u8]) -> Result<Accepted, BuildFault>
     requires { length text.now ≤ 2 ^ 31 }
-    ensures { GivesBuilt source_of result (accepted_source text.now) }
+    ensures { GivesBuiltUnless (H.may_refuse heap) source_of result (accepted_source text.now) }
 {
     let source = read_gypsy(heap, text)?;
     Ok(check(heap, source)?)
