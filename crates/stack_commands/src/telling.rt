@@ -1,5 +1,5 @@
 //! Prints what a session says to a script, while it follows it.
-ghost use Rattle.std.specs.Prelude.{◌≡◌, ◌≤◌, [], IfOk, OnOk, OnErr, IsErrOf, map};
+ghost use Rattle.std.specs.Prelude.{◌≡◌, ◌≤◌, ◌⊎◌, [], IfOk, OnOk, OnErr, IsErrOf, map};
 ghost use Rattle.stack_shelf.specs.Causes.{Rose};
 ghost use Rattle.stack_shelf.specs.Shelf.{appended, PrefixAppended};
 ghost use Rattle.command_line.specs.Devices.{lines_of, took_each};
@@ -16,13 +16,13 @@ use crate::script_run::ScriptRun;
 use command_line::{Status, print};
 use debug_script::Line;
 use level_debuggers::{ScriptEnd, Session, Watch, answers_are_lines, push_answer};
+use stack_heap::Heap;
 use stack_shelf::{PutFault, Sink};
 use stack_text::Memory;
-use std::alloc::Global;
 
 /// Follows a script in a session: what is said to a line is printed before the next one is carried out.
-fn print_answers<K: Sink>(
-    alloc: Global,
+fn print_answers<H: Heap, K: Sink>(
+    heap: H,
     session: &mut Session,
     lines: &[Line],
     out: &mut K,
@@ -34,13 +34,14 @@ fn print_answers<K: Sink>(
     ensures prefix { OnErr result (PrefixAppended (K.taken out.old) (K.taken out.new)
         (followed [] lines.now (session_of (λ w. watching (w.vtable, w.value)) session.old)).text) }
     ensures failed { IsErrOf result PutFault.Failed → Rose (K.faults out.old) (K.faults out.new) }
+    ensures refused { IsErrOf result PutFault.Memory → H.may_refuse heap ⊎ K.may_refuse }
     ensures faults { K.faults out.old ≤ K.faults out.new }
 {
     answers_are_lines();
-    let mut text = Vec::new(alloc);
+    let mut text = Vec::new(heap.handle());
     for line in lines {
         text.clear();
-        let Ok(end) = push_answer(alloc, session, line, &mut text) else {
+        let Ok(end) = push_answer(heap, session, line, &mut text) else {
             return Err(PutFault::Memory);
         };
         print(out, text.as_slice())?;
@@ -52,8 +53,8 @@ fn print_answers<K: Sink>(
 }
 
 /// Prints the last line of a session whose script came to an end, and ends with its status.
-fn print_end<K: Sink>(
-    alloc: Global,
+fn print_end<H: Heap, K: Sink>(
+    heap: H,
     session: &Session,
     end: ScriptEnd,
     out: &mut K,
@@ -68,12 +69,13 @@ fn print_end<K: Sink>(
         OnErr result (PrefixAppended (K.taken out.old) (K.taken out.new)
         (verdict_line (end_verdict session.level end))) }
     ensures failed { IsErrOf result PutFault.Failed → Rose (K.faults out.old) (K.faults out.new) }
+    ensures refused { IsErrOf result PutFault.Memory → H.may_refuse heap ⊎ K.may_refuse }
     ensures faults { K.faults out.old ≤ K.faults out.new }
 {
-    let Ok(verdict) = end_verdict(alloc, session, end) else {
+    let Ok(verdict) = end_verdict(heap, session, end) else {
         return Err(PutFault::Memory);
     };
-    let Ok(line) = verdict.line(alloc) else {
+    let Ok(line) = verdict.line(heap) else {
         return Err(PutFault::Memory);
     };
     print(out, line.as_slice())?;
@@ -81,8 +83,8 @@ fn print_end<K: Sink>(
 }
 
 /// Follows a script in a session, and prints all that it replies.
-fn print_reply<K: Sink>(
-    alloc: Global,
+fn print_reply<H: Heap, K: Sink>(
+    heap: H,
     session: &mut Session,
     lines: &[Line],
     out: &mut K,
@@ -101,11 +103,12 @@ fn print_reply<K: Sink>(
         (followed [] lines.now (session_of (λ w. watching (w.vtable, w.value)) session.old)) in
         OnErr result (PrefixAppended (K.taken out.old) (K.taken out.new) (reply_text reply)) }
     ensures failed { IsErrOf result PutFault.Failed → Rose (K.faults out.old) (K.faults out.new) }
+    ensures refused { IsErrOf result PutFault.Memory → H.may_refuse heap ⊎ K.may_refuse }
     ensures faults { K.faults out.old ≤ K.faults out.new }
 {
     answers_are_lines();
-    let end = print_answers(alloc, session, lines, out)?;
-    Ok(print_end(alloc, session, end, out)?)
+    let end = print_answers(heap, session, lines, out)?;
+    Ok(print_end(heap, session, end, out)?)
 }
 
 /// Follows a script in a session with these watches, and prints all that it replies: what is said to a line before the next
@@ -114,8 +117,8 @@ fn print_reply<K: Sink>(
 /// # Errors
 ///
 /// The sink failed, or memory ran out, in the session or in the sink: a prefix of the reply was printed.
-pub fn tell_session<K: Sink>(
-    alloc: Global,
+pub fn tell_session<H: Heap, K: Sink>(
+    heap: H,
     run: ScriptRun,
     watches: Vec<Box<dyn Watch>>,
     out: &mut K,
@@ -130,12 +133,13 @@ pub fn tell_session<K: Sink>(
     ensures prefix { OnErr result (PrefixAppended (K.taken out.old) (K.taken out.new)
         (reply_text (script_run_reply (map watching watches.items) run))) }
     ensures failed { IsErrOf result PutFault.Failed → Rose (K.faults out.old) (K.faults out.new) }
+    ensures refused { IsErrOf result PutFault.Memory → H.may_refuse heap ⊎ K.may_refuse }
     ensures faults { K.faults out.old ≤ K.faults out.new }
 {
     let ScriptRun { runner, lines } = run;
-    let mut session = match Session::new(alloc, runner, watches) {
+    let mut session = match Session::new(heap, runner, watches) {
         Ok(session) => session,
         Err(Memory) => return Err(PutFault::Memory),
     };
-    print_reply(alloc, &mut session, &lines, out)
+    print_reply(heap, &mut session, &lines, out)
 }
