@@ -1,5 +1,5 @@
 //! Makes tasks of the texts of sources and of their values.
-ghost use Rattle.std.specs.Prelude.{◌≡◌, ◌≤◌, ◌^◌, All, IfOk, length, map, slice_index_or, [], Ok, ⊥};
+ghost use Rattle.std.specs.Prelude.{◌≡◌, ◌≤◌, ◌^◌, All, IfOk, length, map, slice_index_or, [], Ok};
 ghost use Rattle.stack_text.specs.Gives.{GivesUnless};
 ghost use Rattle.fm_loader.specs.Loaded.{Fits};
 ghost use Rattle.fm_loader.specs.Values.{values_in};

@@ -1,4 +1,5 @@
-use Rattle.std.proofs.Common.{◌≡◌, ◌∙◌, List, Ok, IfOk, map, sym, ap, subst}
+use Rattle.std.proofs.Common.{◌≡◌, ◌∙◌, List, Ok, map, sym, ap, subst}
+use Rattle.stack_heap.specs.Heaps.{IfOkUnless}
 use Rattle.fm_turns.specs.EqualTurns.{AreAll, EndAsAlone}
 use Rattle.fm_turns.specs.Starting.{NewTask, new_tasks, started}
 use Rattle.fm_turns.specs.Turns.{TurnsOf, images_of}
@@ -21,5 +22,5 @@ returns g c =
     subst (EndAsAlone turn budget tasks) (sym gone.made)
     (c.each_ends_as_alone.ensures.ends tasks before turn budget gone.rounds start c.requires.ready.stay c.requires.some gone.few
     (subst (AreAll turn budget gone.rounds) gone.made gone.all)) in
-    subst (λ (reply : ReplyOf). IfOk c.told_reply.result (λ r. reply_of r ≡ reply))
+    subst (λ (reply : ReplyOf). IfOkUnless (g.H.Heap.may_refuse c.args.heap) c.told_reply.result (λ r. reply_of r ≡ reply))
     (tells_alone c.each_ends_as_alone.ensures.round turn budget c.requires.some tasks after images ends) c.told_reply.ensures
