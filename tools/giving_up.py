@@ -20,7 +20,8 @@ TOP = Path(__file__).resolve().parents[1]
 HEAD = re.compile(r"^( *)pub fn (\w+)<[^()]*\bH: Heap\b", re.M)
 OWNER = re.compile(r"^impl(?:<[^{]*?>)? (\w+)[^{\n]*\{", re.M)
 RESULT = re.compile(r"\) -> Result<")
-JUDGED = re.compile(r"^fn (\S+): (no holes$|.*\n(?:(?!^fn ).*\n)*)", re.M)
+JUDGED = re.compile(r"^fn (\S+): (?:no holes|no proof: expected answers in \./(\S+);)", re.M)
+OPEN = re.compile(r"` of (\S+) must prove: (.*?)(?=\n  names you can use|\nnote: |\nhelp: )", re.S)
 
 
 def error_of(signature):
@@ -79,10 +80,12 @@ def give_up_in(crate, libraries):
             words += ["--only", name]
         ran = subprocess.run(words, cwd=copy, capture_output=True, text=True, errors="replace")
         told = ran.stdout + ran.stderr
-        judged = {path: said for path, said in JUDGED.findall(told) if path in changed}
+        Path('/work/w/tmp/me/gu.'+crate+'.txt').write_text(told)  # GIVING_UP_LOG
+        judged = {path: answers for path, answers in JUDGED.findall(told) if path in changed}
+        refused = {answers for answers, goal in OPEN.findall(told) if "may_refuse" in goal}
         if not judged:
             sys.exit(f"{crate}: no function was judged\n{told[-3000:]}")
-        return sorted(path for path, said in judged.items() if "may_refuse" not in said), len(judged)
+        return sorted(path for path, answers in judged.items() if answers not in refused), len(judged)
 
 
 def main():
