@@ -80,7 +80,6 @@ def give_up_in(crate, libraries):
             words += ["--only", name]
         ran = subprocess.run(words, cwd=copy, capture_output=True, text=True, errors="replace")
         told = ran.stdout + ran.stderr
-        Path('/work/w/tmp/me/gu.'+crate+'.txt').write_text(told)  # GIVING_UP_LOG
         judged = {path: answers for path, answers in JUDGED.findall(told) if path in changed}
         refused = {answers for answers, goal in OPEN.findall(told) if "may_refuse" in goal}
         if not judged:
