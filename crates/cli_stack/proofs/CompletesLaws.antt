@@ -1,5 +1,5 @@
 -- Where nothing is wrong, `go` stores the image and tells the meaning.
-use Rattle.std.proofs.Common.{◌≡◌, ◌≤◌, ◌⊎◌, inl, inr, ⊎_elim, ℕ, List, [], ◌∷◌, true, Option, Some, None, IfSome, Result, Ok, refl, sym, ap, ◌∙◌, subst, arith}
+use Rattle.std.proofs.Common.{◌≡◌, ◌≤◌, inr, ℕ, List, [], ◌∷◌, true, Option, Some, None, IfSome, Result, Ok, refl, sym, ap, ◌∙◌, subst, arith}
 use Rattle.std.specs.Prelude.{◌≢◌, nat_le}
 use Rattle.std.proofs.lemmas.Bool.{le-leb}
 use Rattle.stack_text.specs.Values.{ValueOf}
@@ -32,7 +32,7 @@ use Rattle.command_line.specs.declared.early_end.EarlyEnd.TheVariants as early
 use Rattle.command_line.specs.declared.role.Role.{Role}
 use Rattle.command_line.specs.declared.role.Role.TheVariants.{Source, Values, Image}
 use Rattle.command_line.specs.declared.status.Status.{Status}
-use Rattle.command_line.specs.declared.status.Status.TheVariants.{ShelfFault, SinkFault, OutOfMemory}
+use Rattle.command_line.specs.declared.status.Status.TheVariants.{ShelfFault, SinkFault}
 use Rattle.command_line.specs.CommandFiles.{inputs_of, output_of, file_names}
 use Rattle.command_line.specs.Ends.{end_line}
 use Rattle.command_line.specs.Gathered.{Texts}
@@ -147,15 +147,10 @@ abbrev written_name : Option (Role × List ℕ) → List ℕ
 written_name None = []
 written_name (Some file) = file.1
 
--- memory ran out or it didn't
-memory_or_not : (status : Status) → (status ≡ OutOfMemory) ⊎ (status ≢ OutOfMemory)
-memory_or_not OutOfMemory = inl refl
-memory_or_not status = inr (λ e. cc)
-
 module _ (watches : List Watching) (before after : World) (status : Status) where
   -- `go`, of its own files
   completes_go : (source_name values_name name : List ℕ) (control temporary budget : ℕ) (files : Files)
-      → (status ≢ ShelfFault → status ≢ SinkFault → status ≢ OutOfMemory → Agrees
+      → (status ≢ ShelfFault → status ≢ SinkFault → Agrees
       (answer_to (command.Go source_name values_name control temporary budget name) watches files) files before after status)
       → (status ≡ ShelfFault → RoseAt (λ c. c.faults) (file_names (Some (command.Go source_name values_name control temporary budget name)))
       before.shelf after.shelf (λ n. after.out.taken ≡ appended before.out.taken (end_line (early.ShelfFault n))))
@@ -165,12 +160,11 @@ module _ (watches : List Watching) (before after : World) (status : Status) wher
       → CompletesRun (command.Go source_name values_name control temporary budget name) files source_name values_name name
       (stack_sizes control temporary) budget before after status
   completes_go source_name values_name name control temporary budget files answers shelf_fault sink_fault tells source values_text has there none =
-      ⊎_elim (λ memory. inl memory) (λ lasts. inr
-      (agreeing watches files source_name values_name name control temporary budget source values_text has there before after status
-      (answers (λ e. let failed = shelf_fault e in none.shelf failed.0 failed.1 failed.2) (λ e. none.sink (sink_fault e)) lasts) tells)) (memory_or_not status)
+      agreeing watches files source_name values_name name control temporary budget source values_text has there before after status
+      (answers (λ e. let failed = shelf_fault e in none.shelf failed.0 failed.1 failed.2) (λ e. none.sink (sink_fault e))) tells
 
   completes_on : (c : Command) (files : Files)
-      → (status ≢ ShelfFault → status ≢ SinkFault → status ≢ OutOfMemory → Agrees (answer_to c watches files) files before after status)
+      → (status ≢ ShelfFault → status ≢ SinkFault → Agrees (answer_to c watches files) files before after status)
       → (status ≡ ShelfFault → RoseAt (λ c. c.faults) (file_names (Some c)) before.shelf after.shelf
       (λ name. after.out.taken ≡ appended before.out.taken (end_line (early.ShelfFault name))))
       → (status ≡ SinkFault → Rose before.out.faults after.out.faults)
@@ -214,7 +208,7 @@ module _ (watches : List Watching) (before after : World) (status : Status) wher
   completes_on c files answers shelf_fault sink_fault tells = λ source values image reads writes. absurd (let e : None ≡ Some (Image, image) = writes in cc)
 
   pub completes : (command : Option Command) (files : Files)
-      → (status ≢ ShelfFault → status ≢ SinkFault → status ≢ OutOfMemory → Agrees (answer_by command watches files) files before after status)
+      → (status ≢ ShelfFault → status ≢ SinkFault → Agrees (answer_by command watches files) files before after status)
       → (status ≡ ShelfFault → RoseAt (λ c. c.faults) (file_names command) before.shelf after.shelf
       (λ name. after.out.taken ≡ appended before.out.taken (end_line (early.ShelfFault name))))
       → (status ≡ SinkFault → Rose before.out.faults after.out.faults)

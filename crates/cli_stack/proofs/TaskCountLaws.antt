@@ -1,14 +1,14 @@
 -- The words of `turns` name one to eight tasks.
 use Rattle.std.proofs.Common.{◌≤◌, ℕ, zero, suc, List, [], ◌∷◌, Bool, true, false, Option, Some, None, IfSome, length, arith}
-use Rattle.std.specs.Prelude.{if◌then◌else◌, codes}
+use Rattle.std.specs.Prelude.{if◌then◌else◌}
 use Rattle.std.specs.Str.{bytes_eq}
 use Rattle.stack_text.specs.Options.{◌>>=◌}
 use Rattle.command_line.specs.declared.command.Command.{Command}
 use Rattle.command_line.specs.declared.command.Command.TheVariants as command
 use Rattle.command_line.specs.declared.command.TaskFiles.{TaskFiles}
-use Rattle.command_line.specs.CommandRows.{command_of, row_of, whole_of, at_end, read_on, check_row, mean_row, pit_row, build_row, pcheck_row, prun_row}
-use Rattle.command_line.specs.CommandRows.{pbuild_row, run_row, go_row, show_row, migrate_row, asm_row, unasm_row, need_row, cert_row, debug_row, turns_row}
-use Rattle.command_line.specs.CommandRows.{big_row, mini_row}
+use Rattle.command_line.specs.CommandRows.{command_of, row_of, row_with, rows, whole_of, at_end, read_on, check_row, mean_row, pit_row, build_row}
+use Rattle.command_line.specs.CommandRows.{pcheck_row, prun_row, pbuild_row, run_row, go_row, show_row, migrate_row, asm_row, unasm_row, need_row}
+use Rattle.command_line.specs.CommandRows.{cert_row, debug_row, turns_row, big_row, mini_row}
 use Rattle.command_line.specs.CommandWords.{CommandWords, Reader, task, tasks, tasks_within, unless_ended, file, size, limit, seed, procedures, debug_level}
 use Rattle.command_line.specs.CommandWords.{turn_length, end}
 
@@ -171,28 +171,33 @@ if_few : (b : Bool) (o p : Option Command) → IfSome o HasFew → IfSome p HasF
 if_few true o p first other = first
 if_few false o p first other = other
 
+-- each row of a table
+abbrev EachFew : List (List ℕ × (CommandWords → Option Command)) → Type 0
+EachFew [] = Unit {0}
+EachFew (row ∷ others) = Few row.1 × EachFew others
+
+infixr 10 ◌beside◌
+abbrev ◌beside◌ : {A B : Type 0} → A → B → A × B
+a beside b = (a, b)
+
+each_few : EachFew rows
+unfolding rows
+each_few =
+    check_few beside mean_few beside pit_few beside build_few beside pcheck_few beside prun_few beside
+    pbuild_few beside run_few beside go_few beside show_few beside migrate_few beside asm_few beside
+    unasm_few beside need_few beside cert_few beside debug_few beside turns_few beside big_few beside
+    mini_few beside tt
+
+named_few : (word : List ℕ) (table : List (List ℕ × (CommandWords → Option Command))) (words : CommandWords) → EachFew table
+    → IfSome (row_with word table words) HasFew
+unfolding row_with
+named_few word [] words few = tt
+named_few word (row ∷ others) words few =
+    if_few (bytes_eq word row.0) (row.1 words) (row_with word others words) (few.0.each words) (named_few word others words few.1)
+
 row_few : (word : List ℕ) (words : CommandWords) → IfSome (row_of word words) HasFew
 unfolding row_of
-row_few word words =
-    if_few (bytes_eq word (codes "check")) (check_row words) _ (check_few.each words)
-    (if_few (bytes_eq word (codes "mean")) (mean_row words) _ (mean_few.each words)
-    (if_few (bytes_eq word (codes "pit")) (pit_row words) _ (pit_few.each words)
-    (if_few (bytes_eq word (codes "build")) (build_row words) _ (build_few.each words)
-    (if_few (bytes_eq word (codes "pcheck")) (pcheck_row words) _ (pcheck_few.each words)
-    (if_few (bytes_eq word (codes "prun")) (prun_row words) _ (prun_few.each words)
-    (if_few (bytes_eq word (codes "pbuild")) (pbuild_row words) _ (pbuild_few.each words)
-    (if_few (bytes_eq word (codes "run")) (run_row words) _ (run_few.each words)
-    (if_few (bytes_eq word (codes "go")) (go_row words) _ (go_few.each words)
-    (if_few (bytes_eq word (codes "show")) (show_row words) _ (show_few.each words)
-    (if_few (bytes_eq word (codes "migrate")) (migrate_row words) _ (migrate_few.each words)
-    (if_few (bytes_eq word (codes "asm")) (asm_row words) _ (asm_few.each words)
-    (if_few (bytes_eq word (codes "unasm")) (unasm_row words) _ (unasm_few.each words)
-    (if_few (bytes_eq word (codes "need")) (need_row words) _ (need_few.each words)
-    (if_few (bytes_eq word (codes "cert")) (cert_row words) _ (cert_few.each words)
-    (if_few (bytes_eq word (codes "debug")) (debug_row words) _ (debug_few.each words)
-    (if_few (bytes_eq word (codes "turns")) (turns_row words) _ (turns_few.each words)
-    (if_few (bytes_eq word (codes "big")) (big_row words) _ (big_few.each words)
-    (if_few (bytes_eq word (codes "mini")) (mini_row words) None (mini_few.each words) tt))))))))))))))))))
+row_few word words = named_few word rows words each_few
 
 -- so it is of the command of any words
 pub words_few : (words : CommandWords) → IfSome (command_of words) HasFew

@@ -1,5 +1,5 @@
 -- That a command does all that it is for, where nothing is wrong with its files and its sizes and no device fails.
-use Rattle.std.specs.Prelude.{◌≡◌, ◌≤◌, ◌⊎◌, ℕ, List, [], ◌∷◌, Some, Ok, Contains, IsSomeAnd}
+use Rattle.std.specs.Prelude.{◌≡◌, ◌≤◌, ℕ, List, [], ◌∷◌, Some, Ok, Contains, IsSomeAnd}
 use Rattle.fm_words.specs.WindowLimit.{most_window}
 use Rattle.stack_text.specs.Values.{ValueOf}
 use Rattle.fm_image.specs.Spelling.{spelling}
@@ -19,7 +19,7 @@ use Rattle.stack_build.specs.Implements.{meaning_shown, Finishes}
 use Rattle.command_line.specs.declared.command.Command.{Command}
 use Rattle.command_line.specs.declared.role.Role.TheVariants.{Source, Values, Image}
 use Rattle.command_line.specs.declared.status.Status.{Status}
-use Rattle.command_line.specs.declared.status.Status.TheVariants.{Done, OutOfMemory}
+use Rattle.command_line.specs.declared.status.Status.TheVariants.{Done}
 use Rattle.command_line.specs.CommandFiles.{inputs_of, file_names}
 use Rattle.cli_stack.specs.World.{World}
 use Rattle.cli_stack.specs.Tells.{planned_run}
@@ -57,13 +57,13 @@ pub record Completed (files : Files) (name : List ℕ) (source : SourceOf) (size
       → Finishes source sizes values finals way count → count ≤ budget
       → EndsWell (report_text (image_of source sizes 0) (meaning_shown source finals way) count) before after status
 
--- where the files are there, the source is accepted and no device fails, all that was completed, or memory ran out
+-- where the files are there, the source is accepted and no device fails, all that was completed
 abbrev pub CompletesRun : Command → Files → List ℕ → List ℕ → List ℕ → StackSizes → ℕ → World → World → Status → Type 0
 CompletesRun command files source_name values_name name sizes budget before after status =
     (source : SourceOf) (values_text : List ℕ)
     → HasSource files source_name sizes source → IsReadable files Values values_name values_text
     → NoFault (file_names (Some command)) before after
-    → (status ≡ OutOfMemory) ⊎ Completed files name source sizes values_text budget before after status
+    → Completed files name source sizes values_text budget before after status
 
 -- who reads a source and values and no other file, and stores an image, has sizes of stacks and a run, and completes it
 abbrev pub CompletesCommand : Command → Files → World → World → Status → Type 0

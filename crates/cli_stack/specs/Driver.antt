@@ -30,11 +30,11 @@ abbrev pub replied : List Watching → Result Ending EarlyEnd → Result Reply E
 replied watches (Ok ending) = Ok (ending_reply watches ending)
 replied watches (Err end) = Err end
 
--- why a command ended early: at a missing or long input, or by a failure at a file of its own
-abbrev pub HasReason : Counts → Counts → Option Command → EarlyEnd → Type 0
-HasReason before after command (Missing name) = EndsAtOne before after (input_names command) (Missing name)
-HasReason before after command (TooLong limit) = EndsAtOne before after (input_names command) (TooLong limit)
-HasReason before after command end = EndsAtOne before after (file_names command) end
+-- why a command ended early: at a missing or long input, by a failure at a file of its own, or where memory may be refused
+abbrev pub HasReason : Type 0 → Counts → Counts → Option Command → EarlyEnd → Type 0
+HasReason refused before after command (Missing name) = EndsAtOne refused before after (input_names command) (Missing name)
+HasReason refused before after command (TooLong limit) = EndsAtOne refused before after (input_names command) (TooLong limit)
+HasReason refused before after command end = EndsAtOne refused before after (file_names command) end
 
 -- the files and the end of a command with these file names and this answer over known files
 abbrev pub LeavesAs : Answer → List (List ℕ) → Files → ShelfOf → ShelfOf → Result Reply EarlyEnd → Type 0
@@ -73,19 +73,22 @@ pub record Printed (Took : List ℕ → Type 0) (conclusion : Conclusion) (statu
   pub took : Took conclusion.text
   pub machine : after.kept ≡ machine_kept before.kept conclusion.machine
 
--- printing stopped before its end: the sink failed, or memory ran out
-pub record Stopped (conclusion : Conclusion) (status : Status) (before after : OutOf) : Type 0 where
+-- printing stopped before its end: the sink failed, or memory ran out where it may be refused
+pub record Stopped (may_refuse : Type 0) (conclusion : Conclusion) (status : Status) (before after : OutOf) : Type 0 where
   pub text : PrefixAppended before.taken after.taken conclusion.text
   pub machine : after.kept ≡ before.kept
-  pub cause : ((status ≡ exit.SinkFault) × Rose before.faults after.faults) ⊎ (status ≡ exit.OutOfMemory)
+  pub cause : ((status ≡ exit.SinkFault) × Rose before.faults after.faults) ⊎ ((status ≡ exit.OutOfMemory) × may_refuse)
 
--- memory ran out before anything was printed
-pub record NotBegun (status : Status) (before after : OutOf) : Type 0 where
+-- memory ran out, where it may be refused, before anything was printed
+pub record NotBegun (may_refuse : Type 0) (status : Status) (before after : OutOf) : Type 0 where
   pub ends : status ≡ exit.OutOfMemory
+  pub refused : may_refuse
   pub text : after.taken ≡ before.taken
   pub machine : after.kept ≡ before.kept
 
-abbrev pub Concludes : (List ℕ → Type 0) → Option Conclusion → Status → OutOf → OutOf → Type 0
-Concludes Took found status before after =
-    NotBegun status before after
-    ⊎ IsSomeAnd found (λ conclusion. Printed Took conclusion status before after ⊎ Stopped conclusion status before after)
+-- Printing ended, stopped or didn't begin: for want of memory only where it may be refused, or where it had run out before, so that there
+-- is nothing to print.
+abbrev pub Concludes : Type 0 → (List ℕ → Type 0) → Option Conclusion → Status → OutOf → OutOf → Type 0
+Concludes refused Took found status before after =
+    NotBegun (refused ⊎ (found ≡ None)) status before after
+    ⊎ IsSomeAnd found (λ conclusion. Printed Took conclusion status before after ⊎ Stopped refused conclusion status before after)

@@ -27,7 +27,7 @@ pub record KeepsWithFiles (command : Option Command) (answer : Answer) (files : 
   -- it does what is answered, unless a device failed or memory ran out
   pub answers : status ≢ ShelfFault → status ≢ SinkFault → status ≢ OutOfMemory → Agrees answer files before after status
   -- who reads a source and values and stores an image does all that it is for, where nothing is wrong and no device fails
-  pub completes : IfSome command (λ c. CompletesCommand c files before after status)
+  pub completes : status ≢ OutOfMemory → IfSome command (λ c. CompletesCommand c files before after status)
   -- what such a failure leaves
   pub files_at_10 : status ≡ ShelfFault → HoldsPart (Some files) after.shelf.files answer.output
   pub files_at_11 : status ≡ SinkFault → LeavesFiles files answer.output (file_names command) before after
@@ -41,8 +41,8 @@ IsTooLong command before after status =
     (status ≡ Size) × RoseAt (λ c. c.overruns) (input_names command) before.shelf after.shelf (λ name. Unit {0})
 
 -- over every shelf and every sink
-pub record KeepsPromises {S K : Type 0} (devices : Devices S K) (command : Option Command) (watches : List Watching) (before after : World)
-    (status : Status) : Type 0 where
+pub record KeepsPromises {S K : Type 0} (may_refuse : Type 0) (devices : Devices S K) (command : Option Command) (watches : List Watching)
+    (before after : World) (status : Status) : Type 0 where
   pub known : IfSome before.shelf.files (λ files.
       KeepsWithFiles command (answer_by command watches files) files before after status)
   -- it replies to some texts, unless a file is missing or too long, a device fails, or memory runs out
@@ -56,10 +56,12 @@ pub record KeepsPromises {S K : Type 0} (devices : Devices S K) (command : Optio
   pub shelf_fault : status ≡ ShelfFault → RoseAt (λ c. c.faults) (file_names command) before.shelf after.shelf
       (λ name. after.out.taken ≡ appended before.out.taken (end_line (end.ShelfFault name)))
   pub sink_fault : status ≡ SinkFault → Rose before.out.faults after.out.faults
+  -- memory runs out only where the heap or a device may refuse it
+  pub out_of_memory : status ≡ OutOfMemory → may_refuse
   -- only the end of a run changes the place for the machine
   pub kept : ¬ (RunsImage command × IsRunEnd status) → after.out.kept ≡ before.out.kept
 
 -- to these words: the result is the number of a status that keeps all that
-abbrev pub Promises : {S K : Type 0} → Devices S K → List (List ℕ) → List Watching → World → World → ℕ → Type 0
-Promises devices words watches before after result =
-    (status : Status) × (result ≡ status_code status) × KeepsPromises devices (command_of words) watches before after status
+abbrev pub Promises : {S K : Type 0} → Type 0 → Devices S K → List (List ℕ) → List Watching → World → World → ℕ → Type 0
+Promises may_refuse devices words watches before after result =
+    (status : Status) × (result ≡ status_code status) × KeepsPromises may_refuse devices (command_of words) watches before after status

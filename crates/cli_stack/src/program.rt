@@ -1,5 +1,5 @@
 //! The whole program over a shelf and a sink.
-ghost use Rattle.std.specs.Prelude.{map};
+ghost use Rattle.std.specs.Prelude.{◌⊎◌, map};
 ghost use Rattle.command_line.specs.CommandWords.{spelled};
 ghost use Rattle.cli_stack.specs.AnswerMeans.{AnswersMean};
 ghost use Rattle.cli_stack.specs.World.{world};
@@ -11,8 +11,8 @@ use crate::moments::moments_are_said;
 use fm_machine::Machine;
 use level_debuggers::{Watch, runs_walk, scripts_walk};
 use stack_build::{builds_implement, placed_are_words, runs_are_meant};
+use stack_heap::Heap;
 use stack_shelf::{Shelf, Sink};
-use std::alloc::Global;
 
 /// The program: does what the words of a command line ask for, over the files of a shelf, prints to a sink, and answers
 /// the exit status.
@@ -24,16 +24,17 @@ use std::alloc::Global;
 ///
 /// `Status` lists the exit statuses, and `docs/program/cli.md` when each of them occurs. `specs/Promises.antt` has what the program
 /// does with its devices, and `specs/AnswerMeans.antt` what its answers mean, each one by one, under the names of its fields.
-pub fn cli<S: Shelf, K: Sink>(
-    alloc: Global,
+pub fn cli<H: Heap, S: Shelf, K: Sink>(
+    heap: H,
     words: &[String],
     shelf: &mut S,
     out: &mut K,
     kept: &mut Option<Machine>,
     watches: Vec<Box<dyn Watch>>,
 ) -> u8
-    // It does with its devices what is answered, and what a failure of theirs leaves is told.
-    ensures promises { Promises
+    // It does with its devices what is answered, and what a failure of theirs leaves is told. Memory runs out only where the heap or
+    // a device may refuse it.
+    ensures promises { Promises (H.may_refuse heap ⊎ (S.may_refuse ⊎ K.may_refuse))
         (devices_of S.gave S.got K.took shelf.old shelf.new out.old out.new)
         (spelled words.now) (map watching watches.items)
         (world (S.files shelf.old) (S.counts shelf.old) (K.taken out.old) (K.faults out.old) kept.old)
@@ -48,6 +49,6 @@ pub fn cli<S: Shelf, K: Sink>(
     scripts_walk();
     runs_walk();
     moments_are_said();
-    let ran = run_words(alloc, words, shelf);
-    conclude(alloc, ran, watches, out, kept).code()
+    let ran = run_words(heap, words, shelf);
+    conclude(heap, ran, watches, out, kept).code()
 }

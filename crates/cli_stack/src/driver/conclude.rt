@@ -1,17 +1,18 @@
 //! Prints how a command ended, and keeps its machine.
-ghost use Rattle.std.specs.Prelude.{◌≡◌, IfOk, Some, map};
+ghost use Rattle.std.specs.Prelude.{◌≡◌, ◌⊎◌, IfOk, Some, None, map};
+ghost use Rattle.stack_heap.specs.Heaps.{IfOkUnless};
 ghost use Rattle.stack_commands.specs.Works.{IsEnding};
 ghost use Rattle.cli_stack.specs.World.{out_of};
 ghost use Rattle.cli_stack.specs.RepliesTo.{TookLines};
-ghost use Rattle.cli_stack.specs.Driver.{machine_kept, conclusion_of, replied, Concludes};
+ghost use Rattle.cli_stack.specs.Driver.{machine_kept, conclusion_of, replied, Printed, Stopped, Concludes};
 
 use command_line::{EarlyEnd, Status, print};
 use fm_machine::Machine;
 use level_debuggers::Watch;
 use stack_commands::{Ending, Reply, tell_session};
+use stack_heap::Heap;
 use stack_shelf::{PutFault, Sink};
 use stack_text::{Memory, Seq};
-use std::alloc::Global;
 
 /// All that is printed at the end of a command that has it at hand, its status, and the machine that was run.
 #[derive(Drop)]
@@ -24,9 +25,10 @@ pub struct Conclusion {
     pub machine: Option<Machine>,
 }
 
-/// How a command concludes, unless memory ran out.
-fn conclusion_of(alloc: Global, ran: Result<Reply, EarlyEnd>) -> Result<Conclusion, Memory>
-    ensures { IfOk result (λ conclusion. conclusion_of ran ≡ Some conclusion) }
+/// How a command concludes, unless memory runs out here or ran out before, so that there is nothing to print.
+fn conclusion_of<H: Heap>(heap: H, ran: Result<Reply, EarlyEnd>) -> Result<Conclusion, Memory>
+    ensures { IfOkUnless (H.may_refuse heap ⊎ (conclusion_of ran ≡ None)) result
+        (λ conclusion. conclusion_of ran ≡ Some conclusion) }
 {
     match ran {
         Ok(
@@ -37,7 +39,7 @@ fn conclusion_of(alloc: Global, ran: Result<Reply, EarlyEnd>) -> Result<Conclusi
             },
         ) => {
             let mut text = said.into_vec();
-            text.extend_from_slice(verdict.line(alloc)?.as_slice())?;
+            heap.extend_from_slice(&mut text, verdict.line(heap)?.as_slice())?;
             Ok(Conclusion {
                 text: Seq::from_vec(text),
                 status: verdict.status(),
@@ -46,7 +48,7 @@ fn conclusion_of(alloc: Global, ran: Result<Reply, EarlyEnd>) -> Result<Conclusi
         }
         Err(EarlyEnd::OutOfMemory) => Err(Memory),
         Err(end) => Ok(Conclusion {
-            text: Seq::from_vec(end.line(alloc)?),
+            text: Seq::from_vec(end.line(heap)?),
             status: end.status(),
             machine: None,
         }),
@@ -68,9 +70,10 @@ fn print_conclusion<K: Sink>(
     out: &mut K,
     kept: &mut Option<Machine>,
 ) -> Status
-    ensures { Concludes (TookLines K.took out.old out.new) (Some conclusion) result
-        (out_of (K.taken out.old) (K.faults out.old) kept.old)
-        (out_of (K.taken out.new) (K.faults out.new) kept.new) }
+    ensures { let before = out_of (K.taken out.old) (K.faults out.old) kept.old in
+        let after = out_of (K.taken out.new) (K.faults out.new) kept.new in
+        Printed (TookLines K.took out.old out.new) conclusion result before after
+        ⊎ Stopped K.may_refuse conclusion result before after }
 {
     let Conclusion {
         text,
@@ -88,45 +91,46 @@ fn print_conclusion<K: Sink>(
 }
 
 /// Prints how a command ended of which all that it says is there, and ends with its status.
-fn conclude_reply<K: Sink>(
-    alloc: Global,
+fn conclude_reply<H: Heap, K: Sink>(
+    heap: H,
     ran: Result<Reply, EarlyEnd>,
     out: &mut K,
     kept: &mut Option<Machine>,
 ) -> Status
-    ensures { Concludes (TookLines K.took out.old out.new) (conclusion_of ran) result
+    ensures { Concludes (H.may_refuse heap ⊎ K.may_refuse)
+        (TookLines K.took out.old out.new) (conclusion_of ran) result
         (out_of (K.taken out.old) (K.faults out.old) kept.old)
         (out_of (K.taken out.new) (K.faults out.new) kept.new) }
 {
-    match conclusion_of(alloc, ran) {
+    match conclusion_of(heap, ran) {
         Ok(conclusion) => print_conclusion(conclusion, out, kept),
         Err(Memory) => Status::OutOfMemory,
     }
 }
 
 /// Prints how a command ended, and ends with its status. A session has these watches; what it says is printed as it is said.
-pub fn conclude<K: Sink>(
-    alloc: Global,
+pub fn conclude<H: Heap, K: Sink>(
+    heap: H,
     ran: Result<Ending, EarlyEnd>,
     watches: Vec<Box<dyn Watch>>,
     out: &mut K,
     kept: &mut Option<Machine>,
 ) -> Status
     requires { IfOk ran IsEnding }
-    ensures { Concludes (TookLines K.took out.old out.new)
+    ensures { Concludes (H.may_refuse heap ⊎ K.may_refuse) (TookLines K.took out.old out.new)
         (conclusion_of (replied (map watching watches.items) ran)) result
         (out_of (K.taken out.old) (K.faults out.old) kept.old)
         (out_of (K.taken out.new) (K.faults out.new) kept.new) }
 {
     match ran {
-        Ok(Ending::Session(run)) => match tell_session(alloc, run, watches, out) {
+        Ok(Ending::Session(run)) => match tell_session(heap, run, watches, out) {
             Ok(status) => status,
             Err(fault) => match fault {
                 PutFault::Failed => Status::SinkFault,
                 PutFault::Memory => Status::OutOfMemory,
             },
         },
-        Ok(Ending::Reply(reply)) => conclude_reply(alloc, Ok(reply), out, kept),
-        Err(end) => conclude_reply(alloc, Err(end), out, kept),
+        Ok(Ending::Reply(reply)) => conclude_reply(heap, Ok(reply), out, kept),
+        Err(end) => conclude_reply(heap, Err(end), out, kept),
     }
 }

@@ -14,8 +14,8 @@ returns-clause-promises g c =
     let built = c.builds_implement.ensures in (
       c.conclude.result,
       c.code.ensures,
-      promises _ command watches _ _ c.run_words-ran.result c.conclude.result (c.run_words-ran.ensures.leaves watches) c.run_words-ran.ensures.reason
-          c.run_words-ran.ensures.reply c.conclude.ensures
+      promises (g.H.Heap.may_refuse c.args.heap) g.S.Shelf.may_refuse g.K.Sink.may_refuse _ command watches _ _ c.run_words-ran.result
+          c.conclude.result (c.run_words-ran.ensures.leaves watches) c.run_words-ran.ensures.reason c.run_words-ran.ensures.reply c.conclude.ensures
           (answers_tell built.implements built.values command watches),
     )
 
