@@ -77,9 +77,9 @@ further None files name found = found
 further (Some output) files name found = (suc found.0, omega arith, found.2)
 
 pub gather_reason : (refused : Type 0) (before after : Counts) (command : Command) (inputs : List (Role × List ℕ)) (end : EarlyEnd)
-    → inputs ≡ inputs_of command → EndsAtOne refused before after (names_of inputs) end → HasReason refused before after (Some command) end
-gather_reason refused before after command inputs (Missing missing) reads ends = rw (← reads) ends
-gather_reason refused before after command inputs (TooLong limit) reads ends = rw (← reads) ends
-gather_reason refused before after command inputs (ShelfFault failed) reads ends =
+    → EndsAtOne refused before after (names_of inputs) end → inputs ≡ inputs_of command → HasReason refused before after (Some command) end
+gather_reason refused before after command inputs (Missing missing) ends reads = rw (← reads) ends
+gather_reason refused before after command inputs (TooLong limit) ends reads = rw (← reads) ends
+gather_reason refused before after command inputs (ShelfFault failed) ends reads =
     (ends.0, further (output_of command) (inputs_of command) ends.0 (rw (← reads) ends.1), ends.2)
-gather_reason refused before after command inputs OutOfMemory reads ends = ends
+gather_reason refused before after command inputs OutOfMemory ends reads = ends

@@ -1,4 +1,4 @@
-use Rattle.std.proofs.Common.{rules, ◌≡◌, Some, ℕ, List}
+use Rattle.std.proofs.Common.{rules, ◌≡◌, ◌⊎◌, Some, ℕ, List}
 use Rattle.std.proofs.lemmas.Result.{err_from_is_err_and}
 use Rattle.command_line.specs.declared.role.Role.{Role}
 use Rattle.command_line.specs.CommandFiles.{output_of}
@@ -8,7 +8,8 @@ use Rattle.cli_stack.proofs.driver.perform.perform.Goals as goal
 pub returns-in_err-texts-clause-reason : goal.returns-in_err-texts-clause-reason
 returns-in_err-texts-clause-reason g c =
     let p = err_from_is_err_and c.from_residual-in_err-texts.result c.from_residual-in_err-texts.ensures.1 in
-    rw (p.1, p.2) (gather_reason _ _ _ c.args.command.now _ _ (search rules) c.in_err-texts.ensures.cause)
+    rw (p.1, p.2) (gather_reason (g.H.Heap.may_refuse c.args.heap ⊎ g.S.Shelf.may_refuse) _ _ c.args.command.now _ _
+    c.in_err-texts.ensures.cause (search rules))
 
 pub returns-in_err-save-clause-leaves : goal.returns-in_err-save-clause-leaves
 returns-in_err-save-clause-leaves g c =
