@@ -29,6 +29,15 @@ START = "rt: must-fail "
 AUTHOR = ["-c", "user.name=edits", "-c", "user.email=edits@localhost"]
 
 
+# the trait, if there is one, and the type of the methods after such a line
+OWNER = re.compile(r"^impl(?:<[^{]*?>)? (?:(\w+)(?:<[^{\n]*?>)? for )?(\w+)[^{\n]*\{", re.M)
+
+
+def owner_at(text, place):
+    """What the prover puts before the name of a method round a place of a file: its type, and the trait behind it; in a list, if there is any."""
+    return [kind + trait for trait, kind in OWNER.findall(text, 0, place)[-1:]]
+
+
 def crates_with_edits():
     return sorted(folder.name for folder in EDITS.iterdir() if any(folder.glob("*.edit")))
 
@@ -82,8 +91,9 @@ def function_at(text, place, path):
     if not path.startswith("src/"):
         return ""
     parts = [it for it in Path(path).relative_to("src").with_suffix("").parts if it not in ("lib", "main", "mod")]
-    function = re.findall(r"^ *(?:pub(?:\([a-z]+\))? )?(?:const )?fn (\w+)", text[:place], re.M)
-    return "::".join([*parts, *function[-1:]])
+    function = re.findall(r"^( *)(?:pub(?:\([a-z]+\))? )?(?:const )?fn (\w+)", text[:place], re.M)
+    indent, name = function[-1] if function else ("", "")
+    return "::".join([*parts, *(owner_at(text, place) if indent else []), name])
 
 
 def crates_below(crate):

@@ -5,7 +5,8 @@
 
 In a copy of each crate the body of such a function is `Err(..)`, out of memory at once, without any answers of its own. The prover checks them
 all; it has to find a goal of each open, since memory may run out only where the heap refuses it. (What hands back an item at an error, by
-`AllocFailed`, isn't tried.) CLONE has the libraries of the crates below, as for `quick_check.py`. It prints the functions whose contract lets that body pass, and its status is 0 where there are none.
+`AllocFailed`, isn't tried.) CLONE has the libraries of the crates below, as for `quick_check.py`. It prints the functions whose contract
+lets that body pass, and its status is 0 where there are none.
 """
 import re
 import shutil
@@ -15,10 +16,11 @@ import tempfile
 from pathlib import Path
 
 from arguments import folder, parser_of
+from edits import owner_at
 
 TOP = Path(__file__).resolve().parents[1]
 HEAD = re.compile(r"^( *)pub fn (\w+)<[^()]*\bH: Heap\b", re.M)
-OWNER = re.compile(r"^impl(?:<[^{]*?>)? (\w+)[^{\n]*\{", re.M)
+OUT_OF_MEMORY = {"Memory": "Memory", "AllocError": "AllocError", "EarlyEnd": "EarlyEnd::OutOfMemory"}
 RESULT = re.compile(r"\) -> Result<")
 JUDGED = re.compile(r"^fn (\S+): (?:no holes|no proof: expected answers in \./(\S+);)", re.M)
 OPEN = re.compile(r"` of (\S+) must prove: (.*?)(?=\n  names you can use|\nnote: |\nhelp: )", re.S)
@@ -49,11 +51,9 @@ def given_up(text):
         error = error_of(text[head.start() : opening.end()]) if opening else None
         if closing < 0 or error in (None, "AllocFailed") or HEAD.search(text, head.end(), closing):
             continue
-        body = "Memory" if error == "Memory" else "AllocError" if error == "AllocError" else f"{error}::{'OutOfMemory' if error == 'EarlyEnd' else 'Memory'}"
-        made += [text[end : opening.end()], f"{indent}    Err({body})"]
+        made += [text[end : opening.end()], f"{indent}    Err({OUT_OF_MEMORY.get(error, error + '::Memory')})"]
         end = closing
-        owners = OWNER.findall(text, 0, head.start()) if indent else []
-        names.append("::".join([*owners[-1:], name]))
+        names.append("::".join([*(owner_at(text, head.start()) if indent else []), name]))
     return "".join([*made, text[end:]]), names
 
 
