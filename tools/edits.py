@@ -87,13 +87,13 @@ def changes_of(edit):
 
 
 def function_at(text, place, path):
-    """The path of the function round a place of a file, as `rt check --only` takes it; of a file of specs or proofs nothing."""
+    """The path of the function round a place of a file, or the end of a method's, as `rt check --only` takes it; of a file of specs or proofs nothing."""
     if not path.startswith("src/"):
         return ""
     parts = [it for it in Path(path).relative_to("src").with_suffix("").parts if it not in ("lib", "main", "mod")]
     function = re.findall(r"^( *)(?:pub(?:\([a-z]+\))? )?(?:const )?fn (\w+)", text[:place], re.M)
     indent, name = function[-1] if function else ("", "")
-    return "::".join([*parts, *(owner_at(text, place) if indent else []), name])
+    return "::".join([*(owner_at(text, place) if indent else parts), name])
 
 
 def crates_below(crate):

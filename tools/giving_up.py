@@ -20,7 +20,14 @@ from edits import owner_at
 
 TOP = Path(__file__).resolve().parents[1]
 HEAD = re.compile(r"^( *)pub fn (\w+)<[^()]*\bH: Heap\b", re.M)
-OUT_OF_MEMORY = {"Memory": "Memory", "AllocError": "AllocError", "EarlyEnd": "EarlyEnd::OutOfMemory"}
+# out of memory as an error of a type, where it isn't the type's variant Memory
+OUT_OF_MEMORY = {
+    "Memory": "Memory",
+    "AllocError": "AllocError",
+    "EarlyEnd": "EarlyEnd::OutOfMemory",
+    "StartFault": "StartFault::Build(crate::BuildFault::Memory)",
+}
+CYCLE = re.compile(r"^ *#\[cycle\(\w+\)\]\n", re.M)
 RESULT = re.compile(r"\) -> Result<")
 JUDGED = re.compile(r"^fn (\S+): (?:no holes|no proof: expected answers in \./(\S+);)", re.M)
 OPEN = re.compile(r"` of (\S+) must prove: (.*?)(?=\n  names you can use|\nnote: |\nhelp: )", re.S)
@@ -67,10 +74,10 @@ def give_up_in(crate, libraries):
         changed = set()
         for file in sorted((copy / "crates" / crate / "src").rglob("*.rt")):
             text, names = given_up(file.read_text())
-            file.write_text(text)
+            file.write_text(CYCLE.sub("", text))
             path = file.relative_to(copy / "crates" / crate / "src").with_suffix("")
-            module = [part for part in path.parts if part not in ("lib", "mod")]
-            changed |= {"::".join([crate, *module, name]) for name in names}
+            module = [crate, *(part for part in path.parts if part not in ("lib", "mod"))]
+            changed |= {name if "::" in name else "::".join([*module, name]) for name in names}
             for name in names:
                 for answers in (copy / "crates" / crate / "proofs" / path).rglob(name.split("::")[-1]):
                     shutil.rmtree(answers)
@@ -80,7 +87,7 @@ def give_up_in(crate, libraries):
             words += ["--only", name]
         ran = subprocess.run(words, cwd=copy, capture_output=True, text=True, errors="replace")
         told = ran.stdout + ran.stderr
-        judged = {path: answers for path, answers in JUDGED.findall(told) if path in changed}
+        judged = {path: answers for path, answers in JUDGED.findall(told) if changed & {path, "::".join(path.split("::")[-2:])}}
         by_heap = {answers for answers, goal in OPEN.findall(told) if "may_refuse" in goal}
         if not judged:
             sys.exit(f"{crate}: no function was judged\n{told[-3000:]}")
