@@ -11,6 +11,10 @@ use Rattle.stack_text.specs.Breaches.{when}
 abbrev pub Declaration : Type 0
 Declaration = Option Named
 
+-- what a part declares that has a name
+abbrev pub declaration : {X : Type 0} → (X → Named) → X → Declaration
+declaration named x = Some (named x)
+
 abbrev pub area_name : AreaOf → Declaration
 area_name a = Some (record { place = a.place; name = a.name.name })
 

@@ -4,7 +4,7 @@ ghost use Rattle.std.specs.Prelude.{◌≡◌, ℕ, ◌+◌, ◌≤◌, ◌^◌,
 ghost use Rattle.std.specs.Str.{bytes_eq};
 ghost use Rattle.stack_heap.specs.Heaps.{OnOkUnless};
 ghost use Rattle.stack_text.specs.Breaches.{when, Notes};
-ghost use Rattle.piton_check.specs.Declarations.{area_name, program_name, formal_name, temporary_name, label_name, is_named, repeats};
+ghost use Rattle.piton_check.specs.Declarations.{declaration, formal_name, temporary_name, label_name, is_named, repeats};
 ghost use Rattle.piton_check.specs.Tables.{repeated, Knows};
 ghost use Rattle.stack_text.specs.Options.{first_or};
 ghost use Rattle.name_tables.specs.Entries.{look_up};
@@ -51,53 +51,82 @@ fn declare<'a, H: Heap>(
     Ok(())
 }
 
-/// The areas.
-pub(crate) fn declare_areas<'a, H: Heap>(
-    heap: H,
-    best: &mut Option<Breach>,
-    table: &mut NameTable<'a, u32>,
-    areas: &'a [Area],
-) -> Result<(), Memory>
-    requires empty { Knows table.old [] }
-    requires few { length areas.now ≤ 2 ^ 20 }
-    ensures known { OnOkUnless (H.may_refuse heap) result (Knows table.new (map area_name areas.now)) }
-    ensures noted { OnOk result (Notes best.old (repeats 2 [] (map area_name areas.now)) best.new) }
-{
-    for (index, area) in areas.iter().enumerate() {
-        declare(
-            heap,
-            best,
-            table,
-            &area.name.name,
-            index as u32,
-            area.place,
-            2,
-        )?;
-    }
-    Ok(())
+/// What is declared by a name.
+pub(crate) trait Declared {
+    ghost use Rattle.std.specs.Prelude.{◌≡◌};
+    ghost use Rattle.stack_text.specs.declared.name.Named.{Named};
+
+    /// Its name, with the place of its breach if it repeats another.
+    ghost named: { Self → Named };
+
+    /// The name.
+    fn name(&self) -> &Name
+        ensures { result.now ≡ (named self.now).name };
+
+    /// The place of the breach.
+    fn place(&self) -> u32
+        ensures { result ≡ (named self.now).place };
 }
 
-/// The programs.
-pub(crate) fn declare_programs<'a, H: Heap>(
+impl Declared for Area {
+    ghost named = { λ area. record { place = area.place; name = area.name.name } };
+
+    fn name(&self) -> &Name {
+        &self.name.name
+    }
+
+    fn place(&self) -> u32 {
+        self.place
+    }
+}
+
+impl Declared for Program {
+    ghost named = { λ program. record { place = program.place; name = program.name.name } };
+
+    fn name(&self) -> &Name {
+        &self.name.name
+    }
+
+    fn place(&self) -> u32 {
+        self.place
+    }
+}
+
+// A formal.
+impl Declared for Named {
+    ghost named = { λ formal. formal };
+
+    fn name(&self) -> &Name {
+        &self.name
+    }
+
+    fn place(&self) -> u32 {
+        self.place
+    }
+}
+
+/// Areas, programs or formals, where a name that repeats another breaks the rule.
+pub(crate) fn declare_each<'a, T: Declared, H: Heap>(
     heap: H,
     best: &mut Option<Breach>,
     table: &mut NameTable<'a, u32>,
-    programs: &'a [Program],
+    items: &'a [T],
+    rule: u8,
 ) -> Result<(), Memory>
     requires empty { Knows table.old [] }
-    requires few { length programs.now ≤ 2 ^ 20 }
-    ensures known { OnOkUnless (H.may_refuse heap) result (Knows table.new (map program_name programs.now)) }
-    ensures noted { OnOk result (Notes best.old (repeats 1 [] (map program_name programs.now)) best.new) }
+    requires few { length items.now ≤ 2 ^ 20 }
+    ensures known { OnOkUnless (H.may_refuse heap) result (Knows table.new (map (declaration T.named) items.now)) }
+    ensures noted { OnOk result (Notes best.old (repeats rule [] (map (declaration T.named) items.now)) best.new) }
 {
-    for (index, program) in programs.iter().enumerate() {
+    for (index, item) in items.iter().enumerate() {
         declare(
             heap,
             best,
             table,
-            &program.name.name,
+            item.name(),
             index as u32,
-            program.place,
-            1,
+            item.place(),
+            rule,
         )?;
     }
     Ok(())
@@ -118,17 +147,7 @@ pub(crate) fn declare_locals<'a, H: Heap>(
     ensures noted { let locals = map formal_name formals.now ++ map temporary_name temporaries.now in
         OnOk result (Notes best.old (repeats 5 [] locals) best.new) }
 {
-    for (index, formal) in formals.iter().enumerate() {
-        declare(
-            heap,
-            best,
-            table,
-            &formal.name,
-            index as u32,
-            formal.place,
-            5,
-        )?;
-    }
+    declare_each(heap, best, table, formals, 5)?;
     for (offset, temporary) in temporaries.iter().enumerate() {
         let position = (formals.len() + offset) as u32;
         declare(

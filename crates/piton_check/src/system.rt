@@ -9,7 +9,7 @@ ghost use Rattle.piton_check.specs.Resolved.{resolved, resolved_area, resolved_n
 ghost use Rattle.piton_check.specs.Tables.{IsSmallSystem, KnowsSystem};
 ghost use Rattle.piton_check.specs.Violations.{area_breaches, first_frame, is_within, main_breaches, main_of, name_breaches, part_breaches, size_breaches, violations};
 
-use crate::names::{Names, declare_areas, declare_programs};
+use crate::names::{Names, declare_each};
 use crate::program::programs;
 use crate::resolved::Resolved;
 use crate::word::{natural, program_position, words};
@@ -128,9 +128,9 @@ fn names<'a, H: Heap>(
     ensures noted { OnOk result (Notes best.old (name_breaches system.now) best.new) }
 {
     let mut areas = NameTable::new(heap.handle());
-    declare_areas(heap, best, &mut areas, &system.areas)?;
+    declare_each(heap, best, &mut areas, system.areas.as_slice(), 2)?;
     let mut programs = NameTable::new(heap.handle());
-    declare_programs(heap, best, &mut programs, &system.programs)?;
+    declare_each(heap, best, &mut programs, system.programs.as_slice(), 1)?;
     Ok(Names {
         system,
         areas,

@@ -4,13 +4,6 @@ use Rattle.piton_check.specs.Declarations.{formal_name, temporary_name, repeats}
 use Rattle.piton_check.specs.Tables.{Knows}
 use Rattle.piton_check.proofs.names.declare_locals.Given as goal
 
--- the formals so far
-abbrev pub invariant-loop-index : goal.invariant-loop-index
-invariant-loop-index g l = record {
-  known : Knows l.table (map formal_name (take l.index l.formals));
-  noted : Notes l.fn.best (repeats 5 [] (map formal_name (take l.index l.formals))) l.best;
-}
-
 -- the temporaries so far, after the formals
 abbrev pub invariant-loop-offset : goal.invariant-loop-offset
 invariant-loop-offset g l = record {
