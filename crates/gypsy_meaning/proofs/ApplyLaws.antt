@@ -13,7 +13,7 @@ use Rattle.gypsy_space.specs.declared.event.Outcome.{Outcome}
 use Rattle.gypsy_space.specs.declared.event.Outcome.TheVariants as outcome
 use Rattle.gypsy_space.specs.declared.program.Application.{Application}
 use Rattle.gypsy_semantics.specs.Machine.{Item, Frame, At, Next, settle, raise, apply_step}
-use Rattle.gypsy_meaning.specs.Views.Work.{work_of, caught_spend}
+use Rattle.gypsy_meaning.specs.Views.Work.{caught_spend}
 use Rattle.gypsy_meaning.specs.Internal.Turns.{IsPlain, GoesOn, RaisesOn}
 use Rattle.gypsy_meaning.specs.Internal.PredefinedSteps.{call_item, WritesOn, IsApplied}
 use Rattle.gypsy_meaning.specs.declared.applying.Applied.{Applied}

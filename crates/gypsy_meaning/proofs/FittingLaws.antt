@@ -1,20 +1,16 @@
 -- Whether values and sizes suit the start of a run.
-use Rattle.std.proofs.Common.{◌≡◌, ℕ, ◌+◌, ◌≤◌, List, [], ◌∷◌, ◌++◌, ◌==◌, ◌&&◌, map, length, nat_le, true, refl, sym, ap, ap₂, subst, ◌∙◌, arith, eqb-true}
+use Rattle.std.proofs.Common.{◌≡◌, List, [], ◌∷◌, ◌==◌, ◌&&◌, length, nat_le, true, refl, sym, subst, eqb-true}
 use Rattle.std.proofs.Common.{eq-eqb, le-leb}
 use Rattle.std.specs.List.{list_all}
 use Rattle.std.proofs.lemmas.Bool.{and_parts, and_from, leb-true}
 use Rattle.stack_text.specs.declared.shape.Shape.{Shape}
 use Rattle.stack_text.specs.Values.{ValueOf, item_count, same_kind}
 use Rattle.stack_text.proofs.SharedLaws.{kind_same}
-use Rattle.gypsy_syntax.specs.ProgramFits.{ProgramFits}
 use Rattle.gypsy_syntax.specs.Ranges.{is_in_range}
 use Rattle.gypsy_syntax.specs.ValuesFit.{ValueFits, VarsFit}
-use Rattle.gypsy_syntax.specs.Programs.{Program, proc_at, words_of}
+use Rattle.gypsy_syntax.specs.Programs.{Program, proc_at}
 use Rattle.gypsy_check.proofs.LiteralLaws.{kind_self}
-use Rattle.gypsy_space.specs.Events.{AreNeeds, need_at, need_of}
-use Rattle.gypsy_space.specs.Needs.{StackSizes, main_need, main_used}
-use Rattle.gypsy_space.specs.declared.need.Need.{Need}
-use Rattle.gypsy_space.proofs.SmallLaws.{words_of-append}
+use Rattle.gypsy_space.specs.Needs.{StackSizes, main_need}
 use Rattle.gypsy_semantics.specs.Views.Fitting.{CanStart, are_as_many, are_values, can_start, is_value_of, same_shape, suffice}
 
 shapes_same : (a b : Shape) → same_shape a b ≡ true → a ≡ b

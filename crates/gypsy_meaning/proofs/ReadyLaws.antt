@@ -1,5 +1,5 @@
 -- What a step of a state that fits has.
-use Rattle.std.proofs.Common.{◌≡◌, ℕ, ◌+◌, List, [], ◌∷◌, length, map, true, refl, ap₂, ◌∙◌, subst, arith}
+use Rattle.std.proofs.Common.{◌≡◌, ◌+◌, List, ◌∷◌, length, map, true, ap₂, ◌∙◌, subst, arith}
 use Rattle.std.proofs.lemmas.List.{length-map}
 use Rattle.stack_text.specs.declared.shape.Kind.{Kind}
 use Rattle.stack_text.specs.declared.shape.Shape.{Shape}
@@ -8,7 +8,7 @@ use Rattle.gypsy_syntax.specs.declared.predef.Predef.{Predef}
 use Rattle.gypsy_syntax.specs.declared.predef.Predef.TheVariants as row
 use Rattle.gypsy_syntax.specs.Effects.{item_of_value, value_at}
 use Rattle.gypsy_syntax.specs.Predefined.{slots_of}
-use Rattle.gypsy_syntax.specs.ProgramFits.{ActualsFit, ArgsFit}
+use Rattle.gypsy_syntax.specs.ProgramFits.{ArgsFit}
 use Rattle.gypsy_syntax.specs.Programs.{proc_at, shapes_of}
 use Rattle.gypsy_syntax.specs.ValuesFit.{VarsFit}
 use Rattle.gypsy_space.specs.Nodes.{seen_arg, seen_program}

@@ -1,11 +1,11 @@
 -- Work whose top is opened, and conditions that are raised above it.
-use Rattle.std.proofs.Common.{◌≡◌, ℕ, suc, ◌<◌, List, [], ◌∷◌, length, take, get_or, map, Bool, true, false, refl, ap, sym, ◌∙◌}
+use Rattle.std.proofs.Common.{◌≡◌, ℕ, suc, ◌<◌, List, [], ◌∷◌, length, take, get_or, Bool, true, false, refl, ap, sym, ◌∙◌}
 use Rattle.stack_text.specs.Values.{ValueOf}
 use Rattle.gypsy_syntax.specs.Programs.{ConditionOf, Stmt}
 use Rattle.gypsy_space.specs.Costs.{Tally, spend}
 use Rattle.gypsy_semantics.specs.Calls.{has_cond, is_leave}
 use Rattle.gypsy_semantics.specs.Machine.{Item, Frame, Do, Back, JoinOne, Guard, At, opens, open_on, settle, raise, stop_if}
-use Rattle.gypsy_meaning.specs.Views.Work.{item_of, left_by, work_of, work_on, OpensOn}
+use Rattle.gypsy_meaning.specs.Views.Work.{item_of, work_of, work_on, OpensOn}
 use Rattle.gypsy_meaning.specs.declared.work.Item.{Item as Kept}
 use Rattle.gypsy_meaning.specs.declared.work.Item.TheVariants as kept
 use Rattle.gypsy_space.specs.declared.program.Condition.{Condition}

@@ -4,7 +4,7 @@ use Rattle.stack_text.specs.Values.{ValueOf}
 use Rattle.gypsy_syntax.specs.Programs.{Stmt, Loop, If}
 use Rattle.gypsy_space.specs.Nodes.{seen_statement}
 use Rattle.gypsy_space.proofs.NodeLaws.{seen_statement-seq}
-use Rattle.gypsy_semantics.specs.Machine.{Item, Do, settle}
+use Rattle.gypsy_semantics.specs.Machine.{Do, settle}
 use Rattle.gypsy_meaning.specs.Views.Work.{left_by, work_of, work_on}
 use Rattle.gypsy_meaning.specs.declared.work.Item.{Item as Kept}
 use Rattle.gypsy_meaning.proofs.TurnLaws.{goes_from, parts_from}

@@ -1,4 +1,4 @@
-use Rattle.std.proofs.Common.{◌≡◌, ap, sym, ◌∙◌, rules}
+use Rattle.std.proofs.Common.{◌≡◌, ap, sym, ◌∙◌}
 use Rattle.gypsy_space.specs.Nodes.{seen_statement, seen_statements}
 use Rattle.gypsy_space.proofs.NodeLaws.{seen_statement-seq}
 use Rattle.gypsy_meaning.proofs.work.+opening.Goals as goal

@@ -1,8 +1,8 @@
-use Rattle.std.proofs.Common.{◌≡◌, ◌∷◌, ◌-◌, ◌<◌, ℕ, List, suc, length, get_or, take, map, true, false, ap, sym, ◌∙◌, rules, arith}
+use Rattle.std.proofs.Common.{◌≡◌, ◌∷◌, ◌-◌, ◌<◌, List, suc, length, get_or, take, map, true, false, ap, sym, ◌∙◌, rules, arith}
 use Rattle.stack_heap.proofs.UnlessLaws.{if_ok_unless_weaker}
 use Rattle.std.specs.Global.{Vec}
 use Rattle.gypsy_space.specs.declared.program.Condition.{Condition}
-use Rattle.gypsy_semantics.specs.Calls.{has_cond, is_leave}
+use Rattle.gypsy_semantics.specs.Calls.{has_cond}
 use Rattle.gypsy_semantics.specs.Machine.{Item, Back, Guard, JoinOne, open_on}
 use Rattle.gypsy_space.specs.Nodes.{seen_cond, seen_statement}
 use Rattle.gypsy_meaning.specs.Views.Work.{item_of, work_of, work_on}

@@ -1,4 +1,4 @@
-use Rattle.std.proofs.Common.{◌≡◌, ◌∷◌, ◌-◌, ◌<◌, List, suc, length, get_or, take, drop, ap, sym, ◌∙◌, rules, arith}
+use Rattle.std.proofs.Common.{◌≡◌, ◌∷◌, ◌-◌, ◌<◌, suc, length, get_or, take, drop, ap, ◌∙◌, rules, arith}
 use Rattle.gypsy_semantics.specs.Machine.{Item, Do, settle}
 use Rattle.gypsy_space.specs.Nodes.{seen_statement, seen_statements}
 use Rattle.gypsy_meaning.specs.Views.Work.{item_of, work_of}

@@ -1,4 +1,4 @@
-use Rattle.std.proofs.Common.{◌≡◌, ℕ, List, length, take, ap, sym, ◌∙◌}
+use Rattle.std.proofs.Common.{◌≡◌, ℕ, List, take, ap, sym, ◌∙◌}
 use Rattle.gypsy_space.specs.Nodes.{seen_cond}
 use Rattle.gypsy_semantics.specs.Machine.{Item, At, raise}
 use Rattle.gypsy_meaning.specs.Views.Work.{caught_spend, left_by, work_of}

@@ -1,4 +1,4 @@
-use Rattle.std.proofs.Common.{◌≡◌, List, length, take, ap, sym, ◌∙◌}
+use Rattle.std.proofs.Common.{List, ap, sym, ◌∙◌}
 use Rattle.std.proofs.Math.Seq.{take-length}
 use Rattle.gypsy_semantics.specs.Machine.{settle}
 use Rattle.gypsy_meaning.specs.Views.Work.{left_by, work_of}

@@ -1,4 +1,4 @@
-use Rattle.std.proofs.Common.{◌≡◌, ℕ, List, length, take, ap, sym, ◌∙◌}
+use Rattle.std.proofs.Common.{ℕ, List, take, ap, sym, ◌∙◌}
 use Rattle.gypsy_semantics.specs.Machine.{settle}
 use Rattle.gypsy_meaning.specs.Views.Work.{left_by, work_of}
 use Rattle.gypsy_meaning.specs.declared.work.Item.{Item as Kept}

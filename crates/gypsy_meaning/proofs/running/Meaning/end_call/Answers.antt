@@ -1,4 +1,4 @@
-use Rattle.std.proofs.Common.{◌≡◌, ◌++◌, ◌∷◌, [], ℕ, List, sym, subst}
+use Rattle.std.proofs.Common.{ℕ, sym, subst}
 use Rattle.gypsy_meaning.specs.Views.Held.{Moves}
 use Rattle.gypsy_meaning.specs.Views.Running.{paid}
 use Rattle.gypsy_meaning.specs.declared.running.Meaning.{Meaning}
