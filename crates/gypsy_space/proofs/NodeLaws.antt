@@ -1,9 +1,7 @@
 -- What clauses see of sequences that are made, and that are matched.
-use Rattle.std.proofs.Common.{◌≡◌, ℕ, zero, suc, ◌<◌, List, [], ◌∷◌, length, drop, get_or, refl, sym, ap, ◌∙◌, arith}
-use Rattle.std.specs.declared.rc.Rc.{Rc}
-use Rattle.std.specs.declared.alloc.Global.{Global}
+use Rattle.std.proofs.Common.{◌≡◌, refl, ap, ◌∙◌}
 use Rattle.gypsy_syntax.specs.Programs.{Seq}
-use Rattle.gypsy_space.specs.declared.program.Node.{Node, Row_of-Node-Seq-0-1, end_of-Node-Seq-0-1, more_of-Node-Seq-0-1, items-the_row-Node-Seq-0-1}
+use Rattle.gypsy_space.specs.declared.program.Node.{Row_of-Node-Seq-0-1, end_of-Node-Seq-0-1, more_of-Node-Seq-0-1, items-the_row-Node-Seq-0-1}
 use Rattle.gypsy_space.specs.declared.program.Node.{items_hidden-the_row-Node-Seq-0-1-0}
 use Rattle.gypsy_space.specs.declared.program.Node.TheBlock.{hidden-the_row-Node-Seq-0-1-0}
 use Rattle.gypsy_space.specs.declared.program.Node.TheVariants.{Seq as MadeSeq}
@@ -15,9 +13,3 @@ parts_listed n (more_of-Node-Seq-0-1 p s rest) = ap (Seq (seen_statement s)) (pa
 
 pub seen_statement-seq : (parts : _) → seen_statement (MadeSeq parts) ≡ seen_statements parts.value.items
 seen_statement-seq parts = parts_listed _ (hidden-the_row-Node-Seq-0-1-0 parts.value) ∙ ap seen_statements (items_hidden-the_row-Node-Seq-0-1-0 parts.value)
-
-pub statements_at : (ns : List (Rc Node Global)) (k : ℕ) (n : Rc Node Global) → k < length ns → n ≡ get_or ns k n
-    → seen_statements (drop k ns) ≡ Seq (seen_statement n.value) (seen_statements (drop (suc k) ns))
-statements_at [] k n lt e = absurd (omega (arith, lt))
-statements_at (m ∷ ns) zero n lt e = ap (λ a. Seq (seen_statement a.value) (seen_statements ns)) (sym e)
-statements_at (m ∷ ns) (suc k) n lt e = statements_at ns k n (omega (arith, lt)) e
