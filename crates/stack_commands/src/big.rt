@@ -12,12 +12,13 @@ ghost use Rattle.stack_commands.specs.Commands.Big.{after_text, source_line, go_
 ghost use Rattle.command_replies.specs.Plans.{pending_reply};
 ghost use Rattle.command_replies.specs.Replies.{reply_of};
 
+use crate::build::image_of;
+use crate::lines::push_line;
 use crate::source_text::verdict_of;
 use command_line::ProcedureCount;
 use command_replies::run::begin;
 use command_replies::{Pending, Plan, Reply, complete};
 use fm_image::Image;
-use fm_show::push_number;
 use gypsy_check::{Accepted, CheckFault, check};
 use gypsy_gen::large;
 use gypsy_syntax::{Source, print_gypsy};
@@ -47,7 +48,7 @@ fn run_accepted<H: Heap>(heap: H, accepted: &Accepted) -> Result<Reply, Memory>
         (λ reply. reply_of reply ≡ go_on_source (source_of accepted.now)) }
 {
     match build_accepted(heap, accepted, WORDS, WORDS, 0) {
-        Ok(built) => run_on_value(heap, built.image),
+        Ok(built) => run_on_value(heap, image_of(built)),
         Err(fault) => Ok(Reply::verdict_alone(heap.handle(), verdict_of(fault)?)),
     }
 }
@@ -92,9 +93,8 @@ fn source_line<H: Heap>(
     ensures { IfOkUnless (H.may_refuse heap) result (λ line. line.items ≡ source_line number procedures) }
 {
     let bytes = print_gypsy(heap, source)?.len();
-    let mut line = heap.copied(b"source ")?;
-    push_number(heap, &mut line, bytes)?;
-    heap.push(&mut line, b'\n')?;
+    let mut line = Vec::new(heap.handle());
+    push_line(heap, &mut line, b"source ", bytes as u64)?;
     Ok(line)
 }
 

@@ -9,6 +9,7 @@ ghost use Rattle.command_replies.specs.Replies.{built_reply};
 use crate::source_text::refused;
 use command_line::StackSize;
 use command_replies::Plan;
+use fm_image::Image;
 use stack_build::{Built, Origins, build_with_origins};
 use stack_heap::Heap;
 use stack_text::{Memory, Seq};
@@ -48,4 +49,11 @@ fn store<H: Heap>(heap: H, built: Built, origins: Origins) -> Result<Plan, Memor
     forget(image);
     forget(origins);
     Plan::stores_image(heap, size, Seq::from_vec(bytes))
+}
+
+/// The image alone of what was built.
+pub fn image_of(built: Built) -> Image
+    ensures { result ≡ built.image }
+{
+    built.image
 }

@@ -75,9 +75,9 @@ fn say<H: Heap>(heap: H, answer: bool) -> Result<Plan, Memory>
     ensures reply { IfOk result (λ plan. pending_reply plan.pending ≡ all_said (yes_or_no answer)) }
 {
     let said = if answer {
-        heap.copied(b"yes\n")?
+        b"yes\n".as_slice()
     } else {
-        heap.copied(b"no\n")?
+        b"no\n".as_slice()
     };
-    Ok(Plan::all_said(Seq::from_vec(said)))
+    Ok(Plan::all_said(Seq::from_vec(heap.copied(said)?)))
 }

@@ -13,7 +13,6 @@ ghost use Rattle.command_line.specs.declared.words.reader.Level.TheVariants as L
 ghost use Rattle.command_line.specs.Gathered.{text_of};
 ghost use Rattle.command_replies.specs.Replies.{verdict_alone};
 ghost use Rattle.stack_commands.specs.Commands.Debug.{run_at, run_in, found_run, end_verdict, script_verdict, script_reply, debug_reply};
-ghost use Rattle.command_replies.specs.Plans.{pending_reply};
 ghost use Rattle.stack_commands.specs.Works.{IsLeft, left_reply};
 
 use crate::script_run::ScriptRun;
@@ -168,16 +167,18 @@ fn run_in<H: Heap>(
     }
 }
 
-/// The plan where a script is refused.
-fn refused_script(handle: Global, fault: ScriptFault) -> Result<Plan, Memory>
+/// The work where a script is refused.
+fn refused_script(handle: Global, fault: ScriptFault) -> Result<Work, Memory>
     ensures known { IfOk result (λ _. fault_of fault ≡ Some fault) }
     ensures memory { OnErr result (fault_of fault ≡ None) }
-    ensures stored { IfOk result (λ plan. plan.stored ≡ None) }
-    ensures reply { IfOk result (λ plan. pending_reply plan.pending ≡ verdict_alone (script_verdict fault)) }
+    ensures stored { IfOk result (λ work. work.stored ≡ None) }
+    ensures reply { IfOk result (λ work. (watches : List Watching) → left_reply watches work.left
+        ≡ verdict_alone (script_verdict fault)) }
+    ensures is { IfOk result (λ work. IsLeft work.left) }
 {
     match fault {
         ScriptFault::Refused { rule, line } => {
-            Ok(Plan::verdict_alone(handle, Verdict::Script { rule, line }))
+            Ok(planned(Plan::verdict_alone(handle, Verdict::Script { rule, line })))
         }
         ScriptFault::Memory => Err(Memory),
     }
@@ -232,6 +233,9 @@ fn script_work<H: Heap>(heap: H, runner: Runner, script: &[u8]) -> Result<Work, 
             stored: None,
             left: Left::Session(ScriptRun { runner, lines }),
         }),
-        Err(fault) => Ok(planned(refused_script(heap.handle(), fault)?)),
+        Err(fault) => {
+            drop(runner);
+            refused_script(heap.handle(), fault)
+        }
     }
 }

@@ -40,9 +40,12 @@ pub fn prepare<H: Heap>(
             Built {
                 image,
                 bytes,
-                piton: _,
+                piton,
             },
-        ) => store_and_begin(heap, bytes, image, values, budget),
+        ) => {
+            drop(piton);
+            store_and_begin(heap, bytes, image, values, budget)
+        }
         Err(fault) => refused(heap.handle(), fault),
     }
 }

@@ -4,7 +4,9 @@
 ghost use Rattle.std.specs.Prelude.{◌≡◌, List, IfOk};
 ghost use Rattle.stack_heap.specs.Heaps.{IfOkUnless};
 ghost use Rattle.level_debuggers.specs.Tallies.{Watching};
+ghost use Rattle.stack_commands.specs.Internal.Planned.{IsPlanned};
 ghost use Rattle.stack_commands.specs.Prepared.{stored_by, reply_by};
+ghost use Rattle.command_replies.specs.Plans.{pending_reply};
 ghost use Rattle.command_replies.specs.Replies.{reply_of};
 ghost use Rattle.stack_commands.specs.Works.{IsEnding, IsLeft, ending_reply, left_reply};
 
@@ -14,6 +16,7 @@ mod cert;
 mod check;
 mod debug;
 mod go;
+mod lines;
 mod mean;
 mod need;
 mod pbuild;
@@ -35,6 +38,74 @@ pub use turns::TasksFault;
 use work::planned;
 pub use work::{Ending, Left, Work};
 
+/// The plan of a command: each has one, but `debug`, which leaves a session.
+#[tactic(auto, unfolding(crate::specs::Prepared::stored_by, crate::specs::Prepared::reply_by))]
+fn plan_of<H: Heap>(heap: H, command: &Command, texts: &Texts) -> Result<Plan, Memory>
+    requires { IsPlanned command.now }
+    ensures stored { IfOkUnless (H.may_refuse heap) result (λ plan. plan.stored ≡ stored_by command.now texts.now) }
+    ensures reply { IfOk result (λ plan. (watches : List Watching)
+        → pending_reply plan.pending ≡ reply_by command.now watches texts.now) }
+{
+    let (source, values) = (texts.of(Role::Source), texts.of(Role::Values));
+    let (piton, image) = (texts.of(Role::Piton), texts.of(Role::Image));
+    match command {
+        Command::Check { .. } => check::prepare(heap, source),
+        Command::Mean {
+            control,
+            temporary,
+            limit,
+            ..
+        } => mean::prepare(heap, source, values, control, temporary, *limit),
+        Command::Pit {
+            control,
+            temporary,
+            piton: name,
+            ..
+        } => pit::prepare(heap, source, control, temporary, name),
+        Command::Build {
+            control,
+            temporary,
+            ..
+        } => build::prepare(heap, source, control, temporary),
+        Command::Pcheck { .. } => pcheck::prepare(heap, piton),
+        Command::Prun { limit, .. } => prun::prepare(heap, piton, *limit),
+        Command::Pbuild { .. } => pbuild::prepare(heap, piton),
+        Command::Run { budget, .. } => run::prepare(heap, image, values, *budget),
+        Command::Go {
+            control,
+            temporary,
+            budget,
+            ..
+        } => go::prepare(heap, source, values, control, temporary, *budget),
+        Command::Show { .. } => show::prepare(heap, image),
+        Command::Migrate { output, .. } => migrate::prepare(heap, image, output),
+        Command::Asm { .. } => asm::prepare(heap, texts.of(Role::Assembly)),
+        Command::Unasm { assembly: name, .. } => unasm::prepare(heap, image, name),
+        Command::Need { .. } => need::prepare(heap, source),
+        Command::Cert {
+            control,
+            temporary,
+            ..
+        } => cert::prepare(
+            heap,
+            source,
+            texts.of(Role::Certificate),
+            control,
+            temporary,
+        ),
+        Command::Debug { .. } => unreachable!(),
+        Command::Turns {
+            turn,
+            budget,
+            control,
+            temporary,
+            ..
+        } => turns::prepare(heap, texts, turn, *budget, control, temporary),
+        Command::Big { number, procedures } => big::prepare(heap, *number, procedures),
+        Command::Mini { source: name, .. } => mini::prepare(heap, texts.of(Role::Infix), name),
+    }
+}
+
 /// What a command stores, and what is left to do.
 #[tactic(auto, unfolding(crate::specs::Prepared::stored_by, crate::specs::Prepared::reply_by))]
 pub fn prepare<H: Heap>(heap: H, command: &Command, texts: &Texts) -> Result<Work, Memory>
@@ -43,74 +114,14 @@ pub fn prepare<H: Heap>(heap: H, command: &Command, texts: &Texts) -> Result<Wor
         → left_reply watches work.left ≡ reply_by command.now watches texts.now) }
     ensures is { IfOk result (λ work. IsLeft work.left) }
 {
-    let (source, values) = (texts.of(Role::Source), texts.of(Role::Values));
-    let (piton, image) = (texts.of(Role::Piton), texts.of(Role::Image));
     match command {
-        Command::Check { .. } => Ok(planned(check::prepare(heap, source)?)),
-        Command::Mean {
-            control,
-            temporary,
-            limit,
-            ..
-        } => Ok(planned(mean::prepare(heap, source, values, control, temporary, *limit)?)),
-        Command::Pit {
-            control,
-            temporary,
-            piton: name,
-            ..
-        } => Ok(planned(pit::prepare(heap, source, control, temporary, name)?)),
-        Command::Build {
-            control,
-            temporary,
-            ..
-        } => Ok(planned(build::prepare(heap, source, control, temporary)?)),
-        Command::Pcheck { .. } => Ok(planned(pcheck::prepare(heap, piton)?)),
-        Command::Prun { limit, .. } => Ok(planned(prun::prepare(heap, piton, *limit)?)),
-        Command::Pbuild { .. } => Ok(planned(pbuild::prepare(heap, piton)?)),
-        Command::Run { budget, .. } => Ok(planned(run::prepare(heap, image, values, *budget)?)),
-        Command::Go {
-            control,
-            temporary,
-            budget,
-            ..
-        } => Ok(planned(go::prepare(heap, source, values, control, temporary, *budget)?)),
-        Command::Show { .. } => Ok(planned(show::prepare(heap, image)?)),
-        Command::Migrate { output, .. } => Ok(planned(migrate::prepare(heap, image, output)?)),
-        Command::Asm { .. } => Ok(planned(asm::prepare(heap, texts.of(Role::Assembly))?)),
-        Command::Unasm { assembly: name, .. } => Ok(planned(unasm::prepare(heap, image, name)?)),
-        Command::Need { .. } => Ok(planned(need::prepare(heap, source)?)),
-        Command::Cert {
-            control,
-            temporary,
-            ..
-        } => Ok(planned(cert::prepare(
-            heap,
-            source,
-            texts.of(Role::Certificate),
-            control,
-            temporary,
-        )?)),
         Command::Debug {
             level,
             control,
             temporary,
             ..
         } => debug::prepare(heap, *level, texts, control, temporary),
-        Command::Turns {
-            turn,
-            budget,
-            control,
-            temporary,
-            ..
-        } => Ok(planned(turns::prepare(heap, texts, turn, *budget, control, temporary)?)),
-        Command::Big { number, procedures } => Ok(planned(big::prepare(
-            heap, *number, procedures,
-        )?)),
-        Command::Mini { source: name, .. } => Ok(planned(mini::prepare(
-            heap,
-            texts.of(Role::Infix),
-            name,
-        )?)),
+        _ => Ok(planned(plan_of(heap, command, texts)?)),
     }
 }
 

@@ -8,11 +8,11 @@ ghost use Rattle.gypsy_meaning.specs.Views.Running.{seen};
 ghost use Rattle.stack_commands.specs.Commands.Mean.{said_text, ended_text, mean_end_reply, mean_run_reply, mean_source_reply, mean_reply};
 ghost use Rattle.command_replies.specs.Plans.{pending_reply};
 
+use crate::lines::push_line;
 use crate::source_text::{read_accepted, start_verdict};
 use command_line::StackSize;
 use command_replies::{Plan, Verdict};
 use display_maps::push_run;
-use fm_show::push_number;
 use gypsy_check::Accepted;
 use gypsy_meaning::Meaning;
 use gypsy_semantics::{Current, MeanRun};
@@ -71,7 +71,6 @@ fn run_source<H: Heap>(
 }
 
 /// The run of a source's steps from a state on.
-#[tactic(auto, unfolding(crate::specs::Commands::Mean::mean_run_reply))]
 fn run_meaning<H: Heap>(
     heap: H,
     accepted: &Accepted,
@@ -85,8 +84,25 @@ fn run_meaning<H: Heap>(
         ≡ mean_run_reply (source_of accepted.now) (seen meaning) limit) }
 {
     let mut meaning = meaning;
+    make_run(heap, accepted, needs, &mut meaning, limit)
+}
+
+/// Makes the steps of a run, and tells how it ended.
+#[tactic(auto, unfolding(crate::specs::Commands::Mean::mean_run_reply))]
+fn make_run<H: Heap>(
+    heap: H,
+    accepted: &Accepted,
+    needs: &Needs,
+    meaning: &mut Meaning,
+    limit: u64,
+) -> Result<Plan, Memory>
+    requires { BelongsTo (source_of accepted.now) needs.now.procedures.items meaning.old }
+    ensures stored { IfOkUnless (H.may_refuse heap) result (λ plan. plan.stored ≡ None) }
+    ensures reply { IfOk result (λ plan. pending_reply plan.pending
+        ≡ mean_run_reply (source_of accepted.now) (seen meaning.old) limit) }
+{
     let run = meaning.run(heap, accepted, needs, limit)?;
-    plan_of(heap, accepted, needs, limit, run, &meaning)
+    plan_of(heap, accepted, needs, limit, run, meaning)
 }
 
 /// The reply to a run that ended in this way.
@@ -120,11 +136,9 @@ fn run_text<H: Heap>(
     ensures { IfOkUnless (H.may_refuse heap) result (λ text. text.items
         ≡ said_text steps counted condition.now (map (λ v. v.0) variables.now) (map (λ v. v.1) variables.now)) }
 {
-    let mut text = heap.copied(b"steps ")?;
-    push_number(heap, &mut text, steps)?;
-    heap.extend_from_slice(&mut text, b"\ncounted ")?;
-    push_number(heap, &mut text, counted)?;
-    heap.push(&mut text, b'\n')?;
+    let mut text = Vec::new(heap.handle());
+    push_line(heap, &mut text, b"steps ", steps)?;
+    push_line(heap, &mut text, b"counted ", counted)?;
     push_run(heap, &mut text, condition, variables)?;
     Ok(text)
 }

@@ -1,18 +1,18 @@
 //! The command `need`.
-ghost use Rattle.std.specs.Prelude.{◌≡◌, ◌≤◌, ◌<◌, ◌^◌, [], Some, IfOk, get_or, length, map};
+ghost use Rattle.std.specs.Prelude.{◌≡◌, ◌≤◌, ◌<◌, ◌^◌, [], Some, None, Err, IfOk, get_or, length, map};
 ghost use Rattle.stack_heap.specs.Heaps.{IfOkUnless};
 ghost use Rattle.gypsy_syntax.specs.Resolved.{procedure_names, program_of};
 ghost use Rattle.gypsy_syntax.specs.Views.SourceView.{proc_of, source_of};
 ghost use Rattle.gypsy_space.specs.Events.{AreNeeds, AreSmall};
 ghost use Rattle.space_cert.specs.CertText.{certificate_text};
 ghost use Rattle.space_cert.specs.Covers.{as_words, sizes_for};
-ghost use Rattle.stack_commands.specs.Commands.Need.{sizes_text, certified_stored, certified_reply, need_stored, need_reply};
+ghost use Rattle.stack_commands.specs.Commands.Need.{sizes_text, bounds_reply, certified_stored, certified_reply, need_stored, need_reply};
 ghost use Rattle.command_replies.specs.Plans.{pending_reply};
 ghost use Rattle.command_replies.specs.Replies.{all_said};
 
+use crate::lines::push_line;
 use crate::source_text::read_accepted;
 use command_replies::{Pending, Plan, Reply, Verdict};
-use fm_show::push_number;
 use gypsy_check::Accepted;
 use gypsy_space::{Needs, needs};
 use gypsy_syntax::Proc;
@@ -42,12 +42,7 @@ fn certify_source<H: Heap>(heap: H, accepted: &Accepted) -> Result<Plan, Memory>
     let needs = needs(heap, accepted)?;
     match certify(heap, accepted, &needs) {
         Ok(certificate) => store(heap, accepted, &needs, &certificate),
-        Err(CertFault::Recursive { procedure }) => Ok(Plan::verdict_alone(
-            heap.handle(),
-            Verdict::Recursive {
-                procedure: procedure_name(heap, accepted, procedure)?,
-            },
-        )),
+        Err(CertFault::Recursive { procedure }) => recursive(heap, accepted, procedure),
         Err(CertFault::Memory) => Err(Memory),
     }
 }
@@ -80,16 +75,25 @@ fn procedure_name<H: Heap>(heap: H, accepted: &Accepted, procedure: u32) -> Resu
     name_of(heap, procedure_at(procs, procedure))
 }
 
+/// The reply where the procedure at a position reaches itself.
+fn recursive<H: Heap>(heap: H, accepted: &Accepted, procedure: u32) -> Result<Plan, Memory>
+    requires { procedure < length (program_of (source_of accepted.now)).procs }
+    ensures stored { IfOkUnless (H.may_refuse heap) result (λ plan. plan.stored ≡ None) }
+    ensures reply { IfOk result (λ plan. pending_reply plan.pending
+        ≡ bounds_reply (source_of accepted.now) (Err procedure)) }
+{
+    let procedure = procedure_name(heap, accepted, procedure)?;
+    Ok(Plan::verdict_alone(heap.handle(), Verdict::Recursive { procedure }))
+}
+
 /// The lines of the sizes of both stacks.
 fn sizes_text<H: Heap>(heap: H, sizes: (u64, u64)) -> Result<Seq<u8>, Memory>
     ensures { IfOkUnless (H.may_refuse heap) result (λ text. text ≡ sizes_text (as_words sizes)) }
 {
     let (temporary, control) = sizes;
-    let mut text = heap.copied(b"control ")?;
-    push_number(heap, &mut text, control)?;
-    heap.extend_from_slice(&mut text, b"\ntemporary ")?;
-    push_number(heap, &mut text, temporary)?;
-    heap.push(&mut text, b'\n')?;
+    let mut text = Vec::new(heap.handle());
+    push_line(heap, &mut text, b"control ", control)?;
+    push_line(heap, &mut text, b"temporary ", temporary)?;
     Ok(Seq::from_vec(text))
 }
 

@@ -12,12 +12,12 @@ ghost use Rattle.stack_commands.specs.declared.turns.tasks.TasksFault.TheVariant
 mod rounds;
 mod tasks;
 
+use crate::lines::push_line;
 use crate::turns::rounds::run_by_turns;
 pub use crate::turns::tasks::TasksFault;
 use crate::turns::tasks::new_tasks;
 use command_line::{Role, StackSize, Texts, TurnLength};
 use command_replies::{Pending, Plan, Reply, SizeOf, Verdict};
-use fm_show::push_number;
 use stack_heap::Heap;
 use stack_text::{Memory, Seq};
 
@@ -26,9 +26,8 @@ fn refused_reply<H: Heap>(heap: H, number: u32, verdict: Verdict) -> Result<Repl
     ensures { IfOkUnless (H.may_refuse heap) result
         (λ reply. reply_of reply ≡ fault_reply (TasksFault.Refused number verdict)) }
 {
-    let mut said = heap.copied(b"task ")?;
-    push_number(heap, &mut said, number)?;
-    heap.push(&mut said, b'\n')?;
+    let mut said = Vec::new(heap.handle());
+    push_line(heap, &mut said, b"task ", u64::from(number))?;
     Ok(Reply {
         said: Seq::from_vec(said),
         verdict,

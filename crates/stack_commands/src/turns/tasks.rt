@@ -9,6 +9,7 @@ ghost use Rattle.stack_build.specs.Build.{built};
 ghost use Rattle.stack_commands.specs.Commands.Turns.{image_or_fault, images_from, word_count, small_enough, values_or_fault, tasks_from, tasks_of};
 ghost use Rattle.stack_commands.specs.Internal.Tasks.{fault_of, AreReady};
 
+use crate::build::image_of;
 use crate::source_text::verdict_of;
 use command_replies::Verdict;
 use fm_image::Image;
@@ -81,7 +82,7 @@ fn build_task<H: Heap>(
         (image_or_fault i (built source.now control temporary base)) }
 {
     match build(heap, source, control, temporary, base) {
-        Ok(built) => Ok(built.image),
+        Ok(built) => Ok(image_of(built)),
         Err(fault) => Err(TasksFault::Refused {
             number: i + 1,
             verdict: verdict_of(fault)?,

@@ -9,6 +9,6 @@ pub store-requires-clause-number : goal.store-requires-clause-number
 store-requires-clause-number g c =
     let s = source_of c.args.accepted.now in c.in-Ok.ensures.least.certificate.number ∙ length-map s.procs (procedure_of s)
 
-pub procedure_name-requires : goal.procedure_name-requires
-procedure_name-requires g c =
+pub recursive-requires : goal.recursive-requires
+recursive-requires g c =
     subst (IsThere (program_of (source_of c.args.accepted.now))) c.in-Err-Recursive.field-0-is c.in-Err-Recursive.ensures.there

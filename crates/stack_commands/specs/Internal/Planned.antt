@@ -1,0 +1,8 @@
+-- Which commands have plans.
+use Rattle.command_line.specs.declared.command.Command.{Command}
+use Rattle.command_line.specs.declared.command.Command.TheVariants.{Debug}
+
+-- a plan tells all that is left to do: it leaves no session
+abbrev pub IsPlanned : Command → Type 0
+IsPlanned (Debug level source values control temporary script) = ⊥
+IsPlanned _ = Unit {0}
