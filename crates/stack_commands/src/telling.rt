@@ -141,5 +141,7 @@ pub fn tell_session<H: Heap, K: Sink>(
         Ok(session) => session,
         Err(Memory) => return Err(PutFault::Memory),
     };
-    print_reply(heap, &mut session, &lines, out)
+    let status = print_reply(heap, &mut session, &lines, out);
+    drop(session);
+    status
 }
