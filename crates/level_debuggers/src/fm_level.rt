@@ -2,19 +2,29 @@
 
 ghost use Rattle.std.specs.Prelude.{◌≡◌, ◌++◌};
 ghost use Rattle.stack_heap.specs.Heaps.{OnOkUnless};
+ghost use Rattle.fm_show.specs.Digits.{hex_digits};
 ghost use Rattle.level_debuggers.specs.FmLevels.{word_line};
 
 use crate::advance::{Advance, Stop};
 use crate::runner::Runner;
-use crate::texts::mark_text;
+use crate::texts::{mark_text, reading_text};
 use crate::watch::Event;
-use display_maps::{push_reading, read_at, read_up};
+use display_maps::{read_at, read_up};
 use fm_image::Image;
 use fm_machine::{Machine, Outside};
 use fm_show::{hex_digits, show_machine};
 use stack_heap::Heap;
 use stack_text::Memory;
 use std::marker::Model;
+
+/// Appends the eight digits of a word, and a text behind them.
+fn push_digits<H: Heap>(heap: H, text: &mut Vec<u8>, word: u32, behind: &[u8]) -> Result<(), Memory>
+    ensures { OnOkUnless (H.may_refuse heap) result (text.new.items ≡ text.old.items ++ hex_digits word ++ behind.now) }
+{
+    heap.extend_from_slice(text, &hex_digits(word))?;
+    heap.extend_from_slice(text, behind)?;
+    Ok(())
+}
 
 /// Appends the line of a word, or that the address is outside the window.
 fn push_word<H: Heap>(
@@ -25,16 +35,13 @@ fn push_word<H: Heap>(
 ) -> Result<(), Memory>
     ensures { OnOkUnless (H.may_refuse heap) result (text.new.items ≡ text.old.items ++ word_line address word) }
 {
-    heap.extend_from_slice(text, &hex_digits(address))?;
     match word {
         Some(word) => {
-            heap.extend_from_slice(text, b" ")?;
-            heap.extend_from_slice(text, &hex_digits(word))?;
+            push_digits(heap, text, address, b" ")?;
+            push_digits(heap, text, word, b"\n")
         }
-        None => heap.extend_from_slice(text, b" outside")?,
+        None => push_digits(heap, text, address, b" outside\n"),
     }
-    heap.extend_from_slice(text, b"\n")?;
-    Ok(())
 }
 
 /// A machine that runs an image.
@@ -137,7 +144,6 @@ impl FmLevel {
     }
 
     /// So many words of memory from an address on, as lines; behind the last address of 32 bits comes 0.
-    #[tactic(auto, using(crate::proofs::WordLaws::next_word, crate::proofs::WordLaws::no_words))]
     pub(crate) fn words<H: Heap>(
         &self,
         heap: H,
@@ -163,8 +169,6 @@ impl FmLevel {
             return mark_text(heap, read_at(heap, &self.machine, &self.image)?);
         }
         let reading = read_up(heap, &self.machine, &self.image)?;
-        let mut text = Vec::new(heap.handle());
-        push_reading(heap, &mut text, &self.image, &reading)?;
-        Ok(text)
+        reading_text(heap, &self.image, &reading)
     }
 }

@@ -5,9 +5,9 @@ use crate::piton_listing::piton_listing;
 use crate::piton_reading::{area_words, condition, covers_all, variables};
 use crate::piton_standing::PitonAt;
 use crate::runner::Runner;
-use crate::texts::{mark_text, no_mark};
+use crate::texts::{mark_text, no_mark, reading_text};
 use crate::watch::Event;
-use display_maps::{Reading, push_reading, read_from};
+use display_maps::{Reading, read_from};
 use fm_image::Image;
 use piton_check::{Checked, program_name};
 use piton_linker::PlacedSystem;
@@ -65,8 +65,12 @@ impl PitonLevel {
         ensures { IfOkUnless (H.may_refuse heap) result
             (λ level. level ≡ record { checked = checked; image = image; seen = state }) }
     {
+        let Ok(placed) = PlacedSystem::new(heap, checked) else {
+            drop((image, state));
+            return Err(Memory);
+        };
         Ok(PitonLevel {
-            placed: PlacedSystem::new(heap, checked)?,
+            placed,
             image,
             state,
         })
@@ -189,9 +193,7 @@ impl PitonLevel {
             return no_mark(heap);
         }
         let reading = self.reading(heap, &elements)?;
-        let mut text = Vec::new(heap.handle());
-        push_reading(heap, &mut text, &self.image, &reading)?;
-        Ok(text)
+        reading_text(heap, &self.image, &reading)
     }
 
     /// The address of the state's place.

@@ -87,7 +87,11 @@ impl Session {
             }) }
         ensures is { IfOk result IsSession }
     {
-        let attached = heap.with_room(watches.len())?;
+        // The runner is dropped by a call: a `?` drops it part by part, and its proof takes ten times as long.
+        let Ok(attached) = heap.with_room(watches.len()) else {
+            drop(runner);
+            return Err(Memory);
+        };
         Ok(Session {
             level: Level::new(heap, runner)?,
             steps: 0,
