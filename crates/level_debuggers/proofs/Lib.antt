@@ -5,6 +5,7 @@ pub mod WordLaws
 pub mod TakenLaws
 pub mod ElementLaws
 pub mod AreaLaws
+pub mod LocalLaws
 pub mod FollowLaws
 pub mod ScriptLaws
 pub mod LineLaws

@@ -1,6 +1,7 @@
 //! A state of Piton's machine as lines.
 
-ghost use Rattle.std.specs.Prelude.{◌≡◌, ◌++◌, map, slice_get};
+ghost use Rattle.std.specs.Prelude.{◌≡◌, ◌++◌, slice_get};
+ghost use Rattle.std.specs.Option.{option_map};
 ghost use Rattle.stack_heap.specs.Heaps.{IfOkUnless, OnOkUnless};
 ghost use Rattle.level_debuggers.specs.PitonLevels.{local_names, names_of, local_line, local_lines, place_line, piton_listing};
 
@@ -12,19 +13,15 @@ use piton_words::Word;
 use stack_heap::Heap;
 use stack_text::{Memory, Name};
 
-/// The names of a program's formals and temporaries.
-fn local_names<H: Heap>(heap: H, program: &Program) -> Result<Vec<&Name>, Memory>
-    ensures { IfOkUnless (H.may_refuse heap) result
-        (λ names. map (λ name. name.now) names.items ≡ local_names program.now) }
+/// The name of the local at a place of a program: a formal's, or behind the formals a temporary's.
+fn local_name(program: &Program, place: usize) -> Option<&Name>
+    ensures { option_map (λ name. name.now) result ≡ slice_get (local_names program.now) place }
 {
-    let mut names = Vec::new(heap.handle());
-    for formal in &program.formals {
-        heap.push(&mut names, &formal.name)?;
+    if let Some(formal) = program.formals.get(place) {
+        return Some(&formal.name);
     }
-    for temporary in &program.temporaries {
-        heap.push(&mut names, &temporary.0.name)?;
-    }
-    Ok(names)
+    let temporary = program.temporaries.get(place - program.formals.len())?;
+    Some(&temporary.0.name)
 }
 
 /// Appends the line of a local.
@@ -45,21 +42,20 @@ fn push_local<H: Heap>(
     Ok(())
 }
 
-/// Appends the line of each local.
-#[tactic(auto, unfolding(crate::specs::PitonLevels::local_lines))]
+/// Appends the line of each local of a program.
 fn push_locals<H: Heap>(
     heap: H,
     out: &mut Vec<u8>,
     system: &System,
-    names: &[&Name],
+    program: &Program,
     words: &[Word],
 ) -> Result<(), Memory>
-    ensures { OnOkUnless (H.may_refuse heap) result (out.new.items
-        ≡ out.old.items ++ local_lines system.now (map (λ name. name.now) names.now) words.now) }
+    ensures { OnOkUnless (H.may_refuse heap) result
+        (out.new.items ≡ out.old.items ++ local_lines system.now (local_names program.now) words.now) }
 {
-    for (place, name) in names.iter().enumerate() {
-        match words.get(place) {
-            Some(word) => push_local(heap, out, system, name, *word)?,
+    for (place, word) in words.iter().enumerate() {
+        match local_name(program, place) {
+            Some(name) => push_local(heap, out, system, name, *word)?,
             None => return Ok(()),
         }
     }
@@ -79,7 +75,7 @@ fn push_frame<H: Heap>(
         ≡ out.old.items ++ local_lines system.now (names_of (slice_get system.now.programs program)) words.now) }
 {
     match system.programs.get(program as usize) {
-        Some(found) => push_locals(heap, out, system, &local_names(heap, found)?, words),
+        Some(program) => push_locals(heap, out, system, program, words),
         None => Ok(()),
     }
 }
