@@ -1,11 +1,11 @@
 //! Scripts, line by line.
 
-ghost use Rattle.std.specs.Prelude.{◌≡◌, ◌++◌, IfOk, OnErr};
+ghost use Rattle.std.specs.Prelude.{◌≡◌, ◌++◌, IfOk, None, OnErr};
 ghost use Rattle.stack_heap.specs.Heaps.{IfOkUnless};
 ghost use Rattle.level_debuggers.specs.Views.Sessions.{IsSession, session_of};
-ghost use Rattle.level_debuggers.specs.Transcripts.{IsLeftBy, IsLeftIn, IsSaid, arrival_end, arrival_text, attach_said, attached_word, detach_said, followed, rule_of_word, run_end, run_text, said_to, until_said, words_said};
+ghost use Rattle.level_debuggers.specs.Transcripts.{IsLeftBy, IsLeftIn, IsSaid, arrival_end, arrival_text, attach_said, attached_word, detach_said, followed, rule_of_word, run_end, run_text, said_to, step_said, until_said, words_said};
 ghost use Rattle.level_debuggers.specs.Levels.{words_text};
-ghost use Rattle.level_debuggers.specs.Walks.{HasMadeSome};
+ghost use Rattle.level_debuggers.specs.Walks.{HasMadeSome, stepped};
 
 use crate::arrival::Arrival;
 use crate::script_end::ScriptEnd;
@@ -59,6 +59,38 @@ fn push_run<H: Heap>(
         })),
         SessionRun::Outside { address, after } => Ok(Some(ScriptEnd::Outside { address, after })),
     }
+}
+
+/// Makes steps, by the command of a line.
+fn push_step<H: Heap>(
+    heap: H,
+    session: &mut Session,
+    count: u64,
+    text: &mut Vec<u8>,
+) -> Result<Option<ScriptEnd>, Memory>
+    requires { IsSession session.old }
+    ensures said { IfOkUnless (H.may_refuse heap) result (λ end.
+        IsSaid (step_said (stepped count (session_of (λ w. watching w) session.old)))
+        text.old.items text.new.items end (session_of (λ w. watching w) session.new)) }
+    ensures memory { OnErr result (HasMadeSome count
+        (session_of (λ w. watching w) session.old) (session_of (λ w. watching w) session.new)) }
+    ensures is { IsSession session.new }
+{
+    let run = session.step(heap, count)?;
+    push_run(heap, text, run)
+}
+
+/// Appends what the run says, and goes on.
+fn push_said<H: Heap>(
+    heap: H,
+    text: &mut Vec<u8>,
+    said: Vec<u8>,
+) -> Result<Option<ScriptEnd>, Memory>
+    ensures { IfOkUnless (H.may_refuse heap) result
+        (λ end. (text.new.items ≡ text.old.items ++ said.items) × (end ≡ None)) }
+{
+    heap.extend_from_slice(text, &said)?;
+    Ok(None)
 }
 
 /// The line that says that a watch was attached.
@@ -139,10 +171,7 @@ fn push_words<H: Heap>(
         text.old.items text.new.items end session) }
 {
     match session.words(heap, address, count)? {
-        Some(words) => {
-            heap.extend_from_slice(text, &words)?;
-            Ok(None)
-        }
+        Some(words) => push_said(heap, text, words),
         None => Ok(Some(ScriptEnd::OtherLevel { line })),
     }
 }
@@ -206,18 +235,9 @@ pub fn push_answer<H: Heap>(
     ensures is { IsSession session.new }
 {
     match &line.command {
-        Command::Step { count } => {
-            let run = session.step(heap, *count)?;
-            push_run(heap, text, run)
-        }
-        Command::Show => {
-            heap.extend_from_slice(text, session.show(heap)?.as_slice())?;
-            Ok(None)
-        }
-        Command::Up => {
-            heap.extend_from_slice(text, session.up(heap)?.as_slice())?;
-            Ok(None)
-        }
+        Command::Step { count } => push_step(heap, session, *count, text),
+        Command::Show => push_said(heap, text, session.show(heap)?),
+        Command::Up => push_said(heap, text, session.up(heap)?),
         Command::Attach { watch } => push_attach(heap, session, line.line, *watch, text),
         Command::Detach { watch } => push_detach(heap, session, line.line, *watch, text),
         Command::Words { address, count } => {
