@@ -87,7 +87,7 @@ impl Session {
             }) }
         ensures is { IfOk result IsSession }
     {
-        // The runner is dropped by a call: a `?` drops it part by part, and its proof takes ten times as long.
+        // The runner is dropped by a call: a `?` would drop it part by part, in steps that are longer to prove.
         let Ok(attached) = heap.with_room(watches.len()) else {
             drop(runner);
             return Err(Memory);
