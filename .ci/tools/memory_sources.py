@@ -112,23 +112,44 @@ def errors_of(header):
     return set(re.findall(r"\w+", " ".join(last)))
 
 
+def owner_of(header):
+    """The type that an `impl` of this header is for."""
+    texts = [token.text for token in header]
+    if "for" in texts:
+        return texts[texts.index("for") + 1]
+    depth = 0
+    for text in texts:
+        if not depth and text not in "<>":
+            return text
+        depth += (text == "<") - (text == ">")
+    return None
+
+
 class Reader:
     """The functions of all texts, with what each may fail with, and the places of the text that is read."""
 
     def __init__(self):
         self.errors, self.places = defaultdict(list), []
 
-    def note_functions(self, tokens):
-        """Notes what each function may fail with, by its name."""
+    def note_functions(self, tokens, owner=None):
+        """Notes what each function may fail with, by its name, and by its type and its name."""
+        implemented = None
         for at, token in enumerate(tokens):
+            if token.text == "impl":
+                implemented = owner_of(tokens[at + 1 : place_of(tokens, at, "{", ";")])
             if token.text == "fn" and at + 1 < len(tokens):
                 header = tokens[at + 1 : place_of(tokens, at, "{", ";")]
-                self.errors[header[0].text].append(errors_of(header))
-            self.note_functions(token.inner)
+                for name in [header[0].text, *([f"{owner}::{header[0].text}"] if owner else [])]:
+                    self.errors[name].append(errors_of(header))
+            self.note_functions(token.inner, implemented if token.text == "{" and implemented else owner)
+            if token.text == "{":
+                implemented = None
 
-    def fails_by_memory_alone(self, name):
-        """Whether out of memory is all that each function of a name may fail with."""
-        return bool(self.errors[name]) and all(errors and errors <= EVERY for errors in self.errors[name])
+    def fails_by_memory_alone(self, path):
+        """Whether out of memory is all that each function of a name may fail with, or of a type and a name."""
+        owned = "".join(path[-3:])
+        errors = self.errors.get(owned) or self.errors.get(path[-1])
+        return bool(errors) and all(it and it <= EVERY for it in errors)
 
     def read_items(self, tokens, is_given):
         """Reads what stands in brackets; `is_given` says whether it is there only where memory ran out."""
@@ -170,7 +191,7 @@ class Reader:
         texts = [token.text for token in tokens]
         if len(texts) < 2 or texts[-1] != "(" or not all(re.fullmatch(r"\w+|::|\.|&", text) for text in texts[:-1]):
             return False
-        return self.fails_by_memory_alone(texts[-2])
+        return self.fails_by_memory_alone(texts[:-1])
 
     def read_expression(self, tokens, at, is_given):
         """Reads a token of an expression, and returns the place after it."""
@@ -282,6 +303,8 @@ MISTAKES = [
     Mistake("crates/stack_build/src/fault.rt", "GypsyFault::Memory => BuildFault::Memory", "_ => BuildFault::Memory", "BuildFault::Memory"),
     # The rest of a call that may fail otherwise too.
     Mistake("crates/print_processor/src/main.rt", "= verilog(alloc) else", "= StdoutSink::put(alloc) else", "PutFault::Memory"),
+    # A function of the same name of a type that nobody wrote.
+    Mistake("crates/level_debuggers/src/piton_level.rt", "= PlacedSystem::new(heap, checked) else", "= Other::new(heap, checked) else", "Memory"),
 ]
 
 

@@ -1,5 +1,5 @@
 -- Items whose names all differ, and items each of which has a new name.
-use Rattle.std.proofs.Common.{◌≡◌, Bor, cond, List, ℕ, [], ◌∷◌, ◌++◌, map, Bool, true, false, not, ◌&&◌, leb, length, refl, sym, ap, subst, ◌∙◌, append_assoc}
+use Rattle.std.proofs.Common.{◌≡◌, List, ℕ, [], ◌∷◌, ◌++◌, map, Bool, true, false, not, ◌&&◌, leb, length, refl, sym, ap, subst, ◌∙◌, append_assoc}
 use Rattle.std.specs.List.{list_any, list_all, AllByRecursion, IsDistinct}
 use Rattle.std.specs.Str.{bytes_eq}
 use Rattle.std.proofs.lemmas.Bool.{and_parts, and_from, not-true}
@@ -7,7 +7,6 @@ use Rattle.std.proofs.lemmas.Cmp.{nat_list_eq_equiv}
 use Rattle.std.proofs.lemmas.List.{append-nil, map_push}
 use Rattle.std.proofs.lemmas.Map.Keys.{IsDistinct-head, IsDistinct-tail, IsDistinct-push}
 use Rattle.stack_text.specs.Names.{is_name}
-use Rattle.stack_text.proofs.SharedLaws.{any_now}
 use Rattle.fm_image.specs.declared.procedure.VarInfo.{VarInfo}
 use Rattle.fm_image.specs.declared.slot.Slot.{Slot}
 use Rattle.fm_image.specs.declared.window.Window.{Window}
@@ -136,22 +135,9 @@ slots_differ window slots h = names_differ (λ slot. slot.name) (is_slot window)
         let q = and_parts (is_name slot.name && is_new (map (λ other. other.name) earlier) slot.name) (leb slot.shape.length 4096) p.0 in
         (and_parts (is_name slot.name) (is_new (map (λ other. other.name) earlier) slot.name) q.0).1
 
--- ---- a table of names
+-- ---- a list of names
 
--- a table lacks a name that is none of its own
-pub lacks : (name : List ℕ) (keys : List (Bor (List ℕ))) → not (list_any (λ key. bytes_eq name key.now) keys) ≡ is_new (map (λ key. key.now) keys) name
-lacks name keys = ap not (any_now name keys)
-
--- a new name is entered last
-pub enters : (key : Bor (List ℕ)) (keys new : List (Bor (List ℕ))) → new ≡ cond (list_any (λ other. bytes_eq key.now other.now) keys) keys (keys ++ key ∷ [])
-    → is_new (map (λ k. k.now) keys) key.now ≡ true → map (λ k. k.now) new ≡ map (λ k. k.now) keys ++ key.now ∷ []
-enters key keys new added is =
-    let absent : list_any (λ other. bytes_eq key.now other.now) keys ≡ false =
-    any_now key.now keys ∙ not-true (list_any (bytes_eq key.now) (map (λ k. k.now) keys)) is in
-    let new_is : new ≡ keys ++ key ∷ [] = added ∙ ap (λ (b : Bool). cond b keys (keys ++ key ∷ [])) absent in
-    ap (λ (ks : List (Bor (List ℕ))). map (λ k. k.now) ks) new_is ∙ map_push (λ (k : Bor (List ℕ)). k.now) keys key
-
--- one name more among the keys and the items
+-- one name more in the list, and one item more
 pub named_more : {A : Type 0} (name_of : A → List ℕ) (items all : List A) (x : A) (names more : List (List ℕ)) → all ≡ items ++ x ∷ []
     → more ≡ names ++ name_of x ∷ [] → names ≡ map name_of items → more ≡ map name_of all
 named_more name_of items all x names more all_are more_are so_far =

@@ -1,9 +1,8 @@
 //! Reading images.
 
-ghost use Rattle.std.specs.Prelude.{◌≡◌, ◌∷◌, ◌++◌, [], map, IsTrue, IfOk, OnOk, Ok};
-ghost use Rattle.stack_heap.specs.Heaps.{IfOkUnless};
+ghost use Rattle.std.specs.Prelude.{◌≡◌, ◌∷◌, ◌++◌, [], IfOk, Ok};
 ghost use Rattle.fm_image.specs.Image.{ImageOf};
-ghost use Rattle.fm_image.specs.Limits.{is_new, last_mark};
+ghost use Rattle.fm_image.specs.Limits.{last_mark};
 ghost use Rattle.fm_image.specs.Spelling.{Spelled};
 ghost use Rattle.fm_image.specs.Rules.{GivesExactly, GivesImageUnless};
 ghost use Rattle.fm_image.specs.Fields.{place, number_at, bytes_at, text_at};
@@ -20,10 +19,10 @@ use crate::procedure::{Mark, ProcInfo, VarInfo};
 use crate::slot::Slot;
 use crate::window::Window;
 use fm_words::{Flags, MOST_WINDOW};
-use indexmap::IndexSet;
+use name_tables::NameList;
 use stack_heap::Heap;
 use stack_text::{
-    Kind, MOST_ARRAY, MOST_DECLARED, MOST_PROCEDURES, MOST_TEXT, Memory, Name, Shape, read_name,
+    Kind, MOST_ARRAY, MOST_DECLARED, MOST_PROCEDURES, MOST_TEXT, Name, Shape, read_name,
 };
 
 /// The last word of the longest frame.
@@ -165,36 +164,19 @@ fn name<'a, H: Heap>(
     }
 }
 
-/// Enters a name, and says whether it is none of the earlier ones.
-fn enter<'a, H: Heap>(
-    heap: H,
-    names: &mut IndexSet<&'a [u8]>,
-    name: &'a [u8],
-) -> Result<bool, Memory>
-    ensures new { IfOkUnless (H.may_refuse heap) result
-        (λ new. new ≡ is_new (map (λ key. key.now) names.old.keys) name.now) }
-    ensures entered { OnOk result
-        (IsTrue (is_new (map (λ key. key.now) names.old.keys) name.now)
-        → map (λ key. key.now) names.new.keys ≡ map (λ key. key.now) names.old.keys ++ name.now ∷ []) }
-{
-    let new = heap.insert(names, name)?;
-    Ok(new)
-}
-
 /// A name after the earlier ones of its list, which is entered among them.
 fn new_name<'a, H: Heap>(
     heap: H,
     end: usize,
-    names: &mut IndexSet<&'a [u8]>,
+    names: &mut NameList<'a>,
     left: &'a [u8],
 ) -> Result<(Name, &'a [u8]), ImageFault>
     ensures name { GivesImageUnless (H.may_refuse heap) (λ x. (x.0, x.1.now)) result
-        (new_name_at end (map (λ key. key.now) names.old.keys) left.now) }
-    ensures entered { IfOk result (λ x. map (λ key. key.now) names.new.keys
-        ≡ map (λ key. key.now) names.old.keys ++ x.0 ∷ []) }
+        (new_name_at end names.old left.now) }
+    ensures entered { IfOk result (λ x. names.new ≡ names.old ++ x.0 ∷ []) }
 {
     let (name, bytes, rest) = name(heap, end, left)?;
-    let new = enter(heap, names, bytes)?;
+    let new = names.enter(heap, bytes)?;
     if !new {
         return Err(refused(Rule::Repeated, end, left).into());
     }
@@ -224,7 +206,7 @@ fn conditions<H: Heap>(
         (conditions_at most end left.now) }
 {
     let (count, mut rest) = count(most, end, left)?;
-    let mut names = IndexSet::new(heap.handle());
+    let mut names = NameList::new(heap.handle());
     let mut conditions = Vec::new(heap.handle());
     for _ in 0..count {
         let (next, after) = new_name(heap, end, &mut names, rest)?;
@@ -261,13 +243,12 @@ fn slot<'a, H: Heap>(
     heap: H,
     end: usize,
     window: Window,
-    names: &mut IndexSet<&'a [u8]>,
+    names: &mut NameList<'a>,
     left: &'a [u8],
 ) -> Result<(Slot, &'a [u8]), ImageFault>
     ensures slot { GivesImageUnless (H.may_refuse heap) (λ x. (x.0, x.1.now)) result
-        (slot_at end window (map (λ key. key.now) names.old.keys) left.now) }
-    ensures entered { IfOk result (λ x. map (λ key. key.now) names.new.keys
-        ≡ map (λ key. key.now) names.old.keys ++ x.0.name ∷ []) }
+        (slot_at end window names.old left.now) }
+    ensures entered { IfOk result (λ x. names.new ≡ names.old ++ x.0.name ∷ []) }
 {
     let (name, left) = new_name(heap, end, names, left)?;
     let (shape, left) = shape(end, left)?;
@@ -293,7 +274,7 @@ fn slots<H: Heap>(
     ensures { GivesImageUnless (H.may_refuse heap) (λ x. (x.0.items, x.1.now)) result (slots_at end window left.now) }
 {
     let (count, mut rest) = count(MOST_DECLARED as u32, end, left)?;
-    let mut names = IndexSet::new(heap.handle());
+    let mut names = NameList::new(heap.handle());
     let mut slots = Vec::new(heap.handle());
     for _ in 0..count {
         let (next, after) = slot(heap, end, window, &mut names, rest)?;
@@ -321,13 +302,12 @@ fn words<H: Heap>(
 fn variable<'a, H: Heap>(
     heap: H,
     end: usize,
-    names: &mut IndexSet<&'a [u8]>,
+    names: &mut NameList<'a>,
     left: &'a [u8],
 ) -> Result<(VarInfo, &'a [u8]), ImageFault>
     ensures variable { GivesImageUnless (H.may_refuse heap) (λ x. (x.0, x.1.now)) result
-        (variable_at end (map (λ key. key.now) names.old.keys) left.now) }
-    ensures entered { IfOk result (λ x. map (λ key. key.now) names.new.keys
-        ≡ map (λ key. key.now) names.old.keys ++ x.0.name ∷ []) }
+        (variable_at end names.old left.now) }
+    ensures entered { IfOk result (λ x. names.new ≡ names.old ++ x.0.name ∷ []) }
 {
     let (name, left) = new_name(heap, end, names, left)?;
     let (shape, left) = shape(end, left)?;
@@ -348,7 +328,7 @@ fn variables<H: Heap>(heap: H, end: usize, left: &[u8]) -> Result<(Vec<VarInfo>,
     ensures { GivesImageUnless (H.may_refuse heap) (λ x. (x.0.items, x.1.now)) result (variables_at end left.now) }
 {
     let (count, mut rest) = count(MOST_DECLARED as u32, end, left)?;
-    let mut names = IndexSet::new(heap.handle());
+    let mut names = NameList::new(heap.handle());
     let mut variables = Vec::new(heap.handle());
     for _ in 0..count {
         let (next, after) = variable(heap, end, &mut names, rest)?;
@@ -363,13 +343,12 @@ fn variables<H: Heap>(heap: H, end: usize, left: &[u8]) -> Result<(Vec<VarInfo>,
 fn procedure<'a, H: Heap>(
     heap: H,
     end: usize,
-    names: &mut IndexSet<&'a [u8]>,
+    names: &mut NameList<'a>,
     left: &'a [u8],
 ) -> Result<(ProcInfo, &'a [u8]), ImageFault>
     ensures procedure { GivesImageUnless (H.may_refuse heap) (λ x. (x.0, x.1.now)) result
-        (procedure_at end (map (λ key. key.now) names.old.keys) left.now) }
-    ensures entered { IfOk result (λ x. map (λ key. key.now) names.new.keys
-        ≡ map (λ key. key.now) names.old.keys ++ x.0.name ∷ []) }
+        (procedure_at end names.old left.now) }
+    ensures entered { IfOk result (λ x. names.new ≡ names.old ++ x.0.name ∷ []) }
 {
     let (name, left) = new_name(heap, end, names, left)?;
     let (conditions, left) = conditions(heap, MOST_MARKED_CONDITIONS, end, left)?;
@@ -391,7 +370,7 @@ fn procedures<H: Heap>(
     ensures { GivesImageUnless (H.may_refuse heap) (λ x. (x.0.items, x.1.now)) result (procedures_at end left.now) }
 {
     let (count, mut rest) = count(MOST_PROCEDURES as u32, end, left)?;
-    let mut names = IndexSet::new(heap.handle());
+    let mut names = NameList::new(heap.handle());
     let mut procedures = Vec::new(heap.handle());
     for _ in 0..count {
         let (next, after) = procedure(heap, end, &mut names, rest)?;

@@ -11,7 +11,7 @@ ghost use Rattle.stack_text.specs.Values.{same_kind};
 use crate::fault::{Rule, ValuesFault, refused};
 use crate::parsed::{Entry, ParsedValue, Scalar};
 use fm_image::Slot;
-use indexmap::IndexSet;
+use name_tables::NameList;
 use stack_heap::Heap;
 use stack_text::{Kind, Memory, Shape, Value};
 
@@ -118,14 +118,13 @@ fn value<H: Heap>(heap: H, shape: Shape, entry: &Entry) -> Result<Value, ValuesF
 }
 
 /// The names of the slots, in their order.
-fn names<'a, H: Heap>(heap: H, slots: &'a [Slot]) -> Result<IndexSet<&'a [u8]>, Memory>
+fn names<'a, H: Heap>(heap: H, slots: &'a [Slot]) -> Result<NameList<'a>, Memory>
     requires { HaveOwnNames slots.now }
-    ensures { IfOkUnless (H.may_refuse heap) result
-        (λ names. map (λ key. key.now) names.keys ≡ map (λ slot. slot.name) slots.now) }
+    ensures { IfOkUnless (H.may_refuse heap) result (λ names. names ≡ map (λ slot. slot.name) slots.now) }
 {
-    let mut names: IndexSet<&[u8]> = IndexSet::new(heap.handle());
+    let mut names = NameList::new(heap.handle());
     for slot in slots {
-        let _is_new = heap.insert(&mut names, slot.name.bytes())?;
+        names.enter(heap, slot.name.bytes())?;
     }
     Ok(names)
 }
@@ -143,16 +142,12 @@ fn nothing_found<H: Heap>(heap: H, slots: &[Slot]) -> Result<Vec<Option<Value>>,
 }
 
 /// The slot of a name, with its position.
-fn slot_named<'a>(
-    names: &IndexSet<&[u8]>,
-    slots: &'a [Slot],
-    name: &[u8],
-) -> Option<(usize, &'a Slot)>
-    requires { map (λ key. key.now) names.now.keys ≡ map (λ slot. slot.name) slots.now }
+fn slot_named<'a>(names: &NameList<'_>, slots: &'a [Slot], name: &[u8]) -> Option<(usize, &'a Slot)>
+    requires { names.now ≡ map (λ slot. slot.name) slots.now }
     ensures slot { option_map (λ found. found.1.now) result ≡ slot_named name.now slots.now }
     ensures position { IfSome result (λ found. slice_get slots.now found.0 ≡ Some found.1.now) }
 {
-    let index = names.get_index_of(name)?;
+    let index = names.place(name)?;
     let slot = slots.get(index)?;
     Some((index, slot))
 }

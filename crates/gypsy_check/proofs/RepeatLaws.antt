@@ -1,15 +1,16 @@
 -- Names that stand earlier, one name after the other.
-use Rattle.std.proofs.Common.{◌≡◌, Bor, ℕ, ◌+◌, ◌<◌, length, List, [], ◌∷◌, ◌++◌, map, get_or, take, Option, Bool, true, false, cond, ◌||◌, bytes_eq, refl, ap}
+use Rattle.std.proofs.Common.{◌≡◌, ℕ, ◌+◌, ◌<◌, length, List, [], ◌∷◌, ◌++◌, map, get_or, take, Option, Bool, true, false, cond, ◌||◌, bytes_eq, refl, ap}
 use Rattle.std.proofs.Common.{sym, ◌∙◌, append_assoc}
 use Rattle.std.specs.List.{list_any}
 use Rattle.std.proofs.lemmas.List.{append-nil, map_push, take_more}
 use Rattle.std.proofs.lemmas.Slice.Eq.{bytes_eq-Decides}
+use Rattle.name_tables.specs.Lists.{is_listed, with_name}
 use Rattle.stack_text.specs.declared.breach.Breach.{Breach}
 use Rattle.stack_text.specs.declared.name.Named.{Named}
 use Rattle.stack_text.specs.Breaches.{when, lesser_of, least, Notes}
 use Rattle.stack_text.proofs.BreachLaws.{notes_more}
 use Rattle.gypsy_check.specs.Declarations.{is_among, repeats}
-use Rattle.gypsy_check.specs.Tables.{is_named}
+use Rattle.gypsy_check.specs.Tables.{is_named, KnowsNames}
 use Rattle.stack_text.proofs.SharedLaws.{or_false}
 
 swap_or : (a b c : Bool) → (a || (b || c)) ≡ (b || (a || c))
@@ -19,10 +20,12 @@ swap_or false b c = refl
 
 -- ---- one more name
 
-pub is_named-push : (name : List ℕ) (ns : List Named) (n : Named) → is_named name (ns ++ n ∷ []) ≡ (bytes_eq name n.name || is_named name ns)
-is_named-push name [] n = refl
-is_named-push name (m ∷ ns) n =
-    ap (λ b. bytes_eq name m.name || b) (is_named-push name ns n) ∙ swap_or (bytes_eq name m.name) (bytes_eq name n.name) (is_named name ns)
+any-push : {X : Type 0} (test : X → Bool) (xs : List X) (x : X) → list_any test (xs ++ x ∷ []) ≡ (test x || list_any test xs)
+any-push test [] x = refl
+any-push test (y ∷ xs) x = ap (λ (b : Bool). test y || b) (any-push test xs x) ∙ swap_or (test y) (test x) (list_any test xs)
+
+is_named-push : (name : List ℕ) (ns : List Named) (n : Named) → is_named name (ns ++ n ∷ []) ≡ (bytes_eq name n.name || is_named name ns)
+is_named-push name = any-push (λ n. bytes_eq name n.name)
 
 repeats-push : (rule : ℕ) (earlier : List (List ℕ)) (ns : List Named) (n : Named) →
     repeats rule earlier (ns ++ n ∷ []) ≡ repeats rule earlier ns ++ when (is_named n.name ns || is_among n.name earlier) n.place rule
@@ -52,10 +55,9 @@ pub list_more : {X : Type 0} (front xs : List X) (i : ℕ) (x : X) → i < lengt
 list_more {X} front xs i x lt is =
     ap (λ (ys : List X). front ++ ys) (take_more xs i x lt ∙ ap (λ (y : X). take i xs ++ y ∷ []) (sym is)) ∙ sym (append_assoc front (take i xs) (x ∷ []))
 
--- the set has those so far, and one more
-pub known_more : (before after : List Named) (n : Named) (old new : List ℕ → Bool) → after ≡ before ++ n ∷ [] →
-    ((name : List ℕ) → old name ≡ is_named name before) → ((name : List ℕ) → new name ≡ (bytes_eq name n.name || old name)) → (name : List ℕ)
-    → new name ≡ is_named name after
+-- the list has those so far, and one more
+pub known_more : (before after : List Named) (n : Named) (old new : List (List ℕ)) → after ≡ before ++ n ∷ [] → KnowsNames old before
+    → ((name : List ℕ) → is_listed name new ≡ (bytes_eq name n.name || is_listed name old)) → KnowsNames new after
 known_more before after n old new more so_far entered name =
     entered name ∙ ap (λ (b : Bool). bytes_eq name n.name || b) (so_far name) ∙ sym (is_named-push name before n) ∙ ap (is_named name) (sym more)
 
@@ -70,31 +72,20 @@ noted_more rule before after n a b c old more so_far h k =
     ∙ ap (λ (bs : List Breach). lesser_of a (least bs)) (sym (repeats-push rule [] before n))
     ∙ ap (λ (ms : List Named). lesser_of a (least (repeats rule [] ms))) (sym more)
 
--- ---- a set of names
+-- ---- a list of names
 
-any-push : {X : Type 0} (test : X → Bool) (xs : List X) (x : X) → list_any test (xs ++ x ∷ []) ≡ (test x || list_any test xs)
-any-push test [] x = refl
-any-push test (y ∷ xs) x = ap (λ (b : Bool). test y || b) (any-push test xs x) ∙ swap_or (test y) (test x) (list_any test xs)
-
-abbrev Key : Type 0
-Key = Bor (List ℕ)
-
-abbrev among : List ℕ → List Key → Bool
-among name keys = list_any (λ key. bytes_eq name key.now) keys
-
--- a name that is among the keys makes no difference
-present : (name other : List ℕ) (keys : List Key) → among other keys ≡ true → among name keys ≡ (bytes_eq name other || among name keys)
-present name other keys h = by_test (bytes_eq name other) refl
+-- a name that is listed makes no difference
+listed : (name other : List ℕ) (names : List (List ℕ)) → is_listed other names ≡ true → is_listed name names ≡ (bytes_eq name other || is_listed name names)
+listed name other names h = by_test (bytes_eq name other) refl
   where
-    by_test : (b : Bool) → bytes_eq name other ≡ b → among name keys ≡ (b || among name keys)
+    by_test : (b : Bool) → bytes_eq name other ≡ b → is_listed name names ≡ (b || is_listed name names)
     by_test false e = refl
-    by_test true e = ap (λ (n : List ℕ). among n keys) ((bytes_eq-Decides name other).0 e) ∙ h
+    by_test true e = ap (λ (n : List ℕ). is_listed n names) ((bytes_eq-Decides name other).0 e) ∙ h
 
--- a name that was entered is among the keys
-pub entered : (keys new : List Key) (key : Key) → new ≡ cond (among key.now keys) keys (keys ++ key ∷ []) →
-    (name : List ℕ) → among name new ≡ (bytes_eq name key.now || among name keys)
-entered keys new key is name = by_test (among key.now keys) refl is
+-- the names of a list in which one was entered
+pub listed_with : (names : List (List ℕ)) (new name : List ℕ) → is_listed name (with_name names new) ≡ (bytes_eq name new || is_listed name names)
+listed_with names new name = by_test (is_listed new names) refl
   where
-    by_test : (b : Bool) → among key.now keys ≡ b → new ≡ cond b keys (keys ++ key ∷ []) → among name new ≡ (bytes_eq name key.now || among name keys)
-    by_test true e now_is = ap (among name) now_is ∙ present name key.now keys e
-    by_test false e now_is = ap (among name) now_is ∙ any-push (λ (k : Key). bytes_eq name k.now) keys key
+    by_test : (b : Bool) → is_listed new names ≡ b → is_listed name (cond b names (names ++ new ∷ [])) ≡ (bytes_eq name new || is_listed name names)
+    by_test true e = listed name new names e
+    by_test false e = any-push (bytes_eq name) names new

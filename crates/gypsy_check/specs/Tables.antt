@@ -4,7 +4,7 @@ use Rattle.std.specs.Borrow.{Bor}
 use Rattle.std.specs.List.{list_any}
 use Rattle.std.specs.Str.{bytes_eq}
 use Rattle.name_tables.specs.Entries.{Entries, look_up}
-use Rattle.indexmap.specs.IndexSet.{IndexSet}
+use Rattle.name_tables.specs.Lists.{is_listed}
 use Rattle.stack_text.specs.declared.name.Named.{Named}
 use Rattle.gypsy_syntax.specs.declared.literal.Decl.{Decl}
 use Rattle.gypsy_syntax.specs.declared.literal.TypeText.{TypeText}
@@ -15,13 +15,9 @@ use Rattle.gypsy_check.specs.declared.callees.Callees.{Callees}
 abbrev pub is_named : List ℕ → List Named → Bool
 is_named name names = list_any (λ n. bytes_eq name n.name) names
 
--- a name that the set has
-abbrev pub has : {S : Type 0} → IndexSet (Bor (List ℕ)) S → List ℕ → Bool
-has set name = list_any (λ key. bytes_eq name key.now) set.keys
-
--- the set has the names of these
-abbrev pub KnowsNames : {S : Type 0} → IndexSet (Bor (List ℕ)) S → List Named → Type 0
-KnowsNames set names = (name : List ℕ) → has set name ≡ is_named name names
+-- the list has the names of these
+abbrev pub KnowsNames : List (List ℕ) → List Named → Type 0
+KnowsNames list names = (name : List ℕ) → is_listed name list ≡ is_named name names
 
 -- the procedure that the table has for a name
 abbrev pub procedure_in : Entries (Bor Proc) → List ℕ → Option Proc

@@ -16,8 +16,7 @@ use crate::names::{conditions_of, variables_of};
 use crate::types::{check_type, words_of_length};
 use crate::values::check_locals;
 use gypsy_syntax::{Decl, Local, Proc, TypeText};
-use indexmap::IndexSet;
-use name_tables::NameTable;
+use name_tables::{NameList, NameTable};
 use stack_heap::Heap;
 use stack_text::{Breach, MOST_STACK, Memory, note_if};
 
@@ -75,7 +74,7 @@ pub(crate) fn declared_conditions<'a, H: Heap>(
     heap: H,
     best: &mut Option<Breach>,
     proc: &'a Proc,
-) -> Result<IndexSet<&'a [u8]>, Memory>
+) -> Result<NameList<'a>, Memory>
     ensures known { IfOkUnless (H.may_refuse heap) result
         (λ conds. KnowsNames conds (proc.now.conds.items ++ proc.now.local_conds.items)) }
     ensures noted { OnOk result (Notes best.old (condition_name_breaches (proc_of proc.now)) best.new) }

@@ -6,12 +6,12 @@ ghost use Rattle.std.specs.Str.{bytes_eq};
 ghost use Rattle.stack_text.specs.Breaches.{when, Notes};
 ghost use Rattle.gypsy_check.specs.Declarations.{repeats};
 ghost use Rattle.name_tables.specs.Entries.{look_up};
-ghost use Rattle.gypsy_check.specs.Tables.{has, KnowsNames, KnowsTypes};
+ghost use Rattle.name_tables.specs.Lists.{is_listed};
+ghost use Rattle.gypsy_check.specs.Tables.{KnowsNames, KnowsTypes};
 ghost use Rattle.stack_text.specs.Options.{first_or};
 
 use gypsy_syntax::{Decl, Local, TypeText};
-use indexmap::IndexSet;
-use name_tables::NameTable;
+use name_tables::{NameList, NameTable};
 use stack_heap::Heap;
 use stack_text::{Breach, Memory, Named, note_if};
 
@@ -19,15 +19,16 @@ use stack_text::{Breach, Memory, Named, note_if};
 fn enter<'a, H: Heap>(
     heap: H,
     best: &mut Option<Breach>,
-    names: &mut IndexSet<&'a [u8]>,
+    names: &mut NameList<'a>,
     name: &'a Named,
     rule: u8,
 ) -> Result<(), Memory>
     ensures entered { OnOkUnless (H.may_refuse heap) result
-        ((other : List ℕ) → has names.new other ≡ (bytes_eq other name.now.name || has names.old other)) }
-    ensures noted { OnOk result (Notes best.old (when (has names.old name.now.name) name.now.place rule) best.new) }
+        ((other : List ℕ) → is_listed other names.new ≡ (bytes_eq other name.now.name || is_listed other names.old)) }
+    ensures noted { OnOk result
+        (Notes best.old (when (is_listed name.now.name names.old) name.now.place rule) best.new) }
 {
-    let is_new = heap.insert(names, name.name.bytes())?;
+    let is_new = names.enter(heap, name.name.bytes())?;
     note_if(best, !is_new, name.place, rule);
     Ok(())
 }
@@ -41,7 +42,7 @@ pub(crate) fn check_repeats<H: Heap>(
 ) -> Result<(), Memory>
     ensures { OnOkUnless (H.may_refuse heap) result (Notes best.old (repeats rule [] names.now) best.new) }
 {
-    let mut earlier = IndexSet::new(heap.handle());
+    let mut earlier = NameList::new(heap.handle());
     for name in names {
         enter(heap, best, &mut earlier, name, rule)?;
     }
@@ -95,11 +96,11 @@ pub(crate) fn conditions_of<'a, H: Heap>(
     best: &mut Option<Breach>,
     conds: &'a [Named],
     local_conds: &'a [Named],
-) -> Result<IndexSet<&'a [u8]>, Memory>
+) -> Result<NameList<'a>, Memory>
     ensures known { IfOkUnless (H.may_refuse heap) result (λ names. KnowsNames names (conds.now ++ local_conds.now)) }
     ensures noted { OnOk result (Notes best.old (repeats 5 [] (conds.now ++ local_conds.now)) best.new) }
 {
-    let mut earlier = IndexSet::new(heap.handle());
+    let mut earlier = NameList::new(heap.handle());
     for cond in conds {
         enter(heap, best, &mut earlier, cond, 5)?;
     }

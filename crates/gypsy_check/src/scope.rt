@@ -6,8 +6,7 @@ ghost use Rattle.gypsy_check.specs.Declarations.{is_condition, type_of};
 ghost use Rattle.gypsy_check.specs.Tables.{KnowsNames, KnowsTypes, declared};
 
 use gypsy_syntax::{Proc, TypeText};
-use indexmap::IndexSet;
-use name_tables::NameTable;
+use name_tables::{NameList, NameTable};
 use stack_text::Name;
 use std::marker::Model;
 
@@ -18,7 +17,7 @@ use std::marker::Model;
 pub(crate) struct Scope<'a> {
     proc: &'a Proc,
     variables: NameTable<'a, TypeText>,
-    conds: IndexSet<&'a [u8]>,
+    conds: NameList<'a>,
 }
 
 impl<'a> Model for Scope<'a> {
@@ -44,7 +43,7 @@ impl<'a> Scope<'a> {
     pub(crate) fn new(
         proc: &'a Proc,
         variables: NameTable<'a, TypeText>,
-        conds: IndexSet<&'a [u8]>,
+        conds: NameList<'a>,
     ) -> Scope<'a>
         requires variables { KnowsTypes variables (declared proc.now) }
         requires conds { KnowsNames conds (proc.now.conds.items ++ proc.now.local_conds.items) }

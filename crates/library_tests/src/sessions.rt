@@ -137,7 +137,9 @@ fn ends(alloc: Global, runner: Runner) -> Result<SessionRun, Fail>
     requires { IsRunner runner }
 {
     let mut session = Session::new(alloc, runner, Vec::new(alloc))?;
-    steps(alloc, &mut session, 100)
+    let run = steps(alloc, &mut session, 100);
+    drop(session);
+    run
 }
 
 #[test]

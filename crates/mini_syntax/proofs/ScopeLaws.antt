@@ -1,47 +1,11 @@
 -- The table of variables, one declaration after the other.
-use Rattle.std.proofs.Common.{◌≡◌, Bor, ℕ, suc, ◌+◌, List, [], ◌∷◌, ◌++◌, length, Option, Some, None, true, false, true≢false, cond, is_some, refl, sym, ap}
-use Rattle.std.proofs.Common.{◌∙◌, arith}
+use Rattle.std.proofs.Common.{◌≡◌, ℕ, suc, ◌+◌, List, [], ◌∷◌, ◌++◌, length, Option, Some, None, true, false, cond, refl, sym, ap, ◌∙◌, arith}
 use Rattle.std.specs.Prelude as std
-use Rattle.std.specs.Map.{lookup}
 use Rattle.std.specs.Str.{bytes_eq}
-use Rattle.std.proofs.lemmas.Slice.Eq.{bytes_eq-Decides}
-use Rattle.indexmap.specs.IndexMap.{insert_entry}
 use Rattle.mini_syntax.specs.Breaches.{named_from, variable_named}
 use Rattle.mini_syntax.specs.declared.program.Declared.{Declared}
 use Rattle.mini_syntax.specs.declared.scope.Variable.{Variable}
 use Rattle.stack_text.specs.Options.{first_or}
-
-abbrev Key : Type 0
-Key = Bor (List ℕ)
-
-abbrev sought : List ℕ → Key → std.Bool
-sought name key = bytes_eq name key.now
-
--- a name that was not there is entered after the others
-pub entered : (eq : Key → Key → std.Bool) → ((a b : Key) → eq a b ≡ bytes_eq a.now b.now) → (es : List (Key × Variable)) (key : Key) (v : Variable)
-    → is_some (lookup (sought key.now) es) ≡ false →
-    (other : List ℕ) → lookup (sought other) (insert_entry eq es key v) ≡ first_or (lookup (sought other) es) (bytes_eq other key.now) v
-entered eq is [] key v absent other = by_test (bytes_eq other key.now)
-  where
-    by_test : (b : std.Bool) → cond b (Some v) None ≡ first_or None b v
-    by_test true = refl
-    by_test false = refl
-entered eq is (e ∷ es) key v absent other = by_test (bytes_eq key.now e.0.now) refl absent (λ none. entered eq is es key v none other)
-  where
-    by_other : (b : std.Bool) (later : Option Variable) → later ≡ first_or (lookup (sought other) es) (bytes_eq other key.now) v →
-        cond b (Some e.1) later ≡ first_or (cond b (Some e.1) (lookup (sought other) es)) (bytes_eq other key.now) v
-    by_other true later h = refl
-    by_other false later h = h
-
-    by_test : (b : std.Bool) → bytes_eq key.now e.0.now ≡ b → is_some (cond b (Some e.1) (lookup (sought key.now) es)) ≡ false →
-        (is_some (lookup (sought key.now) es) ≡ false → lookup (sought other) (insert_entry eq es key v)
-        ≡ first_or (lookup (sought other) es) (bytes_eq other key.now) v) →
-        lookup (sought other) (cond (eq key e.0) ((e.0, v) ∷ es) (e ∷ insert_entry eq es key v))
-        ≡ first_or (lookup (sought other) (e ∷ es)) (bytes_eq other key.now) v
-    by_test true h none later = absurd cc
-    by_test false h none later =
-        ap (λ (b : std.Bool). lookup (sought other) (cond b ((e.0, v) ∷ es) (e ∷ insert_entry eq es key v))) (is key e.0 ∙ h)
-        ∙ by_other (bytes_eq other e.0.now) (lookup (sought other) (insert_entry eq es key v)) (later none)
 
 -- one declaration more
 named_from-push : (n : ℕ) (ds : List Declared) (d : Declared) (name : List ℕ) → named_from n (ds ++ d ∷ []) name

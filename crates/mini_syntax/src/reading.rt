@@ -20,7 +20,7 @@ use crate::program::InfixProgram;
 use crate::scope::{Scope, enter};
 use crate::sort::Sort;
 use crate::word::Word;
-use indexmap::IndexMap;
+use name_tables::NameTable;
 use stack_heap::Heap;
 use stack_text::{Breach, Memory, note_if, read_name};
 
@@ -99,7 +99,7 @@ fn declarations<'a, H: Heap>(
 {
     let mut scope = Scope {
         declared: Vec::new(heap.handle()),
-        variables: IndexMap::new(heap.handle()),
+        variables: NameTable::new(heap.handle()),
     };
     while let Some(sort) = sort_declared(cursor.kind()) {
         declaration(heap, cursor, &mut scope, best, sort)?;

@@ -1,16 +1,14 @@
 //! The declared variables, found by their names.
 
-ghost use Rattle.std.specs.Prelude.{◌≡◌, ℕ, ◌<◌, ◌^◌, List, ◌++◌, [], ◌∷◌, length, OnOk, option_map};
+ghost use Rattle.std.specs.Prelude.{◌≡◌, ◌<◌, ◌^◌, ◌++◌, [], ◌∷◌, length, OnOk, option_map};
 ghost use Rattle.stack_heap.specs.Heaps.{OnOkUnless};
-ghost use Rattle.std.specs.Str.{bytes_eq};
 ghost use Rattle.mini_syntax.specs.Breaches.{or_first, variable_named};
 ghost use Rattle.mini_syntax.specs.declared.program.Declared.{Declared};
-ghost use Rattle.mini_syntax.specs.Internal.Scopes.{IsScope, look_up};
-ghost use Rattle.stack_text.specs.Options.{first_or};
+ghost use Rattle.mini_syntax.specs.Internal.Scopes.{IsScope};
 
 use crate::program::Declared;
 use crate::sort::Sort;
-use indexmap::IndexMap;
+use name_tables::NameTable;
 use stack_heap::Heap;
 use stack_text::{Memory, Name};
 
@@ -29,7 +27,7 @@ pub struct Scope<'a> {
     /// The variables in the order of their declarations.
     pub declared: Vec<Declared>,
     /// The first variable of each name.
-    pub variables: IndexMap<&'a [u8], Variable>,
+    pub variables: NameTable<'a, Variable>,
 }
 
 impl<'a> Scope<'a> {
@@ -38,7 +36,7 @@ impl<'a> Scope<'a> {
         requires { IsScope self.now }
         ensures { result ≡ variable_named self.now.declared.items name.now }
     {
-        self.variables.get(name).copied()
+        self.variables.get(name)
     }
 }
 
@@ -59,23 +57,6 @@ pub(crate) fn index_of(found: Option<Variable>) -> u32
     }
 }
 
-/// Enters a variable, unless its name is known.
-fn declare<'a, H: Heap>(
-    heap: H,
-    variables: &mut IndexMap<&'a [u8], Variable>,
-    name: &'a [u8],
-    variable: Variable,
-) -> Result<(), Memory>
-    ensures { OnOkUnless (H.may_refuse heap) result ((other : List ℕ) →
-        look_up variables.new other ≡ first_or (look_up variables.old other) (bytes_eq other name.now) variable) }
-{
-    if variables.contains_key(name) {
-        return Ok(());
-    }
-    heap.insert_pair(variables, name, variable)?;
-    Ok(())
-}
-
 /// Enters a variable behind those that are declared, unless its name is known.
 pub(crate) fn enter<'a, H: Heap>(
     heap: H,
@@ -92,7 +73,9 @@ pub(crate) fn enter<'a, H: Heap>(
         OnOk result (scope.new.declared.items ≡ scope.old.declared.items ++ one ∷ []) }
 {
     let index = scope.declared.len() as u32;
-    declare(heap, &mut scope.variables, bytes, Variable { index, sort })?;
+    scope
+        .variables
+        .enter(heap, bytes, Variable { index, sort })?;
     heap.push(&mut scope.declared, Declared { name, sort })?;
     Ok(())
 }

@@ -12,5 +12,5 @@ abbrev pub look_up : {V : Type 0} → Entries V → List ℕ → Option V
 look_up entries name = lookup (bytes_eq name) entries
 
 -- the entries of borrowed names
-abbrev pub entries_of : {V : Type 0} → List (Bor (List ℕ) × V) → Entries V
-entries_of entries = map (λ e. (e.0.now, e.1)) entries
+abbrev pub entries_now : {V : Type 0} → List (Bor (List ℕ) × V) → Entries V
+entries_now entries = map (λ e. (e.0.now, e.1)) entries

@@ -6,10 +6,10 @@ ghost use Rattle.stack_heap.specs.Heaps.{IfOkUnless};
 ghost use Rattle.stack_text.specs.Options.{first_or};
 ghost use Rattle.name_tables.specs.Entries.{look_up};
 
-use indexmap::IndexMap;
 use stack_heap::Heap;
 use stack_text::Memory;
 use std::alloc::Global;
+use std::collections::HashMap;
 use std::marker::Model;
 
 /// The value with which each name was entered first.
@@ -17,15 +17,15 @@ use std::marker::Model;
 /// A name is found, and entered, in time proportional to its length. Contracts see the names with their values.
 #[derive(Drop)]
 pub struct NameTable<'a, V> {
-    values: IndexMap<&'a [u8], V>,
+    values: HashMap<&'a [u8], V>,
 }
 
 impl<'a, V> Model for NameTable<'a, V> {
-    ghost use Rattle.name_tables.specs.Entries.{Entries, entries_of};
+    ghost use Rattle.name_tables.specs.Entries.{Entries, entries_now};
 
     ghost Value = { Entries V };
 
-    ghost view = { λ t. entries_of t.values.entries };
+    ghost view = { λ t. entries_now t.values.entries };
 }
 
 impl<'a, V> NameTable<'a, V> {
@@ -34,7 +34,7 @@ impl<'a, V> NameTable<'a, V> {
         ensures { result ≡ [] }
     {
         NameTable {
-            values: IndexMap::new(alloc),
+            values: HashMap::new(alloc),
         }
     }
 }

@@ -1,17 +1,19 @@
 -- Names of procedures: they differ, and each stands where it is found.
-use Rattle.std.proofs.Common.{◌≡◌, Bor, ℕ, zero, suc, ◌+◌, ◌<◌, ◌≤◌, List, [], ◌∷◌, ◌++◌, map, length, get_or, take, Bool, true, false, cond, Some, option_map}
-use Rattle.std.proofs.Common.{sym, ap, subst, ◌∙◌, arith}
-use Rattle.std.specs.List.{All, AllByRecursion, IsDistinct, list_any, position}
+use Rattle.std.proofs.Common.{◌≡◌, ℕ, zero, suc, ◌+◌, ◌<◌, ◌≤◌, List, [], ◌∷◌, ◌++◌, map, length, get_or, take, Bool, true, false, cond}
+use Rattle.std.proofs.Common.{Option, Some, None, IfSome, option_map, refl, sym, ap, subst, ◌∙◌, arith}
+use Rattle.std.specs.List.{All, AllByRecursion, IsDistinct, position}
 use Rattle.std.specs.Str.{bytes_eq}
 use Rattle.std.proofs.lemmas.List.{length-map, map_push, take_more, take-map}
 use Rattle.std.proofs.lemmas.List.Elements.{All-nil, All-cons, All-head, All-tail}
+use Rattle.std.proofs.lemmas.List.Quantifiers.{position-Some}
 use Rattle.std.proofs.lemmas.Map.Keys.{IsDistinct-cons, IsDistinct-tail, apart_from_distinct}
 use Rattle.std.proofs.lemmas.Simd.{map-map}
 use Rattle.std.proofs.lemmas.Slice.Eq.{bytes_eq-Decides}
 use Rattle.std.proofs.lemmas.Bool.{or_parts}
 use Rattle.stack_text.specs.Names.{is_name}
 use Rattle.stack_text.specs.declared.name.Named.{Named}
-use Rattle.stack_text.proofs.SharedLaws.{rule_fails, append_none, bytes_apart, any_now, no_earlier}
+use Rattle.stack_text.proofs.SharedLaws.{rule_fails, append_none, bytes_apart, no_earlier}
+use Rattle.name_tables.specs.Lists.{is_listed, place_of, with_name}
 use Rattle.gypsy_syntax.specs.declared.proc.Proc.{Proc}
 use Rattle.gypsy_syntax.proofs.FitsLaws.{keeps_fits}
 use Rattle.gypsy_syntax.specs.GypsyReading.{KeepsForm}
@@ -34,6 +36,15 @@ names_same procs = sym (map-map (λ (p : ProcOf). p.name.name) proc_of procs)
 pub place_same : (name : List ℕ) (procs : List Proc) → position (λ (p : Proc). bytes_eq name p.name.name) procs
     ≡ place_among name (map (λ (p : ProcOf). p.name.name) (map proc_of procs))
 place_same name procs = position-map name (λ (p : Proc). p.name.name) procs ∙ ap (place_among name) (names_same procs)
+
+-- where a list of names has it
+pub place_is : (name : List ℕ) (names : List (List ℕ)) → place_of name names ≡ place_among name names
+unfolding place_among
+place_is name names = refl
+
+pub place_below : (name : List ℕ) (names : List (List ℕ)) (place : Option ℕ) → place ≡ place_of name names → IfSome place (λ p. p < length names)
+place_below name names None is = tt
+place_below name names (Some p) is = (position-Some (bytes_eq name) names p [] (sym is)).0
 
 -- They differ.
 
@@ -90,27 +101,24 @@ place_own (x ∷ xs) (suc i) name own lt is =
     place_cons name x xs ∙ (ap (λ (b : Bool). cond b (Some 0) (option_map suc (place_among name xs))) other
     ∙ ap (option_map suc) (place_own xs i name (IsDistinct-tail bytes_eq x xs own) (omega (arith, lt)) is))
 
--- The set of the names, one procedure after another.
+-- The list of the names, one procedure after another.
 
 name_at : (procs : List Proc) (i : ℕ) (p : Proc) → i < length procs → p ≡ get_or procs i p → p.name.name ≡ get_or (names_of procs) i p.name.name
 name_at [] i p lt is = absurd (omega (arith, lt))
 name_at (q ∷ procs) zero p lt is = ap (λ (q : Proc). q.name.name) is
 name_at (q ∷ procs) (suc i) p lt is = name_at procs i p (omega (arith, lt)) is
 
--- one more name among the keys
-pub names_next : (procs : List Proc) (i : ℕ) (p : Proc) (key : Bor (List ℕ)) (keys new : List (Bor (List ℕ))) → i < length procs → p ≡ get_or procs i p
-    → key.now ≡ p.name.name → IsDistinct bytes_eq (names_of procs)
-    → new ≡ cond (list_any (λ other. bytes_eq key.now other.now) keys) keys (keys ++ key ∷ []) → map (λ k. k.now) keys ≡ names_of (take i procs)
-    → map (λ k. k.now) new ≡ names_of (take (i + 1) procs)
-names_next procs i p key keys new lt is same own added so_far =
+-- one more name
+pub names_next : (procs : List Proc) (i : ℕ) (p : Proc) (name : List ℕ) (names new : List (List ℕ)) → i < length procs → p ≡ get_or procs i p
+    → name ≡ p.name.name → IsDistinct bytes_eq (names_of procs) → new ≡ with_name names name → names ≡ names_of (take i procs)
+    → new ≡ names_of (take (i + 1) procs)
+names_next procs i p name names new lt is same own entered so_far =
     let below : i < length (names_of procs) = omega (arith, lt, length-map procs (λ (q : Proc). q.name.name)) in
-    let first = no_earlier (names_of procs) i p.name.name below (name_at procs i p lt is) own in
-    let absent : list_any (λ other. bytes_eq key.now other.now) keys ≡ false =
-    any_now key.now keys ∙ (ap (λ (ns : List (List ℕ)). list_any (bytes_eq key.now) ns) so_far
-    ∙ (ap (λ (n : List ℕ). list_any (bytes_eq n) (names_of (take i procs))) same
-    ∙ (ap (λ (ns : List (List ℕ)). list_any (bytes_eq p.name.name) ns) (sym (take-map (λ (q : Proc). q.name.name) i procs)) ∙ first))) in
-    let new_is : new ≡ keys ++ key ∷ [] = added ∙ ap (λ (b : Bool). cond b keys (keys ++ key ∷ [])) absent in
-    ap (λ (ks : List (Bor (List ℕ))). map (λ k. k.now) ks) new_is ∙ (map_push (λ (k : Bor (List ℕ)). k.now) keys key
-    ∙ (ap (λ (ns : List (List ℕ)). ns ++ key.now ∷ []) so_far ∙ (ap (λ (n : List ℕ). names_of (take i procs) ++ n ∷ []) same
-    ∙ (sym (map_push (λ (q : Proc). q.name.name) (take i procs) p) ∙ ap names_of
-    (sym (take_more procs i p lt ∙ ap (λ (q : Proc). take i procs ++ q ∷ []) (sym is)))))))
+    let absent : is_listed p.name.name (names_of (take i procs)) ≡ false =
+    ap (is_listed p.name.name) (sym (take-map (λ (q : Proc). q.name.name) i procs))
+    ∙ no_earlier (names_of procs) i p.name.name below (name_at procs i p lt is) own in
+    entered ∙ ap (λ (ns : List (List ℕ)). with_name ns name) so_far
+    ∙ ap (with_name (names_of (take i procs))) same
+    ∙ ap (λ (b : Bool). cond b (names_of (take i procs)) (names_of (take i procs) ++ p.name.name ∷ [])) absent
+    ∙ sym (map_push (λ (q : Proc). q.name.name) (take i procs) p)
+    ∙ ap names_of (sym (take_more procs i p lt ∙ ap (λ (q : Proc). take i procs ++ q ∷ []) (sym is)))

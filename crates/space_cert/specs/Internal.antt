@@ -3,4 +3,3 @@ pub mod Omits
 pub mod Search
 pub mod SearchState
 pub mod SearchView
-pub mod Names

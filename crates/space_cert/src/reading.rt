@@ -14,14 +14,13 @@ ghost use Rattle.space_cert.specs.Covers.{no_bounds};
 ghost use Rattle.stack_text.specs.TreeNames.{name_of_tree};
 ghost use Rattle.space_cert.specs.CertText.{GivesCertificateTextUnless, bounds_at, bounds_in, entry_at, fault_of, free_place};
 ghost use Rattle.space_cert.specs.CertText.{number_at, number_of, parts_entry, three_of, with_entries};
-ghost use Rattle.space_cert.specs.Internal.Names.{names_in};
 
 use crate::certificate::Certificate;
 use crate::certifying::bound_of;
 use crate::filling::filled;
 use gypsy_check::Accepted;
 use gypsy_syntax::Proc;
-use indexmap::IndexSet;
+use name_tables::NameList;
 use stack_heap::Heap;
 use stack_text::{
     Memory, Name, TextFault, TextTree, is_digits, read_name, read_numeral, read_text_tree,
@@ -125,23 +124,23 @@ fn refused(rule: u8, place: u32) -> CertTextFault
 }
 
 /// The names of procedures, in order.
-fn names<'a, H: Heap>(heap: H, procs: &'a [Proc]) -> Result<IndexSet<&'a [u8]>, Memory>
+fn names<'a, H: Heap>(heap: H, procs: &'a [Proc]) -> Result<NameList<'a>, Memory>
     requires { IsDistinct bytes_eq (names_of procs.now) }
-    ensures { IfOkUnless (H.may_refuse heap) result (λ names. names_in names ≡ names_of procs.now) }
+    ensures { IfOkUnless (H.may_refuse heap) result (λ names. names ≡ names_of procs.now) }
 {
-    let mut names: IndexSet<&[u8]> = IndexSet::new(heap.handle());
+    let mut names = NameList::new(heap.handle());
     for proc in procs {
-        let _is_new = heap.insert(&mut names, proc.name.name.bytes())?;
+        names.enter(heap, proc.name.name.bytes())?;
     }
     Ok(names)
 }
 
 /// The position of the procedure of a name.
-fn named_place(names: &IndexSet<&[u8]>, name: &Name) -> Option<usize>
-    ensures exact { result ≡ place_among name.now (names_in names.now) }
-    ensures there { IfSome result (λ p. p < length (names_in names.now)) }
+fn named_place(names: &NameList<'_>, name: &Name) -> Option<usize>
+    ensures exact { result ≡ place_among name.now names.now }
+    ensures there { IfSome result (λ p. p < length names.now) }
 {
-    names.get_index_of(name.bytes())
+    names.place(name.bytes())
 }
 
 /// The position of a procedure, if it has no bounds.
@@ -160,7 +159,7 @@ fn free_place(bounds: &[Option<(u64, u64)>], procedure: usize) -> Option<usize>
 #[tactic(auto, unfolding(crate::specs::CertText::parts_entry))]
 fn parts_entry<H: Heap>(
     heap: H,
-    names: &IndexSet<&[u8]>,
+    names: &NameList<'_>,
     bounds: &[Option<(u64, u64)>],
     place: u32,
     name: &TextTree,
@@ -168,8 +167,8 @@ fn parts_entry<H: Heap>(
     ctrl: &TextTree,
 ) -> Result<(usize, (u64, u64)), CertTextFault>
     ensures exact { GivesCertificateTextUnless (H.may_refuse heap) (λ e. e) result
-        (parts_entry (names_in names.now) bounds.now place (node_of name.now, node_of temp.now, node_of ctrl.now)) }
-    ensures there { IfOk result (λ e. e.0 < length (names_in names.now)) }
+        (parts_entry names.now bounds.now place (node_of name.now, node_of temp.now, node_of ctrl.now)) }
+    ensures there { IfOk result (λ e. e.0 < length names.now) }
     ensures small { IfOk result (λ e. (e.1.0 ≤ 2 ^ 40) × (e.1.1 ≤ 2 ^ 40)) }
 {
     let Some(name) = name_at(heap, name)? else {
@@ -194,13 +193,13 @@ fn parts_entry<H: Heap>(
 #[tactic(auto, unfolding(crate::specs::CertText::entry_at))]
 fn entry_at<H: Heap>(
     heap: H,
-    names: &IndexSet<&[u8]>,
+    names: &NameList<'_>,
     bounds: &[Option<(u64, u64)>],
     tree: &TextTree,
 ) -> Result<(usize, (u64, u64)), CertTextFault>
     ensures exact { GivesCertificateTextUnless (H.may_refuse heap) (λ e. e) result
-        (entry_at (names_in names.now) bounds.now (node_of tree.now)) }
-    ensures there { IfOk result (λ e. e.0 < length (names_in names.now)) }
+        (entry_at names.now bounds.now (node_of tree.now)) }
+    ensures there { IfOk result (λ e. e.0 < length names.now) }
     ensures small { IfOk result (λ e. (e.1.0 ≤ 2 ^ 40) × (e.1.1 ≤ 2 ^ 40)) }
 {
     match tree {
@@ -217,13 +216,12 @@ fn entry_at<H: Heap>(
 /// The bounds that entries give.
 fn entries<H: Heap>(
     heap: H,
-    names: &IndexSet<&[u8]>,
+    names: &NameList<'_>,
     trees: &[TextTree],
 ) -> Result<Vec<Option<(u64, u64)>>, CertTextFault>
-    ensures exact { let names = names_in names.now in
-        GivesCertificateTextUnless (H.may_refuse heap) (λ bs. bs.items) result
-        (with_entries names (no_bounds (length names)) (nodes_of trees.now)) }
-    ensures number { IfOk result (λ bs. length bs.items ≡ length (names_in names.now)) }
+    ensures exact { GivesCertificateTextUnless (H.may_refuse heap) (λ bs. bs.items) result
+        (with_entries names.now (no_bounds (length names.now)) (nodes_of trees.now)) }
+    ensures number { IfOk result (λ bs. length bs.items ≡ length names.now) }
     ensures within { IfOk result (λ bs. IsTrue (are_bounds bs.items)) }
 {
     let mut bounds = filled(heap, None, names.len())?;
@@ -237,12 +235,12 @@ fn entries<H: Heap>(
 /// The certificate that a tree is.
 fn certificate_at<H: Heap>(
     heap: H,
-    names: &IndexSet<&[u8]>,
+    names: &NameList<'_>,
     tree: &TextTree,
 ) -> Result<Certificate, CertTextFault>
     ensures exact { GivesCertificateTextUnless (H.may_refuse heap) (λ c. c.bounds.items) result
-        (bounds_at (names_in names.now) (node_of tree.now)) }
-    ensures number { IfOk result (λ c. length c.bounds.items ≡ length (names_in names.now)) }
+        (bounds_at names.now (node_of tree.now)) }
+    ensures number { IfOk result (λ c. length c.bounds.items ≡ length names.now) }
 {
     match tree {
         TextTree::Atom { place, text: _ } => Err(refused(1, *place)),
@@ -257,13 +255,13 @@ fn certificate_at<H: Heap>(
 #[tactic(auto, unfolding(crate::specs::CertText::bounds_in))]
 fn certificate_in<H: Heap>(
     heap: H,
-    names: &IndexSet<&[u8]>,
+    names: &NameList<'_>,
     text: &[u8],
 ) -> Result<Certificate, CertTextFault>
     requires { length text.now ≤ 2 ^ 31 }
     ensures exact { GivesCertificateTextUnless (H.may_refuse heap) (λ c. c.bounds.items) result
-        (bounds_in (names_in names.now) text.now) }
-    ensures number { IfOk result (λ c. length c.bounds.items ≡ length (names_in names.now)) }
+        (bounds_in names.now text.now) }
+    ensures number { IfOk result (λ c. length c.bounds.items ≡ length names.now) }
 {
     match read_text_tree(heap, text) {
         Ok(tree) => certificate_at(heap, names, &tree),

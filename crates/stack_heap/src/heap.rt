@@ -1,12 +1,11 @@
 //! What takes memory.
 
-ghost use Rattle.std.specs.Prelude.{◌≡◌, ℕ, ◌+◌, ◌-◌, ◌≤◌, ◌∷◌, [], ◌++◌, length, replicate, take, not, vec_capacity, vec_len, string_bytes, IfOk, OnOk, OnErr, is_ok, if◌then◌else◌};
-ghost use Rattle.indexmap.specs.IndexMap.{insert_entry};
-ghost use Rattle.indexmap.specs.IndexSet.{contains, insert_key};
+ghost use Rattle.std.specs.Prelude.{◌≡◌, ℕ, ◌+◌, ◌-◌, ◌≤◌, ◌∷◌, [], ◌++◌, length, replicate, take, vec_capacity, vec_len, string_bytes, Some, IfOk, OnOk, OnErr, is_ok, if◌then◌else◌};
+ghost use Rattle.std.specs.HashMap.{Updates};
 ghost use Rattle.stack_heap.specs.Heaps.{IfOkUnless, RefusesWithin, room_after};
 
-use indexmap::{IndexMap, IndexSet};
 use std::alloc::{AllocError, AllocFailed, Global};
+use std::collections::HashMap;
 use std::hash::Hash;
 use std::rc::Rc;
 
@@ -91,23 +90,14 @@ pub trait Heap: Copy {
     fn shared_again<T: Drop>(self, value: &Rc<T>) -> Result<Rc<T>, AllocError>
         ensures value { IfOkUnless (may_refuse self) result (λ again. again.value ≡ value.now.value) };
 
-    /// Enters a value into a set, and says whether it is new.
-    fn insert<T: Eq + Hash + Drop>(
-        self,
-        set: &mut IndexSet<T>,
-        value: T,
-    ) -> Result<bool, AllocFailed<T>>
-        ensures new { IfOkUnless (may_refuse self) result (λ new. new ≡ not (contains T.eq set.old value)) }
-        ensures keys { OnOk result (set.new.keys ≡ insert_key T.eq set.old.keys value) };
-
     /// Enters a value with its key into a table, or leaves the entries as they were.
     fn insert_pair<K: Eq + Hash + Drop, V>(
         self,
-        table: &mut IndexMap<K, V>,
+        table: &mut HashMap<K, V>,
         key: K,
         value: V,
     ) -> Result<Option<V>, AllocFailed<(K, V)>>
-        ensures entries { OnOk result (table.new.entries ≡ insert_entry K.eq table.old.entries key value) }
+        ensures updates { OnOk result (Updates K.eq table.old table.new key (Some value)) }
         ensures stays { OnErr result (table.new.entries ≡ table.old.entries) }
         ensures refused { OnErr result (may_refuse self) };
 
@@ -175,17 +165,9 @@ impl Heap for Global {
         value.clone()
     }
 
-    fn insert<T: Eq + Hash + Drop>(
-        self,
-        set: &mut IndexSet<T>,
-        value: T,
-    ) -> Result<bool, AllocFailed<T>> {
-        set.insert(value)
-    }
-
     fn insert_pair<K: Eq + Hash + Drop, V>(
         self,
-        table: &mut IndexMap<K, V>,
+        table: &mut HashMap<K, V>,
         key: K,
         value: V,
     ) -> Result<Option<V>, AllocFailed<(K, V)>> {

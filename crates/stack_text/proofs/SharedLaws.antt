@@ -1,6 +1,6 @@
 -- Lemmas on truth values, options, lists, names and kinds that several crates need.
 use Rattle.std.proofs.Common.{◌≡◌, Bool, true, false, refl, ◌&&◌, not, ℕ, [], Option, Some, None, is_none, List, ◌∷◌, ◌++◌, ◌+◌, ap, ◌∙◌, zero, suc, ◌<◌}
-use Rattle.std.proofs.Common.{length, arith, slice_get, map, get_or, take, reverse, ℤ, pos, append_assoc, sym, Bor, ◌||◌, ◌≤◌, find, cond, option_map}
+use Rattle.std.proofs.Common.{length, arith, slice_get, map, get_or, take, reverse, ℤ, pos, append_assoc, sym, ◌||◌, ◌≤◌, find, cond, option_map}
 use Rattle.std.specs.Prelude.{nat_le}
 use Rattle.std.proofs.lemmas.List.{reverse-append, map-append}
 use Rattle.std.specs.Str.{bytes_eq}
@@ -88,10 +88,6 @@ bytes_apart xs ys ne = by_test (bytes_eq ys xs) refl
     by_test : (b : Bool) → bytes_eq ys xs ≡ b → b ≡ false
     by_test false e = refl
     by_test true e = absurd (let f = (bytes_eq-Decides xs ys).1 (sym ((bytes_eq-Decides ys xs).0 e)) in cc)
-
-pub any_now : (name : List ℕ) (keys : List (Bor (List ℕ))) → list_any (λ key. bytes_eq name key.now) keys ≡ list_any (bytes_eq name) (map (λ key. key.now) keys)
-any_now name [] = refl
-any_now name (key ∷ keys) = ap (λ (b : Bool). bytes_eq name key.now || b) (any_now name keys)
 
 -- the first of what a list becomes is what the first of the list becomes
 pub find_map : {X Y Z : Type 0} (g : X → Y) (p : Y → Bool) (last : Y → Z) (xs : List X)

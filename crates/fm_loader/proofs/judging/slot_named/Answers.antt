@@ -5,11 +5,11 @@ use Rattle.fm_loader.proofs.judging.slot_named.Goals as goal
 
 pub returns-in_err-index-clause-slot : goal.returns-in_err-index-clause-slot
 returns-in_err-index-clause-slot c =
-    rw c.from_residual.ensures (no_slot c.args.name.now c.args.names.now.keys c.args.slots.now c.requires c.in_err-index.ensures.index)
+    rw c.from_residual.ensures (no_slot c.args.name.now c.args.names.now c.args.slots.now c.requires c.in_err-index.ensures)
 
 pub returns-clause-slot : goal.returns-clause-slot
 returns-clause-slot c =
-    sym (the_slot c.args.name.now c.args.names.now.keys c.args.slots.now c.in_ok-index.index c.requires c.in_ok-index.ensures.index
+    sym (the_slot c.args.name.now c.args.names.now c.args.slots.now c.in_ok-index.index c.requires c.in_ok-index.ensures
     ∙ slice_get_read c.args.slots.now (length c.args.slots.now) c.in_ok-index.index c.in_ok-slot.slot.now refl c.in_ok-slot.ensures.lookup.3.0
     c.in_ok-slot.ensures.lookup.1)
 

@@ -1,5 +1,5 @@
 use Rattle.std.proofs.Common.{◌+◌, ◌++◌, [], take}
-use Rattle.gypsy_check.specs.Tables.{has}
+use Rattle.name_tables.specs.Lists.{is_listed}
 use Rattle.gypsy_check.proofs.RepeatLaws.{known_more, noted_more, list_more}
 use Rattle.gypsy_check.proofs.names.conditions_of.Goals as goal
 
@@ -9,10 +9,10 @@ loop-cond-preserved g c =
     let more = list_more [] c.args.conds.now c.loop-cond.cond-index one c.loop-cond-test.true c.cond-item.is in
     record {
       known = known_more (take c.loop-cond.cond-index c.args.conds.now) (take (c.loop-cond.cond-index + 1) c.args.conds.now) one
-          (has c.loop-cond.earlier) (has c.enter.new.names) more c.loop-cond.invariant.known c.in_ok-enter.ensures.entered;
+          c.loop-cond.earlier c.enter.new.names more c.loop-cond.invariant.known c.in_ok-enter.ensures.entered;
       noted = noted_more 5 (take c.loop-cond.cond-index c.args.conds.now) (take (c.loop-cond.cond-index + 1) c.args.conds.now) one c.args.best.now
-          c.loop-cond.best c.enter.new.best (has c.loop-cond.earlier) more c.loop-cond.invariant.known c.loop-cond.invariant.noted
-          c.in_ok-enter.ensures.noted;
+          c.loop-cond.best c.enter.new.best (λ name. is_listed name c.loop-cond.earlier) more c.loop-cond.invariant.known
+          c.loop-cond.invariant.noted c.in_ok-enter.ensures.noted;
     }
 
 pub loop-local-preserved : goal.loop-local-preserved
@@ -21,10 +21,10 @@ loop-local-preserved g c =
     let more = list_more c.args.conds.now c.args.local_conds.now c.loop-local.local-index one c.loop-local-test.true c.local-item.is in
     record {
       known = known_more (c.args.conds.now ++ take c.loop-local.local-index c.args.local_conds.now)
-          (c.args.conds.now ++ take (c.loop-local.local-index + 1) c.args.local_conds.now) one (has c.loop-local.earlier)
-          (has c.enter-in-loop-local.new.names) more c.loop-local.invariant.known c.in_ok-enter-2.ensures.entered;
+          (c.args.conds.now ++ take (c.loop-local.local-index + 1) c.args.local_conds.now) one c.loop-local.earlier
+          c.enter-in-loop-local.new.names more c.loop-local.invariant.known c.in_ok-enter-2.ensures.entered;
       noted = noted_more 5 (c.args.conds.now ++ take c.loop-local.local-index c.args.local_conds.now)
           (c.args.conds.now ++ take (c.loop-local.local-index + 1) c.args.local_conds.now) one c.args.best.now c.loop-local.best
-          c.enter-in-loop-local.new.best (has c.loop-local.earlier) more c.loop-local.invariant.known c.loop-local.invariant.noted
-          c.in_ok-enter-2.ensures.noted;
+          c.enter-in-loop-local.new.best (λ name. is_listed name c.loop-local.earlier) more c.loop-local.invariant.known
+          c.loop-local.invariant.noted c.in_ok-enter-2.ensures.noted;
     }

@@ -1,9 +1,10 @@
 use Rattle.std.proofs.Common.{◌∙◌, ◌||◌, ap, List, bytes_eq, ℕ}
-use Rattle.gypsy_check.specs.Tables.{has}
-use Rattle.gypsy_check.proofs.RepeatLaws.{entered}
+use Rattle.name_tables.specs.Lists.{is_listed}
+use Rattle.gypsy_check.proofs.RepeatLaws.{listed_with}
 use Rattle.gypsy_check.proofs.names.enter.Goals as goal
 
 pub returns-clause-entered : goal.returns-clause-entered
 returns-clause-entered g c = λ other.
-    entered c.args.names.now.keys c.insert.new.set.keys c.bytes.result c.in_ok-is_new.ensures.keys other
-    ∙ ap (λ (text : List ℕ). bytes_eq other text || has c.args.names.now other) c.bytes.ensures.bytes
+    ap (is_listed other) c.in_ok-is_new.ensures.names
+    ∙ listed_with c.args.names.now c.bytes.result.now other
+    ∙ ap (λ (text : List ℕ). bytes_eq other text || is_listed other c.args.names.now) c.bytes.ensures.bytes

@@ -1,7 +1,6 @@
-use Rattle.std.proofs.Common.{◌≡◌, Bor, ℕ, [], ◌∷◌, ◌++◌, List, length, sym, ap, ◌∙◌, arith}
-use Rattle.std.specs.Map.{lookup}
-use Rattle.std.specs.Str.{bytes_eq}
+use Rattle.std.proofs.Common.{◌≡◌, [], ◌∷◌, ◌++◌, List, length, sym, ap, ◌∙◌, arith}
 use Rattle.std.proofs.lemmas.List.{length-append}
+use Rattle.name_tables.specs.Entries.{Entries, look_up}
 use Rattle.mini_syntax.specs.Breaches.{declared_by, variable_named}
 use Rattle.mini_syntax.specs.declared.program.Declared.{Declared}
 use Rattle.mini_syntax.specs.declared.scope.Variable.{Variable}
@@ -15,7 +14,7 @@ use Rattle.mini_syntax.proofs.reading.declarations.Goals as goal
 
 pub loop-sort-init : goal.loop-sort-init
 loop-sort-init g c = record {
-  scope = λ name. ap (λ (es : List (Bor (List ℕ) × Variable)). lookup (λ key. bytes_eq name key.now) es) c.new-2.ensures.empty
+  scope = λ name. ap (λ (table : Entries Variable). look_up table name) c.new-2.ensures
       ∙ sym (ap (λ (ds : List Declared). variable_named ds name) c.new.ensures.items);
   awaits = c.requires.awaits;
   named = c.requires.named;

@@ -1,11 +1,11 @@
-use Rattle.std.proofs.Common.{Bor, ℕ, List, ap, ◌∙◌}
-use Rattle.std.specs.List.{position}
-use Rattle.std.specs.Str.{bytes_eq}
-use Rattle.gypsy_space.proofs.PositionLaws.{position-map}
+use Rattle.std.proofs.Common.{ap, ◌∙◌}
+use Rattle.gypsy_syntax.specs.Resolved.{place_among}
+use Rattle.space_cert.proofs.NameLaws.{place_is, place_below}
 use Rattle.space_cert.proofs.reading.named_place.Goals as goal
 
 pub returns-clause-exact : goal.returns-clause-exact
 returns-clause-exact c =
-    c.get_index_of.ensures.index
-    ∙ (ap (λ n. position (λ (k : Bor (List ℕ)). bytes_eq n k.now) c.args.names.now.keys) c.bytes.ensures.bytes
-    ∙ position-map c.args.name.now (λ (k : Bor (List ℕ)). k.now) c.args.names.now.keys)
+    c.place.ensures ∙ place_is c.bytes.result.now c.args.names.now ∙ ap (λ name. place_among name c.args.names.now) c.bytes.ensures.bytes
+
+pub returns-clause-there : goal.returns-clause-there
+returns-clause-there c = place_below c.bytes.result.now c.args.names.now c.place.result c.place.ensures

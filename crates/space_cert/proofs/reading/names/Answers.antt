@@ -3,5 +3,5 @@ use Rattle.space_cert.proofs.reading.names.Goals as goal
 
 pub loop-proc-preserved : goal.loop-proc-preserved
 loop-proc-preserved g c =
-    names_next c.args.procs.now c.loop-proc.proc-index c.proc-item.result c.bytes.result c.loop-proc.names.keys c.insert.new.set.keys
-    c.loop-proc-test.true c.proc-item.is c.bytes.ensures.bytes c.requires c.in_ok-_is_new.ensures.keys c.loop-proc.invariant
+    names_next c.args.procs.now c.loop-proc.proc-index c.proc-item.result c.bytes.result.now c.loop-proc.names c.enter.new.self
+    c.loop-proc-test.true c.proc-item.is c.bytes.ensures.bytes c.requires c.in_ok-enter.ensures.names c.loop-proc.invariant

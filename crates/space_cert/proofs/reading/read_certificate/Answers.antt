@@ -8,7 +8,6 @@ use Rattle.gypsy_syntax.specs.Views.SourceView.{source_of}
 use Rattle.gypsy_syntax.specs.Sources.{ProcOf}
 use Rattle.gypsy_space.specs.Callees.{names_of}
 use Rattle.space_cert.specs.CertText.{GivesCertificateTextUnless, bounds_in}
-use Rattle.space_cert.specs.Internal.Names.{names_in}
 use Rattle.space_cert.proofs.NameLaws.{names_same, own_names}
 use Rattle.space_cert.proofs.reading.read_certificate.Goals as goal
 
@@ -19,7 +18,7 @@ names-requires g c =
 
 pub returns-clause-exact : goal.returns-clause-exact
 returns-clause-exact g c =
-    let named : names_in c.in_ok-names.names ≡ procedure_names (source_of c.args.accepted.now) =
+    let named : c.in_ok-names.names ≡ procedure_names (source_of c.args.accepted.now) =
     c.in_ok-names.ensures ∙ (ap names_of (c.as_slice.ensures.value ∙ ap (λ s. s.procs.items) c.source.ensures.value)
     ∙ names_same c.args.accepted.now.procs.items) in
     subst (λ names. GivesCertificateTextUnless (g.H.Heap.may_refuse c.args.heap) (λ c. c.bounds.items) c.certificate_in.result
@@ -28,8 +27,8 @@ returns-clause-exact g c =
 pub returns-clause-number : goal.returns-clause-number
 returns-clause-number g c =
     let s = source_of c.args.accepted.now in
-    let named : names_in c.in_ok-names.names ≡ procedure_names s =
+    let named : c.in_ok-names.names ≡ procedure_names s =
     c.in_ok-names.ensures ∙ (ap names_of (c.as_slice.ensures.value ∙ ap (λ s. s.procs.items) c.source.ensures.value)
     ∙ names_same c.args.accepted.now.procs.items) in
-    IfOk-weaker c.certificate_in.result (λ x. length x.bounds.items ≡ length (names_in c.in_ok-names.names)) (λ x. length x.bounds.items ≡ length s.procs)
+    IfOk-weaker c.certificate_in.result (λ x. length x.bounds.items ≡ length c.in_ok-names.names) (λ x. length x.bounds.items ≡ length s.procs)
     (λ x e. e ∙ (ap length named ∙ length-map s.procs (λ (p : ProcOf). p.name.name))) c.certificate_in.ensures.number

@@ -24,4 +24,4 @@ returns-clause-entered g c =
     let known = known_is c.self.inside.values.entries c.args.self.now c.args.name.now c.contains_key.result false c.self.view_is
     c.contains_key.ensures c.if-contains_key.false in
     entered c.self.inside.values.entries c.insert_pair.new.table.entries c.args.self.now c.args.name c.args.value c.self.view_is
-    c.in_ok-insert_pair.ensures.entries (sym known)
+    c.in_ok-insert_pair.ensures.updates.0 (sym known)
