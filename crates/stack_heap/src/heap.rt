@@ -9,7 +9,10 @@ use std::collections::HashMap;
 use std::hash::Hash;
 use std::rc::Rc;
 
-/// What takes memory: each method is one call of the library, and fails only where the heap may refuse.
+/// What takes memory: each method is one call of the library, and fails only if the heap may refuse.
+///
+/// A method may be asked for more than any machine has, so each heap may refuse. A body that makes such a request and
+/// then gives up isn't refused by the prover.
 pub trait Heap: Copy {
     /// The heap may refuse memory.
     ghost may_refuse: { Self → Type 0 };
