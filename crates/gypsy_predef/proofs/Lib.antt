@@ -3,8 +3,8 @@ mod RunningLaws
 mod ValueLaws
 mod NumberLaws
 mod ProductLaws
+mod FollowLaws
 mod MultiplyLaws
-mod IndexLaws
 mod RowLaws
 mod CallLaws
 mod ArgumentLaws

@@ -1,48 +1,52 @@
--- The rows.
-use Rattle.std.proofs.Common.{◌≡◌, ℕ, ◌+◌, ◌≤◌, ◌<◌, ◌^◌, ℤ, pos, negsuc, ◌+ℤ◌, ◌-ℤ◌, ◌*ℤ◌, neg_ℤ, int_le, int_lt, not, ◌||◌, ◌&&◌, Result, Some, Ok, Bool}
-use Rattle.std.proofs.Common.{true, false, List, [], ◌∷◌, length, map, refl, ap, sym, ◌∙◌, subst, arith}
+-- The rows: each body is followed by computation, and gives what its row says.
+use Rattle.std.proofs.Common.{◌≡◌, ℕ, suc, ◌+◌, ◌-◌, ◌≤◌, ◌<◌, ◌^◌, ℤ, pos, negsuc, ◌+ℤ◌, ◌-ℤ◌, ◌*ℤ◌, neg_ℤ, int_le, int_lt, not, ◌||◌, ◌&&◌, Some, Ok, Bool}
+use Rattle.std.proofs.Common.{true, false, List, [], ◌∷◌, ◌++◌, length, length-append, map, take, drop, reverse, refl, ap, sym, ◌∙◌, subst, arith}
 use Rattle.std.specs.Prelude.{slice_get, slice_set, nat_lt, get_or, if◌then◌else◌}
-use Rattle.std.proofs.lemmas.Bool.{lt-ltb, ltb-true}
+use Rattle.std.proofs.lemmas.Bool.{lt-ltb, ltb-true, not-true, not-false}
 use Rattle.std.proofs.lemmas.List.{map-set, length-map}
-use Rattle.piton_semantics.specs.Views.{is_negative}
 use Rattle.gypsy_syntax.specs.Programs.{simple}
+use Rattle.gypsy_syntax.specs.declared.slot.Form.{Form}
+use Rattle.gypsy_syntax.specs.declared.slot.Form.TheVariants.{Simple, Array, Literal}
+use Rattle.gypsy_syntax.specs.declared.predef.Predef.{Predef}
+use Rattle.gypsy_syntax.specs.Predefined.{slots_of, shared, integer_slot, boolean_slot, predef_effect, predef_cost, predef_temp, predef_ctrl, predef_number}
+use Rattle.gypsy_syntax.specs.Effects.{Effect, Normal, Fault, Beyond, item_of_value, truth_value, integer_value, are_same, is_true_value, number_effect}
+use Rattle.gypsy_syntax.specs.Effects.{indexed}
+use Rattle.gypsy_syntax.specs.Ranges.{is_in_range}
+use Rattle.gypsy_syntax.proofs.RangeLaws.{simple_item}
 use Rattle.stack_text.specs.declared.shape.Kind.{Kind}
 use Rattle.stack_text.specs.declared.shape.Kind.TheVariants.{Integer, Boolean}
 use Rattle.stack_text.specs.Values.{ValueOf, item_count}
 use Rattle.piton_words.specs.declared.word.Word.{Word}
+use Rattle.piton_words.specs.declared.outcome.Outcome.TheVariants.{One}
 use Rattle.piton_words.specs.declared.word.Word.TheVariants.{Int, Nat, Bool as Truth}
-use Rattle.std.specs.Int.{w32, cast_signed}
 use Rattle.piton_words.specs.declared.op.WordOp.TheVariants as op
-use Rattle.piton_words.specs.declared.outcome.Outcome.{Outcome}
-use Rattle.piton_words.specs.declared.outcome.Outcome.TheVariants.{One, Two}
-use Rattle.piton_words.specs.declared.outcome.WordError.{WordError}
 use Rattle.piton_words.specs.OperationRows as words
-use Rattle.fm_words.specs.Word.{are_same_ints, is_int, wrapped}
-use Rattle.piton_syntax.specs.declared.test_kind.TestFamily.TheVariants as family
-use Rattle.piton_syntax.specs.declared.test_kind.TestKind.TheVariants as test
+use Rattle.fm_words.specs.Word.{are_same_ints}
 use Rattle.piton_check.specs.Instruction.{ProgramView, SystemView, Call}
 use Rattle.piton_semantics.specs.State.{Frame, PitonState, instruction_at, ctrl_used, with_element}
+use Rattle.piton_semantics.specs.Views.{is_negative}
 use Rattle.piton_semantics.specs.Law.{Steps}
-use Rattle.gypsy_syntax.specs.declared.slot.Form.TheVariants.{Simple, Array, Literal}
-use Rattle.gypsy_syntax.specs.declared.predef.Predef.{Predef}
 use Rattle.gypsy_syntax.specs.declared.predef.Predef.TheVariants as row
-use Rattle.gypsy_syntax.specs.Predefined.{slots_of, shared, integer_slot, boolean_slot, predef_effect, predef_cost, predef_temp, predef_ctrl, predef_number}
-use Rattle.gypsy_syntax.specs.Effects.{Normal, Fault, Beyond, item_of_value, truth_value, integer_value, are_same, is_true_value}
 use Rattle.gypsy_syntax.specs.Effects as effects
-use Rattle.gypsy_syntax.specs.Effects.{number_effect, indexed}
-use Rattle.gypsy_syntax.specs.Ranges.{is_in_range}
-use Rattle.gypsy_syntax.proofs.RangeLaws.{simple_item}
 use Rattle.gypsy_predef.specs.Bodies.{body_of}
-use Rattle.gypsy_predef.specs.Runs.{word_of_item, words_of_value, with_elements, length_word, Argument, values_of, ArgumentFits, ArgumentsFit, with_arguments}
-use Rattle.gypsy_predef.specs.Runs.{Runs, PredefRuns, CountsAdd, WordsWritten}
-use Rattle.gypsy_predef.proofs.RunningLaws.{Called, program_is, calls, gets, puts, fails, pushes, pushes_local, pops_local, fetches, deposits, jumps}
-use Rattle.gypsy_predef.proofs.RunningLaws.{applies_one, applies_two, applies_three, returns}
-use Rattle.gypsy_predef.proofs.IndexLaws.{ChecksIndex, index_below, index_beyond, index_inside}
-use Rattle.gypsy_predef.proofs.StackLaws.{element_over, element_under_two, element_there, written_one, written_length, written_word, written_other}
-use Rattle.gypsy_predef.proofs.NumberLaws.{eq_row, not_less, same_range, minus_range, minus_row, add_row, subtract_row, truth_test, to_nat_row, add_nat_row}
+use Rattle.gypsy_predef.specs.Runs.{word_of_item, words_of_value, with_elements, Argument, values_of, ArgumentFits, ArgumentsFit, with_arguments, after_call}
+use Rattle.gypsy_predef.specs.Runs.{called_count, called_steps, Runs, PredefRuns, CountsAdd, WordsWritten}
+use Rattle.gypsy_predef.proofs.RunningLaws.{Called, program_is, calls}
+use Rattle.gypsy_predef.proofs.FollowLaws.{Follows, follow}
+use Rattle.gypsy_predef.proofs.StackLaws.{element_there, written_one, written_length, written_word, written_other}
+use Rattle.gypsy_predef.proofs.NumberLaws.{eq_row, not_less, same_range, minus_range, minus_row, add_row, subtract_row, truth_test, false_test, negative_test}
+use Rattle.gypsy_predef.proofs.NumberLaws.{to_nat_row, add_nat_row}
 use Rattle.gypsy_predef.proofs.ProductLaws.{kept_is}
 use Rattle.gypsy_predef.proofs.MultiplyLaws.{product_fits, product_overflows}
 use Rattle.gypsy_predef.proofs.ValueLaws.{simple_words, simple_argument, literal_word, array_word, truth_words, for_two, for_three}
+
+take_all_of : (words stack : List Word) → take (length words) (words ++ stack) ≡ words
+take_all_of [] stack = refl
+take_all_of (w ∷ words) stack = ap (λ ws. w ∷ ws) (take_all_of words stack)
+
+drop_all_of : (words stack : List Word) → drop (length words) (words ++ stack) ≡ stack
+drop_all_of [] stack = refl
+drop_all_of (w ∷ words) stack = drop_all_of words stack
 
 module _ (s : SystemView) (program caller place : ℕ) (f : Frame) (fs : List Frame) (stack : List Word) (areas : List (List Word)) (k : Kind)
     (small : s.temp ≤ 2 ^ 16) (at : instruction_at s caller place ≡ Some (Call program)) where
@@ -64,621 +68,326 @@ module _ (s : SystemView) (program caller place : ℕ) (f : Frame) (fs : List Fr
     temp : length stack + predef_temp r ≤ s.temp
     ctrl : ctrl_used (f ∷ fs) + predef_ctrl r ≤ s.ctrl
 
+  abbrev Fits : Form → Kind → Argument → Type 0
+  Fits form kind a = ArgumentFits stack form kind a
+
+  -- the call of a row leads to this effect
+  abbrev Does : Predef → List Argument → Effect → Type 0
+  Does r args e = Runs s r args stack (from (with_arguments r args stack)) e
+
+  -- what the body of a row asks until it has led there
+  abbrev Body : (r : Predef) → Ready r → List Argument → Effect → Type 0
+  Body r ready args e =
+      Follows (called (body_of r) ready.found) (predef_temp r) (called_steps r e - 1) (called_count r e) (after_call (from stack) stack args e) 0
+      (reverse (with_arguments r args []) ++ (body_of r).temporaries) [] stack areas (4 + ((body_of r).formals + length (body_of r).temporaries))
+
+  -- what computes of a row and its arguments
+  abbrev Takes : Predef → List Argument → Effect → Type 0
+  Takes r args e =
+      ((body_of r).formals ≡ length (with_arguments r args [])) × (predef_ctrl r ≡ 2 + ((body_of r).formals + length (body_of r).temporaries)) ×
+      (suc (called_steps r e - 1) ≡ called_steps r e)
+
+  does : (r : Predef) (ready : Ready r) (args : List Argument) (e : Effect) → Takes r args e → Body r ready args e →
+      Runs s r args stack (from (with_arguments r args [] ++ stack)) (e)
+  does r ready args e takes body =
+      let words = with_arguments r args [] in
+      let view = body_of r in
+      let here = called view ready.found in
+      let size : length (words ++ stack) ≡ length words + length stack = length-append words stack in
+      let end = after_call (from stack) stack args e in
+      let went = follow here (predef_temp r) (called_steps r e - 1) (called_count r e) end 0 (reverse words ++ view.temporaries) [] stack areas
+      (4 + (view.formals + length view.temporaries)) ready.temp body in
+      let front : take view.formals (words ++ stack) ≡ words = ap (λ n. take n (words ++ stack)) takes.0 ∙ take_all_of words stack in
+      let rest : drop view.formals (words ++ stack) ≡ stack = ap (λ n. drop n (words ++ stack)) takes.0 ∙ drop_all_of words stack in
+      let enough : view.formals ≤ length (words ++ stack) = omega (arith, takes.0, size) in
+      let ctrl : ctrl_used (f ∷ fs) + (2 + (view.formals + length view.temporaries)) ≤ s.ctrl = omega (arith, ready.ctrl, takes.1) in
+      let start = from (words ++ stack) in
+      let run : Steps s (suc (called_steps r e - 1)) (4 + (view.formals + length view.temporaries) + went.took) start end =
+      calls here ready.found (words ++ stack) areas at enough ctrl (rw (front, rest) went.steps) in
+      subst (λ j. Steps s j (called_count r e) start end) takes.2 (subst (λ n. Steps s (suc (called_steps r e - 1)) n start end) went.sum run)
+
   -- a value of one word was written
-  stored : (j n : ℕ) (p : PitonState) (words words' : List Word) → words ≡ words' → Steps s j n p (after words') → Steps s j n p (after words)
-  stored j n p words words' e steps = subst (λ st. Steps s j n p (after st)) (sym e) steps
+  ends : (index : ℕ) (w : Word) (v : ValueOf) → words_of_value v ≡ w ∷ [] →
+      after (with_element stack index w) ≡ after (with_elements stack index (words_of_value v))
+  ends index w v e = ap (λ words. after (with_elements stack index words)) (sym e)
 
-  written : (j n index : ℕ) (p : PitonState) (w : Word) (v : ValueOf) → words_of_value v ≡ w ∷ [] → Steps s j n p (after (with_element stack index w)) →
-      Steps s j n p (after (with_elements stack index (words_of_value v)))
-  written j n index p w v e steps = subst (λ ws. Steps s j n p (after (with_elements stack index ws))) (sym e) steps
-
-  assigns_variable : (a b : Argument) → Ready row.MgSimpleVariableAssignment → ArgumentFits stack Simple k a → ArgumentFits stack Simple k b →
-      Runs s row.MgSimpleVariableAssignment (a ∷ b ∷ []) stack (from (Nat b.index ∷ Nat a.index ∷ stack)) (Normal b.value)
+  assigns_variable : (a b : Argument) → Ready row.MgSimpleVariableAssignment → Fits Simple k a → Fits Simple k b →
+      Does row.MgSimpleVariableAssignment (a ∷ b ∷ []) (Normal b.value)
   unfolding predef_cost
   assigns_variable a b ready fa fb =
-      let body = body_of row.MgSimpleVariableAssignment in
-      let here = called body ready.found in
-      let room = ready.temp in
       let d = simple_argument stack k a fa in
       let x = simple_argument stack k b fb in
-      let w = word_of_item k (item_of_value b.value) in
-      let locals = Nat a.index ∷ Nat b.index ∷ [] in
-      written 6 22 a.index _ w b.value x.words
-      (calls here ready.found (Nat b.index ∷ Nat a.index ∷ stack) areas at (omega arith) ready.ctrl
-      (gets here 0 locals stack areas 1 b.index w refl refl refl x.word (omega (arith, room))
-      (puts here 2 locals 0 a.index w stack areas refl refl refl refl d.low (omega (arith, room)))))
+      does row.MgSimpleVariableAssignment ready (a ∷ b ∷ []) (Normal b.value) (refl, refl, refl)
+      (_, x.word, (d.low, (refl, ends a.index _ b.value x.words)))
 
-  assigns_constant : (a b : Argument) → Ready row.MgSimpleConstantAssignment → ArgumentFits stack Simple k a → ArgumentFits stack Literal k b →
-      Runs s row.MgSimpleConstantAssignment (a ∷ b ∷ []) stack (from (word_of_item b.value.shape.kind (item_of_value b.value) ∷ Nat a.index ∷ stack))
-      (Normal b.value)
+  assigns_constant : (a b : Argument) → Ready row.MgSimpleConstantAssignment → Fits Simple k a → Fits Literal k b →
+      Does row.MgSimpleConstantAssignment (a ∷ b ∷ []) (Normal b.value)
   unfolding predef_cost
   assigns_constant a b ready fa fb =
-      let body = body_of row.MgSimpleConstantAssignment in
-      let here = called body ready.found in
-      let room = ready.temp in
       let d = simple_argument stack k a fa in
       let w = word_of_item b.value.shape.kind (item_of_value b.value) in
       let e : words_of_value b.value ≡ w ∷ [] = simple_words k b.value fb.0 fb.1 ∙ ap (λ w. w ∷ []) (sym (literal_word k b.value fb.0)) in
-      let locals = Nat a.index ∷ w ∷ [] in
-      written 5 19 a.index _ w b.value e
-      (calls here ready.found (w ∷ Nat a.index ∷ stack) areas at (omega arith) ready.ctrl
-      (pushes_local here 0 locals stack areas 1 w refl refl (omega (arith, room))
-      (puts here 1 locals 0 a.index w stack areas refl refl refl refl d.low (omega (arith, room)))))
+      does row.MgSimpleConstantAssignment ready (a ∷ b ∷ []) (Normal b.value) (refl, refl, refl) (d.low, (refl, ends a.index w b.value e))
 
-  equals : (a b c : Argument) → Ready row.MgSimpleVariableEq → ArgumentFits stack Simple Boolean a → ArgumentFits stack Simple k b
-      → ArgumentFits stack Simple k c →
-      Runs s row.MgSimpleVariableEq (a ∷ b ∷ c ∷ []) stack (from (Nat c.index ∷ Nat b.index ∷ Nat a.index ∷ stack))
-      (Normal (truth_value (are_same b.value c.value)))
+  equals : (a b c : Argument) → Ready row.MgSimpleVariableEq → Fits Simple Boolean a → Fits Simple k b → Fits Simple k c →
+      Does row.MgSimpleVariableEq (a ∷ b ∷ c ∷ []) (Normal (truth_value (are_same b.value c.value)))
   unfolding predef_cost
   equals a b c ready fa fb fc =
-      let body = body_of row.MgSimpleVariableEq in
-      let here = called body ready.found in
-      let room = ready.temp in
       let d = simple_argument stack Boolean a fa in
       let x = simple_argument stack k b fb in
       let y = simple_argument stack k c fc in
-      let u = word_of_item k (item_of_value b.value) in
-      let t = word_of_item k (item_of_value c.value) in
       let same = are_same b.value c.value in
-      let locals = Nat a.index ∷ Nat b.index ∷ Nat c.index ∷ [] in
-      let result = eq_row k (item_of_value b.value) (item_of_value c.value) t (map length areas) x.range y.range in
-      written 9 33 a.index _ (Truth same) (truth_value same) (truth_words same)
-      (calls here ready.found (Nat c.index ∷ Nat b.index ∷ Nat a.index ∷ stack) areas at (omega arith) ready.ctrl
-      (gets here 0 locals stack areas 1 b.index u refl refl refl x.word (omega (arith, room))
-      (gets here 2 locals (u ∷ stack) areas 2 c.index t refl refl refl (element_over u stack c.index t y.word) (omega (arith, room))
-      (applies_two here 4 locals op.Eq t u (One (Truth same)) stack areas refl refl result refl
-      (puts here 5 locals 0 a.index (Truth same) stack areas refl refl refl refl d.low (omega (arith, room)))))))
+      let v = word_of_item k (item_of_value c.value) in
+      let result = eq_row k (item_of_value b.value) (item_of_value c.value) v (map length areas) x.range y.range in
+      does row.MgSimpleVariableEq ready (a ∷ b ∷ c ∷ []) (Normal (truth_value same)) (refl, refl, refl)
+      (_, x.word, (_, y.word, (One (Truth same), result, (d.low, (refl, ends a.index _ (truth_value same) (truth_words same))))))
 
-  equals_constant : (a b c : Argument) → Ready row.MgSimpleConstantEq → ArgumentFits stack Simple Boolean a → ArgumentFits stack Simple k b
-      → ArgumentFits stack Literal k c →
-      Runs s row.MgSimpleConstantEq (a ∷ b ∷ c ∷ []) stack
-      (from (word_of_item c.value.shape.kind (item_of_value c.value) ∷ Nat b.index ∷ Nat a.index ∷ stack))
-      (Normal (truth_value (are_same b.value c.value)))
+  equals_constant : (a b c : Argument) → Ready row.MgSimpleConstantEq → Fits Simple Boolean a → Fits Simple k b → Fits Literal k c →
+      Does row.MgSimpleConstantEq (a ∷ b ∷ c ∷ []) (Normal (truth_value (are_same b.value c.value)))
   unfolding predef_cost
   equals_constant a b c ready fa fb fc =
-      let body = body_of row.MgSimpleConstantEq in
-      let here = called body ready.found in
-      let room = ready.temp in
       let d = simple_argument stack Boolean a fa in
       let x = simple_argument stack k b fb in
       let u = word_of_item k (item_of_value b.value) in
-      let t = word_of_item c.value.shape.kind (item_of_value c.value) in
+      let v = word_of_item c.value.shape.kind (item_of_value c.value) in
       let same = are_same b.value c.value in
-      let locals = Nat a.index ∷ Nat b.index ∷ t ∷ [] in
-      let result : words.row_of op.Eq t u t (map length areas) ≡ Ok (One (Truth same)) =
-      ap (λ w. words.row_of op.Eq t u w (map length areas)) (literal_word k c.value fc.0)
-      ∙ eq_row k (item_of_value b.value) (item_of_value c.value) t (map length areas) x.range (simple_item k c.value fc.0 fc.1) in
-      written 8 30 a.index _ (Truth same) (truth_value same) (truth_words same)
-      (calls here ready.found (word_of_item c.value.shape.kind (item_of_value c.value) ∷ Nat b.index ∷ Nat a.index ∷ stack) areas at (omega arith) ready.ctrl
-      (gets here 0 locals stack areas 1 b.index u refl refl refl x.word (omega (arith, room))
-      (pushes_local here 2 locals (u ∷ stack) areas 2 t refl refl (omega (arith, room))
-      (applies_two here 3 locals op.Eq t u (One (Truth same)) stack areas refl refl result refl
-      (puts here 4 locals 0 a.index (Truth same) stack areas refl refl refl refl d.low (omega (arith, room)))))))
+      let result : words.row_of op.Eq v u v (map length areas) ≡ Ok (One (Truth same)) =
+      ap (λ w. words.row_of op.Eq v u w (map length areas)) (literal_word k c.value fc.0)
+      ∙ eq_row k (item_of_value b.value) (item_of_value c.value) v (map length areas) x.range (simple_item k c.value fc.0 fc.1) in
+      does row.MgSimpleConstantEq ready (a ∷ b ∷ c ∷ []) (Normal (truth_value same)) (refl, refl, refl)
+      (_, x.word, (One (Truth same), result, (d.low, (refl, ends a.index _ (truth_value same) (truth_words same)))))
 
-  compares : (a b c : Argument) → Ready row.MgIntegerLe → ArgumentFits stack Simple Boolean a → ArgumentFits stack Simple Integer b
-      → ArgumentFits stack Simple Integer c →
-      Runs s row.MgIntegerLe (a ∷ b ∷ c ∷ []) stack (from (Nat c.index ∷ Nat b.index ∷ Nat a.index ∷ stack))
-      (Normal (truth_value (int_le (item_of_value b.value) (item_of_value c.value))))
+  compares : (a b c : Argument) → Ready row.MgIntegerLe → Fits Simple Boolean a → Fits Simple Integer b → Fits Simple Integer c →
+      Does row.MgIntegerLe (a ∷ b ∷ c ∷ []) (Normal (truth_value (int_le (item_of_value b.value) (item_of_value c.value))))
   unfolding predef_cost
   compares a b c ready fa fb fc =
-      let body = body_of row.MgIntegerLe in
-      let here = called body ready.found in
-      let room = ready.temp in
       let d = simple_argument stack Boolean a fa in
       let x = simple_argument stack Integer b fb in
       let y = simple_argument stack Integer c fc in
-      let u = item_of_value b.value in
-      let v = item_of_value c.value in
-      let le = int_le u v in
-      let locals = Nat a.index ∷ Nat b.index ∷ Nat c.index ∷ [] in
-      let result : ◌≡◌ {A = Result Outcome WordError} (Ok (One (Truth (not (int_lt v u))))) (Ok (One (Truth le))) =
-      ap (λ b. Ok (One (Truth b))) (not_less u v) in
-      written 10 35 a.index _ (Truth le) (truth_value le) (truth_words le)
-      (calls here ready.found (Nat c.index ∷ Nat b.index ∷ Nat a.index ∷ stack) areas at (omega arith) ready.ctrl
-      (gets here 0 locals stack areas 2 c.index (Int v) refl refl refl y.word (omega (arith, room))
-      (gets here 2 locals (Int v ∷ stack) areas 1 b.index (Int u) refl refl refl (element_over (Int v) stack b.index (Int u) x.word) (omega (arith, room))
-      (applies_two here 4 locals op.LtInt (Int u) (Int v) (One (Truth (int_lt v u))) stack areas refl refl refl refl
-      (applies_one here 5 locals op.NotBool (Truth (int_lt v u)) (One (Truth le)) stack areas refl refl result refl
-      (puts here 6 locals 0 a.index (Truth le) stack areas refl refl refl refl d.low (omega (arith, room))))))))
+      let le = int_le (item_of_value b.value) (item_of_value c.value) in
+      let result = ap (λ b. Ok (One (Truth b))) (not_less (item_of_value b.value) (item_of_value c.value)) in
+      does row.MgIntegerLe ready (a ∷ b ∷ c ∷ []) (Normal (truth_value le)) (refl, refl, refl)
+      (_, y.word, (_, x.word, (_, refl, (One (Truth le), result, (d.low, (refl, ends a.index _ (truth_value le) (truth_words le)))))))
 
-  ors : (a b c : Argument) → Ready row.MgBooleanOr → ArgumentFits stack Simple Boolean a → ArgumentFits stack Simple Boolean b
-      → ArgumentFits stack Simple Boolean c →
-      Runs s row.MgBooleanOr (a ∷ b ∷ c ∷ []) stack (from (Nat c.index ∷ Nat b.index ∷ Nat a.index ∷ stack))
-      (Normal (truth_value (is_true_value b.value || is_true_value c.value)))
+  ors : (a b c : Argument) → Ready row.MgBooleanOr → Fits Simple Boolean a → Fits Simple Boolean b → Fits Simple Boolean c →
+      Does row.MgBooleanOr (a ∷ b ∷ c ∷ []) (Normal (truth_value (is_true_value b.value || is_true_value c.value)))
   unfolding predef_cost
   ors a b c ready fa fb fc =
-      let body = body_of row.MgBooleanOr in
-      let here = called body ready.found in
-      let room = ready.temp in
       let d = simple_argument stack Boolean a fa in
       let x = simple_argument stack Boolean b fb in
       let y = simple_argument stack Boolean c fc in
-      let u = is_true_value b.value in
-      let v = is_true_value c.value in
-      let locals = Nat a.index ∷ Nat b.index ∷ Nat c.index ∷ [] in
-      written 9 30 a.index _ (Truth (u || v)) (truth_value (u || v)) (truth_words (u || v))
-      (calls here ready.found (Nat c.index ∷ Nat b.index ∷ Nat a.index ∷ stack) areas at (omega arith) ready.ctrl
-      (gets here 0 locals stack areas 1 b.index (Truth u) refl refl refl x.word (omega (arith, room))
-      (gets here 2 locals (Truth u ∷ stack) areas 2 c.index (Truth v) refl refl refl (element_over (Truth u) stack c.index (Truth v) y.word)
-      (omega (arith, room))
-      (applies_two here 4 locals op.OrBool (Truth v) (Truth u) (One (Truth (u || v))) stack areas refl refl refl refl
-      (puts here 5 locals 0 a.index (Truth (u || v)) stack areas refl refl refl refl d.low (omega (arith, room)))))))
+      let t = is_true_value b.value || is_true_value c.value in
+      does row.MgBooleanOr ready (a ∷ b ∷ c ∷ []) (Normal (truth_value t)) (refl, refl, refl)
+      (_, x.word, (_, y.word, (_, refl, (d.low, (refl, ends a.index _ (truth_value t) (truth_words t))))))
 
-  ands : (a b c : Argument) → Ready row.MgBooleanAnd → ArgumentFits stack Simple Boolean a → ArgumentFits stack Simple Boolean b
-      → ArgumentFits stack Simple Boolean c →
-      Runs s row.MgBooleanAnd (a ∷ b ∷ c ∷ []) stack (from (Nat c.index ∷ Nat b.index ∷ Nat a.index ∷ stack))
-      (Normal (truth_value (is_true_value b.value && is_true_value c.value)))
+  ands : (a b c : Argument) → Ready row.MgBooleanAnd → Fits Simple Boolean a → Fits Simple Boolean b → Fits Simple Boolean c →
+      Does row.MgBooleanAnd (a ∷ b ∷ c ∷ []) (Normal (truth_value (is_true_value b.value && is_true_value c.value)))
   unfolding predef_cost
   ands a b c ready fa fb fc =
-      let body = body_of row.MgBooleanAnd in
-      let here = called body ready.found in
-      let room = ready.temp in
       let d = simple_argument stack Boolean a fa in
       let x = simple_argument stack Boolean b fb in
       let y = simple_argument stack Boolean c fc in
-      let u = is_true_value b.value in
-      let v = is_true_value c.value in
-      let locals = Nat a.index ∷ Nat b.index ∷ Nat c.index ∷ [] in
-      written 9 30 a.index _ (Truth (u && v)) (truth_value (u && v)) (truth_words (u && v))
-      (calls here ready.found (Nat c.index ∷ Nat b.index ∷ Nat a.index ∷ stack) areas at (omega arith) ready.ctrl
-      (gets here 0 locals stack areas 1 b.index (Truth u) refl refl refl x.word (omega (arith, room))
-      (gets here 2 locals (Truth u ∷ stack) areas 2 c.index (Truth v) refl refl refl (element_over (Truth u) stack c.index (Truth v) y.word)
-      (omega (arith, room))
-      (applies_two here 4 locals op.AndBool (Truth v) (Truth u) (One (Truth (u && v))) stack areas refl refl refl refl
-      (puts here 5 locals 0 a.index (Truth (u && v)) stack areas refl refl refl refl d.low (omega (arith, room)))))))
+      let t = is_true_value b.value && is_true_value c.value in
+      does row.MgBooleanAnd ready (a ∷ b ∷ c ∷ []) (Normal (truth_value t)) (refl, refl, refl)
+      (_, x.word, (_, y.word, (_, refl, (d.low, (refl, ends a.index _ (truth_value t) (truth_words t))))))
 
-  negates : (a b : Argument) → Ready row.MgBooleanNot → ArgumentFits stack Simple Boolean a → ArgumentFits stack Simple Boolean b →
-      Runs s row.MgBooleanNot (a ∷ b ∷ []) stack (from (Nat b.index ∷ Nat a.index ∷ stack)) (Normal (truth_value (not (is_true_value b.value))))
+  negates : (a b : Argument) → Ready row.MgBooleanNot → Fits Simple Boolean a → Fits Simple Boolean b →
+      Does row.MgBooleanNot (a ∷ b ∷ []) (Normal (truth_value (not (is_true_value b.value))))
   unfolding predef_cost
   negates a b ready fa fb =
-      let body = body_of row.MgBooleanNot in
-      let here = called body ready.found in
-      let room = ready.temp in
       let d = simple_argument stack Boolean a fa in
       let x = simple_argument stack Boolean b fb in
-      let u = is_true_value b.value in
-      let locals = Nat a.index ∷ Nat b.index ∷ [] in
-      written 7 23 a.index _ (Truth (not u)) (truth_value (not u)) (truth_words (not u))
-      (calls here ready.found (Nat b.index ∷ Nat a.index ∷ stack) areas at (omega arith) ready.ctrl
-      (gets here 0 locals stack areas 1 b.index (Truth u) refl refl refl x.word (omega (arith, room))
-      (applies_one here 2 locals op.NotBool (Truth u) (One (Truth (not u))) stack areas refl refl refl refl
-      (puts here 3 locals 0 a.index (Truth (not u)) stack areas refl refl refl refl d.low (omega (arith, room))))))
+      let t = not (is_true_value b.value) in
+      does row.MgBooleanNot ready (a ∷ b ∷ []) (Normal (truth_value t)) (refl, refl, refl)
+      (_, x.word, (_, refl, (d.low, (refl, ends a.index _ (truth_value t) (truth_words t)))))
 
-  minuses : (a b : Argument) → Ready row.MgIntegerUnaryMinus → ArgumentFits stack Simple Integer a → ArgumentFits stack Simple Integer b →
-      are_same_ints (item_of_value b.value) (negsuc 2147483647) ≡ false → Runs s row.MgIntegerUnaryMinus (a ∷ b ∷ []) stack
-      (from (Nat b.index ∷ Nat a.index ∷ stack)) (Normal (integer_value (neg_ℤ (item_of_value b.value))))
+  minuses : (a b : Argument) → Ready row.MgIntegerUnaryMinus → Fits Simple Integer a → Fits Simple Integer b → (t : Bool) →
+      is_in_range Integer (neg_ℤ (item_of_value b.value)) ≡ t →
+      Does row.MgIntegerUnaryMinus (a ∷ b ∷ []) (if t then Normal (integer_value (neg_ℤ (item_of_value b.value))) else Fault)
   unfolding predef_cost
-  minuses a b ready fa fb h =
-      let body = body_of row.MgIntegerUnaryMinus in
-      let here = called body ready.found in
-      let room = ready.temp in
+  minuses a b ready fa fb true h =
       let d = simple_argument stack Integer a fa in
       let x = simple_argument stack Integer b fb in
       let v = item_of_value b.value in
-      let least = are_same_ints v (negsuc 2147483647) in
-      let locals = Nat a.index ∷ Nat b.index ∷ [] in
-      let fits : is_int (neg_ℤ v) ≡ true = sym (same_range (neg_ℤ v)) ∙ minus_range v x.range ∙ ap not h in
-      written 12 36 a.index _ (Int (neg_ℤ v)) (integer_value (neg_ℤ v)) refl
-      (calls here ready.found (Nat b.index ∷ Nat a.index ∷ stack) areas at (omega arith) ready.ctrl
-      (gets here 0 locals stack areas 1 b.index (Int v) refl refl refl x.word (omega (arith, room))
-      (pushes here 2 locals (Int v ∷ stack) areas (Int (negsuc 2147483647)) refl (omega (arith, room))
-      (applies_two here 3 locals op.Eq (Int (negsuc 2147483647)) (Int v) (One (Truth least)) stack areas refl refl refl refl
-      (jumps here 4 locals family.Bool test.T 11 (Truth least) false stack areas refl (truth_test least false h)
-      (gets here 5 locals stack areas 1 b.index (Int v) refl refl refl x.word (omega (arith, room))
-      (applies_one here 7 locals op.NegInt (Int v) (One (Int (neg_ℤ v))) stack areas refl refl (minus_row v (Int v) (map length areas) fits) refl
-      (puts here 8 locals 0 a.index (Int (neg_ℤ v)) stack areas refl refl refl refl d.low (omega (arith, room))))))))))
-
-  minuses_least : (a b : Argument) → Ready row.MgIntegerUnaryMinus → ArgumentFits stack Simple Integer a → ArgumentFits stack Simple Integer b →
-      are_same_ints (item_of_value b.value) (negsuc 2147483647) ≡ true → Runs s row.MgIntegerUnaryMinus (a ∷ b ∷ []) stack
-      (from (Nat b.index ∷ Nat a.index ∷ stack)) (Fault)
-  unfolding predef_cost
-  minuses_least a b ready fa fb h =
-      let body = body_of row.MgIntegerUnaryMinus in
-      let here = called body ready.found in
-      let room = ready.temp in
+      let least : are_same_ints v (negsuc 2147483647) ≡ false = not-true (are_same_ints v (negsuc 2147483647)) (sym (minus_range v x.range) ∙ h) in
+      let result = minus_row v (Int v) (map length areas) (sym (same_range (neg_ℤ v)) ∙ h) in
+      does row.MgIntegerUnaryMinus ready (a ∷ b ∷ []) (Normal (integer_value (neg_ℤ v))) (refl, refl, refl)
+      (_, x.word, (_, refl, (false, truth_test _ false least, (_, x.word, (_, result, (d.low, (refl, refl)))))))
+  minuses a b ready fa fb false h =
       let x = simple_argument stack Integer b fb in
       let v = item_of_value b.value in
-      let least = are_same_ints v (negsuc 2147483647) in
-      let locals = Nat a.index ∷ Nat b.index ∷ [] in
-      (calls here ready.found (Nat b.index ∷ Nat a.index ∷ stack) areas at (omega arith) ready.ctrl
-      (gets here 0 locals stack areas 1 b.index (Int v) refl refl refl x.word (omega (arith, room))
-      (pushes here 2 locals (Int v ∷ stack) areas (Int (negsuc 2147483647)) refl (omega (arith, room))
-      (applies_two here 3 locals op.Eq (Int (negsuc 2147483647)) (Int v) (One (Truth least)) stack areas refl refl refl refl
-      (jumps here 4 locals family.Bool test.T 11 (Truth least) true stack areas refl (truth_test least true h)
-      (fails here 11 locals stack areas refl refl refl (omega (arith, room))))))))
+      let least : are_same_ints v (negsuc 2147483647) ≡ true = not-false (are_same_ints v (negsuc 2147483647)) (sym (minus_range v x.range) ∙ h) in
+      does row.MgIntegerUnaryMinus ready (a ∷ b ∷ []) Fault (refl, refl, refl)
+      (_, x.word, (_, refl, (true, truth_test _ true least, (refl, refl))))
 
-  adds : (a b c : Argument) → Ready row.MgIntegerAdd → ArgumentFits stack Simple Integer a → ArgumentFits stack Simple Integer b
-      → ArgumentFits stack Simple Integer c →
-      is_int (item_of_value b.value +ℤ item_of_value c.value) ≡ true → Runs s row.MgIntegerAdd (a ∷ b ∷ c ∷ []) stack
-      (from (Nat c.index ∷ Nat b.index ∷ Nat a.index ∷ stack)) (Normal (integer_value (item_of_value b.value +ℤ item_of_value c.value)))
+  adds : (a b c : Argument) → Ready row.MgIntegerAdd → Fits Simple Integer a → Fits Simple Integer b → Fits Simple Integer c → (t : Bool) →
+      is_in_range Integer (item_of_value b.value +ℤ item_of_value c.value) ≡ t →
+      Does row.MgIntegerAdd (a ∷ b ∷ c ∷ []) (if t then Normal (integer_value (item_of_value b.value +ℤ item_of_value c.value)) else Fault)
   unfolding predef_cost
-  adds a b c ready fa fb fc h =
-      let body = body_of row.MgIntegerAdd in
-      let here = called body ready.found in
-      let room = ready.temp in
+  adds a b c ready fa fb fc true h =
+      let x = simple_argument stack Integer b fb in
+      let y = simple_argument stack Integer c fc in
       let d = simple_argument stack Integer a fa in
+      let z = item_of_value b.value +ℤ item_of_value c.value in
+      let fits = sym (same_range z) ∙ h in
+      let result = add_row (item_of_value b.value) (item_of_value c.value) (map length areas) in
+      let e = ends a.index _ (integer_value z) (ap (λ z. Int z ∷ []) (sym (kept_is z fits))) in
+      does row.MgIntegerAdd ready (a ∷ b ∷ c ∷ []) (Normal (integer_value z)) (refl, refl, refl)
+      (_, x.word, (_, y.word, (_, result, (false, truth_test _ false (ap not fits), (d.low, (refl, e))))))
+  adds a b c ready fa fb fc false h =
       let x = simple_argument stack Integer b fb in
       let y = simple_argument stack Integer c fc in
-      let u = item_of_value b.value in
-      let v = item_of_value c.value in
-      let carry = not (is_int (u +ℤ v)) in
-      let sum = Int (cast_signed w32 (wrapped (u +ℤ v))) in
-      let locals = Nat a.index ∷ Nat b.index ∷ Nat c.index ∷ Int (pos 0) ∷ [] in
-      let kept = Nat a.index ∷ Nat b.index ∷ Nat c.index ∷ sum ∷ [] in
-      let e : words_of_value (integer_value (u +ℤ v)) ≡ sum ∷ [] = ap (λ z. Int z ∷ []) (sym (kept_is (u +ℤ v) h)) in
-      written 13 46 a.index _ sum (integer_value (u +ℤ v)) e
-      (calls here ready.found (Nat c.index ∷ Nat b.index ∷ Nat a.index ∷ stack) areas at (omega arith) ready.ctrl
-      (pushes here 0 locals stack areas (Truth false) refl (omega (arith, room))
-      (gets here 1 locals (Truth false ∷ stack) areas 1 b.index (Int u) refl refl refl (element_over (Truth false) stack b.index (Int u) x.word)
-      (omega (arith, room))
-      (gets here 3 locals (Int u ∷ Truth false ∷ stack) areas 2 c.index (Int v) refl refl refl
-      (element_under_two (Int u) (Truth false) stack c.index (Int v) y.word) (omega (arith, room))
-      (applies_three here 5 locals op.AddIntWithCarry (Int v) (Int u) (Truth false) (Two (Truth carry) sum) stack areas refl refl
-      (add_row u v (map length areas)) refl
-      (pops_local here 6 locals 3 sum (Truth carry ∷ stack) areas refl
-      (jumps here 7 kept family.Bool test.T 12 (Truth carry) false stack areas refl (truth_test carry false (ap not h))
-      (pushes_local here 8 kept stack areas 3 sum refl refl (omega (arith, room))
-      (puts here 9 kept 0 a.index sum stack areas refl refl refl refl d.low (omega (arith, room)))))))))))
+      let z = item_of_value b.value +ℤ item_of_value c.value in
+      let result = add_row (item_of_value b.value) (item_of_value c.value) (map length areas) in
+      does row.MgIntegerAdd ready (a ∷ b ∷ c ∷ []) Fault (refl, refl, refl)
+      (_, x.word, (_, y.word, (_, result, (true, truth_test _ true (ap not (sym (same_range z) ∙ h)), (refl, refl)))))
 
-  adds_beyond : (a b c : Argument) → Ready row.MgIntegerAdd → ArgumentFits stack Simple Integer a → ArgumentFits stack Simple Integer b
-      → ArgumentFits stack Simple Integer c →
-      is_int (item_of_value b.value +ℤ item_of_value c.value) ≡ false → Runs s row.MgIntegerAdd (a ∷ b ∷ c ∷ []) stack
-      (from (Nat c.index ∷ Nat b.index ∷ Nat a.index ∷ stack)) (Fault)
+  subtracts : (a b c : Argument) → Ready row.MgIntegerSubtract → Fits Simple Integer a → Fits Simple Integer b → Fits Simple Integer c → (t : Bool) →
+      is_in_range Integer (item_of_value b.value -ℤ item_of_value c.value) ≡ t →
+      Does row.MgIntegerSubtract (a ∷ b ∷ c ∷ []) (if t then Normal (integer_value (item_of_value b.value -ℤ item_of_value c.value)) else Fault)
   unfolding predef_cost
-  adds_beyond a b c ready fa fb fc h =
-      let body = body_of row.MgIntegerAdd in
-      let here = called body ready.found in
-      let room = ready.temp in
+  subtracts a b c ready fa fb fc true h =
       let x = simple_argument stack Integer b fb in
       let y = simple_argument stack Integer c fc in
-      let u = item_of_value b.value in
-      let v = item_of_value c.value in
-      let carry = not (is_int (u +ℤ v)) in
-      let sum = Int (cast_signed w32 (wrapped (u +ℤ v))) in
-      let locals = Nat a.index ∷ Nat b.index ∷ Nat c.index ∷ Int (pos 0) ∷ [] in
-      let kept = Nat a.index ∷ Nat b.index ∷ Nat c.index ∷ sum ∷ [] in
-      (calls here ready.found (Nat c.index ∷ Nat b.index ∷ Nat a.index ∷ stack) areas at (omega arith) ready.ctrl
-      (pushes here 0 locals stack areas (Truth false) refl (omega (arith, room))
-      (gets here 1 locals (Truth false ∷ stack) areas 1 b.index (Int u) refl refl refl (element_over (Truth false) stack b.index (Int u) x.word)
-      (omega (arith, room))
-      (gets here 3 locals (Int u ∷ Truth false ∷ stack) areas 2 c.index (Int v) refl refl refl
-      (element_under_two (Int u) (Truth false) stack c.index (Int v) y.word) (omega (arith, room))
-      (applies_three here 5 locals op.AddIntWithCarry (Int v) (Int u) (Truth false) (Two (Truth carry) sum) stack areas refl refl
-      (add_row u v (map length areas)) refl
-      (pops_local here 6 locals 3 sum (Truth carry ∷ stack) areas refl
-      (jumps here 7 kept family.Bool test.T 12 (Truth carry) true stack areas refl (truth_test carry true (ap not h))
-      (fails here 12 kept stack areas refl refl refl (omega (arith, room))))))))))
-
-  subtracts : (a b c : Argument) → Ready row.MgIntegerSubtract → ArgumentFits stack Simple Integer a → ArgumentFits stack Simple Integer b
-      → ArgumentFits stack Simple Integer c →
-      is_int (item_of_value b.value -ℤ item_of_value c.value) ≡ true → Runs s row.MgIntegerSubtract (a ∷ b ∷ c ∷ []) stack
-      (from (Nat c.index ∷ Nat b.index ∷ Nat a.index ∷ stack)) (Normal (integer_value (item_of_value b.value -ℤ item_of_value c.value)))
-  unfolding predef_cost
-  subtracts a b c ready fa fb fc h =
-      let body = body_of row.MgIntegerSubtract in
-      let here = called body ready.found in
-      let room = ready.temp in
       let d = simple_argument stack Integer a fa in
+      let z = item_of_value b.value -ℤ item_of_value c.value in
+      let fits = sym (same_range z) ∙ h in
+      let result = subtract_row (item_of_value b.value) (item_of_value c.value) (map length areas) in
+      let e = ends a.index _ (integer_value z) (ap (λ z. Int z ∷ []) (sym (kept_is z fits))) in
+      does row.MgIntegerSubtract ready (a ∷ b ∷ c ∷ []) (Normal (integer_value z)) (refl, refl, refl)
+      (_, x.word, (_, y.word, (_, result, (false, truth_test _ false (ap not fits), (d.low, (refl, e))))))
+  subtracts a b c ready fa fb fc false h =
       let x = simple_argument stack Integer b fb in
       let y = simple_argument stack Integer c fc in
-      let u = item_of_value b.value in
-      let v = item_of_value c.value in
-      let carry = not (is_int (u -ℤ v)) in
-      let sum = Int (cast_signed w32 (wrapped (u -ℤ v))) in
-      let locals = Nat a.index ∷ Nat b.index ∷ Nat c.index ∷ Int (pos 0) ∷ [] in
-      let kept = Nat a.index ∷ Nat b.index ∷ Nat c.index ∷ sum ∷ [] in
-      let e : words_of_value (integer_value (u -ℤ v)) ≡ sum ∷ [] = ap (λ z. Int z ∷ []) (sym (kept_is (u -ℤ v) h)) in
-      written 13 46 a.index _ sum (integer_value (u -ℤ v)) e
-      (calls here ready.found (Nat c.index ∷ Nat b.index ∷ Nat a.index ∷ stack) areas at (omega arith) ready.ctrl
-      (pushes here 0 locals stack areas (Truth false) refl (omega (arith, room))
-      (gets here 1 locals (Truth false ∷ stack) areas 1 b.index (Int u) refl refl refl (element_over (Truth false) stack b.index (Int u) x.word)
-      (omega (arith, room))
-      (gets here 3 locals (Int u ∷ Truth false ∷ stack) areas 2 c.index (Int v) refl refl refl
-      (element_under_two (Int u) (Truth false) stack c.index (Int v) y.word) (omega (arith, room))
-      (applies_three here 5 locals op.SubIntWithCarry (Int v) (Int u) (Truth false) (Two (Truth carry) sum) stack areas refl refl
-      (subtract_row u v (map length areas)) refl
-      (pops_local here 6 locals 3 sum (Truth carry ∷ stack) areas refl
-      (jumps here 7 kept family.Bool test.T 12 (Truth carry) false stack areas refl (truth_test carry false (ap not h))
-      (pushes_local here 8 kept stack areas 3 sum refl refl (omega (arith, room))
-      (puts here 9 kept 0 a.index sum stack areas refl refl refl refl d.low (omega (arith, room)))))))))))
-
-  subtracts_beyond : (a b c : Argument) → Ready row.MgIntegerSubtract → ArgumentFits stack Simple Integer a → ArgumentFits stack Simple Integer b
-      → ArgumentFits stack Simple Integer c →
-      is_int (item_of_value b.value -ℤ item_of_value c.value) ≡ false → Runs s row.MgIntegerSubtract (a ∷ b ∷ c ∷ []) stack
-      (from (Nat c.index ∷ Nat b.index ∷ Nat a.index ∷ stack)) (Fault)
-  unfolding predef_cost
-  subtracts_beyond a b c ready fa fb fc h =
-      let body = body_of row.MgIntegerSubtract in
-      let here = called body ready.found in
-      let room = ready.temp in
-      let x = simple_argument stack Integer b fb in
-      let y = simple_argument stack Integer c fc in
-      let u = item_of_value b.value in
-      let v = item_of_value c.value in
-      let carry = not (is_int (u -ℤ v)) in
-      let sum = Int (cast_signed w32 (wrapped (u -ℤ v))) in
-      let locals = Nat a.index ∷ Nat b.index ∷ Nat c.index ∷ Int (pos 0) ∷ [] in
-      let kept = Nat a.index ∷ Nat b.index ∷ Nat c.index ∷ sum ∷ [] in
-      (calls here ready.found (Nat c.index ∷ Nat b.index ∷ Nat a.index ∷ stack) areas at (omega arith) ready.ctrl
-      (pushes here 0 locals stack areas (Truth false) refl (omega (arith, room))
-      (gets here 1 locals (Truth false ∷ stack) areas 1 b.index (Int u) refl refl refl (element_over (Truth false) stack b.index (Int u) x.word)
-      (omega (arith, room))
-      (gets here 3 locals (Int u ∷ Truth false ∷ stack) areas 2 c.index (Int v) refl refl refl
-      (element_under_two (Int u) (Truth false) stack c.index (Int v) y.word) (omega (arith, room))
-      (applies_three here 5 locals op.SubIntWithCarry (Int v) (Int u) (Truth false) (Two (Truth carry) sum) stack areas refl refl
-      (subtract_row u v (map length areas)) refl
-      (pops_local here 6 locals 3 sum (Truth carry ∷ stack) areas refl
-      (jumps here 7 kept family.Bool test.T 12 (Truth carry) true stack areas refl (truth_test carry true (ap not h))
-      (fails here 12 kept stack areas refl refl refl (omega (arith, room))))))))))
-
-  multiplies : (a b c : Argument) → Ready row.MgIntegerMultiply → ArgumentFits stack Simple Integer a → ArgumentFits stack Simple Integer b
-      → ArgumentFits stack Simple Integer c →
-      is_int (item_of_value b.value *ℤ item_of_value c.value) ≡ true → Runs s row.MgIntegerMultiply (a ∷ b ∷ c ∷ []) stack
-      (from (Nat c.index ∷ Nat b.index ∷ Nat a.index ∷ stack)) (Normal (integer_value (item_of_value b.value *ℤ item_of_value c.value)))
-  unfolding predef_cost
-  multiplies a b c ready fa fb fc h =
-      let d = simple_argument stack Integer a fa in
-      let x = simple_argument stack Integer b fb in
-      let y = simple_argument stack Integer c fc in
-      let u = item_of_value b.value in
-      let v = item_of_value c.value in
-      let fits : is_int v ≡ true = sym (same_range v) ∙ y.range in
-      written 921 2585 a.index _ (Int (u *ℤ v)) (integer_value (u *ℤ v)) refl
-      (calls (called (body_of row.MgIntegerMultiply) ready.found) ready.found (Nat c.index ∷ Nat b.index ∷ Nat a.index ∷ stack) areas at (omega arith)
-      ready.ctrl
-      (product_fits s program caller place f fs areas ready.found a.index b.index c.index u v stack x.word y.word ready.temp fits d.low h))
-
-  multiplies_beyond : (a b c : Argument) → Ready row.MgIntegerMultiply → ArgumentFits stack Simple Integer a → ArgumentFits stack Simple Integer b
-      → ArgumentFits stack Simple Integer c →
-      is_int (item_of_value b.value *ℤ item_of_value c.value) ≡ false → Runs s row.MgIntegerMultiply (a ∷ b ∷ c ∷ []) stack
-      (from (Nat c.index ∷ Nat b.index ∷ Nat a.index ∷ stack)) (Fault)
-  unfolding predef_cost
-  multiplies_beyond a b c ready fa fb fc h =
-      let x = simple_argument stack Integer b fb in
-      let y = simple_argument stack Integer c fc in
-      let u = item_of_value b.value in
-      let v = item_of_value c.value in
-      let fits : is_int v ≡ true = sym (same_range v) ∙ y.range in
-      calls (called (body_of row.MgIntegerMultiply) ready.found) ready.found (Nat c.index ∷ Nat b.index ∷ Nat a.index ∷ stack) areas at (omega arith) ready.ctrl
-      (product_overflows s program caller place f fs areas ready.found a.index b.index c.index u v stack x.word y.word ready.temp fits h)
+      let z = item_of_value b.value -ℤ item_of_value c.value in
+      let result = subtract_row (item_of_value b.value) (item_of_value c.value) (map length areas) in
+      does row.MgIntegerSubtract ready (a ∷ b ∷ c ∷ []) Fault (refl, refl, refl)
+      (_, x.word, (_, y.word, (_, result, (true, truth_test _ true (ap not (sym (same_range z) ∙ h)), (refl, refl)))))
 
   -- both rows of arrays look at the index first
-  reads_index : (found : slice_get s.programs program ≡ Some (body_of row.MgIndexArray)) → ChecksIndex (called (body_of row.MgIndexArray) found) 2
-  reads_index found = record {
-    reads = refl;
-    fetches = refl;
-    keeps = refl;
-    is_below = refl;
-    index = refl;
-    count = refl;
-    compares = refl;
-    is_beyond = refl;
-    fault = refl;
-    notes = refl;
-    ends = refl;
-  }
-
-  stores_index : (found : slice_get s.programs program ≡ Some (body_of row.MgArrayElementAssignment)) →
-      ChecksIndex (called (body_of row.MgArrayElementAssignment) found) 1
-  stores_index found = record {
-    reads = refl;
-    fetches = refl;
-    keeps = refl;
-    is_below = refl;
-    index = refl;
-    count = refl;
-    compares = refl;
-    is_beyond = refl;
-    fault = refl;
-    notes = refl;
-    ends = refl;
-  }
-
-  reads_below_zero : (a b c : Argument) → Ready row.MgIndexArray → ArgumentFits stack Simple k a → ArgumentFits stack Array k b
-      → ArgumentFits stack Simple Integer c →
-      is_negative (item_of_value c.value) ≡ true → Runs s row.MgIndexArray (a ∷ b ∷ c ∷ []) stack
-      (from (length_word b.value ∷ Nat c.index ∷ Nat b.index ∷ Nat a.index ∷ stack)) (Fault)
+  reads_below_zero : (a b c : Argument) → Ready row.MgIndexArray → Fits Simple k a → Fits Array k b → Fits Simple Integer c →
+      is_negative (item_of_value c.value) ≡ true → Does row.MgIndexArray (a ∷ b ∷ c ∷ []) Fault
   unfolding predef_cost
-  reads_below_zero a b c ready fa fb fc hn =
-      let here = called (body_of row.MgIndexArray) ready.found in
-      calls here ready.found (length_word b.value ∷ Nat c.index ∷ Nat b.index ∷ Nat a.index ∷ stack) areas at (omega arith) ready.ctrl
-      (index_below here 2 (reads_index ready.found) (Nat a.index) (Nat b.index) (Nat c.index)
-      (pos (item_count b.value.shape)) (item_of_value c.value) stack areas c.index
-      refl (simple_argument stack Integer c fc).word (omega (arith, ready.temp)) hn)
+  reads_below_zero a b c ready fa fb fc below =
+      does row.MgIndexArray ready (a ∷ b ∷ c ∷ []) Fault (refl, refl, refl)
+      (_, (simple_argument stack Integer c fc).word, (true, negative_test (item_of_value c.value) ∙ ap Ok below, (refl, refl)))
 
-  reads_beyond : (a b c : Argument) → Ready row.MgIndexArray → ArgumentFits stack Simple k a → ArgumentFits stack Array k b
-      → ArgumentFits stack Simple Integer c →
-      is_negative (item_of_value c.value) ≡ false → int_lt (item_of_value c.value) (pos (item_count b.value.shape)) ≡ false
-      → Runs s row.MgIndexArray (a ∷ b ∷ c ∷ []) stack (from (length_word b.value ∷ Nat c.index ∷ Nat b.index ∷ Nat a.index ∷ stack)) (Beyond)
+  reads_beyond : (a b c : Argument) → Ready row.MgIndexArray → Fits Simple k a → Fits Array k b → Fits Simple Integer c →
+      is_negative (item_of_value c.value) ≡ false → int_lt (item_of_value c.value) (pos (item_count b.value.shape)) ≡ false →
+      Does row.MgIndexArray (a ∷ b ∷ c ∷ []) Beyond
   unfolding predef_cost
-  reads_beyond a b c ready fa fb fc hn hl =
-      let here = called (body_of row.MgIndexArray) ready.found in
-      calls here ready.found (length_word b.value ∷ Nat c.index ∷ Nat b.index ∷ Nat a.index ∷ stack) areas at (omega arith) ready.ctrl
-      (index_beyond here 2 (reads_index ready.found) (Nat a.index) (Nat b.index) (Nat c.index)
-      (pos (item_count b.value.shape)) (item_of_value c.value) stack areas c.index
-      refl (simple_argument stack Integer c fc).word (omega (arith, ready.temp)) hn hl)
-
-  reads : (a b c : Argument) → Ready row.MgIndexArray → ArgumentFits stack Simple k a → ArgumentFits stack Array k b → ArgumentFits stack Simple Integer c →
-      (i : ℕ) → item_of_value c.value ≡ pos i → i < length b.value.items → Runs s row.MgIndexArray (a ∷ b ∷ c ∷ []) stack
-      (from (length_word b.value ∷ Nat c.index ∷ Nat b.index ∷ Nat a.index ∷ stack))
-      (Normal record { shape = simple b.value.shape.kind; items = get_or b.value.items i (pos 0) ∷ [] })
-  unfolding predef_cost
-  reads a b c ready fa fb fc i hi h =
-      let here = called (body_of row.MgIndexArray) ready.found in
-      let room = ready.temp in
+  reads_beyond a b c ready fa fb fc below less =
       let at_index = simple_argument stack Integer c fc in
+      let sign = negative_test (item_of_value c.value) ∙ ap Ok below in
+      does row.MgIndexArray ready (a ∷ b ∷ c ∷ []) Beyond (refl, refl, refl)
+      (_, at_index.word, (false, sign, (_, refl, (true, false_test _ true (ap not less), (refl, refl)))))
+
+  reads : (a b c : Argument) → Ready row.MgIndexArray → Fits Simple k a → Fits Array k b → Fits Simple Integer c →
+      (i : ℕ) → item_of_value c.value ≡ pos i → i < length b.value.items →
+      Does row.MgIndexArray (a ∷ b ∷ c ∷ []) (Normal record { shape = simple b.value.shape.kind; items = get_or b.value.items i (pos 0) ∷ [] })
+  unfolding predef_cost
+  reads a b c ready fa fb fc i is h =
       let z = item_of_value c.value in
       let n = pos (item_count b.value.shape) in
-      let kept = Nat a.index ∷ Nat b.index ∷ Nat c.index ∷ Int n ∷ Int z ∷ [] in
-      let hn : is_negative z ≡ false = ap is_negative hi in
-      let hl : int_lt z n ≡ true = ap (λ z. int_lt z n) hi ∙ ap (nat_lt i) (sym fb.1.number) ∙ lt-ltb i (length b.value.items) h in
+      let below : is_negative z ≡ false = ap is_negative is in
+      let less : int_lt z n ≡ true = ap (λ z. int_lt z n) is ∙ ap (nat_lt i) (sym fb.1.number) ∙ lt-ltb i (length b.value.items) h in
+      let at_index = simple_argument stack Integer c fc in
+      let d = simple_argument stack k a fa in
+      let sign = negative_test z ∙ ap Ok below in
+      let inside = false_test (int_lt z n) false (ap not less) in
       let word = array_word stack k b i fb h in
       let low : b.index + i < length stack = element_there stack (b.index + i) _ word in
       let number : words.row_of op.IntToNat (Int z) (Int z) (Int z) (map length areas) ≡ Ok (One (Nat i)) =
-      ap (λ y. words.row_of op.IntToNat (Int z) (Int z) (Int y) (map length areas)) hi
-      ∙ to_nat_row i (Int z) (map length areas) (omega (arith, low, room, small)) in
-      let sum = add_nat_row b.index i (Nat i) (map length areas) (omega (arith, low, room, small)) in
-      let d = simple_argument stack k a fa in
-      let item = get_or b.value.items i (pos 0) in
-      let w = word_of_item b.value.shape.kind item in
-      written 17 54 a.index _ w record { shape = simple b.value.shape.kind; items = item ∷ [] } refl
-      (calls here ready.found (length_word b.value ∷ Nat c.index ∷ Nat b.index ∷ Nat a.index ∷ stack) areas at (omega arith) ready.ctrl
-      (index_inside here 2 (reads_index ready.found) (Nat a.index) (Nat b.index) (Nat c.index)
-      n z stack areas c.index refl at_index.word (omega (arith, room)) hn hl
-      (pushes_local here 8 kept stack areas 1 (Nat b.index) refl refl (omega (arith, room))
-      (pushes_local here 9 kept (Nat b.index ∷ stack) areas 4 (Int z) refl refl (omega (arith, room))
-      (applies_one here 10 kept op.IntToNat (Int z) (One (Nat i)) (Nat b.index ∷ stack) areas refl refl number refl
-      (applies_two here 11 kept op.AddNat (Nat i) (Nat b.index) (One (Nat (b.index + i))) stack areas refl refl sum refl
-      (fetches here 12 kept (b.index + i) w stack areas refl word
-      (puts here 13 kept 0 a.index w stack areas refl refl refl refl d.low (omega (arith, room))))))))))
+      ap (λ y. words.row_of op.IntToNat (Int z) (Int z) (Int y) (map length areas)) is
+      ∙ to_nat_row i (Int z) (map length areas) (omega (arith, low, ready.temp, small)) in
+      let sum = add_nat_row b.index i (Nat i) (map length areas) (omega (arith, low, ready.temp, small)) in
+      let value : ValueOf = record { shape = simple b.value.shape.kind; items = get_or b.value.items i (pos 0) ∷ [] } in
+      does row.MgIndexArray ready (a ∷ b ∷ c ∷ []) (Normal value) (refl, refl, refl)
+      (_, at_index.word, (false, sign, (_, refl, (false, inside, (_, number, (_, sum, (_, word, (d.low, (refl, refl)))))))))
 
-  stores_below_zero : (a b c : Argument) → Ready row.MgArrayElementAssignment → ArgumentFits stack Array k a → ArgumentFits stack Simple Integer b
-      → ArgumentFits stack Simple k c →
-      is_negative (item_of_value b.value) ≡ true → Runs s row.MgArrayElementAssignment (a ∷ b ∷ c ∷ []) stack
-      (from (length_word a.value ∷ Nat c.index ∷ Nat b.index ∷ Nat a.index ∷ stack)) (Fault)
+  stores_below_zero : (a b c : Argument) → Ready row.MgArrayElementAssignment → Fits Array k a → Fits Simple Integer b → Fits Simple k c →
+      is_negative (item_of_value b.value) ≡ true → Does row.MgArrayElementAssignment (a ∷ b ∷ c ∷ []) Fault
   unfolding predef_cost
-  stores_below_zero a b c ready fa fb fc hn =
-      let here = called (body_of row.MgArrayElementAssignment) ready.found in
-      calls here ready.found (length_word a.value ∷ Nat c.index ∷ Nat b.index ∷ Nat a.index ∷ stack) areas at (omega arith) ready.ctrl
-      (index_below here 1 (stores_index ready.found) (Nat a.index) (Nat b.index) (Nat c.index)
-      (pos (item_count a.value.shape)) (item_of_value b.value) stack areas b.index
-      refl (simple_argument stack Integer b fb).word (omega (arith, ready.temp)) hn)
+  stores_below_zero a b c ready fa fb fc below =
+      does row.MgArrayElementAssignment ready (a ∷ b ∷ c ∷ []) Fault (refl, refl, refl)
+      (_, (simple_argument stack Integer b fb).word, (true, negative_test (item_of_value b.value) ∙ ap Ok below, (refl, refl)))
 
-  stores_beyond : (a b c : Argument) → Ready row.MgArrayElementAssignment → ArgumentFits stack Array k a → ArgumentFits stack Simple Integer b
-      → ArgumentFits stack Simple k c →
-      is_negative (item_of_value b.value) ≡ false → int_lt (item_of_value b.value) (pos (item_count a.value.shape)) ≡ false
-      → Runs s row.MgArrayElementAssignment (a ∷ b ∷ c ∷ []) stack (from (length_word a.value ∷ Nat c.index ∷ Nat b.index ∷ Nat a.index ∷ stack))
-      (Beyond)
+  stores_beyond : (a b c : Argument) → Ready row.MgArrayElementAssignment → Fits Array k a → Fits Simple Integer b → Fits Simple k c →
+      is_negative (item_of_value b.value) ≡ false → int_lt (item_of_value b.value) (pos (item_count a.value.shape)) ≡ false →
+      Does row.MgArrayElementAssignment (a ∷ b ∷ c ∷ []) Beyond
   unfolding predef_cost
-  stores_beyond a b c ready fa fb fc hn hl =
-      let here = called (body_of row.MgArrayElementAssignment) ready.found in
-      calls here ready.found (length_word a.value ∷ Nat c.index ∷ Nat b.index ∷ Nat a.index ∷ stack) areas at (omega arith) ready.ctrl
-      (index_beyond here 1 (stores_index ready.found) (Nat a.index) (Nat b.index) (Nat c.index)
-      (pos (item_count a.value.shape)) (item_of_value b.value) stack areas b.index
-      refl (simple_argument stack Integer b fb).word (omega (arith, ready.temp)) hn hl)
+  stores_beyond a b c ready fa fb fc below less =
+      let at_index = simple_argument stack Integer b fb in
+      let sign = negative_test (item_of_value b.value) ∙ ap Ok below in
+      does row.MgArrayElementAssignment ready (a ∷ b ∷ c ∷ []) Beyond (refl, refl, refl)
+      (_, at_index.word, (false, sign, (_, refl, (true, false_test _ true (ap not less), (refl, refl)))))
 
-  stores : (a b c : Argument) → Ready row.MgArrayElementAssignment → ArgumentFits stack Array k a → ArgumentFits stack Simple Integer b
-      → ArgumentFits stack Simple k c →
-      (i : ℕ) → item_of_value b.value ≡ pos i → i < length a.value.items → Runs s row.MgArrayElementAssignment (a ∷ b ∷ c ∷ []) stack
-      (from (length_word a.value ∷ Nat c.index ∷ Nat b.index ∷ Nat a.index ∷ stack))
+  stores : (a b c : Argument) → Ready row.MgArrayElementAssignment → Fits Array k a → Fits Simple Integer b → Fits Simple k c →
+      (i : ℕ) → item_of_value b.value ≡ pos i → i < length a.value.items → Does row.MgArrayElementAssignment (a ∷ b ∷ c ∷ [])
       (Normal record { shape = a.value.shape; items = slice_set a.value.items i (item_of_value c.value) })
   unfolding predef_cost
-  stores a b c ready fa fb fc i hi h =
-      let here = called (body_of row.MgArrayElementAssignment) ready.found in
-      let room = ready.temp in
-      let at_index = simple_argument stack Integer b fb in
+  stores a b c ready fa fb fc i is h =
       let z = item_of_value b.value in
       let n = pos (item_count a.value.shape) in
-      let kept = Nat a.index ∷ Nat b.index ∷ Nat c.index ∷ Int n ∷ Int z ∷ [] in
-      let hn : is_negative z ≡ false = ap is_negative hi in
-      let hl : int_lt z n ≡ true = ap (λ z. int_lt z n) hi ∙ ap (nat_lt i) (sym fa.1.number) ∙ lt-ltb i (length a.value.items) h in
-      let word = array_word stack k a i fa h in
-      let low : a.index + i < length stack = element_there stack (a.index + i) _ word in
-      let number : words.row_of op.IntToNat (Int z) (Int z) (Int z) (map length areas) ≡ Ok (One (Nat i)) =
-      ap (λ y. words.row_of op.IntToNat (Int z) (Int z) (Int y) (map length areas)) hi
-      ∙ to_nat_row i (Int z) (map length areas) (omega (arith, low, room, small)) in
-      let sum = add_nat_row a.index i (Nat i) (map length areas) (omega (arith, low, room, small)) in
+      let below : is_negative z ≡ false = ap is_negative is in
+      let less : int_lt z n ≡ true = ap (λ z. int_lt z n) is ∙ ap (nat_lt i) (sym fa.1.number) ∙ lt-ltb i (length a.value.items) h in
+      let at_index = simple_argument stack Integer b fb in
       let x = simple_argument stack k c fc in
+      let sign = negative_test z ∙ ap Ok below in
+      let within = false_test (int_lt z n) false (ap not less) in
+      let low : a.index + i < length stack = element_there stack (a.index + i) _ (array_word stack k a i fa h) in
+      let number : words.row_of op.IntToNat (Int z) (Int z) (Int z) (map length areas) ≡ Ok (One (Nat i)) =
+      ap (λ y. words.row_of op.IntToNat (Int z) (Int z) (Int y) (map length areas)) is
+      ∙ to_nat_row i (Int z) (map length areas) (omega (arith, low, ready.temp, small)) in
+      let sum = add_nat_row a.index i (Nat i) (map length areas) (omega (arith, low, ready.temp, small)) in
       let item = item_of_value c.value in
-      let w = word_of_item k item in
-      let kind : word_of_item a.value.shape.kind item ≡ w = ap (λ k. word_of_item k item) fa.0 in
-      let inside : i < length (words_of_value a.value) = omega (arith, h, length-map a.value.items (word_of_item a.value.shape.kind)) in
-      let out : with_elements stack a.index (words_of_value record { shape = a.value.shape; items = slice_set a.value.items i item })
-      ≡ with_element stack (a.index + i) w =
-      ap (with_elements stack a.index) (map-set (word_of_item a.value.shape.kind) a.value.items i item)
-      ∙ written_one (words_of_value a.value) stack a.index i (word_of_item a.value.shape.kind item) fa.2 inside
-      ∙ ap (with_element stack (a.index + i)) kind in
-      stored 17 54 _ _ _ out
-      (calls here ready.found (length_word a.value ∷ Nat c.index ∷ Nat b.index ∷ Nat a.index ∷ stack) areas at (omega arith) ready.ctrl
-      (index_inside here 1 (stores_index ready.found) (Nat a.index) (Nat b.index) (Nat c.index)
-      n z stack areas b.index refl at_index.word (omega (arith, room)) hn hl
-      (gets here 8 kept stack areas 2 c.index w refl refl refl x.word (omega (arith, room))
-      (pushes_local here 10 kept (w ∷ stack) areas 0 (Nat a.index) refl refl (omega (arith, room))
-      (pushes_local here 11 kept (Nat a.index ∷ w ∷ stack) areas 4 (Int z) refl refl (omega (arith, room))
-      (applies_one here 12 kept op.IntToNat (Int z) (One (Nat i)) (Nat a.index ∷ w ∷ stack) areas refl refl number refl
-      (applies_two here 13 kept op.AddNat (Nat i) (Nat a.index) (One (Nat (a.index + i))) (w ∷ stack) areas refl refl sum refl
-      (deposits here 14 kept (a.index + i) w stack areas refl low
-      (returns here 15 kept (with_element stack (a.index + i) w) areas refl)))))))))
+      let kind = a.value.shape.kind in
+      let inside : i < length (words_of_value a.value) = omega (arith, h, length-map a.value.items (word_of_item kind)) in
+      let out = ap (with_elements stack a.index) (map-set (word_of_item kind) a.value.items i item)
+      ∙ written_one (words_of_value a.value) stack a.index i (word_of_item kind item) fa.2 inside
+      ∙ ap (λ k. with_element stack (a.index + i) (word_of_item k item)) fa.0 in
+      let value : ValueOf = record { shape = a.value.shape; items = slice_set a.value.items i item } in
+      does row.MgArrayElementAssignment ready (a ∷ b ∷ c ∷ []) (Normal value) (refl, refl, refl)
+      (_, at_index.word, (false, sign, (_, refl, (false, within, (_, x.word, (_, number, (_, sum, (low, (refl, ap after (sym out))))))))))
 
-  -- The rows whose outcome depends on the values.
+  multiplies : (a b c : Argument) → Ready row.MgIntegerMultiply → Fits Simple Integer a → Fits Simple Integer b → Fits Simple Integer c → (t : Bool) →
+      is_in_range Integer (item_of_value b.value *ℤ item_of_value c.value) ≡ t →
+      Does row.MgIntegerMultiply (a ∷ b ∷ c ∷ []) (if t then Normal (integer_value (item_of_value b.value *ℤ item_of_value c.value)) else Fault)
+  unfolding predef_cost
+  multiplies a b c ready fa fb fc true h =
+      let u = item_of_value b.value in
+      let v = item_of_value c.value in
+      let y = simple_argument stack Integer c fc in
+      calls (called (body_of row.MgIntegerMultiply) ready.found) ready.found (Nat c.index ∷ Nat b.index ∷ Nat a.index ∷ stack) areas at (omega arith) ready.ctrl
+      (product_fits s program caller place f fs areas ready.found a.index b.index c.index u v stack (simple_argument stack Integer b fb).word y.word
+      ready.temp (sym (same_range v) ∙ y.range) (simple_argument stack Integer a fa).low (sym (same_range (u *ℤ v)) ∙ h))
+  multiplies a b c ready fa fb fc false h =
+      let u = item_of_value b.value in
+      let v = item_of_value c.value in
+      let y = simple_argument stack Integer c fc in
+      calls (called (body_of row.MgIntegerMultiply) ready.found) ready.found (Nat c.index ∷ Nat b.index ∷ Nat a.index ∷ stack) areas at (omega arith) ready.ctrl
+      (product_overflows s program caller place f fs areas ready.found a.index b.index c.index u v stack (simple_argument stack Integer b fb).word y.word
+      ready.temp (sym (same_range v) ∙ y.range) (sym (same_range (u *ℤ v)) ∙ h))
 
-  minus_runs : (a b : Argument) → Ready row.MgIntegerUnaryMinus → ArgumentFits stack Simple Integer a → ArgumentFits stack Simple Integer b →
-      (least : Bool) → are_same_ints (item_of_value b.value) (negsuc 2147483647) ≡ least →
-      Runs s row.MgIntegerUnaryMinus (a ∷ b ∷ []) stack (from (Nat b.index ∷ Nat a.index ∷ stack)) (number_effect (neg_ℤ (item_of_value b.value)))
-  minus_runs a b ready fa fb least h =
-      subst (λ t. Runs s row.MgIntegerUnaryMinus (a ∷ b ∷ []) stack (from (Nat b.index ∷ Nat a.index ∷ stack))
-      (if t then Normal (integer_value (neg_ℤ (item_of_value b.value))) else Fault))
-      (sym (minus_range (item_of_value b.value) (simple_argument stack Integer b fb).range ∙ ap not h)) (pick least h)
-    where
-      pick : (least : Bool) → are_same_ints (item_of_value b.value) (negsuc 2147483647) ≡ least →
-          Runs s row.MgIntegerUnaryMinus (a ∷ b ∷ []) stack (from (Nat b.index ∷ Nat a.index ∷ stack))
-          (if not least then Normal (integer_value (neg_ℤ (item_of_value b.value))) else Fault)
-      pick true h = minuses_least a b ready fa fb h
-      pick false h = minuses a b ready fa fb h
-
-  add_runs : (a b c : Argument) → Ready row.MgIntegerAdd → ArgumentFits stack Simple Integer a → ArgumentFits stack Simple Integer b
-      → ArgumentFits stack Simple Integer c →
-      Runs s row.MgIntegerAdd (a ∷ b ∷ c ∷ []) stack (from (Nat c.index ∷ Nat b.index ∷ Nat a.index ∷ stack))
-      (number_effect (item_of_value b.value +ℤ item_of_value c.value))
-  add_runs a b c ready fa fb fc =
-      pick (is_in_range Integer (item_of_value b.value +ℤ item_of_value c.value)) (sym (same_range (item_of_value b.value +ℤ item_of_value c.value)))
-    where
-      pick : (t : Bool) → is_int (item_of_value b.value +ℤ item_of_value c.value) ≡ t →
-          Runs s row.MgIntegerAdd (a ∷ b ∷ c ∷ []) stack (from (Nat c.index ∷ Nat b.index ∷ Nat a.index ∷ stack))
-          (if t then Normal (integer_value (item_of_value b.value +ℤ item_of_value c.value)) else Fault)
-      pick true h = adds a b c ready fa fb fc h
-      pick false h = adds_beyond a b c ready fa fb fc h
-
-  subtract_runs : (a b c : Argument) → Ready row.MgIntegerSubtract → ArgumentFits stack Simple Integer a → ArgumentFits stack Simple Integer b
-      → ArgumentFits stack Simple Integer c →
-      Runs s row.MgIntegerSubtract (a ∷ b ∷ c ∷ []) stack (from (Nat c.index ∷ Nat b.index ∷ Nat a.index ∷ stack))
-      (number_effect (item_of_value b.value -ℤ item_of_value c.value))
-  subtract_runs a b c ready fa fb fc =
-      pick (is_in_range Integer (item_of_value b.value -ℤ item_of_value c.value)) (sym (same_range (item_of_value b.value -ℤ item_of_value c.value)))
-    where
-      pick : (t : Bool) → is_int (item_of_value b.value -ℤ item_of_value c.value) ≡ t →
-          Runs s row.MgIntegerSubtract (a ∷ b ∷ c ∷ []) stack (from (Nat c.index ∷ Nat b.index ∷ Nat a.index ∷ stack))
-          (if t then Normal (integer_value (item_of_value b.value -ℤ item_of_value c.value)) else Fault)
-      pick true h = subtracts a b c ready fa fb fc h
-      pick false h = subtracts_beyond a b c ready fa fb fc h
-
-  multiply_runs : (a b c : Argument) → Ready row.MgIntegerMultiply → ArgumentFits stack Simple Integer a → ArgumentFits stack Simple Integer b
-      → ArgumentFits stack Simple Integer c →
-      Runs s row.MgIntegerMultiply (a ∷ b ∷ c ∷ []) stack (from (Nat c.index ∷ Nat b.index ∷ Nat a.index ∷ stack))
-      (number_effect (item_of_value b.value *ℤ item_of_value c.value))
-  multiply_runs a b c ready fa fb fc =
-      pick (is_in_range Integer (item_of_value b.value *ℤ item_of_value c.value)) (sym (same_range (item_of_value b.value *ℤ item_of_value c.value)))
-    where
-      pick : (t : Bool) → is_int (item_of_value b.value *ℤ item_of_value c.value) ≡ t →
-          Runs s row.MgIntegerMultiply (a ∷ b ∷ c ∷ []) stack (from (Nat c.index ∷ Nat b.index ∷ Nat a.index ∷ stack))
-          (if t then Normal (integer_value (item_of_value b.value *ℤ item_of_value c.value)) else Fault)
-      pick true h = multiplies a b c ready fa fb fc h
-      pick false h = multiplies_beyond a b c ready fa fb fc h
-
-  read_runs : (a b c : Argument) → Ready row.MgIndexArray → ArgumentFits stack Simple k a → ArgumentFits stack Array k b → ArgumentFits stack Simple Integer c →
-      (z : ℤ) → item_of_value c.value ≡ z →
-      Runs s row.MgIndexArray (a ∷ b ∷ c ∷ []) stack (from (length_word b.value ∷ Nat c.index ∷ Nat b.index ∷ Nat a.index ∷ stack)) (indexed b.value z)
+  -- an index that is too low, inside or too high
+  read_runs : (a b c : Argument) → Ready row.MgIndexArray → Fits Simple k a → Fits Array k b → Fits Simple Integer c →
+      (z : ℤ) → item_of_value c.value ≡ z → Does row.MgIndexArray (a ∷ b ∷ c ∷ []) (indexed b.value z)
   read_runs a b c ready fa fb fc (negsuc m) e = reads_below_zero a b c ready fa fb fc (ap is_negative e)
   read_runs a b c ready fa fb fc (pos i) e = pick (nat_lt i (length b.value.items)) refl
     where
-      pick : (t : Bool) → nat_lt i (length b.value.items) ≡ t →
-          Runs s row.MgIndexArray (a ∷ b ∷ c ∷ []) stack (from (length_word b.value ∷ Nat c.index ∷ Nat b.index ∷ Nat a.index ∷ stack))
+      pick : (t : Bool) → nat_lt i (length b.value.items) ≡ t → Does row.MgIndexArray (a ∷ b ∷ c ∷ [])
           (if t then Normal record { shape = simple b.value.shape.kind; items = get_or b.value.items i (pos 0) ∷ [] } else Beyond)
       pick true h = reads a b c ready fa fb fc i e (ltb-true i (length b.value.items) h)
       pick false h =
           reads_beyond a b c ready fa fb fc (ap is_negative e)
           (ap (λ z. int_lt z (pos (item_count b.value.shape))) e ∙ ap (nat_lt i) (sym fb.1.number) ∙ h)
 
-  store_runs : (a b c : Argument) → Ready row.MgArrayElementAssignment → ArgumentFits stack Array k a → ArgumentFits stack Simple Integer b
-      → ArgumentFits stack Simple k c →
-      (z : ℤ) → item_of_value b.value ≡ z →
-      Runs s row.MgArrayElementAssignment (a ∷ b ∷ c ∷ []) stack (from (length_word a.value ∷ Nat c.index ∷ Nat b.index ∷ Nat a.index ∷ stack))
-      (effects.stored a.value z (item_of_value c.value))
+  store_runs : (a b c : Argument) → Ready row.MgArrayElementAssignment → Fits Array k a → Fits Simple Integer b → Fits Simple k c →
+      (z : ℤ) → item_of_value b.value ≡ z → Does row.MgArrayElementAssignment (a ∷ b ∷ c ∷ []) (effects.stored a.value z (item_of_value c.value))
   store_runs a b c ready fa fb fc (negsuc m) e = stores_below_zero a b c ready fa fb fc (ap is_negative e)
   store_runs a b c ready fa fb fc (pos i) e = pick (nat_lt i (length a.value.items)) refl
     where
-      pick : (t : Bool) → nat_lt i (length a.value.items) ≡ t →
-          Runs s row.MgArrayElementAssignment (a ∷ b ∷ c ∷ []) stack (from (length_word a.value ∷ Nat c.index ∷ Nat b.index ∷ Nat a.index ∷ stack))
+      pick : (t : Bool) → nat_lt i (length a.value.items) ≡ t → Does row.MgArrayElementAssignment (a ∷ b ∷ c ∷ [])
           (if t then Normal record { shape = a.value.shape; items = slice_set a.value.items i (item_of_value c.value) } else Beyond)
       pick true h = stores a b c ready fa fb fc i e (ltb-true i (length a.value.items) h)
       pick false h =
@@ -687,43 +396,42 @@ module _ (s : SystemView) (program caller place : ℕ) (f : Frame) (fs : List Fr
 
   -- All rows.
 
-  abbrev Does : Predef → List Argument → Type 0
-  Does r args = Runs s r args stack (from (with_arguments r args stack)) (predef_effect r (values_of args))
+  abbrev Row : Predef → List Argument → Type 0
+  Row r args = Does r args (predef_effect r (values_of args))
 
-  row_runs : (r : Predef) (args : List Argument) → Ready r → ArgumentsFit stack k (slots_of r) args → Does r args
+  row_runs : (r : Predef) (args : List Argument) → Ready r → ArgumentsFit stack k (slots_of r) args → Row r args
   unfolding predef_effect
   row_runs row.MgSimpleVariableAssignment args ready fit =
-      for_two stack k (shared Simple) (shared Simple) (Does row.MgSimpleVariableAssignment) (λ a b fa fb. assigns_variable a b ready fa fb) args fit
+      for_two stack k (shared Simple) (shared Simple) (Row row.MgSimpleVariableAssignment) (λ a b fa fb. assigns_variable a b ready fa fb) args fit
   row_runs row.MgSimpleConstantAssignment args ready fit =
-      for_two stack k (shared Simple) (shared Literal) (Does row.MgSimpleConstantAssignment) (λ a b fa fb. assigns_constant a b ready fa fb) args fit
+      for_two stack k (shared Simple) (shared Literal) (Row row.MgSimpleConstantAssignment) (λ a b fa fb. assigns_constant a b ready fa fb) args fit
   row_runs row.MgSimpleVariableEq args ready fit =
-      for_three stack k boolean_slot (shared Simple) (shared Simple) (Does row.MgSimpleVariableEq) (λ a b c fa fb fc. equals a b c ready fa fb fc) args fit
+      for_three stack k boolean_slot (shared Simple) (shared Simple) (Row row.MgSimpleVariableEq) (λ a b c fa fb fc. equals a b c ready fa fb fc) args fit
   row_runs row.MgSimpleConstantEq args ready fit =
-      for_three stack k boolean_slot (shared Simple) (shared Literal) (Does row.MgSimpleConstantEq)
+      for_three stack k boolean_slot (shared Simple) (shared Literal) (Row row.MgSimpleConstantEq)
       (λ a b c fa fb fc. equals_constant a b c ready fa fb fc) args fit
   row_runs row.MgIntegerLe args ready fit =
-      for_three stack k boolean_slot integer_slot integer_slot (Does row.MgIntegerLe) (λ a b c fa fb fc. compares a b c ready fa fb fc) args fit
+      for_three stack k boolean_slot integer_slot integer_slot (Row row.MgIntegerLe) (λ a b c fa fb fc. compares a b c ready fa fb fc) args fit
   row_runs row.MgIntegerUnaryMinus args ready fit =
-      for_two stack k integer_slot integer_slot (Does row.MgIntegerUnaryMinus)
-      (λ a b fa fb. minus_runs a b ready fa fb (are_same_ints (item_of_value b.value) (negsuc 2147483647)) refl) args fit
+      for_two stack k integer_slot integer_slot (Row row.MgIntegerUnaryMinus) (λ a b fa fb. minuses a b ready fa fb _ refl) args fit
   row_runs row.MgIntegerAdd args ready fit =
-      for_three stack k integer_slot integer_slot integer_slot (Does row.MgIntegerAdd) (λ a b c fa fb fc. add_runs a b c ready fa fb fc) args fit
+      for_three stack k integer_slot integer_slot integer_slot (Row row.MgIntegerAdd) (λ a b c fa fb fc. adds a b c ready fa fb fc _ refl) args fit
   row_runs row.MgIntegerSubtract args ready fit =
-      for_three stack k integer_slot integer_slot integer_slot (Does row.MgIntegerSubtract) (λ a b c fa fb fc. subtract_runs a b c ready fa fb fc) args fit
+      for_three stack k integer_slot integer_slot integer_slot (Row row.MgIntegerSubtract) (λ a b c fa fb fc. subtracts a b c ready fa fb fc _ refl) args fit
   row_runs row.MgBooleanOr args ready fit =
-      for_three stack k boolean_slot boolean_slot boolean_slot (Does row.MgBooleanOr) (λ a b c fa fb fc. ors a b c ready fa fb fc) args fit
+      for_three stack k boolean_slot boolean_slot boolean_slot (Row row.MgBooleanOr) (λ a b c fa fb fc. ors a b c ready fa fb fc) args fit
   row_runs row.MgBooleanAnd args ready fit =
-      for_three stack k boolean_slot boolean_slot boolean_slot (Does row.MgBooleanAnd) (λ a b c fa fb fc. ands a b c ready fa fb fc) args fit
+      for_three stack k boolean_slot boolean_slot boolean_slot (Row row.MgBooleanAnd) (λ a b c fa fb fc. ands a b c ready fa fb fc) args fit
   row_runs row.MgBooleanNot args ready fit =
-      for_two stack k boolean_slot boolean_slot (Does row.MgBooleanNot) (λ a b fa fb. negates a b ready fa fb) args fit
+      for_two stack k boolean_slot boolean_slot (Row row.MgBooleanNot) (λ a b fa fb. negates a b ready fa fb) args fit
   row_runs row.MgIndexArray args ready fit =
-      for_three stack k (shared Simple) (shared Array) integer_slot (Does row.MgIndexArray)
+      for_three stack k (shared Simple) (shared Array) integer_slot (Row row.MgIndexArray)
       (λ a b c fa fb fc. read_runs a b c ready fa fb fc (item_of_value c.value) refl) args fit
   row_runs row.MgArrayElementAssignment args ready fit =
-      for_three stack k (shared Array) integer_slot (shared Simple) (Does row.MgArrayElementAssignment)
+      for_three stack k (shared Array) integer_slot (shared Simple) (Row row.MgArrayElementAssignment)
       (λ a b c fa fb fc. store_runs a b c ready fa fb fc (item_of_value b.value) refl) args fit
   row_runs row.MgIntegerMultiply args ready fit =
-      for_three stack k integer_slot integer_slot integer_slot (Does row.MgIntegerMultiply) (λ a b c fa fb fc. multiply_runs a b c ready fa fb fc) args fit
+      for_three stack k integer_slot integer_slot integer_slot (Row row.MgIntegerMultiply) (λ a b c fa fb fc. multiplies a b c ready fa fb fc _ refl) args fit
 
 pub counts : CountsAdd
 unfolding predef_cost

@@ -24,9 +24,6 @@ element_is stack i h = ap (λ b. if b then slice_get stack (length stack - 1 - i
 pub element_over : (v : Word) (stack : List Word) (i : ℕ) (w : Word) → element stack i ≡ Some w → element (v ∷ stack) i ≡ Some w
 element_over v stack i w h = element_below v stack i (element_there stack i w h) ∙ h
 
-pub element_under_two : (u v : Word) (stack : List Word) (i : ℕ) (w : Word) → element stack i ≡ Some w → element (u ∷ v ∷ stack) i ≡ Some w
-element_under_two u v stack i w h = element_over u (v ∷ stack) i w (element_over v stack i w h)
-
 -- Words written.
 
 same_element : (stack : List Word) (i : ℕ) (w : Word) → element stack i ≡ Some w → with_element stack i w ≡ stack
