@@ -1,0 +1,5 @@
+pub mod WindowLaws
+pub mod ExitLaws
+pub mod MainLaws
+pub mod SpendLaws
+pub mod ExampleLaws

@@ -1,0 +1,3 @@
+pub mod QuickImage
+pub mod QuickImplements
+pub mod QuickExamples

@@ -1,0 +1,8 @@
+//! Quick images of sources.
+#![tactic(auto)]
+
+mod laws;
+
+pub use laws::{
+    quick_images_end_as_meant, quick_images_implement, quick_programs_are_no_slower, upto_is_quick,
+};

@@ -1,0 +1,4 @@
+pub mod Access
+pub mod Moments
+pub mod Pieces
+pub mod PieceRows

@@ -1,0 +1,5 @@
+pub mod Numbers
+pub mod Layout
+pub mod RowCode
+pub mod Quick
+pub mod QuickRuns
