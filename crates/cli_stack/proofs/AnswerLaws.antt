@@ -16,7 +16,7 @@ use Rattle.cli_stack.proofs.AssemblesLaws.{assembles}
 use Rattle.cli_stack.proofs.ByTurnsLaws.{each_task_is_told}
 use Rattle.cli_stack.proofs.DecidesLaws.{decides}
 use Rattle.cli_stack.proofs.ExplainsLaws.{explains}
-use Rattle.cli_stack.proofs.ImplementsLaws.{stores, stores_of}
+use Rattle.cli_stack.proofs.ImplementsLaws.{implements, implements_of, stores, stores_of}
 use Rattle.cli_stack.proofs.LinksLaws.{links}
 use Rattle.cli_stack.proofs.LowersLaws.{lowers}
 use Rattle.cli_stack.proofs.MeansLaws.{means}
@@ -30,7 +30,8 @@ pub answers_mean : BuiltImplements → BuiltTakesValues → KeptMeansOnly → Pl
 answers_mean implement take meant placed moments ends up words arrivals steps stays walks arrive None few watches = tt
 answers_mean implement take meant placed moments ends up words arrivals steps stays walks arrive (Some c) few watches = record {
   answers = λ files. record {
-    implements = stores implement c watches files;
+    implements = implements c files (answer_to c watches files).output (stores implement c watches files);
+    keeps = stores implement c watches files;
     tells = tells implement take c watches files;
     decides = decides meant implement take c watches files;
     means = means c watches files;
@@ -41,7 +42,8 @@ answers_mean implement take meant placed moments ends up words arrivals steps st
     explains = explains implement take moments ends up words arrivals steps stays walks arrive c watches files;
     turns = each_task_is_told implement take meant c few watches files;
   };
-  stores = stores_of implement c;
+  stores = λ texts are. implements_of c texts (stores_of implement c texts are);
+  keeps = stores_of implement c;
 }
 
 pub answers_tell : BuiltImplements → BuiltTakesValues → (o : Option Command) (watches : List Watching) (files : Files)

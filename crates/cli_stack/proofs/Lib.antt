@@ -1,4 +1,6 @@
 pub mod ByTurnsLaws
+pub mod RanLaws
+pub mod FirstLaws
 pub mod AgainLaws
 pub mod AnswerLaws
 pub mod AssemblesLaws
@@ -6,6 +8,7 @@ pub mod BudgetLaws
 pub mod CompletesLaws
 pub mod DecidesLaws
 pub mod EndLaws
+pub mod EnoughLaws
 pub mod ExplainsLaws
 pub mod GoLaws
 pub mod ImplementsLaws

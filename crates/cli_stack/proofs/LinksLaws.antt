@@ -44,7 +44,7 @@ use Rattle.stack_commands.specs.Commands.Pbuild.{is_large, checked_stored}
 use Rattle.stack_commands.specs.Prepared.{stored_by, reply_by}
 use Rattle.cli_stack.specs.Answer.{set_file, answer_on, answer_to}
 use Rattle.cli_stack.specs.FilesAndSizes.{IsReadable}
-use Rattle.cli_stack.specs.Links.{cost_of, FollowsSystem, TellsCost, TellsCosts, HoldsLinked, StoresLinked}
+use Rattle.cli_stack.specs.Links.{cost_to_step, FollowsSystem, TellsCost, TellsCosts, HoldsLinked, StoresLinked}
 use Rattle.cli_stack.proofs.RoleLaws.{set_bytes, written_role, only_file, only_role, both_roles}
 use Rattle.cli_stack.proofs.KnownLaws.{text_is_checked}
 use Rattle.stack_commands.proofs.LinkedLaws.{image_short, image_spelled}
@@ -73,7 +73,7 @@ module _ (c : CheckedOf) (is : IsChecked c) (small : (placed (system_in c)).size
   image_runs : FollowsSystem (linked_image (system_in c)) (system_in c)
   image_runs j state comes =
       let initial : IsInitialStack (system_in c) (system_in c).stack = record { as_long = refl; words = is.sound.stack } in
-      subst (λ (m : Fm). ComesToStand (system_in c) m (cost_of (system_in c) j) state) (sym (image_loaded c is))
+      subst (λ (m : Fm). ComesToStand (system_in c) m (cost_to_step (system_in c) j) state) (sym (image_loaded c is))
       (checked_runs c is small (system_in c).stack j state initial comes)
 
   image_tells : (bytes : List ℕ) → Spelled bytes (linked_image (system_in c)) → TellsCosts bytes (system_in c)
@@ -81,7 +81,7 @@ module _ (c : CheckedOf) (is : IsChecked c) (small : (placed (system_in c)).size
   image_tells bytes spells files image_name values_name values_text budget watches j state there there' gives comes halts enough =
       let image = linked_image (system_in c) in
       let end = image_runs j state comes in
-      let count : ℕ = cost_of (system_in c) j in
+      let count : ℕ = cost_to_step (system_in c) j in
       let ends : outcome budget image.final_pc (loader.loaded image []) ≡ record { run = Ended count; state = end.state } =
       outcome_only (loader.loaded image []) image.final_pc budget (Ended count) end.state
       (enough, record { reached = end.runs; there = end.halted.0 halts; before = end.before }) in

@@ -1,6 +1,7 @@
 -- What is stored of an infix program means what the program does, and so does what is built of that.
 use Rattle.std.proofs.Common.{◌≡◌, ◌≤◌, ⊎_elim, ◌∷◌, [], ℕ, List, Option, Some, None, Result, Ok, Err, length, map, refl, sym, ap, ◌∙◌, subst, arith}
 use Rattle.std.specs.Prelude.{◌<◌, ◌^◌, IsSomeAnd, option_map}
+use Rattle.stack_text.specs.Names.{place_among}
 use Rattle.stack_text.specs.Results.{◌>>=◌}
 use Rattle.stack_text.specs.Values.{ValueOf}
 use Rattle.stack_shelf.specs.Files.{Files}
@@ -11,7 +12,7 @@ use Rattle.display_maps.specs.Reading.{reading}
 use Rattle.display_maps.specs.Report.{report_text}
 use Rattle.level_debuggers.specs.Tallies.{Watching}
 use Rattle.gypsy_syntax.specs.Places.{unplaced_decl, unplaced_proc, without_places}
-use Rattle.gypsy_syntax.specs.Resolved.{place_among, program_of}
+use Rattle.gypsy_syntax.specs.Resolved.{program_of}
 use Rattle.gypsy_syntax.specs.Sources.{ProcOf, SourceOf}
 use Rattle.gypsy_space.specs.Costs.{Tally}
 use Rattle.gypsy_space.specs.Needs.{StackSizes, stack_sizes}
@@ -50,7 +51,7 @@ use Rattle.command_line.proofs.FileLaws.{was_short}
 use Rattle.command_replies.specs.Commands.Mini.{lowering_of, lowered_stored, lowered_reply}
 use Rattle.stack_commands.specs.Prepared.{stored_by, reply_by}
 use Rattle.cli_stack.specs.Answer.{Answer, set_file, answer_with, answer_on, answer_to}
-use Rattle.cli_stack.specs.Implements.{HoldsImplementation, StoresImplementation}
+use Rattle.cli_stack.specs.Implements.{IsImplementation, HoldsStored, StoresImplementation}
 use Rattle.cli_stack.specs.FilesAndSizes.{IsReadable, sizes_of}
 use Rattle.cli_stack.specs.Decides.{IsReadyToRun, IsDone, IsNotDone, Decided}
 use Rattle.cli_stack.specs.Tells.{TellsReport}
@@ -59,7 +60,7 @@ use Rattle.cli_stack.specs.Lowers.{TellsOwn, LowersPrograms}
 use Rattle.cli_stack.proofs.DecidesLaws.{decides, ready_runs}
 use Rattle.stack_build.proofs.MeantLaws.{first_once}
 use Rattle.cli_stack.proofs.GoLaws.{early_done}
-use Rattle.cli_stack.proofs.ImplementsLaws.{stores}
+use Rattle.cli_stack.proofs.ImplementsLaws.{implements, stores}
 
 -- 1. The variables of what is stored.
 
@@ -164,7 +165,7 @@ images : (c : Command) (files : Files) (output : Option (List ℕ × List ℕ)) 
 images c files output holds source image stored bytes text program reads writes sets there means =
     by_sizes (sizes_of c) (holds source image stored bytes reads writes sets)
   where
-    by_sizes : (o : Option StackSizes) → IsSomeAnd o (λ sizes. HoldsImplementation files source sizes bytes) → HoldsRuns bytes means.source program
+    by_sizes : (o : Option StackSizes) → IsSomeAnd o (λ sizes. HoldsStored IsImplementation files source sizes bytes) → HoldsRuns bytes means.source program
     by_sizes None none = absurd none
     by_sizes (Some sizes) h =
         let texts : Some h.text ≡ Some text = sym h.there ∙ there in
@@ -260,5 +261,5 @@ pub lowers : BuiltImplements → BuiltTakesValues → KeptMeansOnly → (c : Com
     → LowersPrograms c files (answer_to c watches files)
 lowers implement take meant c watches files = record {
   own = own_by implement take meant c watches files;
-  images = images c files (answer_to c watches files).output (stores implement c watches files);
+  images = images c files (answer_to c watches files).output (implements c files (answer_to c watches files).output (stores implement c watches files));
 }

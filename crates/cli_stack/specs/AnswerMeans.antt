@@ -6,7 +6,7 @@ use Rattle.command_line.specs.declared.command.Command.{Command}
 use Rattle.command_line.specs.CommandRows.{command_of}
 use Rattle.command_line.specs.Gathered.{Texts}
 use Rattle.cli_stack.specs.Answer.{Answer, answer_to}
-use Rattle.cli_stack.specs.Implements.{StoresImplementation, StoresImplementationOf}
+use Rattle.cli_stack.specs.Implements.{StoresImplementation, StoresImplementationOf, StoresMoments, StoresMomentsOf}
 use Rattle.cli_stack.specs.RepliesTo.{AreTexts}
 use Rattle.cli_stack.specs.Tells.{TellsMeanings}
 use Rattle.cli_stack.specs.Decides.{Decides}
@@ -19,8 +19,10 @@ use Rattle.cli_stack.specs.Explains.{Explains}
 use Rattle.cli_stack.specs.Turns.{TellsEach}
 
 pub record AnswerMeans (command : Command) (watches : List Watching) (files : Files) (answer : Answer) : Type 0 where
-  -- the image that is stored for a source implements it, and keeps to it at every moment
+  -- the image that is stored for a source implements it
   pub implements : StoresImplementation command files answer.output
+  -- and keeps to it at every moment
+  pub keeps : StoresMoments command files answer.output
   -- a run of an image that implements a source tells the meaning, where that is done within the budget
   pub tells : TellsMeanings command files answer
   -- what `go` tells is the meaning, or that this isn't done within the budget
@@ -44,6 +46,7 @@ pub record AnswerMeans (command : Command) (watches : List Watching) (files : Fi
 pub record CommandMeans (command : Command) (watches : List Watching) : Type 0 where
   pub answers : (files : Files) → AnswerMeans command watches files (answer_to command watches files)
   pub stores : (texts : Texts) → AreTexts command texts → StoresImplementationOf command texts
+  pub keeps : (texts : Texts) → AreTexts command texts → StoresMomentsOf command texts
 
 -- the command that these words ask for
 abbrev pub AnswersMean : List (List ℕ) → List Watching → Type 0

@@ -16,8 +16,8 @@ use Rattle.command_line.specs.Gathered.{Texts, text_of}
 use Rattle.stack_commands.specs.Prepared.{stored_by}
 use Rattle.cli_stack.specs.FilesAndSizes.{ReadsFile, StoresFile, sizes_of}
 
--- the bytes are an image file that can be read again, and its image implements the source in a text, for stacks of these sizes, and
--- keeps to it at every moment
+-- The bytes are an image file that can be read again. Its image implements the source in a text, for stacks of these sizes, and a run of
+-- it is unfinished at every budget where the source never ends. Nothing of the compiler is in what this rests on.
 pub record IsImplementation (text : List ℕ) (sizes : StackSizes) (bytes : List ℕ) : Type 0 where
   pub source : SourceOf
   pub read : accepted_source text ≡ Ok source
@@ -25,25 +25,42 @@ pub record IsImplementation (text : List ℕ) (sizes : StackSizes) (bytes : List
   pub short : length bytes ≤ limit_of Image
   pub spells : Spelled bytes image
   pub implements : Implements image source sizes
-  pub moments : KeepsMoments image source sizes
   pub unfinished : StaysUnfinished image source sizes
 
--- the same of the source in a file
-pub record HoldsImplementation (files : Files) (name : List ℕ) (sizes : StackSizes) (bytes : List ℕ) : Type 0 where
+-- and the image keeps to the source at every moment
+pub record KeepsToSource (text : List ℕ) (sizes : StackSizes) (bytes : List ℕ) : Type 0 where
+  pub is : IsImplementation text sizes bytes
+  pub moments : KeepsMoments is.image is.source sizes
+
+-- one of these, of the source in a file
+pub record HoldsStored (Is : List ℕ → StackSizes → List ℕ → Type 0) (files : Files) (name : List ℕ) (sizes : StackSizes) (bytes : List ℕ) :
+    Type 0 where
   pub text : List ℕ
   pub there : file_at files name ≡ Some text
-  pub is : IsImplementation text sizes bytes
+  pub is : Is text sizes bytes
 
--- who reads a source and stores an image has sizes of stacks, and stores an implementation of the source for them
-abbrev pub StoresImplementation : Command → Files → Option (List ℕ × List ℕ) → Type 0
-StoresImplementation command files output =
+-- who reads a source and stores an image has sizes of stacks, and stores one that is so of the source for them
+abbrev pub Stores : (List ℕ → StackSizes → List ℕ → Type 0) → Command → Files → Option (List ℕ × List ℕ) → Type 0
+Stores Is command files output =
     (source image stored bytes : List ℕ) → ReadsFile command Source source → StoresFile command Image image
     → output ≡ Some (stored, bytes)
-    → IsSomeAnd (sizes_of command) (λ sizes. HoldsImplementation files source sizes bytes)
+    → IsSomeAnd (sizes_of command) (λ sizes. HoldsStored Is files source sizes bytes)
+
+abbrev pub StoresImplementation : Command → Files → Option (List ℕ × List ℕ) → Type 0
+StoresImplementation command files output = Stores IsImplementation command files output
+
+abbrev pub StoresMoments : Command → Files → Option (List ℕ × List ℕ) → Type 0
+StoresMoments command files output = Stores KeepsToSource command files output
 
 -- the same of the texts of its files, as any shelf gives them
-abbrev pub StoresImplementationOf : Command → Texts → Type 0
-StoresImplementationOf command texts =
+abbrev pub StoresOf : (List ℕ → StackSizes → List ℕ → Type 0) → Command → Texts → Type 0
+StoresOf Is command texts =
     (source image bytes : List ℕ) → ReadsFile command Source source → StoresFile command Image image
     → stored_by command texts ≡ Some bytes
-    → IsSomeAnd (sizes_of command) (λ sizes. IsImplementation (text_of Source texts) sizes bytes)
+    → IsSomeAnd (sizes_of command) (λ sizes. Is (text_of Source texts) sizes bytes)
+
+abbrev pub StoresImplementationOf : Command → Texts → Type 0
+StoresImplementationOf command texts = StoresOf IsImplementation command texts
+
+abbrev pub StoresMomentsOf : Command → Texts → Type 0
+StoresMomentsOf command texts = StoresOf KeepsToSource command texts

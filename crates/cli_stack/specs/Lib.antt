@@ -1,5 +1,7 @@
 -- what the program promises, and what that speaks of
 pub mod Promises
+pub mod Ran
+pub mod First
 pub mod AnswerMeans
 pub mod Agrees
 pub mod Causes
@@ -22,6 +24,7 @@ pub mod Turns
 pub mod Answer
 pub mod World
 -- what it promises where there is memory enough
+pub mod Enough
 -- laws of commands in a row
 pub mod InARow
 pub mod Again

@@ -29,14 +29,14 @@ abbrev pub ReachesState : SystemView → ℕ → PitonState → Type 0
 ReachesState system j state = piton_run system j (started system system.stack) ≡ Ok state
 
 -- what those steps cost
-abbrev pub cost_of : SystemView → ℕ → ℕ
-cost_of system j = run_cost system j (started system system.stack)
+abbrev pub cost_to_step : SystemView → ℕ → ℕ
+cost_to_step system j = run_cost system j (started system system.stack)
 
 -- wherever the system comes, the machine that is loaded with the image comes to stand for it, in the instructions that the steps
 -- cost: inside the window, and at the final program counter exactly where the system has halted, and never before
 abbrev pub FollowsSystem : ImageOf → SystemView → Type 0
 FollowsSystem image system =
-    (j : ℕ) (state : PitonState) → ReachesState system j state → ComesToStand system (loaded image []) (cost_of system j) state
+    (j : ℕ) (state : PitonState) → ReachesState system j state → ComesToStand system (loaded image []) (cost_to_step system j) state
 
 -- the answer is that all went well, after so many instructions
 pub record TellsCost (count : ℕ) (answer : Answer) : Type 0 where
@@ -48,8 +48,8 @@ abbrev pub TellsCosts : List ℕ → SystemView → Type 0
 TellsCosts bytes system =
     (files : Files) (image values values_text : List ℕ) (budget : ℕ) (watches : List Watching) (j : ℕ) (state : PitonState)
     → IsReadable files Image image bytes → IsReadable files Values values values_text → values_in [] values_text ≡ Ok []
-    → ReachesState system j state → state.frames ≡ [] → cost_of system j ≤ budget
-    → TellsCost (cost_of system j) (answer_to (Run image values budget) watches files)
+    → ReachesState system j state → state.frames ≡ [] → cost_to_step system j ≤ budget
+    → TellsCost (cost_to_step system j) (answer_to (Run image values budget) watches files)
 
 -- the bytes are an image file that can be read again, whose image has no variables and does what the system of the Piton text in
 -- a file does

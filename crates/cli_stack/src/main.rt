@@ -5,10 +5,12 @@ mod driver;
 mod laws;
 mod moments;
 mod program;
+mod ran;
 
 use command_line::exit_code;
+use device_logs::{LoggedShelf, LoggedSink};
 use level_debuggers::{CostWatch, CountWatch, LastWatch, PeakWatch, Watch};
-use program::cli;
+use ran::run_logged;
 use stack_shelf::{FolderShelf, StdoutSink};
 use std::alloc::Global;
 use std::path::PathBuf;
@@ -35,10 +37,11 @@ fn run(rt: HostRuntime) -> io::Result<u8> {
     let peak = Box::new(alloc, PeakWatch::new())?;
     let watches: [Box<dyn Watch>; 4] = [count, cost, last, peak];
     let watches = Vec::from_array(alloc, watches)?;
-    let mut shelf = FolderShelf::new(alloc, rt, PathBuf::new(alloc));
-    let mut out = StdoutSink::new(rt);
+    let folder = FolderShelf::new(alloc, rt, PathBuf::new(alloc));
+    let mut shelf = LoggedShelf::new(alloc, folder);
+    let mut out = LoggedSink::new(alloc, StdoutSink::new(rt));
     let mut kept = None;
-    Ok(cli(alloc, &words, &mut shelf, &mut out, &mut kept, watches))
+    Ok(run_logged(alloc, &words, &mut shelf, &mut out, &mut kept, watches))
 }
 
 fn main(rt: HostRuntime) -> ExitCode {

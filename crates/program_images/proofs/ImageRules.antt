@@ -31,7 +31,7 @@ use Rattle.stack_build.specs.ComesTo.{ComesTo}
 use Rattle.stack_build.specs.StaysUnfinished.{StaysUnfinished}
 use Rattle.program_images.specs.Shows.{Shows, RunsOn}
 use Rattle.display_maps.specs.Reading.{ReadingOf}
-use Rattle.program_images.specs.TextPrograms.{source_of_text, IsText, reading_of}
+use Rattle.program_images.specs.TextPrograms.{source_of_text, IsText, ImplementsText, reading_of}
 
 module _ (source : SourceOf) (sizes : StackSizes) (values finals : List ValueOf) (way : CurrentCondition) (n : ℕ) where
   -- a meaning that is done has a count
@@ -97,20 +97,26 @@ record SourceOfText (q : Program) (names conditions : List (List ℕ)) (sizes : 
   unfinished : StaysUnfinished image source sizes
   fits : FitsFormals source values
 
-of_text : {text : List ℕ} {q : Program} {names conditions : List (List ℕ)} {ctrl temp : ℕ} {built : BuiltOf} {values : List ValueOf}
-    → IsText text q names conditions → BuildsText text ctrl temp built → VarsFit (proc_at q q.main).formals values
-    → SourceOfText q names conditions (stack_sizes ctrl temp) built.image values
-of_text {text = text} {q = q} {ctrl = ctrl} {temp = temp} {built = built} {values = values} is builds fits =
+of_text : {text : List ℕ} {q : Program} {names conditions : List (List ℕ)} {sizes : StackSizes} {image : ImageOf} {values : List ValueOf}
+    → IsText text q names conditions → ImplementsText text sizes image → VarsFit (proc_at q q.main).formals values
+    → SourceOfText q names conditions sizes image values
+of_text {text = text} {q = q} {sizes = sizes} {image = image} {values = values} is builds fits =
     let same = one_source text (source_of_text text) builds.source is.reads builds.read in
     record {
       source = source_of_text text;
       resolves = is.resolves;
       names_are = is.names_are;
       conditions_are = is.conditions_are;
-      implements = subst (λ (s : SourceOf). Implements built.image s (stack_sizes ctrl temp)) same builds.builds.implements;
-      unfinished = subst (λ (s : SourceOf). StaysUnfinished built.image s (stack_sizes ctrl temp)) same builds.builds.unfinished;
+      implements = subst (λ (s : SourceOf). Implements image s sizes) same builds.implements;
+      unfinished = subst (λ (s : SourceOf). StaysUnfinished image s sizes) same builds.unfinished;
       fits = subst (λ (p : Program). VarsFit (proc_at p p.main).formals values) (sym is.resolves) fits;
     }
+
+-- what is built of a text
+pub built_text : {text : List ℕ} {ctrl temp : ℕ} {built : BuiltOf} → BuildsText text ctrl temp built
+    → ImplementsText text (stack_sizes ctrl temp) built.image
+built_text builds =
+    record { source = builds.source; read = builds.read; implements = builds.builds.implements; unfinished = builds.builds.unfinished }
 
 module _ {q : Program} {names conditions : List (List ℕ)} {sizes : StackSizes} {image : ImageOf} {values : List ValueOf} where
   -- what is read of memory, by these names and conditions
@@ -120,31 +126,49 @@ module _ {q : Program} {names conditions : List (List ℕ)} {sizes : StackSizes}
       subst (λ (ns : List (List ℕ)). P (reading_of ns conditions finals way)) o.names_are
       (subst (λ (cs : List (List ℕ)). P (reading_of (shown_names o.source) cs finals way)) o.conditions_are h)
 
--- What is built of a text whose program means this: its memory shows it, whatever the sizes and the window.
+-- An image that implements a text whose program means this: its memory shows it, whatever the sizes and the window.
+pub shown_in : {text : List ℕ} {q : Program} {names conditions : List (List ℕ)} {sizes : StackSizes} {image : ImageOf} {values finals : List ValueOf}
+    {way : CurrentCondition} → IsText text q names conditions → ImplementsText text sizes image → VarsFit (proc_at q q.main).formals values
+    → Means q sizes values (Is finals way) → Shows image values (reading_of names conditions finals way)
+shown_in {sizes = sizes} {image = image} {values = values} {finals = finals} {way = way} is builds fits means =
+    let o = of_text is builds fits in
+    by_names o finals way (Shows image values)
+    (means_shown image o.source sizes values finals way o.implements o.fits
+    (subst (λ (p : Program). Means p sizes values (Is finals way)) (sym o.resolves) means))
+
+-- the same with the number of instructions
+pub shown_after_in : {text : List ℕ} {q : Program} {names conditions : List (List ℕ)} {sizes : StackSizes} {image : ImageOf}
+    {values finals : List ValueOf} {way : CurrentCondition} {count : ℕ} → IsText text q names conditions → ImplementsText text sizes image
+    → VarsFit (proc_at q q.main).formals values
+    → MeansAfter q sizes values (IsAfter finals way count) → ComesTo image values count (reading_of names conditions finals way)
+shown_after_in {sizes = sizes} {image = image} {values = values} {finals = finals} {way = way} {count = count} is builds fits means =
+    let o = of_text is builds fits in
+    by_names o finals way (ComesTo image values count)
+    (means_shown_after image o.source sizes values finals way count o.implements o.fits
+    (subst (λ (p : Program). MeansAfter p sizes values (IsAfter finals way count)) (sym o.resolves) means))
+
+-- one of a text whose program never ends on the values is unfinished at every budget
+pub runs_on_in : {text : List ℕ} {q : Program} {names conditions : List (List ℕ)} {sizes : StackSizes} {image : ImageOf} {values : List ValueOf}
+    → IsText text q names conditions → ImplementsText text sizes image → VarsFit (proc_at q q.main).formals values
+    → IsEndless q sizes values → RunsOn image values
+runs_on_in {sizes = sizes} {image = image} {values = values} is builds fits endless =
+    let o = of_text is builds fits in
+    never_ends_unfinished image o.source sizes values o.unfinished o.fits
+    (subst (λ (p : Program). IsEndless p sizes values) (sym o.resolves) endless)
+
+-- ---- what is built of a text
+
 pub shown_by : {text : List ℕ} {q : Program} {names conditions : List (List ℕ)} {ctrl temp : ℕ} {built : BuiltOf} {values finals : List ValueOf}
     {way : CurrentCondition} → IsText text q names conditions → BuildsText text ctrl temp built → VarsFit (proc_at q q.main).formals values
     → Means q (stack_sizes ctrl temp) values (Is finals way) → Shows built.image values (reading_of names conditions finals way)
-shown_by {ctrl = ctrl} {temp = temp} {built = built} {values = values} {finals = finals} {way = way} is builds fits means =
-    let o = of_text is builds fits in
-    by_names o finals way (Shows built.image values)
-    (means_shown built.image o.source (stack_sizes ctrl temp) values finals way o.implements o.fits
-    (subst (λ (p : Program). Means p (stack_sizes ctrl temp) values (Is finals way)) (sym o.resolves) means))
+shown_by is builds fits means = shown_in is (built_text builds) fits means
 
--- the same with the number of instructions
 pub shown_after_by : {text : List ℕ} {q : Program} {names conditions : List (List ℕ)} {ctrl temp : ℕ} {built : BuiltOf} {values finals : List ValueOf}
     {way : CurrentCondition} {count : ℕ} → IsText text q names conditions → BuildsText text ctrl temp built → VarsFit (proc_at q q.main).formals values
     → MeansAfter q (stack_sizes ctrl temp) values (IsAfter finals way count) → ComesTo built.image values count (reading_of names conditions finals way)
-shown_after_by {ctrl = ctrl} {temp = temp} {built = built} {values = values} {finals = finals} {way = way} {count = count} is builds fits means =
-    let o = of_text is builds fits in
-    by_names o finals way (ComesTo built.image values count)
-    (means_shown_after built.image o.source (stack_sizes ctrl temp) values finals way count o.implements o.fits
-    (subst (λ (p : Program). MeansAfter p (stack_sizes ctrl temp) values (IsAfter finals way count)) (sym o.resolves) means))
+shown_after_by is builds fits means = shown_after_in is (built_text builds) fits means
 
--- What is built of a text whose program never ends on the values: it is unfinished at every budget.
 pub runs_on_by : {text : List ℕ} {q : Program} {names conditions : List (List ℕ)} {ctrl temp : ℕ} {built : BuiltOf} {values : List ValueOf}
     → IsText text q names conditions → BuildsText text ctrl temp built → VarsFit (proc_at q q.main).formals values
     → IsEndless q (stack_sizes ctrl temp) values → RunsOn built.image values
-runs_on_by {ctrl = ctrl} {temp = temp} {built = built} {values = values} is builds fits endless =
-    let o = of_text is builds fits in
-    never_ends_unfinished built.image o.source (stack_sizes ctrl temp) values o.unfinished o.fits
-    (subst (λ (p : Program). IsEndless p (stack_sizes ctrl temp) values) (sym o.resolves) endless)
+runs_on_by is builds fits endless = runs_on_in is (built_text builds) fits endless

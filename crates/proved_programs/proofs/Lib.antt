@@ -1,4 +1,5 @@
 pub mod TextLaws
+pub mod SevenLaws
 pub mod SumLaws
 pub mod SortLaws
 pub mod IncLaws

@@ -1,4 +1,5 @@
 -- What the examples do.
+pub mod Seven
 pub mod Sum
 pub mod SumText
 pub mod Inc

@@ -1,4 +1,5 @@
 -- Texts of examples, with their sources and their programs.
+pub mod Seven
 pub mod Sum
 pub mod Inc
 pub mod Down

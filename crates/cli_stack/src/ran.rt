@@ -1,0 +1,43 @@
+//! The program over devices that keep a log, as `main` runs it.
+ghost use Rattle.std.specs.Prelude.{map};
+ghost use Rattle.command_line.specs.CommandWords.{spelled};
+ghost use Rattle.command_line.specs.CommandRows.{command_of};
+ghost use Rattle.cli_stack.specs.World.{shelf_of};
+ghost use Rattle.cli_stack.specs.Ran.{HasRun, UnreadIsRefused, logs_of};
+
+use crate::program::cli;
+use device_logs::{LoggedShelf, LoggedSink};
+use fm_machine::Machine;
+use level_debuggers::Watch;
+use stack_build::{builds_implement, runs_are_meant};
+use stack_heap::Heap;
+use stack_shelf::{Shelf, Sink};
+
+/// Runs the program over any shelf and any sink, each behind a log of the calls that went well.
+///
+/// The logs are lists in memory, so what the clause says of them is said of what was really fetched, stored and printed. A body that
+/// doesn't make these calls, or makes others, is refused. Where the status is 0, `go` has handed to the shelf's `store` an image that
+/// implements the very text that its `fetch` returned, and printed its reply to that text and to that of the values.
+pub fn run_logged<H: Heap, S: Shelf + Drop, K: Sink + Drop>(
+    heap: H,
+    words: &[String],
+    shelf: &mut LoggedShelf<S>,
+    out: &mut LoggedSink<K>,
+    kept: &mut Option<Machine>,
+    watches: Vec<Box<dyn Watch>>,
+) -> u8
+    ensures { HasRun (command_of (spelled words.now)) (map watching watches.items)
+        (shelf_of (S.files shelf.old.shelf) (S.counts shelf.old.shelf))
+        (shelf_of (S.files shelf.new.shelf) (S.counts shelf.new.shelf))
+        (logs_of shelf.old out.old) (logs_of shelf.new out.new) result }
+{
+    builds_implement();
+    runs_are_meant();
+    cli(heap, words, shelf, out, kept, watches)
+}
+
+/// Over devices with logs a `check` that fetches nothing hasn't run: it can't end but for a missing or long file, a device's failure or
+/// want of memory.
+pub fn unread_is_refused()
+    ensures { UnreadIsRefused }
+{}

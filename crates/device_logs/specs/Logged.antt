@@ -1,0 +1,32 @@
+-- Devices with a log of the calls that went well.
+use Rattle.std.specs.Prelude.{ℕ, ◌^◌, List, [], ◌∷◌, ◌++◌, take}
+use Rattle.stack_shelf.specs.Files.{Files}
+
+-- a shelf, the files that it gave, and those that it got, in the order of the calls
+pub record LoggedShelfOf (S : Type 0) : Type 0 where
+  pub shelf : S
+  pub fetched : Files
+  pub stored : Files
+
+-- the logged shelf after a fetch that gave bytes, by what the shelf is then
+abbrev pub logged_gave : {S : Type 0} → (S → List ℕ → List ℕ → S) → LoggedShelfOf S → List ℕ → List ℕ → LoggedShelfOf S
+logged_gave gave s name bytes =
+    record { shelf = gave s.shelf name bytes; fetched = s.fetched ++ (name, bytes) ∷ []; stored = s.stored }
+
+-- and after a store that succeeded
+abbrev pub logged_got : {S : Type 0} → (S → List ℕ → List ℕ → S) → LoggedShelfOf S → List ℕ → List ℕ → LoggedShelfOf S
+logged_got got s name bytes =
+    record { shelf = got s.shelf name bytes; fetched = s.fetched; stored = s.stored ++ (name, bytes) ∷ [] }
+
+-- how many bytes the log of a sink has at most: more than any report has, and less than a session may print
+abbrev pub log_limit : ℕ
+log_limit = 2 ^ 24
+
+-- a sink, and the first of the bytes that it took
+pub record LoggedSinkOf (K : Type 0) : Type 0 where
+  pub sink : K
+  pub printed : List ℕ
+
+-- the logged sink after a call that took all of these bytes
+abbrev pub logged_took : {K : Type 0} → (K → List ℕ → K) → LoggedSinkOf K → List ℕ → LoggedSinkOf K
+logged_took took s bytes = record { sink = took s.sink bytes; printed = take log_limit (s.printed ++ bytes) }

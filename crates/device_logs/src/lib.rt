@@ -1,0 +1,13 @@
+//! Devices that keep a log of what they were handed.
+//!
+//! Of a folder's files and of standard output nothing is known, so clauses over these alone can't tell what was read, stored and
+//! printed. A [`LoggedShelf`] is a shelf with a log of the files that it gave and of those that it got, and a [`LoggedSink`] a sink
+//! with a log of the bytes that it took. The logs are lists in memory, which only a call of the device that went well makes longer:
+//! what a clause says of them is said of what was really fetched, stored and printed.
+#![tactic(auto)]
+
+mod logged_shelf;
+mod logged_sink;
+
+pub use logged_shelf::LoggedShelf;
+pub use logged_sink::LoggedSink;
