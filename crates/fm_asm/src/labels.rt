@@ -10,7 +10,7 @@ ghost use Rattle.fm_asm.specs.Labels.{is_labelled, repeated, repeats, Knows};
 ghost use Rattle.stack_text.specs.Options.{first_or};
 
 use crate::line::Line;
-use name_tables::NameTable;
+use name_tables::{NameKeys, NameTable};
 use stack_heap::Heap;
 use stack_text::{Breach, Memory, note_if};
 
@@ -53,6 +53,17 @@ fn declare_label<'l, H: Heap>(
     }
 }
 
+/// The key of the table: all labels are taken in.
+fn keys_of(lines: &[Line<'_, '_>]) -> NameKeys {
+    let mut keys = NameKeys::new();
+    for line in lines {
+        if let Some(name) = line.said.label {
+            keys.take_in(name);
+        }
+    }
+    keys
+}
+
 /// The labels of lines; each that an earlier line has is noted.
 pub(crate) fn labels_of<'l, H: Heap>(
     heap: H,
@@ -62,7 +73,7 @@ pub(crate) fn labels_of<'l, H: Heap>(
     ensures known { IfOkUnless (H.may_refuse heap) result (λ table. Knows table (map line_of lines.now)) }
     ensures noted { OnOk result (Notes best.old (repeats [] (map line_of lines.now)) best.new) }
 {
-    let mut table = NameTable::new(heap.handle());
+    let mut table = NameTable::keyed(heap.handle(), keys_of(lines));
     for line in lines {
         declare_label(
             heap,

@@ -1,12 +1,10 @@
 -- The versions of images, and their limits.
 use Rattle.std.specs.Prelude.{ℕ, ◌+◌, ◌^◌, ◌-◌, List, [], ◌∷◌, ◌++◌, length, map, slice_get, Option}
 use Rattle.std.specs.Prelude.{Some, None, Bool, true, not, ◌&&◌, ◌||◌, ◌==◌, nat_lt, nat_le, if◌then◌else◌, codes}
-use Rattle.std.specs.List.{list_any}
-use Rattle.std.specs.Str.{bytes_eq}
 use Rattle.fm_words.specs.WindowLimit.{most_window}
 use Rattle.stack_text.specs.SharedLimits.{most_array, most_text, most_declared, most_procedures}
 use Rattle.stack_text.specs.declared.shape.Shape.{Shape}
-use Rattle.stack_text.specs.Names.{is_name}
+use Rattle.stack_text.specs.Names.{is_name, is_among}
 use Rattle.stack_text.specs.Values.{item_count}
 use Rattle.fm_image.specs.declared.procedure.Mark.{Mark}
 use Rattle.fm_image.specs.declared.procedure.VarInfo.{VarInfo}
@@ -81,7 +79,7 @@ is_slot_address window shape address = nat_le (window.base + item_count shape) (
 
 -- a name that is none of the earlier ones
 abbrev pub is_new : List (List ℕ) → List ℕ → Bool
-is_new earlier name = not (list_any (bytes_eq name) earlier)
+is_new earlier name = not (is_among name earlier)
 
 -- a name that no earlier condition has
 abbrev pub is_condition : List (List ℕ) → List ℕ → Bool

@@ -118,7 +118,7 @@ word_3_is by r i gates =
     pick_is by 2 (choice_gate 2 by (eight r i gates)) (choice_gate 2 by above) (word_2 by r i) (word_2 by (r + 4) i)
     (word_2_is by r i above) (word_2_is by (r + 4) i gates)
 
-word_4_is : (by : Pin) (i : ℕ) → word_4 by 0 i ≡ gate_text (choice_gate 4 by (eight 0 i (eight 8 i [])))
+word_4_is : (by : Pin) (i : ℕ) → word_4 by i ≡ gate_text (choice_gate 4 by (eight 0 i (eight 8 i [])))
 unfolding word_4 choice_gate
 word_4_is by i =
     let above : List Gate = eight 8 i [] in

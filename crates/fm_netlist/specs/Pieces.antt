@@ -67,9 +67,9 @@ unfoldable pub word_3 : Pin → ℕ → ℕ → List ℕ
 word_3 by r i =
     codes "(" ++ pin_text by 2 ++ codes " ? " ++ word_2 by (r + 4) i ++ codes " : " ++ word_2 by r i ++ codes ")"
 
-unfoldable pub word_4 : Pin → ℕ → ℕ → List ℕ
-word_4 by r i =
-    codes "(" ++ pin_text by 3 ++ codes " ? " ++ word_3 by (r + 8) i ++ codes " : " ++ word_3 by r i ++ codes ")"
+unfoldable pub word_4 : Pin → ℕ → List ℕ
+word_4 by i =
+    codes "(" ++ pin_text by 3 ++ codes " ? " ++ word_3 by 8 i ++ codes " : " ++ word_3 by 0 i ++ codes ")"
 
 -- whether two pins are equal in so many bits
 abbrev pub agreeing_text : Pin → Pin → ℕ → List ℕ
@@ -96,7 +96,7 @@ unfoldable pub bit_text : Wire → Driver → ℕ → List ℕ
 bit_text wire (d.Register number reset next) i =
     codes "(reset ? " ++ constant_text (bit_at reset i) ++ codes " : " ++ pin_text next i ++ codes ")"
 bit_text wire (d.Input number) i = input_text number i
-bit_text wire (d.FileRead number) i = word_4 number 0 i
+bit_text wire (d.FileRead number) i = word_4 number i
 bit_text wire (d.Not p) i = codes "~" ++ pin_text p i
 bit_text wire (d.And p q) i = between (codes " & ") p q i
 bit_text wire (d.Or p q) i = between (codes " | ") p q i

@@ -158,23 +158,16 @@ fn word_3(alloc: Global, text: &mut Vec<u8>, by: Pin, r: u8, i: u32) -> Result<(
     push(text, ")")
 }
 
-/// Appends a bit of one of 16 words of the register file, from one on, by the lowest 4 bits of a pin.
+/// Appends a bit of a word of the register file, by the lowest 4 bits of a pin.
 #[tactic(auto, unfolding(crate::specs::Pieces::word_4))]
-pub(crate) fn word_4(
-    alloc: Global,
-    text: &mut Vec<u8>,
-    by: Pin,
-    r: u8,
-    i: u32,
-) -> Result<(), Memory>
-    requires { r ≤ 0 }
-    ensures { OnOk result (text.new.items ≡ text.old.items ++ word_4 by r i) }
+pub(crate) fn word_4(alloc: Global, text: &mut Vec<u8>, by: Pin, i: u32) -> Result<(), Memory>
+    ensures { OnOk result (text.new.items ≡ text.old.items ++ word_4 by i) }
 {
     push(text, "(")?;
     push_bit(alloc, text, by, 3)?;
     push(text, " ? ")?;
-    word_3(alloc, text, by, r + 8, i)?;
+    word_3(alloc, text, by, 8, i)?;
     push(text, " : ")?;
-    word_3(alloc, text, by, r, i)?;
+    word_3(alloc, text, by, 0, i)?;
     push(text, ")")
 }

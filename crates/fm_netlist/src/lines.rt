@@ -4,7 +4,6 @@ ghost use Rattle.std.specs.Prelude.{◌≡◌, ◌++◌, ◌-◌, codes, OnOk};
 ghost use Rattle.std.specs.Fmt.{decimal};
 ghost use Rattle.fm_circuit.specs.Widths.{width_of};
 ghost use Rattle.fm_verilog.specs.WireNames.{name_of};
-ghost use Rattle.fm_verilog.specs.VerilogText.{clock_text, kind_text, declaration_text};
 ghost use Rattle.std.specs.Int.{bit_at};
 ghost use Rattle.fm_gates.specs.Gates.{carry_gate, file_gate};
 ghost use Rattle.fm_netlist.specs.NetlistText.{below, gate_text, line_gate, input_text, target_text, gets_text, bit_line, carry_line, bit_lines, wire_lines, file_line, word_lines, carries_declared, declared_text};
@@ -13,7 +12,7 @@ ghost use Rattle.fm_netlist.specs.Pieces.{agreeing_text, opening_text, equal_tex
 use crate::bits::{Carry, Differ, FileBit, PinBit, push, push_between, push_bit};
 use crate::choices::{choose_1, choose_2, choose_3, choose_4, word_4};
 use fm_circuit::{Driver, Pin, Wire, driver, pin_width, width};
-use fm_verilog::name;
+use fm_verilog::{clock, name, push_declaration};
 use stack_text::Memory;
 use std::alloc::Global;
 
@@ -143,7 +142,7 @@ fn push_driven(
     match driver {
         Driver::Register(_, reset, next) => push_taken(alloc, text, reset, next, i),
         Driver::Input(number) => push_input(alloc, text, number, i),
-        Driver::FileRead(number) => word_4(alloc, text, number, 0, i),
+        Driver::FileRead(number) => word_4(alloc, text, number, i),
         Driver::Not(p) => push_inverse(alloc, text, p, i),
         Driver::And(p, q) => push_between(alloc, text, " & ", p, q, i),
         Driver::Or(p, q) => push_between(alloc, text, " | ", p, q, i),
@@ -156,14 +155,6 @@ fn push_driven(
         Driver::Eight(by, among) => choose_3(alloc, text, by, &among, i),
         Driver::Sixteen(by, among) => choose_4(alloc, text, by, &among, i),
     }
-}
-
-/// At each rising edge of the clock.
-#[tactic(auto, unfolding(fm_verilog::specs::VerilogText::clock_text))]
-fn clock() -> &'static str
-    ensures { result.now ≡ clock_text }
-{
-    "always @(posedge clk) "
 }
 
 /// How the line of a wire's bit begins.
@@ -363,16 +354,6 @@ pub(crate) fn push_word(alloc: Global, text: &mut Vec<u8>, r: u8) -> Result<(), 
     Ok(())
 }
 
-/// `reg` or `wire`.
-fn kind(driver: Driver) -> &'static str
-    ensures { result.now ≡ kind_text driver }
-{
-    match driver {
-        Driver::Register(_, _, _) => "reg",
-        _ => "wire",
-    }
-}
-
 /// Appends the line that declares the carries of a wire, where it is a sum.
 #[tactic(auto, unfolding(crate::specs::NetlistText::carries_declared))]
 fn push_carries(alloc: Global, text: &mut Vec<u8>, wire: Wire, driver: Driver) -> Result<(), Memory>
@@ -394,17 +375,6 @@ fn push_carries_line(alloc: Global, text: &mut Vec<u8>, wire: Wire) -> Result<()
     let line = format!(in alloc; "wire [{high}:0] {name}")?;
     text.extend_from_slice(line.as_bytes())?;
     push(text, "_carries;\n")
-}
-
-/// Appends the line that declares a wire.
-fn push_declaration(alloc: Global, text: &mut Vec<u8>, wire: Wire) -> Result<(), Memory>
-    ensures { OnOk result (text.new.items ≡ text.old.items ++ declaration_text wire) }
-{
-    let kind = kind(driver(wire));
-    let high = width(wire).saturating_sub(1);
-    let name = name(wire);
-    let line = format!(in alloc; "{kind} [{high}:0] {name};\n")?;
-    Ok(text.extend_from_slice(line.as_bytes())?)
 }
 
 /// Appends the lines that declare a wire.

@@ -1,11 +1,11 @@
 //! Instructions as text.
 
-ghost use Rattle.std.specs.Prelude.{◌≡◌, ◌↔◌, ℕ, ◌++◌, ◌∷◌, []};
+ghost use Rattle.std.specs.Prelude.{◌≡◌, ◌↔◌, ℕ, ◌++◌};
 ghost use Rattle.stack_heap.specs.Heaps.{IfOkUnless, OnOkUnless};
 ghost use Rattle.fm_words.specs.Encoding.{significant};
 ghost use Rattle.fm_show.specs.Disassembly.{operation_name, condition_name, condition_text, shown_if, flags_text, register_name, place_text, operand_text, instruction_text, disassembly_text};
 
-use crate::digits::push_number;
+use crate::digits::{push_each, push_number};
 use fm_words::{Cc, Flags, Instr, Mode, Op, OperandA, decode};
 use stack_heap::Heap;
 use stack_text::Memory;
@@ -101,11 +101,11 @@ fn push_condition<H: Heap>(heap: H, text: &mut Vec<u8>, condition: Cc) -> Result
 {
     match condition {
         Cc::Al => Ok(()),
-        condition => {
-            heap.push(text, b'[')?;
-            heap.extend_from_slice(text, name_of_condition(condition).as_bytes())?;
-            Ok(heap.push(text, b']')?)
-        }
+        condition => push_each(
+            heap,
+            text,
+            &[b"[", name_of_condition(condition).as_bytes(), b"]"],
+        ),
     }
 }
 
@@ -117,23 +117,18 @@ fn push_set_flags<H: Heap>(heap: H, text: &mut Vec<u8>, flags: Flags) -> Result<
     if !(c || v || n || z) {
         return Ok(());
     }
-    heap.push(text, b'{')?;
-    push_if(heap, text, c, b'c')?;
-    push_if(heap, text, v, b'v')?;
-    push_if(heap, text, n, b'n')?;
-    push_if(heap, text, z, b'z')?;
-    Ok(heap.push(text, b'}')?)
+    let c = shown(c, b"c");
+    let v = shown(v, b"v");
+    let n = shown(n, b"n");
+    let z = shown(z, b"z");
+    push_each(heap, text, &[b"{", c, v, n, z, b"}"])
 }
 
-/// Appends the letter of a flag where it is set.
-fn push_if<H: Heap>(heap: H, text: &mut Vec<u8>, is_set: bool, letter: u8) -> Result<(), Memory>
-    ensures { OnOkUnless (H.may_refuse heap) result
-        (text.new.items ≡ text.old.items ++ shown_if is_set (letter ∷ [])) }
+/// The letter of a flag where it is set, else nothing.
+fn shown(is_set: bool, letter: &[u8]) -> &[u8]
+    ensures { result.now ≡ shown_if is_set letter.now }
 {
-    if is_set {
-        heap.push(text, letter)?;
-    }
-    Ok(())
+    if is_set { letter } else { b"" }
 }
 
 /// Appends the name of a register, as `r3`.

@@ -6,11 +6,12 @@ ghost use Rattle.std.specs.List.{flat_map};
 ghost use Rattle.fm_show.specs.Listing.{numbered_lines};
 ghost use Rattle.fm_show.specs.ImageListing.{window_lines, condition_line, name_line, shape_text, slot_line, word_line, variable_line, procedure_lines, procedure_name, mark_line, image_listing};
 
-use crate::digits::{hex_digits, push_number};
+use crate::digits::{hex_digits, push_each};
 use crate::disassembly::push_instruction;
 use crate::listing::{push_flags, push_registers};
 use fm_image::{Image, Mark, ProcInfo, Slot, VarInfo};
 use fm_words::decode;
+use itoa::Buffer;
 use stack_heap::Heap;
 use stack_text::{Memory, Name, Shape};
 
@@ -41,13 +42,15 @@ pub fn show_image<H: Heap>(heap: H, image: &Image) -> Result<Vec<u8>, Memory>
 fn push_window<H: Heap>(heap: H, text: &mut Vec<u8>, image: &Image) -> Result<(), Memory>
     ensures { OnOkUnless (H.may_refuse heap) result (text.new.items ≡ text.old.items ++ window_lines image.now) }
 {
-    heap.extend_from_slice(text, b"base ")?;
-    heap.extend_from_slice(text, &hex_digits(image.base))?;
-    heap.extend_from_slice(text, b"\nsize ")?;
-    push_number(heap, text, image.size)?;
-    heap.extend_from_slice(text, b"\nfinal ")?;
-    heap.extend_from_slice(text, &hex_digits(image.final_pc))?;
-    Ok(heap.push(text, b'\n')?)
+    let base = hex_digits(image.base);
+    let end = hex_digits(image.final_pc);
+    let mut size = Buffer::new();
+    let size = size.format(image.size).as_bytes();
+    push_each(
+        heap,
+        text,
+        &[b"base ", &base, b"\nsize ", size, b"\nfinal ", &end, b"\n"],
+    )
 }
 
 /// Appends the line of the condition word, where there is one.
@@ -57,18 +60,14 @@ fn push_condition<H: Heap>(heap: H, text: &mut Vec<u8>, address: Option<u32>) ->
     let Some(address) = address else {
         return Ok(());
     };
-    heap.extend_from_slice(text, b"condition ")?;
-    heap.extend_from_slice(text, &hex_digits(address))?;
-    Ok(heap.push(text, b'\n')?)
+    push_each(heap, text, &[b"condition ", &hex_digits(address), b"\n"])
 }
 
 /// Appends the line of a condition's name.
 fn push_name<H: Heap>(heap: H, text: &mut Vec<u8>, name: &Name) -> Result<(), Memory>
     ensures { OnOkUnless (H.may_refuse heap) result (text.new.items ≡ text.old.items ++ name_line name.now) }
 {
-    heap.extend_from_slice(text, b"name ")?;
-    heap.extend_from_slice(text, name.bytes())?;
-    Ok(heap.push(text, b'\n')?)
+    push_each(heap, text, &[b"name ", name.bytes(), b"\n"])
 }
 
 /// Appends the lines of names.
@@ -85,22 +84,18 @@ fn push_names<H: Heap>(heap: H, text: &mut Vec<u8>, names: &[Name]) -> Result<()
 fn push_shape<H: Heap>(heap: H, text: &mut Vec<u8>, shape: Shape) -> Result<(), Memory>
     ensures { OnOkUnless (H.may_refuse heap) result (text.new.items ≡ text.old.items ++ shape_text shape) }
 {
-    heap.extend_from_slice(text, shape.kind.name().as_bytes())?;
-    heap.push(text, b' ')?;
-    push_number(heap, text, shape.length)
+    let mut digits = Buffer::new();
+    let length = digits.format(shape.length).as_bytes();
+    push_each(heap, text, &[shape.kind.name().as_bytes(), b" ", length])
 }
 
 /// Appends the line of a slot.
 fn push_slot<H: Heap>(heap: H, text: &mut Vec<u8>, slot: &Slot) -> Result<(), Memory>
     ensures { OnOkUnless (H.may_refuse heap) result (text.new.items ≡ text.old.items ++ slot_line slot.now) }
 {
-    heap.extend_from_slice(text, b"slot ")?;
-    heap.extend_from_slice(text, slot.name.bytes())?;
-    heap.push(text, b' ')?;
+    push_each(heap, text, &[b"slot ", slot.name.bytes(), b" "])?;
     push_shape(heap, text, slot.shape)?;
-    heap.push(text, b' ')?;
-    heap.extend_from_slice(text, &hex_digits(slot.address))?;
-    Ok(heap.push(text, b'\n')?)
+    push_each(heap, text, &[b" ", &hex_digits(slot.address), b"\n"])
 }
 
 /// Appends the lines of slots.
@@ -117,10 +112,11 @@ fn push_slots<H: Heap>(heap: H, text: &mut Vec<u8>, slots: &[Slot]) -> Result<()
 fn push_word<H: Heap>(heap: H, text: &mut Vec<u8>, address: u32, word: u32) -> Result<(), Memory>
     ensures { OnOkUnless (H.may_refuse heap) result (text.new.items ≡ text.old.items ++ word_line address word) }
 {
-    heap.extend_from_slice(text, &hex_digits(address))?;
-    heap.push(text, b' ')?;
-    heap.extend_from_slice(text, &hex_digits(word))?;
-    heap.push(text, b' ')?;
+    push_each(
+        heap,
+        text,
+        &[&hex_digits(address), b" ", &hex_digits(word), b" "],
+    )?;
     push_instruction(heap, text, decode(word))?;
     Ok(heap.push(text, b'\n')?)
 }
@@ -141,13 +137,14 @@ fn push_words<H: Heap>(heap: H, text: &mut Vec<u8>, base: u32, words: &[u32]) ->
 fn push_variable<H: Heap>(heap: H, text: &mut Vec<u8>, variable: &VarInfo) -> Result<(), Memory>
     ensures { OnOkUnless (H.may_refuse heap) result (text.new.items ≡ text.old.items ++ variable_line variable.now) }
 {
-    heap.extend_from_slice(text, b"variable ")?;
-    heap.extend_from_slice(text, variable.name.bytes())?;
-    heap.push(text, b' ')?;
+    push_each(heap, text, &[b"variable ", variable.name.bytes(), b" "])?;
     push_shape(heap, text, variable.shape)?;
-    heap.push(text, b' ')?;
-    push_number(heap, text, variable.offset)?;
-    Ok(heap.push(text, b'\n')?)
+    let mut offset = Buffer::new();
+    push_each(
+        heap,
+        text,
+        &[b" ", offset.format(variable.offset).as_bytes(), b"\n"],
+    )
 }
 
 /// Appends the lines of variables.
@@ -165,9 +162,7 @@ fn push_variables<H: Heap>(heap: H, text: &mut Vec<u8>, variables: &[VarInfo]) -
 fn push_procedure<H: Heap>(heap: H, text: &mut Vec<u8>, procedure: &ProcInfo) -> Result<(), Memory>
     ensures { OnOkUnless (H.may_refuse heap) result (text.new.items ≡ text.old.items ++ procedure_lines procedure.now) }
 {
-    heap.extend_from_slice(text, b"procedure ")?;
-    heap.extend_from_slice(text, procedure.name.bytes())?;
-    heap.push(text, b'\n')?;
+    push_each(heap, text, &[b"procedure ", procedure.name.bytes(), b"\n"])?;
     push_variables(heap, text, &procedure.variables)
 }
 
@@ -212,13 +207,14 @@ fn push_mark<H: Heap>(
     ensures { OnOkUnless (H.may_refuse heap) result
         (text.new.items ≡ text.old.items ++ mark_line procedures.now mark.now) }
 {
-    heap.extend_from_slice(text, b"mark ")?;
-    heap.extend_from_slice(text, &hex_digits(mark.address))?;
-    heap.push(text, b' ')?;
+    push_each(heap, text, &[b"mark ", &hex_digits(mark.address), b" "])?;
     push_procedure_name(heap, text, procedures, mark.procedure)?;
-    heap.push(text, b' ')?;
-    push_number(heap, text, mark.place)?;
-    Ok(heap.push(text, b'\n')?)
+    let mut place = Buffer::new();
+    push_each(
+        heap,
+        text,
+        &[b" ", place.format(mark.place).as_bytes(), b"\n"],
+    )
 }
 
 /// Appends the lines of marks.

@@ -1,10 +1,10 @@
 //! A machine as lines of text.
 
-ghost use Rattle.std.specs.Prelude.{◌≡◌, ◌++◌, ◌∷◌, []};
+ghost use Rattle.std.specs.Prelude.{◌≡◌, ◌++◌};
 ghost use Rattle.stack_heap.specs.Heaps.{IfOkUnless, OnOkUnless};
 ghost use Rattle.fm_show.specs.Listing.{flag_letter, flags_line, machine_listing, register_line, register_lines};
 
-use crate::digits::{hex_digits, push_number};
+use crate::digits::{hex_digits, push_each, push_number};
 use crate::disassembly::push_register_name;
 use fm_machine::Machine;
 use fm_words::Flags;
@@ -46,27 +46,23 @@ fn push_register<H: Heap>(heap: H, text: &mut Vec<u8>, r: usize, word: u32) -> R
     ensures { OnOkUnless (H.may_refuse heap) result (text.new.items ≡ text.old.items ++ register_line r word) }
 {
     push_register_name(heap, text, r)?;
-    heap.push(text, b' ')?;
-    heap.extend_from_slice(text, &hex_digits(word))?;
-    Ok(heap.push(text, b'\n')?)
+    push_each(heap, text, &[b" ", &hex_digits(word), b"\n"])
 }
 
 /// Appends the line of flags.
 pub(crate) fn push_flags<H: Heap>(heap: H, text: &mut Vec<u8>, flags: Flags) -> Result<(), Memory>
     ensures { OnOkUnless (H.may_refuse heap) result (text.new.items ≡ text.old.items ++ flags_line flags) }
 {
-    heap.extend_from_slice(text, b"flags ")?;
-    push_letter(heap, text, flags.c, b'c')?;
-    push_letter(heap, text, flags.v, b'v')?;
-    push_letter(heap, text, flags.n, b'n')?;
-    push_letter(heap, text, flags.z, b'z')?;
-    Ok(heap.push(text, b'\n')?)
+    let c = letter(flags.c, b"c");
+    let v = letter(flags.v, b"v");
+    let n = letter(flags.n, b"n");
+    let z = letter(flags.z, b"z");
+    push_each(heap, text, &[b"flags ", c, v, n, z, b"\n"])
 }
 
-/// Appends the letter of a flag, with `-` in its place where it is clear.
-fn push_letter<H: Heap>(heap: H, text: &mut Vec<u8>, is_set: bool, letter: u8) -> Result<(), Memory>
-    ensures { OnOkUnless (H.may_refuse heap) result
-        (text.new.items ≡ text.old.items ++ flag_letter is_set (letter ∷ [])) }
+/// The letter of a flag, with `-` in its place where it is clear.
+fn letter(is_set: bool, letter: &[u8]) -> &[u8]
+    ensures { result.now ≡ flag_letter is_set letter.now }
 {
-    Ok(heap.push(text, if is_set { letter } else { b'-' })?)
+    if is_set { letter } else { b"-" }
 }

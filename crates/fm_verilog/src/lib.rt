@@ -4,5 +4,5 @@
 mod text;
 mod wire_name;
 
-pub use text::verilog;
+pub use text::{clock, push_declaration, verilog};
 pub use wire_name::name;

@@ -46,7 +46,7 @@ fn tail() -> &'static str
 
 /// At each rising edge of the clock.
 #[tactic(auto, unfolding(crate::specs::VerilogText::clock_text))]
-fn clock() -> &'static str
+pub fn clock() -> &'static str
     ensures { result.now ≡ clock_text }
 {
     "always @(posedge clk) "
@@ -121,7 +121,9 @@ fn push_declarations(alloc: Global, text: &mut Vec<u8>, wires: &[Wire]) -> Resul
 }
 
 /// Appends the line that declares a wire.
-fn push_declaration(alloc: Global, text: &mut Vec<u8>, wire: Wire) -> Result<(), Memory>
+///
+/// The only error is out of memory.
+pub fn push_declaration(alloc: Global, text: &mut Vec<u8>, wire: Wire) -> Result<(), Memory>
     ensures { OnOk result (text.new.items ≡ text.old.items ++ declaration_text wire) }
 {
     let kind = kind(driver(wire));

@@ -2,12 +2,13 @@
 use Rattle.std.proofs.Common.{◌≡◌, ℕ, ◌<◌, ◌≤◌, ℤ, pos, negsuc, List, [], ◌∷◌, map, length, slice_get, if◌then◌else◌}
 use Rattle.std.proofs.Common.{true, false, not, Option, Some, None, is_none, unwrap_or, refl, ap, sym, ◌∙◌, subst, arith, flat_map, eqb-true, ◌==◌}
 use Rattle.std.specs.List.{list_any}
+use Rattle.stack_text.specs.Names.{place_among}
 use Rattle.stack_text.specs.declared.shape.Kind.{Kind}
 use Rattle.stack_text.specs.declared.shape.Kind.TheVariants.{Integer}
 use Rattle.stack_text.specs.declared.shape.Shape.{Shape}
 use Rattle.gypsy_syntax.specs.declared.literal.TypeText.{TypeText}
 use Rattle.gypsy_syntax.specs.Sources.{LiteralOf, ArgOf, variable, constant, arg_place, ProcOf, SourceOf}
-use Rattle.gypsy_syntax.specs.Resolved.{place_among, variable_names, variable_types, length_of, shape_of, literal_kind, literal_value, variable_of, argument_of}
+use Rattle.gypsy_syntax.specs.Resolved.{variable_names, variable_types, length_of, shape_of, literal_kind, literal_value, variable_of, argument_of}
 use Rattle.gypsy_syntax.specs.Resolved.{procedure_of}
 use Rattle.gypsy_syntax.specs.declared.slot.Form.{Form}
 use Rattle.gypsy_syntax.specs.declared.slot.Form.TheVariants.{Simple, Array, Literal}

@@ -5,6 +5,7 @@ use Rattle.std.proofs.Common.{ltb-false, true≢false, length-append, codes}
 use Rattle.std.proofs.lemmas.List.{length-map}
 use Rattle.std.proofs.lemmas.Bool.{false_from_ne_true, not-true}
 use Rattle.std.proofs.lemmas.Slice.Eq.{bytes_eq-Decides}
+use Rattle.stack_text.specs.Names.{place_among}
 use Rattle.stack_text.specs.declared.name.Named.{Named}
 use Rattle.stack_text.specs.declared.shape.Kind.{Kind}
 use Rattle.stack_text.specs.declared.shape.Kind.TheVariants.{Boolean}
@@ -12,7 +13,7 @@ use Rattle.stack_text.specs.declared.shape.Shape.{Shape}
 use Rattle.gypsy_syntax.specs.declared.literal.TypeText.{TypeText}
 use Rattle.gypsy_syntax.specs.declared.literal.Decl.{Decl}
 use Rattle.gypsy_syntax.specs.Sources.{StmtOf, StmtsOf, no_op, signal, seq, loop, branch, begin, call, predef, no_parts, part, ProcOf, SourceOf, LocalOf}
-use Rattle.gypsy_syntax.specs.Resolved.{place_among, position_of, variable_names, variable_types, condition_names, procedure_names, shape_of, local_value}
+use Rattle.gypsy_syntax.specs.Resolved.{position_of, variable_names, variable_types, condition_names, procedure_names, shape_of, local_value}
 use Rattle.gypsy_syntax.specs.Resolved.{is_leave_name, is_routine_name, is_space_name, cond_of, variable_of, statement_of, statement_of_all, procedure_of}
 use Rattle.gypsy_syntax.specs.Resolved.{program_of}
 use Rattle.gypsy_syntax.specs.Predefined.{slots_of}

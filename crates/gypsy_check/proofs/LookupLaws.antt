@@ -3,8 +3,9 @@ use Rattle.std.proofs.Common.{◌≡◌, ℕ, suc, ◌+◌, List, [], ◌∷◌,
 use Rattle.std.proofs.Common.{Bool, true, false, not, ◌||◌, Option, Some, None, is_none, option_map, refl, ap, ◌∙◌, ⊎_elim, arith, lt-ltb, le-ltb}
 use Rattle.std.specs.List.{list_any, prefix_len}
 use Rattle.std.proofs.lemmas.Bool.{cases_lt}
+use Rattle.stack_text.specs.Names.{place_among}
 use Rattle.gypsy_syntax.specs.declared.literal.TypeText.{TypeText}
-use Rattle.gypsy_syntax.specs.Resolved.{place_among, condition_names, procedure_at}
+use Rattle.gypsy_syntax.specs.Resolved.{condition_names, procedure_at}
 use Rattle.stack_text.specs.declared.name.Named.{Named}
 use Rattle.stack_text.proofs.SharedLaws.{find_map}
 use Rattle.gypsy_syntax.specs.declared.literal.Decl.{Decl}

@@ -3,17 +3,18 @@ use Rattle.std.proofs.Common.{◌≡◌, ℕ, ◌<◌, List, [], ◌∷◌, ◌+
 use Rattle.std.proofs.Common.{true, false, true≢false, Option, Some, None, is_none, unwrap_or, refl, ap, sym, ◌∙◌}
 use Rattle.std.proofs.lemmas.List.Quantifiers.{position-Some}
 use Rattle.std.proofs.lemmas.Slice.Eq.{bytes_eq-Decides}
+use Rattle.stack_text.specs.Names.{is_among, place_among}
 use Rattle.stack_text.specs.declared.name.Named.{Named}
 use Rattle.gypsy_syntax.specs.declared.literal.TypeText.{TypeText}
 use Rattle.gypsy_syntax.specs.Sources.{ProcOf, SourceOf, LocalOf}
 use Rattle.gypsy_syntax.specs.declared.literal.Decl.{Decl}
-use Rattle.gypsy_syntax.specs.Resolved.{place_among, position_of, variable_names, variable_types, shape_of, local_value, procedure_of}
+use Rattle.gypsy_syntax.specs.Resolved.{position_of, variable_names, variable_types, shape_of, local_value, procedure_of}
 use Rattle.gypsy_syntax.specs.Programs.{shapes_of}
 use Rattle.gypsy_syntax.specs.ProgramFits.{Each, Misses, Distinct}
 use Rattle.gypsy_syntax.specs.Resolved.{procedure_at}
 use Rattle.stack_text.specs.Breaches.{when}
 use Rattle.stack_text.proofs.SharedLaws.{rule_fails, append_none, get_map}
-use Rattle.gypsy_check.specs.Declarations.{type_at, type_of, is_among, repeats}
+use Rattle.gypsy_check.specs.Declarations.{type_at, type_of, repeats}
 use Rattle.std.proofs.lemmas.Bool.{or_left, or_right}
 
 -- the name is among these

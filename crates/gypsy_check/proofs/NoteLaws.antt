@@ -26,7 +26,7 @@ use Rattle.gypsy_check.specs.Types.{same_type}
 use Rattle.gypsy_check.specs.Arguments.{kind_of, is_wanted, settled_by, is_undeclared}
 use Rattle.gypsy_check.specs.Rules.{literal_breaches, items_breaches, is_of_type, actuals_breaches, slots_breaches, argument_breaches, statement_breaches}
 use Rattle.gypsy_check.specs.Rules.{parts_breaches, declared_breaches, predef_breaches}
-use Rattle.stack_text.proofs.SharedLaws.{or_false}
+use Rattle.stack_text.proofs.SharedLaws.{any_push}
 
 -- the least with these
 abbrev pub noted : Option Breach → List Breach → Option Breach
@@ -53,10 +53,6 @@ items_each (l ∷ ls) = ap (λ vs. literal_breaches (literal_of l) ++ vs) (items
 pub list_each : (place : ℕ) (items : _) → literal_breaches
     (literal_of (Rattle.gypsy_syntax.specs.declared.literal.Literal.TheVariants.List place items)) ≡ flat_map literal_breaks items.items
 list_each place items = ap literal_breaches (literal_of-list place items) ∙ items_each items.items
-
-or_assoc : (a b c : Bool) → (a || (b || c)) ≡ ((a || b) || c)
-or_assoc true b c = refl
-or_assoc false b c = refl
 
 abbrev pub types_from : List Decl → ℕ → List TypeText
 types_from fs i = map (λ (d : Decl). d.shape) (drop i fs)
@@ -170,10 +166,6 @@ lacking p slots args h = ap (λ b. if b then [] else slots_breaches p None slots
 pub all_declared_here : (p : ProcOf) (slots : List Slot) (args : List Arg) → list_any (λ a. is_undeclared p (arg_of a)) args ≡ false
     → declared_breaches p slots (map arg_of args) ≡ slots_breaches p None slots (map arg_of args)
 all_declared_here p slots args h = ap (λ b. if b then [] else slots_breaches p None slots (map arg_of args)) (any_args p args ∙ h)
-
-any_push : {X : Type 0} (f : X → Bool) (xs : List X) (x : X) → list_any f (xs ++ x ∷ []) ≡ (list_any f xs || f x)
-any_push f [] x = or_false (f x)
-any_push f (y ∷ xs) x = ap (λ b. f y || b) (any_push f xs x) ∙ or_assoc (f y) (list_any f xs) (f x)
 
 -- whether one of those so far does, and one more
 pub any_next : {X : Type 0} (f : X → Bool) (xs : List X) (i : ℕ) (x : X) (before more after : Bool) → i < length xs →

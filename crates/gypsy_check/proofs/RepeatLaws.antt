@@ -4,28 +4,29 @@ use Rattle.std.proofs.Common.{sym, ◌∙◌, append_assoc}
 use Rattle.std.specs.List.{list_any}
 use Rattle.std.proofs.lemmas.List.{append-nil, map_push, take_more}
 use Rattle.std.proofs.lemmas.Slice.Eq.{bytes_eq-Decides}
-use Rattle.name_tables.specs.Lists.{is_listed, with_name}
+use Rattle.stack_text.specs.Names.{is_among}
+use Rattle.name_tables.specs.Lists.{with_name}
 use Rattle.stack_text.specs.declared.breach.Breach.{Breach}
 use Rattle.stack_text.specs.declared.name.Named.{Named}
 use Rattle.stack_text.specs.Breaches.{when, lesser_of, least, Notes}
 use Rattle.stack_text.proofs.BreachLaws.{notes_more}
-use Rattle.gypsy_check.specs.Declarations.{is_among, repeats}
+use Rattle.gypsy_check.specs.Declarations.{repeats}
 use Rattle.gypsy_check.specs.Tables.{is_named, KnowsNames}
-use Rattle.stack_text.proofs.SharedLaws.{or_false}
+use Rattle.stack_text.proofs.SharedLaws.{any_push, or_false}
 
-swap_or : (a b c : Bool) → (a || (b || c)) ≡ (b || (a || c))
-swap_or true true c = refl
-swap_or true false c = refl
-swap_or false b c = refl
+or_swap : (a b : Bool) → (a || b) ≡ (b || a)
+or_swap true true = refl
+or_swap true false = refl
+or_swap false true = refl
+or_swap false false = refl
 
 -- ---- one more name
 
-any-push : {X : Type 0} (test : X → Bool) (xs : List X) (x : X) → list_any test (xs ++ x ∷ []) ≡ (test x || list_any test xs)
-any-push test [] x = refl
-any-push test (y ∷ xs) x = ap (λ (b : Bool). test y || b) (any-push test xs x) ∙ swap_or (test y) (test x) (list_any test xs)
+any_more : {X : Type 0} (test : X → Bool) (xs : List X) (x : X) → list_any test (xs ++ x ∷ []) ≡ (test x || list_any test xs)
+any_more test xs x = any_push test xs x ∙ or_swap (list_any test xs) (test x)
 
 is_named-push : (name : List ℕ) (ns : List Named) (n : Named) → is_named name (ns ++ n ∷ []) ≡ (bytes_eq name n.name || is_named name ns)
-is_named-push name = any-push (λ n. bytes_eq name n.name)
+is_named-push name = any_more (λ n. bytes_eq name n.name)
 
 repeats-push : (rule : ℕ) (earlier : List (List ℕ)) (ns : List Named) (n : Named) →
     repeats rule earlier (ns ++ n ∷ []) ≡ repeats rule earlier ns ++ when (is_named n.name ns || is_among n.name earlier) n.place rule
@@ -57,7 +58,7 @@ list_more {X} front xs i x lt is =
 
 -- the list has those so far, and one more
 pub known_more : (before after : List Named) (n : Named) (old new : List (List ℕ)) → after ≡ before ++ n ∷ [] → KnowsNames old before
-    → ((name : List ℕ) → is_listed name new ≡ (bytes_eq name n.name || is_listed name old)) → KnowsNames new after
+    → ((name : List ℕ) → is_among name new ≡ (bytes_eq name n.name || is_among name old)) → KnowsNames new after
 known_more before after n old new more so_far entered name =
     entered name ∙ ap (λ (b : Bool). bytes_eq name n.name || b) (so_far name) ∙ sym (is_named-push name before n) ∙ ap (is_named name) (sym more)
 
@@ -75,17 +76,17 @@ noted_more rule before after n a b c old more so_far h k =
 -- ---- a list of names
 
 -- a name that is listed makes no difference
-listed : (name other : List ℕ) (names : List (List ℕ)) → is_listed other names ≡ true → is_listed name names ≡ (bytes_eq name other || is_listed name names)
+listed : (name other : List ℕ) (names : List (List ℕ)) → is_among other names ≡ true → is_among name names ≡ (bytes_eq name other || is_among name names)
 listed name other names h = by_test (bytes_eq name other) refl
   where
-    by_test : (b : Bool) → bytes_eq name other ≡ b → is_listed name names ≡ (b || is_listed name names)
+    by_test : (b : Bool) → bytes_eq name other ≡ b → is_among name names ≡ (b || is_among name names)
     by_test false e = refl
-    by_test true e = ap (λ (n : List ℕ). is_listed n names) ((bytes_eq-Decides name other).0 e) ∙ h
+    by_test true e = ap (λ (n : List ℕ). is_among n names) ((bytes_eq-Decides name other).0 e) ∙ h
 
 -- the names of a list in which one was entered
-pub listed_with : (names : List (List ℕ)) (new name : List ℕ) → is_listed name (with_name names new) ≡ (bytes_eq name new || is_listed name names)
-listed_with names new name = by_test (is_listed new names) refl
+pub listed_with : (names : List (List ℕ)) (new name : List ℕ) → is_among name (with_name names new) ≡ (bytes_eq name new || is_among name names)
+listed_with names new name = by_test (is_among new names) refl
   where
-    by_test : (b : Bool) → is_listed new names ≡ b → is_listed name (cond b names (names ++ new ∷ [])) ≡ (bytes_eq name new || is_listed name names)
+    by_test : (b : Bool) → is_among new names ≡ b → is_among name (cond b names (names ++ new ∷ [])) ≡ (bytes_eq name new || is_among name names)
     by_test true e = listed name new names e
-    by_test false e = any-push (bytes_eq name) names new
+    by_test false e = any_more (bytes_eq name) names new

@@ -1,15 +1,14 @@
 -- What a source's names are declared as, and names that stand more than once.
 use Rattle.std.specs.Prelude.{ℕ, List, [], ◌∷◌, ◌++◌, map, slice_get, Bool, true, false, not, Option, Some, None, is_none}
-use Rattle.std.specs.List.{list_any}
-use Rattle.std.specs.Str.{bytes_eq}
 use Rattle.stack_text.specs.declared.breach.Breach.{Breach}
 use Rattle.stack_text.specs.declared.name.Named.{Named}
 use Rattle.stack_text.specs.Breaches.{when}
+use Rattle.stack_text.specs.Names.{is_among, place_among}
 use Rattle.gypsy_syntax.specs.declared.literal.TypeText.{TypeText}
 use Rattle.gypsy_syntax.specs.declared.keyword.Keyword.{Keyword}
 use Rattle.gypsy_syntax.specs.declared.keyword.Keyword.TheVariants.{Predef}
 use Rattle.gypsy_syntax.specs.Keywords.{keyword_named}
-use Rattle.gypsy_syntax.specs.Resolved.{place_among, variable_names, variable_types, condition_names}
+use Rattle.gypsy_syntax.specs.Resolved.{variable_names, variable_types, condition_names}
 use Rattle.gypsy_syntax.specs.Sources.{ProcOf}
 
 -- the type of the first variable of a name, formals before locals
@@ -38,9 +37,6 @@ variables_of p = map (λ d. d.name) p.formals ++ map (λ l. l.decl.name) p.local
 
 abbrev pub conditions_of : ProcOf → List Named
 conditions_of p = p.conds ++ p.local_conds
-
-abbrev pub is_among : List ℕ → List (List ℕ) → Bool
-is_among name names = list_any (bytes_eq name) names
 
 -- the rule is broken at each name that stands earlier
 abbrev pub repeats : ℕ → List (List ℕ) → List Named → List Breach

@@ -3,8 +3,8 @@ use Rattle.std.specs.Prelude.{◌≡◌, ℕ, List, ◌++◌, map, find, Bool, O
 use Rattle.std.specs.Borrow.{Bor}
 use Rattle.std.specs.List.{list_any}
 use Rattle.std.specs.Str.{bytes_eq}
+use Rattle.stack_text.specs.Names.{is_among}
 use Rattle.name_tables.specs.Entries.{Entries, look_up}
-use Rattle.name_tables.specs.Lists.{is_listed}
 use Rattle.stack_text.specs.declared.name.Named.{Named}
 use Rattle.gypsy_syntax.specs.declared.literal.Decl.{Decl}
 use Rattle.gypsy_syntax.specs.declared.literal.TypeText.{TypeText}
@@ -17,7 +17,7 @@ is_named name names = list_any (λ n. bytes_eq name n.name) names
 
 -- the list has the names of these
 abbrev pub KnowsNames : List (List ℕ) → List Named → Type 0
-KnowsNames list names = (name : List ℕ) → is_listed name list ≡ is_named name names
+KnowsNames list names = (name : List ℕ) → is_among name list ≡ is_named name names
 
 -- the procedure that the table has for a name
 abbrev pub procedure_in : Entries (Bor Proc) → List ℕ → Option Proc

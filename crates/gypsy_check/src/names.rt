@@ -3,10 +3,10 @@
 ghost use Rattle.std.specs.Prelude.{◌≡◌, ℕ, List, [], ◌++◌, ◌||◌, map, is_some, OnOk};
 ghost use Rattle.stack_heap.specs.Heaps.{IfOkUnless, OnOkUnless};
 ghost use Rattle.std.specs.Str.{bytes_eq};
+ghost use Rattle.stack_text.specs.Names.{is_among};
 ghost use Rattle.stack_text.specs.Breaches.{when, Notes};
 ghost use Rattle.gypsy_check.specs.Declarations.{repeats};
 ghost use Rattle.name_tables.specs.Entries.{look_up};
-ghost use Rattle.name_tables.specs.Lists.{is_listed};
 ghost use Rattle.gypsy_check.specs.Tables.{KnowsNames, KnowsTypes};
 ghost use Rattle.stack_text.specs.Options.{first_or};
 
@@ -24,9 +24,9 @@ fn enter<'a, H: Heap>(
     rule: u8,
 ) -> Result<(), Memory>
     ensures entered { OnOkUnless (H.may_refuse heap) result
-        ((other : List ℕ) → is_listed other names.new ≡ (bytes_eq other name.now.name || is_listed other names.old)) }
+        ((other : List ℕ) → is_among other names.new ≡ (bytes_eq other name.now.name || is_among other names.old)) }
     ensures noted { OnOk result
-        (Notes best.old (when (is_listed name.now.name names.old) name.now.place rule) best.new) }
+        (Notes best.old (when (is_among name.now.name names.old) name.now.place rule) best.new) }
 {
     let is_new = names.enter(heap, name.name.bytes())?;
     note_if(best, !is_new, name.place, rule);

@@ -5,6 +5,7 @@ use Rattle.std.specs.List.{position_from}
 use Rattle.std.proofs.lemmas.Slice.Eq.{bytes_eq-Decides}
 use Rattle.std.proofs.lemmas.Iterator.Adapters.{position_from-zero}
 use Rattle.std.proofs.lemmas.Bool.{or_parts}
+use Rattle.stack_text.specs.Names.{is_among}
 use Rattle.stack_text.specs.declared.name.Named.{Named}
 use Rattle.stack_text.specs.Breaches.{when}
 use Rattle.stack_text.specs.Grammar.Printed.{unplaced}
@@ -13,7 +14,7 @@ use Rattle.stack_text.specs.Options.{first_or}
 use Rattle.stack_text.proofs.SharedLaws.{rule_fails, append_none, bytes_apart}
 use Rattle.piton_check.proofs.TableLaws.{position-push}
 use Rattle.gypsy_syntax.specs.ProgramFits.{Each}
-use Rattle.gypsy_check.specs.Declarations.{is_among, repeats as repetitions}
+use Rattle.gypsy_check.specs.Declarations.{repeats as repetitions}
 use Rattle.gypsy_codegen.specs.Written.{Names, Line, Plain, Marked, label_text}
 use Rattle.gypsy_codegen.proofs.LabelLaws.{Misses, Distinct, Ranged, declared, label_differs}
 

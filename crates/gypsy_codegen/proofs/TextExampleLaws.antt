@@ -1,7 +1,7 @@
 -- The texts of the closed sources, by computing.
 use Rattle.std.proofs.Common.{refl}
 use Rattle.std.specs.Fmt.{digits}
-use Rattle.gypsy_syntax.specs.Resolved.{place_among}
+use Rattle.stack_text.specs.Names.{place_among}
 use Rattle.gypsy_space.specs.Needs.{call_need}
 use Rattle.gypsy_semantics.specs.Calls.{is_passed_on}
 use Rattle.gypsy_codegen.specs.Written.{label_text}

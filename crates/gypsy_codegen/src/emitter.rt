@@ -12,7 +12,7 @@ use crate::lines::label_named;
 use gypsy_predef::instruction_text;
 use gypsy_predef::instruction_text::{condition_area, number};
 use piton_syntax::{ArgText, InstrText, PitonOp, TestKind, WordItem, WordText};
-use stack_heap::Heap;
+use stack_heap::{Heap, MODEST_COUNT};
 use stack_text::{Memory, Named};
 use std::marker::Model;
 
@@ -34,11 +34,11 @@ impl Model for Emitter {
 }
 
 impl Emitter {
-    /// Without instructions yet, and with room for so many.
+    /// Without instructions yet, and with room for so many, or for `MODEST_COUNT` if that is less.
     pub(crate) fn with_capacity<H: Heap>(heap: H, capacity: usize) -> Result<Self, Memory>
         ensures { IfOkUnless (H.may_refuse heap) result (λ emitter. emitter ≡ []) }
     {
-        let instrs = heap.with_room(capacity)?;
+        let instrs = heap.with_room(capacity.min(MODEST_COUNT))?;
         Ok(Emitter { instrs })
     }
 

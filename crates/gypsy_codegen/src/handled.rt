@@ -22,13 +22,12 @@ pub(crate) struct Handled<'a> {
 
 /// Makes one entry of a table true. Those that it doesn't have yet are false.
 fn mark<H: Heap>(heap: H, table: &mut Vec<bool>, number: u64) -> Result<(), Memory>
-    requires { number < 2 ^ 33 }
     ensures { OnOkUnless (H.may_refuse heap) result ((k : ℕ) → get_or table.new.items k false ≡
         (if k == number then true else get_or table.old.items k false)) }
 {
     let at = number as usize;
-    if table.len() <= at {
-        heap.resize(table, at + 1, false)?;
+    for _ in table.len()..=at {
+        heap.push(table, false)?;
     }
     table[at] = true;
     Ok(())

@@ -6,13 +6,14 @@ use Rattle.std.specs.List.{flat_map, position_from}
 use Rattle.std.proofs.lemmas.Bool.{lt-ltb}
 use Rattle.std.proofs.lemmas.Bool.Decides.{eqb_tells}
 use Rattle.std.proofs.lemmas.Iterator.Adapters.{position_from-zero}
+use Rattle.stack_text.specs.Names.{is_among, place_among}
 use Rattle.stack_text.specs.Breaches.{when}
 use Rattle.stack_text.specs.Grammar.Printed.{unplaced}
 use Rattle.gypsy_syntax.specs.Made.{statements, new_proc}
 use Rattle.gypsy_syntax.specs.Keywords.{keyword_name, form_named, predef_named}
-use Rattle.gypsy_syntax.specs.Resolved.{place_among, procedure_names, procedure_at, procedure_named}
+use Rattle.gypsy_syntax.specs.Resolved.{procedure_names, procedure_at, procedure_named}
 use Rattle.gypsy_syntax.specs.Sources.{ProcOf, SourceOf}
-use Rattle.gypsy_check.specs.Declarations.{repeats, is_among, is_predefined}
+use Rattle.gypsy_check.specs.Declarations.{repeats, is_predefined}
 use Rattle.gypsy_check.specs.Rules.{violations, name_breaches, procedure_breaches, statement_breaches, parts_breaches, main_breaches}
 use Rattle.gypsy_gen.specs.declared.body.Body.{Body}
 use Rattle.gypsy_gen.specs.declared.body.Body.TheVariants.{Add, Subtract, Minus, Assign}

@@ -58,7 +58,7 @@ fn change<H: Heap>(
         items.truncate(kept);
         return Ok(());
     }
-    heap.reserve(items, added.len())?;
+    heap.reserve_for(items, added.as_slice())?;
     items.truncate(kept);
     match items.append(added) {
         Ok(()) => Ok(()),

@@ -1,28 +1,20 @@
 -- Where a name stands first among those of two lists.
-use Rattle.std.proofs.Common.{◌≡◌, ℕ, suc, ◌+◌, List, [], ◌∷◌, ◌++◌, map, length, Bool, true, false, not, cond, Option, Some, None, option_map, nat_lt}
+use Rattle.std.proofs.Common.{◌≡◌, ℕ, suc, ◌+◌, List, [], ◌∷◌, ◌++◌, map, length, Bool, true, false, cond, Option, Some, None, option_map}
 use Rattle.std.proofs.Common.{bytes_eq, refl, sym, ap, ap₂, ◌∙◌, zero-add, arith}
-use Rattle.std.specs.List.{position, position_or_len}
+use Rattle.std.specs.List.{position}
 use Rattle.std.specs.Option.{unwrap_or}
 use Rattle.std.proofs.lemmas.List.{length-map}
 use Rattle.std.proofs.lemmas.Simd.{map-map}
+use Rattle.stack_text.specs.Names.{place_among}
 use Rattle.stack_text.specs.declared.name.Named.{Named}
+use Rattle.stack_text.proofs.SharedLaws.{place_among-map}
 use Rattle.gypsy_syntax.specs.declared.literal.Decl.{Decl}
 use Rattle.gypsy_syntax.specs.declared.literal.Local.{Local}
 use Rattle.gypsy_syntax.specs.declared.proc.Proc.{Proc}
-use Rattle.gypsy_syntax.specs.Resolved.{condition_names, place_among, position_of, variable_names}
+use Rattle.gypsy_syntax.specs.Resolved.{condition_names, position_of, variable_names}
 use Rattle.gypsy_syntax.specs.Views.SourceView.{local_of, proc_of}
 use Rattle.gypsy_syntax.specs.Sources.{LocalOf}
 use Rattle.gypsy_check.proofs.LookupLaws.{place_cons, place_nil}
-
-position_or_len-map : {X Y : Type 0} (p : Y → Bool) (f : X → Y) (xs : List X) → position_or_len (λ x. p (f x)) xs ≡ position_or_len p (map f xs)
-position_or_len-map p f [] = refl
-position_or_len-map p f (x ∷ xs) = ap (λ (n : ℕ). cond (not (p (f x))) (1 + n) 0) (position_or_len-map p f xs)
-
--- by the names of the items
-pub position-map : {X : Type 0} (name : List ℕ) (key : X → List ℕ) (xs : List X) → position (λ x. bytes_eq name (key x)) xs ≡ place_among name (map key xs)
-unfolding place_among
-position-map name key xs =
-    ap₂ (λ (n l : ℕ). cond (nat_lt n l) (Some n) None) (position_or_len-map (bytes_eq name) key xs) (sym (length-map xs key))
 
 -- the place in the first list, and else in the second, after so many
 abbrev pub place_or : ℕ → Option ℕ → Option ℕ → Option ℕ
@@ -56,7 +48,7 @@ place_among-append name (m ∷ ms) ns =
 pub position_two : {X Y : Type 0} (name : List ℕ) (key : X → List ℕ) (other : Y → List ℕ) (xs : List X) (ys : List Y) →
     place_or (length xs) (position (λ x. bytes_eq name (key x)) xs) (position (λ y. bytes_eq name (other y)) ys) ≡ place_among name (map key xs ++ map other ys)
 position_two name key other xs ys =
-    ap₂ (λ (m n : Option ℕ). place_or (length xs) m n) (position-map name key xs) (position-map name other ys)
+    ap₂ (λ (m n : Option ℕ). place_or (length xs) m n) (place_among-map name key xs) (place_among-map name other ys)
     ∙ ap (λ (k : ℕ). place_or k (place_among name (map key xs)) (place_among name (map other ys))) (sym (length-map xs key))
     ∙ sym (place_among-append name (map key xs) (map other ys))
 

@@ -88,7 +88,7 @@ impl Session {
         ensures is { IfOk result IsSession }
     {
         // The runner is dropped by a call: a `?` would drop it part by part, in steps that are longer to prove.
-        let Ok(attached) = heap.with_room(watches.len()) else {
+        let Ok(attached) = heap.with_room_for(watches.as_slice()) else {
             drop(runner);
             return Err(Memory);
         };

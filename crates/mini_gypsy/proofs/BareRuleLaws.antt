@@ -5,6 +5,7 @@ use Rattle.std.specs.List.{list_any, flat_map}
 use Rattle.std.specs.Str.{bytes_eq}
 use Rattle.std.proofs.lemmas.List.{length-map, map-append}
 use Rattle.std.proofs.lemmas.Option.{slice_get-map}
+use Rattle.stack_text.specs.Names.{is_among, place_among}
 use Rattle.stack_text.specs.declared.breach.Breach.{Breach}
 use Rattle.stack_text.specs.declared.name.Named.{Named}
 use Rattle.stack_text.specs.declared.shape.Kind.{Kind}
@@ -21,13 +22,13 @@ use Rattle.gypsy_syntax.specs.Places.{unplaced_type, unplaced_literal, unplaced_
 use Rattle.gypsy_syntax.specs.Places.{unplaced_stmts, unplaced_proc, without_places}
 use Rattle.gypsy_syntax.specs.Predefined.{slots_of}
 use Rattle.gypsy_syntax.specs.Ranges.{is_in_range}
-use Rattle.gypsy_syntax.specs.Resolved.{place_among, variable_names, variable_types, procedure_names, is_leave_name, is_routine_name, is_space_name}
+use Rattle.gypsy_syntax.specs.Resolved.{variable_names, variable_types, procedure_names, is_leave_name, is_routine_name, is_space_name}
 use Rattle.gypsy_syntax.specs.Sources.{LiteralOf, LiteralsOf, integer, truth, character, array, no_items, item, literal_place, ArgOf, variable, constant}
 use Rattle.gypsy_syntax.specs.Sources.{arg_place}
 use Rattle.gypsy_syntax.specs.Sources.{StmtOf, StmtsOf, no_op, signal, seq, loop, branch, begin, call, predef, no_parts, part, LocalOf, ProcOf, SourceOf}
 use Rattle.gypsy_syntax.specs.Resolved.{procedure_at, procedure_named}
 use Rattle.gypsy_check.specs.Arguments.{kind_of_type, kind_of_literal, kind_of, is_wanted, settled_by, is_undeclared}
-use Rattle.gypsy_check.specs.Declarations.{is_predefined, type_at, type_of, is_condition, variables_of, conditions_of, is_among, repeats}
+use Rattle.gypsy_check.specs.Declarations.{is_predefined, type_at, type_of, is_condition, variables_of, conditions_of, repeats}
 use Rattle.gypsy_check.specs.Rules.{literal_breaches, items_breaches, raised_breaches, handled_breaches, handlers_breaches, undeclared, is_of_type}
 use Rattle.gypsy_check.specs.Rules.{test_breaches, actuals_breaches, data_breaches, callee_breaches, actual_name_breaches, call_breaches}
 use Rattle.gypsy_check.specs.Rules.{slots_breaches, argument_breaches, predef_breaches, statement_breaches, parts_breaches, is_reserved, condition_breaches}

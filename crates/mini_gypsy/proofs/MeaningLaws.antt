@@ -5,6 +5,7 @@ use Rattle.std.specs.Prelude as std
 use Rattle.std.specs.List.{list_all}
 use Rattle.std.proofs.lemmas.Bool.{eqb-true}
 use Rattle.std.proofs.Math.Seq.{take-append_seam}
+use Rattle.stack_text.specs.Names.{place_among}
 use Rattle.stack_text.specs.declared.shape.Kind.{Kind}
 use Rattle.stack_text.specs.declared.shape.Kind.TheVariants.{Integer, Boolean}
 use Rattle.stack_text.specs.declared.shape.Shape.{Shape}
@@ -16,7 +17,7 @@ use Rattle.gypsy_syntax.specs.Ranges.{is_in_range}
 use Rattle.gypsy_syntax.specs.ValuesFit.{ValueFits, VarsFit}
 use Rattle.gypsy_syntax.specs.Programs.{Program, Leave, Routine, Space, simple, proc_at}
 use Rattle.gypsy_syntax.specs.Programs as gypsy
-use Rattle.gypsy_syntax.specs.Resolved.{program_of, shape_of, truth_item, statement_of, local_value, place_among}
+use Rattle.gypsy_syntax.specs.Resolved.{program_of, shape_of, truth_item, statement_of, local_value}
 use Rattle.gypsy_space.specs.Needs.{StackSizes, main_used}
 use Rattle.gypsy_semantics.specs.Calls.{main_start, main_formals, main_way, is_passed_on}
 use Rattle.gypsy_semantics.specs.Meaning.{MeaningOutcome, Done, Unfinished, evaluate, main_end, meaning}

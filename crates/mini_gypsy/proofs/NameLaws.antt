@@ -5,16 +5,16 @@ use Rattle.std.specs.Prelude.{slice_get, ◌==◌, ◌&&◌, ◌||◌, nat_le, I
 use Rattle.std.specs.List.{list_all}
 use Rattle.std.proofs.lemmas.Bool.{agree_below_at, eqb-true, and_parts}
 use Rattle.std.proofs.lemmas.Slice.Eq.{bytes_eq-Decides}
-use Rattle.stack_text.specs.Names.{is_name, begins_with_letter}
+use Rattle.stack_text.specs.Names.{is_name, begins_with_letter, is_among, place_among}
 use Rattle.std.proofs.lemmas.Option.{slice_get_within}
 use Rattle.stack_text.proofs.SharedLaws.{and_false, get_front}
 use Rattle.gypsy_syntax.specs.declared.literal.TypeText.{TypeText}
 use Rattle.gypsy_syntax.specs.Made.{new_simple}
 use Rattle.gypsy_syntax.specs.ProgramFits.{Each}
 use Rattle.gypsy_syntax.specs.declared.literal.Decl.{Decl}
-use Rattle.gypsy_syntax.specs.Resolved.{place_among, variable_names, variable_types}
+use Rattle.gypsy_syntax.specs.Resolved.{variable_names, variable_types}
 use Rattle.gypsy_syntax.specs.Sources.{LocalOf, ProcOf}
-use Rattle.gypsy_check.specs.Declarations.{is_among, type_at, type_of}
+use Rattle.gypsy_check.specs.Declarations.{type_at, type_of}
 use Rattle.gypsy_check.proofs.LookupLaws.{place_cons}
 use Rattle.mini_syntax.specs.declared.program.Declared.{Declared}
 use Rattle.mini_syntax.specs.declared.sort.Sort.{Sort}

@@ -2,13 +2,14 @@
 use Rattle.std.proofs.Common.{◌≡◌, ℕ, suc, ◌+◌, ◌<◌, ◌≤◌, List, [], ◌∷◌, ◌++◌, map, length, Option, Some, unwrap_or, refl, ap, ap₂, ◌∙◌, arith}
 use Rattle.std.specs.Prelude.{slice_get, pos}
 use Rattle.std.proofs.lemmas.List.{map-append}
+use Rattle.stack_text.specs.Names.{place_among}
 use Rattle.gypsy_syntax.specs.declared.predef.Predef.{Predef}
 use Rattle.gypsy_syntax.specs.declared.predef.Predef.TheVariants as row
 use Rattle.gypsy_syntax.specs.Effects.{integer_value, truth_value}
 use Rattle.gypsy_syntax.specs.Made.{statements, new_predef}
 use Rattle.gypsy_syntax.specs.Programs.{Arg, Var, Lit}
 use Rattle.gypsy_syntax.specs.Programs as gypsy
-use Rattle.gypsy_syntax.specs.Resolved.{place_among, variable_names, argument_of, statement_of, statement_of_all}
+use Rattle.gypsy_syntax.specs.Resolved.{variable_names, argument_of, statement_of, statement_of_all}
 use Rattle.gypsy_syntax.specs.Sources.{ArgOf, StmtOf, ProcOf, SourceOf}
 use Rattle.mini_syntax.specs.declared.sort.Sort.{Sort}
 use Rattle.mini_syntax.specs.declared.sort.Sort.TheVariants.{Int, Bool}

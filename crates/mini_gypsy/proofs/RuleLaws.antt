@@ -4,6 +4,7 @@ use Rattle.std.specs.Prelude.{pos, ◌||◌}
 use Rattle.std.specs.Prelude as std
 use Rattle.std.specs.List.{flat_map}
 use Rattle.std.proofs.lemmas.Bool.{lt-ltb, le-ltb, or_parts}
+use Rattle.stack_text.specs.Names.{is_among, place_among}
 use Rattle.stack_text.specs.declared.breach.Breach.{Breach}
 use Rattle.stack_text.specs.declared.name.Named.{Named}
 use Rattle.stack_text.specs.Breaches.{when}
@@ -15,9 +16,8 @@ use Rattle.gypsy_syntax.specs.Keywords.{keyword_name, form_named, predef_named}
 use Rattle.gypsy_syntax.specs.Made.{statements, new_seq, new_predef, new_simple}
 use Rattle.gypsy_syntax.specs.Predefined.{slots_of}
 use Rattle.gypsy_syntax.specs.ProgramFits.{Each}
-use Rattle.gypsy_syntax.specs.Resolved.{place_among}
 use Rattle.gypsy_syntax.specs.Sources.{integer, truth, constant, loop, LocalOf, StmtOf, ProcOf, SourceOf}
-use Rattle.gypsy_check.specs.Declarations.{type_of, is_among, repeats}
+use Rattle.gypsy_check.specs.Declarations.{type_of, repeats}
 use Rattle.gypsy_check.specs.Rules.{predef_breaches, statement_breaches, parts_breaches, type_breaches, local_breaches, procedure_breaches, violations}
 use Rattle.gypsy_check.specs.Types.{words_of_types}
 use Rattle.mini_syntax.specs.declared.program.Declared.{Declared}

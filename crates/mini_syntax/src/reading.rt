@@ -20,7 +20,7 @@ use crate::program::InfixProgram;
 use crate::scope::{Scope, enter};
 use crate::sort::Sort;
 use crate::word::Word;
-use name_tables::NameTable;
+use name_tables::{NameKeys, NameTable};
 use stack_heap::Heap;
 use stack_text::{Breach, Memory, note_if, read_name};
 
@@ -84,6 +84,15 @@ fn declaration<'a, H: Heap>(
     }
 }
 
+/// The key of the table of variables: all tokens that are left are taken in.
+fn keys_of(left: &[Lexeme<'_>]) -> NameKeys {
+    let mut keys = NameKeys::new();
+    for lexeme in left {
+        keys.take_in(lexeme.bytes);
+    }
+    keys
+}
+
 /// Reads all declarations.
 fn declarations<'a, H: Heap>(
     heap: H,
@@ -99,7 +108,7 @@ fn declarations<'a, H: Heap>(
 {
     let mut scope = Scope {
         declared: Vec::new(heap.handle()),
-        variables: NameTable::new(heap.handle()),
+        variables: NameTable::keyed(heap.handle(), keys_of(cursor.left)),
     };
     while let Some(sort) = sort_declared(cursor.kind()) {
         declaration(heap, cursor, &mut scope, best, sort)?;

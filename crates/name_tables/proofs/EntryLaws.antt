@@ -26,15 +26,16 @@ known_is {V} es old name b t view is test =
     ∙ ap (λ (o : Option V). is_some o) (found_borrowed es name)
     ∙ ap (λ (entries : Entries V). is_some (look_up entries name)) view
 
--- a name is entered with its value, where it was not there
-pub entered : {V : Type 0} (es new : List (Key × V)) (old : Entries V) (key : Key) (v : V) → entries_now es ≡ old →
-    ((q : Key) → lookup (sought q.now) new ≡ cond (bytes_eq key.now q.now) (Some v) (lookup (sought q.now) es)) →
+-- a name is entered with its value, where it was not there, and making room left the entries
+pub entered : {V : Type 0} (es room new : List (Key × V)) (old : Entries V) (key : Key) (v : V) → room ≡ es → entries_now es ≡ old →
+    ((q : Key) → lookup (sought q.now) new ≡ cond (bytes_eq key.now q.now) (Some v) (lookup (sought q.now) room)) →
     is_some (look_up old key.now) ≡ false →
     (other : List ℕ) → look_up (entries_now new) other ≡ first_or (look_up old other) (bytes_eq other key.now) v
-entered {V} es new old key v view updates absent other =
+entered {V} es room new old key v same view updates absent other =
     sym (found_borrowed new other) ∙ updates (record key { now = other })
     ∙ ap (λ (o : Option V). cond (bytes_eq key.now other) (Some v) o)
-    (found_borrowed es other ∙ ap (λ (entries : Entries V). look_up entries other) view)
+    (found_borrowed room other ∙ ap (λ (entries : List (Key × V)). look_up (entries_now entries) other) same
+    ∙ ap (λ (entries : Entries V). look_up entries other) view)
     ∙ by_tests (bytes_eq key.now other) (bytes_eq other key.now) refl refl
   where
     none_yet : (o : Option V) → is_some o ≡ false → Some v ≡ first_or o true v

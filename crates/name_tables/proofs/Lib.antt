@@ -1,2 +1,2 @@
 mod EntryLaws
-mod PlaceLaws
+pub mod ListLaws

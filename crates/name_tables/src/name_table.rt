@@ -2,14 +2,16 @@
 
 ghost use Rattle.std.specs.Prelude.{◌≡◌, ℕ, List, [], OnOk, OnErr, is_some};
 ghost use Rattle.std.specs.Str.{bytes_eq};
-ghost use Rattle.stack_heap.specs.Heaps.{IfOkUnless};
+ghost use Rattle.stack_heap.specs.Heaps.{IfOkUnless, IsSmall};
 ghost use Rattle.stack_text.specs.Options.{first_or};
 ghost use Rattle.name_tables.specs.Entries.{look_up};
 
+use crate::kept::KeptValues;
+use crate::name_keys::NameKeys;
+use indexmap::IndexMap;
 use stack_heap::Heap;
 use stack_text::Memory;
 use std::alloc::Global;
-use std::collections::HashMap;
 use std::marker::Model;
 
 /// The value with which each name was entered first.
@@ -17,7 +19,7 @@ use std::marker::Model;
 /// A name is found, and entered, in time proportional to its length. Contracts see the names with their values.
 #[derive(Drop)]
 pub struct NameTable<'a, V> {
-    values: HashMap<&'a [u8], V>,
+    values: KeptValues<'a, V>,
 }
 
 impl<'a, V> Model for NameTable<'a, V> {
@@ -25,7 +27,7 @@ impl<'a, V> Model for NameTable<'a, V> {
 
     ghost Value = { Entries V };
 
-    ghost view = { λ t. entries_now t.values.entries };
+    ghost view = { λ t. entries_now t.values.map.entries };
 }
 
 impl<'a, V> NameTable<'a, V> {
@@ -33,8 +35,17 @@ impl<'a, V> NameTable<'a, V> {
     pub fn new(alloc: Global) -> NameTable<'a, V>
         ensures { result ≡ [] }
     {
+        NameTable::keyed(alloc, NameKeys::new())
+    }
+
+    /// The same by a key that took in the names which are going to be entered: for names without a bound on how many.
+    pub fn keyed(alloc: Global, keys: NameKeys) -> NameTable<'a, V>
+        ensures { result ≡ [] }
+    {
         NameTable {
-            values: HashMap::new(alloc),
+            values: KeptValues {
+                map: IndexMap::with_hasher(alloc, keys),
+            },
         }
     }
 }
@@ -44,7 +55,7 @@ impl<'a, V: Copy> NameTable<'a, V> {
     pub fn get(&self, name: &[u8]) -> Option<V>
         ensures { result ≡ look_up self.now name.now }
     {
-        self.values.get(name).copied()
+        self.values.map.get(name).copied()
     }
 
     /// Enters a name with its value, unless the name has one; says whether it had.
@@ -53,16 +64,20 @@ impl<'a, V: Copy> NameTable<'a, V> {
     ///
     /// `Memory` where the heap refuses it for a new name; the table is then as it was.
     pub fn enter<H: Heap>(&mut self, heap: H, name: &'a [u8], value: V) -> Result<bool, Memory>
+        requires { IsSmall V.row }
         ensures known { IfOkUnless (H.may_refuse heap) result
             (λ is_known. is_known ≡ is_some (look_up self.old name.now)) }
         ensures entered { OnOk result ((other : List ℕ) →
             look_up self.new other ≡ first_or (look_up self.old other) (bytes_eq other name.now) value) }
         ensures stays { OnErr result (self.new ≡ self.old) }
     {
-        if self.values.contains_key(name) {
+        if self.values.map.contains_key(name) {
             return Ok(true);
         }
-        heap.insert_pair(&mut self.values, name, value)?;
-        Ok(false)
+        heap.room_in(&mut self.values, 1)?;
+        match self.values.map.insert(name, value) {
+            Ok(_) => Ok(false),
+            Err(_) => unreachable!(),
+        }
     }
 }

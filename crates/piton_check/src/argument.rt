@@ -122,7 +122,7 @@ fn arguments<H: Heap>(
         let breaches = flat_map (argument_breaches system scope.now.program.now kind) texts.now in
         OnOk result (Notes best.old breaches best.new) }
 {
-    let mut args = heap.with_room(texts.len())?;
+    let mut args = heap.with_room_for(texts)?;
     for text in texts {
         heap.push(&mut args, argument(best, scope, kind, text))?;
     }
@@ -163,7 +163,7 @@ pub(crate) fn instructions<H: Heap>(
         let breaches = flat_map (instruction_breaches system scope.now.program.now) texts.now in
         OnOk result (Notes best.old breaches best.new) }
 {
-    let mut instrs = heap.with_room(texts.len())?;
+    let mut instrs = heap.with_room_for(texts)?;
     for text in texts {
         heap.push(&mut instrs, instruction(heap, best, scope, text)?)?;
     }

@@ -9,7 +9,7 @@ ghost use Rattle.piton_check.specs.Tables.{repeated, Knows};
 ghost use Rattle.stack_text.specs.Options.{first_or};
 ghost use Rattle.name_tables.specs.Entries.{look_up};
 
-use name_tables::NameTable;
+use name_tables::{NameKeys, NameTable};
 use piton_syntax::{Area, InstrText, Program, System, WordText};
 use stack_heap::Heap;
 use stack_text::{Breach, Memory, Name, Named, note_if};
@@ -180,6 +180,35 @@ fn declare_label<'a, H: Heap>(
         None => Ok(()),
         Some(label) => declare(heap, best, table, &label.name, position, label.place, 6),
     }
+}
+
+/// The key of a table of areas or programs: all names are taken in.
+pub(crate) fn keys_of<T: Declared>(items: &[T]) -> NameKeys {
+    let mut keys = NameKeys::new();
+    for item in items {
+        keys.take_in(item.name().bytes());
+    }
+    keys
+}
+
+/// The key of the table of a program's locals: the names of formals and temporaries are taken in.
+pub(crate) fn local_keys(formals: &[Named], temporaries: &[(Named, WordText)]) -> NameKeys {
+    let mut keys = keys_of(formals);
+    for temporary in temporaries {
+        keys.take_in(temporary.0.name.bytes());
+    }
+    keys
+}
+
+/// The key of the table of a program's labels: all are taken in.
+pub(crate) fn label_keys(instrs: &[InstrText]) -> NameKeys {
+    let mut keys = NameKeys::new();
+    for instr in instrs {
+        if let Some(label) = &instr.label {
+            keys.take_in(label.name.bytes());
+        }
+    }
+    keys
 }
 
 /// The labels of a program's instructions.

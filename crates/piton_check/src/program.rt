@@ -10,7 +10,7 @@ ghost use Rattle.piton_check.specs.Tables.{IsSmall, AreSmall, Knows, KnowsSystem
 ghost use Rattle.piton_check.specs.Violations.{is_end, end_breaches, program_breaches};
 
 use crate::argument::instructions;
-use crate::names::{Names, Scope, declare_labels, declare_locals};
+use crate::names::{Names, Scope, declare_labels, declare_locals, label_keys, local_keys};
 use crate::resolved::ResolvedProgram;
 use crate::word::temporary_words;
 use name_tables::NameTable;
@@ -47,7 +47,8 @@ fn locals<'a, H: Heap>(
     ensures known { IfOkUnless (H.may_refuse heap) result (λ table. Knows table (local_names text.now)) }
     ensures noted { OnOk result (Notes best.old (repeats 5 [] (local_names text.now)) best.new) }
 {
-    let mut table = NameTable::new(heap.handle());
+    let keys = local_keys(&text.formals, &text.temporaries);
+    let mut table = NameTable::keyed(heap.handle(), keys);
     declare_locals(heap, best, &mut table, &text.formals, &text.temporaries)?;
     Ok(table)
 }
@@ -62,7 +63,8 @@ fn labels<'a, H: Heap>(
     ensures known { IfOkUnless (H.may_refuse heap) result (λ table. Knows table (label_names text.now)) }
     ensures noted { OnOk result (Notes best.old (repeats 6 [] (label_names text.now)) best.new) }
 {
-    let mut table = NameTable::new(heap.handle());
+    let keys = label_keys(&text.instrs);
+    let mut table = NameTable::keyed(heap.handle(), keys);
     declare_labels(heap, best, &mut table, &text.instrs)?;
     Ok(table)
 }

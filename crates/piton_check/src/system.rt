@@ -9,7 +9,7 @@ ghost use Rattle.piton_check.specs.Resolved.{resolved, resolved_area, resolved_n
 ghost use Rattle.piton_check.specs.Tables.{IsSmallSystem, KnowsSystem};
 ghost use Rattle.piton_check.specs.Violations.{area_breaches, first_frame, is_within, main_breaches, main_of, name_breaches, part_breaches, size_breaches, violations};
 
-use crate::names::{Names, declare_each};
+use crate::names::{Names, declare_each, keys_of};
 use crate::program::programs;
 use crate::resolved::Resolved;
 use crate::word::{natural, program_position, words};
@@ -127,9 +127,9 @@ fn names<'a, H: Heap>(
     ensures known { IfOk result KnowsSystem }
     ensures noted { OnOk result (Notes best.old (name_breaches system.now) best.new) }
 {
-    let mut areas = NameTable::new(heap.handle());
+    let mut areas = NameTable::keyed(heap.handle(), keys_of(system.areas.as_slice()));
     declare_each(heap, best, &mut areas, system.areas.as_slice(), 2)?;
-    let mut programs = NameTable::new(heap.handle());
+    let mut programs = NameTable::keyed(heap.handle(), keys_of(system.programs.as_slice()));
     declare_each(heap, best, &mut programs, system.programs.as_slice(), 1)?;
     Ok(Names {
         system,

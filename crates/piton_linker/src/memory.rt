@@ -1,7 +1,8 @@
 //! All words of a placed system.
 
-ghost use Rattle.std.specs.Prelude.{◌≡◌, ◌+◌, ◌-◌, ◌++◌, ◌<◌, ◌^◌, length, replicate, reverse, take};
+ghost use Rattle.std.specs.Prelude.{◌≡◌, ◌+◌, ◌-◌, ◌++◌, ◌<◌, ◌≤◌, ◌^◌, length, replicate, reverse, take};
 ghost use Rattle.stack_heap.specs.Heaps.{IfOkUnless, OnOkUnless};
+ghost use Rattle.stack_text.specs.SharedLimits.{most_stack};
 ghost use Rattle.piton_semantics.specs.Fits.{system_in};
 ghost use Rattle.piton_semantics.specs.State.{program_of};
 ghost use Rattle.piton_semantics.specs.Addresses.{numbers};
@@ -116,8 +117,9 @@ fn main_temporaries(checked: &Checked) -> &[Word]
 
 /// How many words of the control stack lie below main's frame.
 fn ctrl_gap(checked: &Checked) -> u32
-    ensures { result ≡ (system_in checked.now).ctrl - 2 - length
+    ensures gap { result ≡ (system_in checked.now).ctrl - 2 - length
         (program_of (system_in checked.now) (system_in checked.now).main).temporaries }
+    ensures few { result ≤ most_stack }
 {
     let used = 2 + main_temporaries(checked).len();
     (checked.resolved().ctrl as usize).saturating_sub(used) as u32
@@ -125,7 +127,8 @@ fn ctrl_gap(checked: &Checked) -> u32
 
 /// How many words of the temporary stack are free.
 fn temp_gap(checked: &Checked) -> u32
-    ensures { result ≡ (system_in checked.now).temp - length (system_in checked.now).stack }
+    ensures gap { result ≡ (system_in checked.now).temp - length (system_in checked.now).stack }
+    ensures few { result ≤ most_stack }
 {
     let resolved = checked.resolved();
     (resolved.temp as usize).saturating_sub(resolved.stack.len()) as u32
@@ -133,6 +136,7 @@ fn temp_gap(checked: &Checked) -> u32
 
 /// So many zeros.
 fn append_zeros<H: Heap>(heap: H, words: &mut Vec<u32>, count: u32) -> Result<(), Memory>
+    requires { count ≤ most_stack }
     ensures { OnOkUnless (H.may_refuse heap) result (words.new.items ≡ words.old.items ++ replicate count 0) }
 {
     let zeros = heap.zeros(count as usize)?;

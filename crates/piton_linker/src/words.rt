@@ -13,7 +13,7 @@ use crate::draft::Draft;
 use piton_check::{Checked, Piece};
 use piton_code_jump::prelude;
 use piton_semantics::{Group, group_of, instruction};
-use stack_heap::Heap;
+use stack_heap::{Heap, MODEST_COUNT};
 use stack_text::Memory;
 
 /// What a pass over the programs makes: their words, and the addresses of programs and places.
@@ -131,7 +131,7 @@ fn append_program<H: Heap>(
 {
     append_prelude(heap, draft, checked, program)?;
     let count = place_count(checked, program);
-    let mut row = heap.with_room(count as usize)?;
+    let mut row = heap.with_room(MODEST_COUNT.min(count as usize))?;
     let mut pieces = Vec::new(heap.handle());
     for place in 0..count {
         heap.push(&mut row, draft.next(checked.resolved()))?;

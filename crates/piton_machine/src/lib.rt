@@ -14,4 +14,5 @@ mod stack;
 mod state;
 mod view;
 
+pub use piton_semantics::{ErrorKind, PitonRun, Stepped};
 pub use state::State;

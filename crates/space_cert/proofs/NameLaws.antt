@@ -1,31 +1,29 @@
 -- Names of procedures: they differ, and each stands where it is found.
-use Rattle.std.proofs.Common.{◌≡◌, ℕ, zero, suc, ◌+◌, ◌<◌, ◌≤◌, List, [], ◌∷◌, ◌++◌, map, length, get_or, take, Bool, true, false, cond}
-use Rattle.std.proofs.Common.{Option, Some, None, IfSome, option_map, refl, sym, ap, subst, ◌∙◌, arith}
+use Rattle.std.proofs.Common.{◌≡◌, ℕ, zero, suc, ◌<◌, ◌≤◌, List, [], ◌∷◌, map, length, get_or, Bool, true, false, cond}
+use Rattle.std.proofs.Common.{Option, Some, None, IfSome, option_map, sym, ap, subst, ◌∙◌, arith}
 use Rattle.std.specs.List.{All, AllByRecursion, IsDistinct, position}
 use Rattle.std.specs.Str.{bytes_eq}
-use Rattle.std.proofs.lemmas.List.{length-map, map_push, take_more, take-map}
+use Rattle.std.proofs.lemmas.List.{length-map}
 use Rattle.std.proofs.lemmas.List.Elements.{All-nil, All-cons, All-head, All-tail}
 use Rattle.std.proofs.lemmas.List.Quantifiers.{position-Some}
 use Rattle.std.proofs.lemmas.Map.Keys.{IsDistinct-cons, IsDistinct-tail, apart_from_distinct}
 use Rattle.std.proofs.lemmas.Simd.{map-map}
 use Rattle.std.proofs.lemmas.Slice.Eq.{bytes_eq-Decides}
 use Rattle.std.proofs.lemmas.Bool.{or_parts}
-use Rattle.stack_text.specs.Names.{is_name}
+use Rattle.stack_text.specs.Names.{is_name, is_among, place_among}
 use Rattle.stack_text.specs.declared.name.Named.{Named}
-use Rattle.stack_text.proofs.SharedLaws.{rule_fails, append_none, bytes_apart, no_earlier}
-use Rattle.name_tables.specs.Lists.{is_listed, place_of, with_name}
+use Rattle.stack_text.proofs.SharedLaws.{rule_fails, append_none, bytes_apart, place_among-map}
 use Rattle.gypsy_syntax.specs.declared.proc.Proc.{Proc}
 use Rattle.gypsy_syntax.proofs.FitsLaws.{keeps_fits}
 use Rattle.gypsy_syntax.specs.GypsyReading.{KeepsForm}
 use Rattle.gypsy_syntax.specs.Fits.{FitsProcedure}
-use Rattle.gypsy_syntax.specs.Resolved.{place_among, procedure_names}
+use Rattle.gypsy_syntax.specs.Resolved.{procedure_names}
 use Rattle.gypsy_syntax.specs.Views.SourceView.{proc_of}
 use Rattle.gypsy_syntax.specs.Sources.{ProcOf, SourceOf}
-use Rattle.gypsy_check.specs.Declarations.{is_among, repeats}
+use Rattle.gypsy_check.specs.Declarations.{repeats}
 use Rattle.gypsy_check.specs.Rules.{violations, main_breaches}
 use Rattle.gypsy_check.proofs.CleanLaws.{four}
 use Rattle.gypsy_check.proofs.LookupLaws.{place_cons}
-use Rattle.gypsy_space.proofs.PositionLaws.{position-map}
 use Rattle.gypsy_space.specs.Callees.{names_of}
 
 -- Where a name stands.
@@ -35,14 +33,10 @@ names_same procs = sym (map-map (λ (p : ProcOf). p.name.name) proc_of procs)
 
 pub place_same : (name : List ℕ) (procs : List Proc) → position (λ (p : Proc). bytes_eq name p.name.name) procs
     ≡ place_among name (map (λ (p : ProcOf). p.name.name) (map proc_of procs))
-place_same name procs = position-map name (λ (p : Proc). p.name.name) procs ∙ ap (place_among name) (names_same procs)
+place_same name procs = place_among-map name (λ (p : Proc). p.name.name) procs ∙ ap (place_among name) (names_same procs)
 
--- where a list of names has it
-pub place_is : (name : List ℕ) (names : List (List ℕ)) → place_of name names ≡ place_among name names
+pub place_below : (name : List ℕ) (names : List (List ℕ)) (place : Option ℕ) → place ≡ place_among name names → IfSome place (λ p. p < length names)
 unfolding place_among
-place_is name names = refl
-
-pub place_below : (name : List ℕ) (names : List (List ℕ)) (place : Option ℕ) → place ≡ place_of name names → IfSome place (λ p. p < length names)
 place_below name names None is = tt
 place_below name names (Some p) is = (position-Some (bytes_eq name) names p [] (sym is)).0
 
@@ -100,25 +94,3 @@ place_own (x ∷ xs) (suc i) name own lt is =
     let other : bytes_eq name x ≡ false = bytes_apart x name (ap (bytes_eq x) is ∙ apart) in
     place_cons name x xs ∙ (ap (λ (b : Bool). cond b (Some 0) (option_map suc (place_among name xs))) other
     ∙ ap (option_map suc) (place_own xs i name (IsDistinct-tail bytes_eq x xs own) (omega (arith, lt)) is))
-
--- The list of the names, one procedure after another.
-
-name_at : (procs : List Proc) (i : ℕ) (p : Proc) → i < length procs → p ≡ get_or procs i p → p.name.name ≡ get_or (names_of procs) i p.name.name
-name_at [] i p lt is = absurd (omega (arith, lt))
-name_at (q ∷ procs) zero p lt is = ap (λ (q : Proc). q.name.name) is
-name_at (q ∷ procs) (suc i) p lt is = name_at procs i p (omega (arith, lt)) is
-
--- one more name
-pub names_next : (procs : List Proc) (i : ℕ) (p : Proc) (name : List ℕ) (names new : List (List ℕ)) → i < length procs → p ≡ get_or procs i p
-    → name ≡ p.name.name → IsDistinct bytes_eq (names_of procs) → new ≡ with_name names name → names ≡ names_of (take i procs)
-    → new ≡ names_of (take (i + 1) procs)
-names_next procs i p name names new lt is same own entered so_far =
-    let below : i < length (names_of procs) = omega (arith, lt, length-map procs (λ (q : Proc). q.name.name)) in
-    let absent : is_listed p.name.name (names_of (take i procs)) ≡ false =
-    ap (is_listed p.name.name) (sym (take-map (λ (q : Proc). q.name.name) i procs))
-    ∙ no_earlier (names_of procs) i p.name.name below (name_at procs i p lt is) own in
-    entered ∙ ap (λ (ns : List (List ℕ)). with_name ns name) so_far
-    ∙ ap (with_name (names_of (take i procs))) same
-    ∙ ap (λ (b : Bool). cond b (names_of (take i procs)) (names_of (take i procs) ++ p.name.name ∷ [])) absent
-    ∙ sym (map_push (λ (q : Proc). q.name.name) (take i procs) p)
-    ∙ ap names_of (sym (take_more procs i p lt ∙ ap (λ (q : Proc). take i procs ++ q ∷ []) (sym is)))

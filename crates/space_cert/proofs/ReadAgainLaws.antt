@@ -10,7 +10,7 @@ use Rattle.std.proofs.lemmas.Bool.{and_parts, le-leb, leb-true, lt-ltb}
 use Rattle.std.proofs.lemmas.List.{append_assoc, length-append, length_push}
 use Rattle.std.proofs.lemmas.List.Elements.{All-head, All-tail}
 use Rattle.std.proofs.lemmas.Fmt.{length-decimal-le}
-use Rattle.stack_text.specs.Names.{is_name, name_of}
+use Rattle.stack_text.specs.Names.{is_name, name_of, place_among}
 use Rattle.stack_text.specs.Numerals.{fits_128_bits}
 use Rattle.stack_text.specs.Results.{◌>>=◌}
 use Rattle.stack_text.specs.Trees.{Node, Nodes, atom, list, none, more, node_counts, depths, AtomsAreRuns, AllAtomsAreRuns, IsWellFormed, without_places}
@@ -22,7 +22,6 @@ use Rattle.stack_text.proofs.NumeralTextLaws.{digits-pos, numeral-signed_decimal
 use Rattle.stack_text.proofs.PrintLaws.{tree_text_reads}
 use Rattle.stack_text.proofs.TreeInLaws.{tree_in-TreeOf}
 use Rattle.stack_text.proofs.SharedLaws.{name_few}
-use Rattle.gypsy_syntax.specs.Resolved.{place_among}
 use Rattle.space_cert.specs.Bounded.{is_bound, are_bounds}
 use Rattle.space_cert.specs.Covers.{Bounds, no_bounds}
 use Rattle.stack_text.specs.TreeNames.{name_of_tree}

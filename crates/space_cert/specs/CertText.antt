@@ -4,6 +4,7 @@ use Rattle.std.specs.Prelude.{ℕ, ℤ, pos, negsuc, nat_le, List, [], ◌∷◌
 use Rattle.std.specs.Prelude.{Result, Ok, Err, Option, Some, None, if◌then◌else◌}
 use Rattle.std.specs.Option.{is_some}
 use Rattle.std.specs.Fmt.{decimal}
+use Rattle.stack_text.specs.Names.{place_among}
 use Rattle.space_cert.specs.Bounded.{most_bound}
 use Rattle.stack_text.specs.declared.text_fault.TextRule.{TextRule}
 use Rattle.stack_text.specs.Results.{◌>>=◌}
@@ -13,7 +14,6 @@ use Rattle.stack_text.specs.TreeIn.{tree_in}
 use Rattle.stack_text.specs.TreeText.{tree_text}
 use Rattle.stack_text.specs.Grammar.Printed.{tree_of_all}
 use Rattle.stack_text.specs.Gives as common
-use Rattle.gypsy_syntax.specs.Resolved.{place_among}
 use Rattle.space_cert.specs.declared.reading.CertTextFault.{CertTextFault}
 use Rattle.space_cert.specs.declared.reading.CertTextFault.TheVariants.{Refused, Memory}
 use Rattle.space_cert.specs.Covers.{Bounds, no_bounds}

@@ -1,17 +1,19 @@
 //! Vectors of one item.
 
-ghost use Rattle.std.specs.Prelude.{◌≡◌, replicate};
-ghost use Rattle.stack_heap.specs.Heaps.{IfOkUnless};
+ghost use Rattle.std.specs.Prelude.{◌≡◌, length, replicate};
+ghost use Rattle.stack_heap.specs.Heaps.{IfOkUnless, IsSmall};
 
 use stack_heap::Heap;
 use stack_text::Memory;
 
-/// So many of one item.
-pub(crate) fn filled<H: Heap, T: Copy>(heap: H, item: T, count: usize) -> Result<Vec<T>, Memory>
-    ensures { IfOkUnless (H.may_refuse heap) result (λ filled. filled.items ≡ replicate count item) }
+/// One item, once for each of these.
+pub(crate) fn filled<H: Heap, T: Copy, X>(heap: H, item: T, others: &[X]) -> Result<Vec<T>, Memory>
+    requires small { IsSmall T.row }
+    requires small_others { IsSmall X.row }
+    ensures { IfOkUnless (H.may_refuse heap) result (λ filled. filled.items ≡ replicate (length others.now) item) }
 {
-    let mut filled = heap.with_room(count)?;
-    for _ in 0..count {
+    let mut filled = heap.with_room_for(others)?;
+    for _ in 0..others.len() {
         heap.push(&mut filled, item)?;
     }
     Ok(filled)

@@ -4,9 +4,10 @@ ghost use Rattle.std.specs.Prelude.{◌≡◌, ◌<◌, ◌≤◌, ◌^◌, IfOk
 ghost use Rattle.stack_heap.specs.Heaps.{IfOkUnless};
 ghost use Rattle.std.specs.List.{IsDistinct};
 ghost use Rattle.std.specs.Str.{bytes_eq};
+ghost use Rattle.stack_text.specs.Names.{place_among};
 ghost use Rattle.stack_text.specs.Gives as memory;
 ghost use Rattle.stack_text.specs.Views.TreeView.{node_of, nodes_of};
-ghost use Rattle.gypsy_syntax.specs.Resolved.{place_among, procedure_names};
+ghost use Rattle.gypsy_syntax.specs.Resolved.{procedure_names};
 ghost use Rattle.gypsy_syntax.specs.Views.SourceView.{source_of};
 ghost use Rattle.gypsy_space.specs.Callees.{names_of};
 ghost use Rattle.space_cert.specs.Bounded.{are_bounds};
@@ -224,7 +225,7 @@ fn entries<H: Heap>(
     ensures number { IfOk result (λ bs. length bs.items ≡ length names.now) }
     ensures within { IfOk result (λ bs. IsTrue (are_bounds bs.items)) }
 {
-    let mut bounds = filled(heap, None, names.len())?;
+    let mut bounds = filled(heap, None, names)?;
     for tree in trees {
         let entry = entry_at(heap, names, bounds.as_slice(), tree)?;
         bounds[entry.0] = Some(entry.1);

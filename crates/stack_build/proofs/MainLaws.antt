@@ -5,12 +5,13 @@ use Rattle.std.specs.Prelude.{is_none, All}
 use Rattle.std.specs.Option.{unwrap_or}
 use Rattle.std.proofs.lemmas.List.{length-map, length-replicate}
 use Rattle.std.proofs.lemmas.List.Elements.{All-head, All-tail}
+use Rattle.stack_text.specs.Names.{place_among}
 use Rattle.stack_text.specs.declared.shape.Shape.{Shape}
 use Rattle.stack_text.specs.Values.{item_count}
 use Rattle.stack_text.proofs.SharedLaws.{append_none}
 use Rattle.gypsy_syntax.specs.Sources.{ProcOf, SourceOf}
 use Rattle.gypsy_syntax.specs.Programs.{no_proc, proc_at}
-use Rattle.gypsy_syntax.specs.Resolved.{place_among, procedure_names, procedure_of, program_of, procedure_at}
+use Rattle.gypsy_syntax.specs.Resolved.{procedure_names, procedure_of, program_of, procedure_at}
 use Rattle.gypsy_syntax.specs.ProgramFits.{Each}
 use Rattle.gypsy_syntax.specs.Fits.{FitsProcedure}
 use Rattle.gypsy_syntax.specs.ValuesFit.{VarsFit}

@@ -1,5 +1,15 @@
 -- Why memory runs out, and what a call did where it did not.
-use Rattle.std.specs.Prelude.{ℕ, ◌+◌, ◌*◌, ◌≤◌, Result, Ok, Err}
+use Rattle.std.specs.Prelude.{ℕ, ◌+◌, ◌*◌, ◌^◌, ◌≤◌, Result, Ok, Err}
+use Rattle.std.specs.Mem.{type_size}
+use Rattle.std.specs.Borrow.{RattleType}
+
+-- an item takes memory, but no more than a kilobyte
+abbrev pub IsSmall : RattleType → Type 0
+IsSmall T = (1 ≤ type_size T) × (type_size T ≤ 1024)
+
+-- so many items may be asked for at once, of which no list has any yet: those of the largest window, and some more
+abbrev pub IsModest : ℕ → Type 0
+IsModest count = count ≤ 2 ^ 20 + 2 ^ 10
 
 -- room is refused for some number of items, which is no more than that
 abbrev pub RefusesWithin : (ℕ → Type 0) → ℕ → Type 0

@@ -1,20 +1,23 @@
 //! What takes memory.
 
-ghost use Rattle.std.specs.Prelude.{◌≡◌, ℕ, ◌+◌, ◌-◌, ◌≤◌, ◌∷◌, [], ◌++◌, length, replicate, take, vec_capacity, vec_len, string_bytes, Some, IfOk, OnOk, OnErr, is_ok, if◌then◌else◌};
-ghost use Rattle.std.specs.HashMap.{Updates};
-ghost use Rattle.stack_heap.specs.Heaps.{IfOkUnless, RefusesWithin, room_after};
+ghost use Rattle.std.specs.Prelude.{◌≡◌, ℕ, ◌+◌, ◌-◌, ◌≤◌, ◌∷◌, [], ◌++◌, length, replicate, take, vec_capacity, vec_len, string_bytes, IfOk, OnOk, OnErr, is_ok, if◌then◌else◌};
+ghost use Rattle.stack_heap.specs.Heaps.{IfOkUnless, IsModest, IsSmall, RefusesWithin, room_after};
 
+use crate::has_room::HasRoom;
 use std::alloc::{AllocError, AllocFailed, Global};
-use std::collections::HashMap;
-use std::hash::Hash;
 use std::rc::Rc;
 
-/// What takes memory: each method is one call of the library, and fails only if the heap may refuse.
+/// So many items may be asked for at once, of which no list has any yet: those of the largest window, and some more.
+pub const MODEST_COUNT: usize = 1_049_600;
+
+/// What takes memory: each method is one call of the library, and fails only if the heap may refuse a modest request.
 ///
-/// A method may be asked for more than any machine has, so each heap may refuse. A body that makes such a request and
-/// then gives up isn't refused by the prover.
+/// A modest request is one that a machine which runs the program at all could grant. `with_room`, `zeros`, `resize`,
+/// `reserve` and `room_in` owe that their count is at most 2^20 + 2^10, the other methods ask for at most twice what a
+/// list or slice has already, and an item has 1 to 1,024 bytes. So no request fails for its form alone, as one for
+/// `usize::MAX` items would.
 pub trait Heap: Copy {
-    /// The heap may refuse memory.
+    /// The heap may refuse a modest request.
     ghost may_refuse: { Self → Type 0 };
 
     /// It may refuse room for so many items of one list.
@@ -23,30 +26,44 @@ pub trait Heap: Copy {
     /// The library's handle, for what is empty yet, and for callees that say nothing of the heap.
     fn handle(self) -> Global;
 
+    /// An empty vector with room for an item for each of these.
+    fn with_room_for<T, X>(self, others: &[X]) -> Result<Vec<T>, AllocError>
+        requires small_others { IsSmall X.row }
+        requires small { IsSmall T.row }
+        ensures items { IfOkUnless (may_refuse self) result (λ made. made.items ≡ []) }
+        ensures capacity { IfOk result (λ made. length others.now ≤ vec_capacity made) }
+        ensures room { OnErr result (RefusesWithin (may_refuse_room self) (length others.now)) };
+
     /// An empty vector with room for so many items.
     fn with_room<T>(self, count: usize) -> Result<Vec<T>, AllocError>
+        requires modest { IsModest count }
+        requires small { IsSmall T.row }
         ensures items { IfOkUnless (may_refuse self) result (λ made. made.items ≡ []) }
         ensures capacity { IfOk result (λ made. count ≤ vec_capacity made) }
         ensures room { OnErr result (RefusesWithin (may_refuse_room self) count) };
 
     /// A vector of so many zeros.
     fn zeros(self, count: usize) -> Result<Vec<u32>, AllocError>
+        requires modest { IsModest count }
         ensures items { IfOkUnless (may_refuse self) result (λ made. made.items ≡ replicate count 0) }
         ensures room { OnErr result (RefusesWithin (may_refuse_room self) count) };
 
     /// A vector of these items.
     fn copied<T: Copy>(self, items: &[T]) -> Result<Vec<T>, AllocError>
+        requires small { IsSmall T.row }
         ensures items { IfOkUnless (may_refuse self) result (λ made. made.items ≡ items.now) }
         ensures room { OnErr result (RefusesWithin (may_refuse_room self) (length items.now)) };
 
     /// Appends an item, or leaves the items as they were.
     fn push<T>(self, items: &mut Vec<T>, item: T) -> Result<(), AllocFailed<T>>
+        requires small { IsSmall T.row }
         ensures items { items.new.items ≡ (if is_ok result then items.old.items ++ item ∷ [] else items.old.items) }
         ensures refused { OnErr result (may_refuse self) }
         ensures room { OnErr result (RefusesWithin (may_refuse_room self) (room_after (length items.old.items))) };
 
     /// Appends items, or leaves those that are there as they were.
     fn extend_from_slice<T: Copy>(self, items: &mut Vec<T>, more: &[T]) -> Result<(), AllocError>
+        requires small { IsSmall T.row }
         ensures items { items.new.items ≡ (if is_ok result then items.old.items ++ more.now else items.old.items) }
         ensures refused { OnErr result (may_refuse self) }
         ensures room { OnErr result
@@ -54,6 +71,7 @@ pub trait Heap: Copy {
 
     /// Appends the items of another vector, which then has none, or leaves both as they were.
     fn append<T>(self, items: &mut Vec<T>, more: &mut Vec<T>) -> Result<(), AllocError>
+        requires small { IsSmall T.row }
         ensures items { items.new.items
             ≡ (if is_ok result then items.old.items ++ more.old.items else items.old.items) }
         ensures refused { OnErr result (may_refuse self) }
@@ -62,6 +80,8 @@ pub trait Heap: Copy {
 
     /// Makes room for so many items more, which are then appended without memory.
     fn reserve<T>(self, items: &mut Vec<T>, more: usize) -> Result<(), AllocError>
+        requires modest { IsModest more }
+        requires small { IsSmall T.row }
         ensures items { items.new.items ≡ items.old.items }
         ensures len { vec_len items.new ≡ vec_len items.old }
         ensures ok { OnOk result (vec_len items.new + more ≤ vec_capacity items.new) }
@@ -69,12 +89,25 @@ pub trait Heap: Copy {
         ensures room { OnErr result
             (RefusesWithin (may_refuse_room self) (room_after (length items.old.items + more))) };
 
+    /// Makes room for an item more for each of these, which are then appended without memory.
+    fn reserve_for<T, X>(self, items: &mut Vec<T>, others: &[X]) -> Result<(), AllocError>
+        requires small_others { IsSmall X.row }
+        requires small { IsSmall T.row }
+        ensures items { items.new.items ≡ items.old.items }
+        ensures len { vec_len items.new ≡ vec_len items.old }
+        ensures ok { OnOk result (vec_len items.new + length others.now ≤ vec_capacity items.new) }
+        ensures refused { OnErr result (may_refuse self) }
+        ensures room { OnErr result
+            (RefusesWithin (may_refuse_room self) (room_after (length items.old.items + length others.now))) };
+
     /// A text with these characters.
     fn text(self, text: &str) -> Result<String, AllocError>
         ensures { IfOkUnless (may_refuse self) result (λ made. string_bytes made ≡ text.now) };
 
     /// Cuts the items to so many, or appends copies of one until they are; or leaves them as they were.
     fn resize<T: Copy>(self, items: &mut Vec<T>, count: usize, item: T) -> Result<(), AllocError>
+        requires modest { IsModest count }
+        requires small { IsSmall T.row }
         ensures items { items.new.items ≡ (if is_ok result
             then take count items.old.items ++ replicate (count - vec_len items.old) item
             else items.old.items) }
@@ -83,25 +116,23 @@ pub trait Heap: Copy {
 
     /// A value in a box.
     fn boxed<T>(self, value: T) -> Result<Box<T>, AllocFailed<T>>
+        requires small { IsSmall T.row }
         ensures value { IfOkUnless (may_refuse self) result (λ made. made.value ≡ value) };
 
     /// A value that is shared.
     fn shared<T>(self, value: T) -> Result<Rc<T>, AllocFailed<T>>
+        requires small { IsSmall T.row }
         ensures value { IfOkUnless (may_refuse self) result (λ made. made.value ≡ value) };
 
     /// The same shared value again, which takes no memory: refused where it is shared too often to be counted.
     fn shared_again<T: Drop>(self, value: &Rc<T>) -> Result<Rc<T>, AllocError>
         ensures value { IfOkUnless (may_refuse self) result (λ again. again.value ≡ value.now.value) };
 
-    /// Enters a value with its key into a table, or leaves the entries as they were.
-    fn insert_pair<K: Eq + Hash + Drop, V>(
-        self,
-        table: &mut HashMap<K, V>,
-        key: K,
-        value: V,
-    ) -> Result<Option<V>, AllocFailed<(K, V)>>
-        ensures updates { OnOk result (Updates K.eq table.old table.new key (Some value)) }
-        ensures stays { OnErr result (table.new.entries ≡ table.old.entries) }
+    /// Makes room for so many items more in a table, which are then entered without memory.
+    fn room_in<T: HasRoom>(self, table: &mut T, more: usize) -> Result<(), AllocError>
+        requires modest { IsModest more }
+        ensures stays { T.has_same table.old table.new }
+        ensures ok { OnOk result (more ≤ T.room table.new) }
         ensures refused { OnErr result (may_refuse self) };
 
     /// Who may refuse room may refuse.
@@ -118,6 +149,10 @@ impl Heap for Global {
 
     fn handle(self) -> Global {
         self
+    }
+
+    fn with_room_for<T, X>(self, others: &[X]) -> Result<Vec<T>, AllocError> {
+        Vec::with_capacity(self, others.len())
     }
 
     fn with_room<T>(self, count: usize) -> Result<Vec<T>, AllocError> {
@@ -148,6 +183,10 @@ impl Heap for Global {
         items.reserve(more)
     }
 
+    fn reserve_for<T, X>(self, items: &mut Vec<T>, others: &[X]) -> Result<(), AllocError> {
+        items.reserve(others.len())
+    }
+
     fn text(self, text: &str) -> Result<String, AllocError> {
         text.to_string(self)
     }
@@ -168,12 +207,7 @@ impl Heap for Global {
         value.clone()
     }
 
-    fn insert_pair<K: Eq + Hash + Drop, V>(
-        self,
-        table: &mut HashMap<K, V>,
-        key: K,
-        value: V,
-    ) -> Result<Option<V>, AllocFailed<(K, V)>> {
-        table.insert(key, value)
+    fn room_in<T: HasRoom>(self, table: &mut T, more: usize) -> Result<(), AllocError> {
+        table.make_room(more)
     }
 }

@@ -1,15 +1,15 @@
 -- Lemmas on truth values, options, lists, names and kinds that several crates need.
 use Rattle.std.proofs.Common.{◌≡◌, Bool, true, false, refl, ◌&&◌, not, ℕ, [], Option, Some, None, is_none, List, ◌∷◌, ◌++◌, ◌+◌, ap, ◌∙◌, zero, suc, ◌<◌}
-use Rattle.std.proofs.Common.{length, arith, slice_get, map, get_or, take, reverse, ℤ, pos, append_assoc, sym, ◌||◌, ◌≤◌, find, cond, option_map}
-use Rattle.std.specs.Prelude.{nat_le}
-use Rattle.std.proofs.lemmas.List.{reverse-append, map-append}
+use Rattle.std.proofs.Common.{length, arith, slice_get, map, get_or, take, reverse, ℤ, pos, append_assoc, sym, ap₂, ◌||◌, ◌≤◌, find, cond, option_map}
+use Rattle.std.specs.Prelude.{nat_le, nat_lt}
+use Rattle.std.proofs.lemmas.List.{reverse-append, map-append, length-map}
 use Rattle.std.specs.Str.{bytes_eq}
 use Rattle.std.proofs.lemmas.Slice.Eq.{bytes_eq-Decides}
-use Rattle.std.specs.List.{list_any, list_all, IsDistinct}
+use Rattle.std.specs.List.{list_any, list_all, position, position_or_len, IsDistinct}
 use Rattle.std.proofs.lemmas.Map.Keys.{IsDistinct-tail, apart_from_distinct}
 use Rattle.std.proofs.lemmas.Bool.{and_parts, leb-true}
 use Rattle.stack_text.specs.Breaches.{when}
-use Rattle.stack_text.specs.Names.{is_name, begins_with_letter, is_name_byte, is_truth_word}
+use Rattle.stack_text.specs.Names.{is_name, begins_with_letter, is_name_byte, is_truth_word, place_among}
 use Rattle.stack_text.specs.declared.shape.Kind.{Kind}
 use Rattle.stack_text.specs.declared.shape.Kind.TheVariants.{Integer, Boolean, Character}
 use Rattle.stack_text.specs.Values.{same_kind}
@@ -21,6 +21,15 @@ and_false false = refl
 pub or_false : (b : Bool) → (b || false) ≡ b
 or_false true = refl
 or_false false = refl
+
+or_assoc : (a b c : Bool) → (a || (b || c)) ≡ ((a || b) || c)
+or_assoc true b c = refl
+or_assoc false b c = refl
+
+-- one item more
+pub any_push : {X : Type 0} (test : X → Bool) (xs : List X) (x : X) → list_any test (xs ++ x ∷ []) ≡ (list_any test xs || test x)
+any_push test [] x = or_false (test x)
+any_push test (y ∷ xs) x = ap (λ b. test y || b) (any_push test xs x) ∙ or_assoc (test y) (list_any test xs) (test x)
 
 pub rule_holds : (b : Bool) (place rule : ℕ) → when (not b) place rule ≡ [] → b ≡ true
 rule_holds true place rule e = refl
@@ -109,6 +118,17 @@ no_earlier (x ∷ xs) (suc i) name lt is own =
     let apart = apart_from_distinct bytes_eq (x ∷ xs) 0 (suc i) name own (omega arith) lt in
     let other : bytes_eq x name ≡ false = ap (bytes_eq x) is ∙ apart in
     rw (bytes_apart x name other) (no_earlier xs i name (omega arith) is (IsDistinct-tail bytes_eq x xs own))
+
+-- the first item of a name stands where the name does
+places_map : {X Y : Type 0} (test : Y → Bool) (f : X → Y) (xs : List X) → position_or_len (λ x. test (f x)) xs ≡ position_or_len test (map f xs)
+places_map test f [] = refl
+places_map test f (x ∷ xs) = ap (λ (n : ℕ). cond (not (test (f x))) (1 + n) 0) (places_map test f xs)
+
+pub place_among-map : {X : Type 0} (name : List ℕ) (name_of : X → List ℕ) (xs : List X)
+    → position (λ x. bytes_eq name (name_of x)) xs ≡ place_among name (map name_of xs)
+unfolding place_among
+place_among-map name name_of xs =
+    ap₂ (λ (n l : ℕ). cond (nat_lt n l) (Some n) None) (places_map (bytes_eq name) name_of xs) (sym (length-map xs name_of))
 
 pub name_few : (name : List ℕ) → is_name name ≡ true → length name ≤ 64
 name_few name h =

@@ -1,7 +1,7 @@
--- Which bytes are a name.
-use Rattle.std.specs.Prelude.{ℕ, List, [], ◌∷◌, length, Option, Some, None, Bool, false}
+-- Which bytes are a name, and where one stands.
+use Rattle.std.specs.Prelude.{ℕ, List, [], ◌∷◌, length, position, Option, Some, None, Bool, false}
 use Rattle.std.specs.Prelude.{not, ◌&&◌, ◌||◌, ◌==◌, nat_le, if◌then◌else◌, codes}
-use Rattle.std.specs.List.{list_all}
+use Rattle.std.specs.List.{list_all, list_any}
 use Rattle.std.specs.Str.{bytes_eq}
 use Rattle.std.specs.Char.{is_ascii_alphabetic, is_ascii_alphanumeric}
 use Rattle.stack_text.specs.SharedLimits.{most_name_bytes}
@@ -30,3 +30,11 @@ is_name bytes =
 -- the name that the bytes are, if they are one
 abbrev pub name_of : List ℕ → Option (List ℕ)
 name_of bytes = if is_name bytes then Some bytes else None
+
+-- one of these
+abbrev pub is_among : List ℕ → List (List ℕ) → Bool
+is_among name names = list_any (bytes_eq name) names
+
+-- where the name stands first
+unfoldable pub place_among : List ℕ → List (List ℕ) → Option ℕ
+place_among name names = position (bytes_eq name) names

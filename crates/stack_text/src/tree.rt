@@ -72,7 +72,7 @@ impl<'a> TextTree<'a> {
                 })
             }
             TextTree::List { place, items } => {
-                let mut owned = heap.with_room(items.len())?;
+                let mut owned = heap.with_room_for(items.as_slice())?;
                 for item in items.iter() {
                     heap.push(&mut owned, item.to_owned(heap)?)?;
                 }

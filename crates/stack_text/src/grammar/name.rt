@@ -56,7 +56,7 @@ fn each_name<H: Heap>(heap: H, rule: u8, trees: &[TextTree]) -> Result<Vec<Named
     ensures { ReadsUnless (H.may_refuse heap) (λ names. names.items) result
         (each_of (name_or rule) (nodes_of trees.now)) }
 {
-    let mut names = heap.with_room(trees.len())?;
+    let mut names = heap.with_room_for(trees)?;
     for tree in trees {
         let name = named(heap, rule, tree)?;
         heap.push(&mut names, name)?;

@@ -1,11 +1,16 @@
-use Rattle.std.proofs.Common.{sym, ◌∙◌, refl, length}
+use Rattle.std.proofs.Common.{rules, sym, ◌∙◌, refl, length}
 use Rattle.std.proofs.lemmas.Option.{slice_get_read}
-use Rattle.fm_loader.proofs.NameLaws.{no_slot, the_slot}
+use Rattle.fm_loader.proofs.NameLaws.{no_slot, slot_below, the_slot}
 use Rattle.fm_loader.proofs.judging.slot_named.Goals as goal
 
 pub returns-in_err-index-clause-slot : goal.returns-in_err-index-clause-slot
 returns-in_err-index-clause-slot c =
     rw c.from_residual.ensures (no_slot c.args.name.now c.args.names.now c.args.slots.now c.requires c.in_err-index.ensures)
+
+pub returns-in_err-slot-clause-slot : goal.returns-in_err-slot-clause-slot
+returns-in_err-slot-clause-slot c =
+    let below = slot_below c.args.name.now c.args.names.now c.args.slots.now c.in_ok-index.index c.requires c.in_ok-index.ensures in
+    search (rules, below)
 
 pub returns-clause-slot : goal.returns-clause-slot
 returns-clause-slot c =

@@ -1,5 +1,5 @@
 use Rattle.std.proofs.Common.{◌+◌, [], take}
-use Rattle.name_tables.specs.Lists.{is_listed}
+use Rattle.stack_text.specs.Names.{is_among}
 use Rattle.gypsy_check.proofs.RepeatLaws.{known_more, noted_more, list_more}
 use Rattle.gypsy_check.proofs.names.check_repeats.Goals as goal
 
@@ -11,6 +11,6 @@ loop-name-preserved g c =
       known = known_more (take c.loop-name.name-index c.args.names.now) (take (c.loop-name.name-index + 1) c.args.names.now) one
           c.loop-name.earlier c.enter.new.names more c.loop-name.invariant.known c.in_ok-enter.ensures.entered;
       noted = noted_more c.args.rule (take c.loop-name.name-index c.args.names.now) (take (c.loop-name.name-index + 1) c.args.names.now) one
-          c.args.best.now c.loop-name.best c.enter.new.best (λ name. is_listed name c.loop-name.earlier) more
+          c.args.best.now c.loop-name.best c.enter.new.best (λ name. is_among name c.loop-name.earlier) more
           c.loop-name.invariant.known c.loop-name.invariant.noted c.in_ok-enter.ensures.noted;
     }

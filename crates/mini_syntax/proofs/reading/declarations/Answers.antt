@@ -14,7 +14,7 @@ use Rattle.mini_syntax.proofs.reading.declarations.Goals as goal
 
 pub loop-sort-init : goal.loop-sort-init
 loop-sort-init g c = record {
-  scope = λ name. ap (λ (table : Entries Variable). look_up table name) c.new-2.ensures
+  scope = λ name. ap (λ (table : Entries Variable). look_up table name) c.keyed.ensures
       ∙ sym (ap (λ (ds : List Declared). variable_named ds name) c.new.ensures.items);
   awaits = c.requires.awaits;
   named = c.requires.named;

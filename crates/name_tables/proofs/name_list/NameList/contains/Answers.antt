@@ -1,8 +1,7 @@
-use Rattle.std.proofs.Common.{map, is_some, ap, ◌∙◌}
-use Rattle.name_tables.proofs.PlaceLaws.{listed}
+use Rattle.std.proofs.Common.{ap, ◌∙◌}
+use Rattle.stack_text.specs.Names.{is_among}
+use Rattle.name_tables.proofs.ListLaws.{listed_now}
 use Rattle.name_tables.proofs.name_list.NameList.contains.Goals as goal
 
 pub returns : goal.returns
-returns c =
-    c.is_some.ensures ∙ ap (λ o. is_some o) c.get.ensures
-    ∙ listed c.self.inside.places (map (λ n. n.now) c.self.inside.names.items) c.args.self.now c.args.name.now c.self.invariant c.self.view_is
+returns c = c.contains.ensures ∙ listed_now c.args.name.now c.self.inside.names.set.keys ∙ ap (is_among c.args.name.now) c.self.view_is

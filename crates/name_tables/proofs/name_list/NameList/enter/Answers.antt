@@ -1,9 +1,12 @@
-use Rattle.std.proofs.Common.{◌≡◌, length, arith}
-use Rattle.name_tables.proofs.PlaceLaws.{places_more}
+use Rattle.name_tables.proofs.ListLaws.{is_new, with_now}
 use Rattle.name_tables.proofs.name_list.NameList.enter.Goals as goal
 
-pub invariant_of-self-in-Ok : goal.invariant_of-self-in-Ok
-invariant_of-self-in-Ok g c =
-    let last : c.len-place.result ≡ length c.self.inside.names.items = omega (arith, c.len-place.ensures, c.self.inside.names.ok) in
-    places_more c.self.inside.places c.enter.new.self c.self.inside.names.items c.push.new.items.items c.args.name c.len-place.result c.self.invariant
-    last c.in_ok-push.ensures.items c.in-Ok.ensures.entered
+pub returns-clause-new : goal.returns-clause-new
+returns-clause-new g c =
+    is_new c.self.inside.names.set.keys c.room_in.new.table.set.keys c.args.self.now c.args.name c.in-Ok.is_new c.in-Ok.ensures.added
+    c.in_ok-room_in.ensures.stays c.self.view_is
+
+pub returns-clause-names : goal.returns-clause-names
+returns-clause-names g c =
+    with_now c.self.inside.names.set.keys c.room_in.new.table.set.keys c.insert.new.self.keys c.args.self.now c.args.name c.in-Ok.ensures.keys
+    c.in_ok-room_in.ensures.stays c.self.view_is

@@ -6,5 +6,5 @@ use Rattle.name_tables.proofs.name_table.NameTable.get.Goals as goal
 pub returns : goal.returns
 returns g c =
     c.copied.ensures ∙ c.get.ensures.value
-    ∙ found_borrowed c.self.inside.values.entries c.args.name.now
+    ∙ found_borrowed c.self.inside.values.map.entries c.args.name.now
     ∙ ap (λ entries. look_up entries c.args.name.now) c.self.view_is

@@ -1,0 +1,8 @@
+use Rattle.std.proofs.Common.{◌≡◌, ◌++◌, drop}
+use Rattle.std.specs.List.{flat_map}
+use Rattle.fm_show.proofs.digits.push_each.Given as goal
+
+-- the pieces so far and those that are left are all
+abbrev pub invariant-loop-piece : goal.invariant-loop-piece
+invariant-loop-piece g l =
+    l.text.items ++ flat_map (λ piece. piece.now) (drop l.piece-index l.pieces) ≡ l.initial.text.items ++ flat_map (λ piece. piece.now) l.pieces
