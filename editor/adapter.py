@@ -1,0 +1,221 @@
+"""A debug adapter over the program's own sessions, over standard input and output.
+
+    adapter.py PROGRAM
+
+What is told of a run is what PROGRAM, the proved one, prints in sessions of `debug`: docs/program/debug.md. A run goes on by statements of the source, by
+instructions of Piton or by those of the processor, and back. `./stack editor adapter` starts it.
+"""
+import queue
+import sys
+import threading
+from pathlib import Path
+
+import beside  # noqa: F401
+import explain
+from breakpoints import FILTERS, Breakpoints, Wrong
+from moments import Interrupted, Run
+from program import Refused
+from seen import THREAD, Seen
+from views import View
+from wire import Wire
+
+CAPABILITIES = dict.fromkeys((
+    "supportsConfigurationDoneRequest", "supportsFunctionBreakpoints", "supportsConditionalBreakpoints", "supportsStepBack", "supportsDisassembleRequest",
+    "supportsSteppingGranularity", "supportsInstructionBreakpoints", "supportsReadMemoryRequest", "supportsEvaluateForHovers", "supportsTerminateRequest",
+    "supportsBreakpointLocationsRequest", "supportsDataBreakpoints",
+), True)
+# What can be asked without a run.
+BEFORE = ("initialize", "launch", "disconnect", "terminate", "pause")
+
+
+class Adapter(Breakpoints, Seen):
+    """Answers an editor. Requests are taken in one thread and carried out in another, so that a run can be stopped on its way."""
+
+    def __init__(self, program, wire):
+        self.program, self.wire, self.sent, self.requests, self.sending = program, wire, 0, queue.Queue(), threading.Lock()
+        self.run = self.walk = None
+        self.points, self.watches, self.options, self.frames, self.lines_from, self.columns_from = {}, [], {}, [], 1, 1
+
+    # ---- Messages ----
+
+    def send(self, message):
+        with self.sending:
+            self.sent += 1
+            self.wire.send({"seq": self.sent} | message)
+
+    def event(self, name, **body):
+        self.send({"type": "event", "event": name, "body": body})
+
+    def serve(self):
+        worker = threading.Thread(target=self.work, daemon=True)
+        worker.start()
+        while True:
+            message = self.wire.receive()
+            if message is None:
+                break
+            if message.get("command") in ("pause", "disconnect", "terminate") and self.run:
+                self.run.stop.set()
+            self.requests.put(message)
+            if message.get("command") == "disconnect":
+                break
+        self.requests.put(None)
+        worker.join(5)
+        if self.run:
+            self.run.close()
+        return 0
+
+    def work(self):
+        while (message := self.requests.get()) is not None:
+            if message.get("type") == "request":
+                self.take(message)
+
+    def take(self, message):
+        answer = {"type": "response", "request_seq": message["seq"], "command": message["command"], "success": True}
+        act = getattr(self, "on_" + message["command"], None)
+        self.after = lambda: None
+        try:
+            if act is None:
+                raise Wrong(f"there is no {message['command']} here")
+            if self.walk is None and message["command"] not in BEFORE:
+                raise Wrong("no run was started")
+            answer["body"] = act(message.get("arguments") or {}) or {}
+        except (Wrong, Refused, Interrupted, OSError, ValueError, KeyError, IndexError) as fault:
+            answer |= {"success": False, "message": self.told(fault)}
+            answer["body"] = {"error": {"id": 1, "format": answer["message"], "showUser": True}}
+        self.send(answer)
+        self.after()
+
+    def told(self, fault):
+        """What is said of a fault: of a refusal what docs/program/errors.md says."""
+        if not isinstance(fault, Refused):
+            return str(fault) or type(fault).__name__
+        if fault.text.startswith("script "):
+            return f"{fault.text}: {explain.plain(explain.rows_of_page()[0][fault.text.split()[1]])}"
+        source, values = self.options.get("program", ""), self.options.get("values")
+        line = ["mean", source, values, "1", "1", "0"] if isinstance(values, str) else ["check", source]
+        said = explain.lines_of(fault.status, fault.text, line)
+        return "\n".join([fault.text, *said])
+
+    # ---- Starting ----
+
+    def on_initialize(self, arguments):
+        self.lines_from, self.columns_from = int(arguments.get("linesStartAt1", True)), int(arguments.get("columnsStartAt1", True))
+        return CAPABILITIES | {"exceptionBreakpointFilters": FILTERS, "supportedChecksumAlgorithms": []}
+
+    def on_launch(self, arguments):
+        self.options = arguments
+        values, given = arguments.get("values"), ()
+        if isinstance(values, dict):
+            values, given = None, [f"{name}={value}" for name, value in values.items()]
+        elif isinstance(values, list):
+            values, given = None, values
+        self.run = Run(self.program, arguments["program"], values, given, arguments.get("control"), arguments.get("temporary"))
+        self.walk = View(self.run)
+        self.write_texts()
+        self.level = arguments.get("level", "gypsy")
+        self.walk.look_at(self.level)
+        self.after = lambda: self.event("initialized")
+        control, temporary = self.run.program.sizes
+        self.event("output", category="console", output=f"{Path(arguments['program']).name}, in stacks of {control} and {temporary} words\n")
+
+    def on_configurationDone(self, _):
+        if self.options.get("stopOnEntry", True):
+            self.after = lambda: self.stopped("entry")
+        else:
+            self.after = lambda: self.move(self.go)
+
+    # ---- Moving ----
+
+    def move(self, act):
+        """Goes on or back, and tells where the run stands then."""
+        self.run.stop.clear()
+        try:
+            stop = act()
+            reason = {"ended": "the end of the run", "start": "the beginning of the run"}.get(stop.reason, stop.reason)
+        except Interrupted:
+            reason = "pause"
+        except Refused as refused:
+            reason = refused.text
+        # Who asked to stop gets answers again.
+        self.run.stop.clear()
+        self.stopped(reason)
+
+    def stopped(self, reason):
+        known = reason in ("entry", "step", "breakpoint", "data breakpoint", "pause")
+        self.frames = []
+        if self.walk.moment.ended and reason != "entry":
+            self.event("output", category="stdout", output=self.report())
+        body = {"reason": reason if known else "goto", "threadId": THREAD, "allThreadsStopped": True}
+        self.event("stopped", **body, **({} if known else {"description": reason, "text": reason}))
+
+    def report(self):
+        """What `run` prints of the run, which is over."""
+        return self.run.program.ask("run", "i", "v", self.walk.moment.count)
+
+    def moving(self, act):
+        self.after = lambda: self.move(act)
+        return {"allThreadsContinued": True}
+
+    def unit(self, arguments):
+        """What a step of the source leaves: a line, a statement of an infix program, or nothing, since it is one of the machine's."""
+        if arguments.get("granularity") == "line":
+            return self.run.line
+        return self.run.spot if self.run.tied else None
+
+    def grain(self, arguments):
+        """At which level a step is made: the one that was asked for or, by an instruction of the source's code, the processor's."""
+        is_instruction = arguments.get("granularity") == "instruction" and self.level == "gypsy"
+        wanted = "fm9001" if is_instruction else self.level
+        if self.walk.level != wanted:
+            self.walk.look_at(wanted)
+        return wanted
+
+    def on_continue(self, _):
+        if self.walk.moment.ended:
+            self.after = self.end
+            return {"allThreadsContinued": True}
+        return self.moving(self.go)
+
+    def go(self):
+        """On to a breakpoint, or to where a watched variable changes."""
+        return self.walk.go_watching(self.watches, self.targets()) if self.watches else self.walk.go(self.targets())
+
+    def on_next(self, arguments):
+        level, unit = self.grain(arguments), self.unit(arguments)
+        return self.moving((lambda: self.walk.over(self.targets(), line_of=unit)) if level == "gypsy" else lambda: self.walk.over_call(self.targets()))
+
+    def on_stepIn(self, arguments):
+        level, unit = self.grain(arguments), self.unit(arguments)
+        return self.moving((lambda: self.walk.step_line(unit)) if level == "gypsy" and unit else self.walk.step)
+
+    def on_stepOut(self, _):
+        if self.walk.level != "gypsy":
+            return self.moving(lambda: self.walk.out_of_program(self.targets()))
+        return self.moving(lambda: self.walk.over(self.targets(), out=True))
+
+    def on_stepBack(self, arguments):
+        level, unit = self.grain(arguments), self.unit(arguments)
+        return self.moving((lambda: self.walk.back_line(unit)) if level == "gypsy" and unit else lambda: self.walk.step(-1))
+
+    def on_reverseContinue(self, _):
+        back = self.walk.back_watching if self.watches else lambda _, targets: self.walk.back(targets)
+        return self.moving(lambda: back(self.watches, self.targets()))
+
+    def on_pause(self, _):
+        # The run has stopped by now, or stood already.
+        if self.run:
+            self.run.stop.clear()
+
+    def end(self):
+        self.event("exited", exitCode=0)
+        self.event("terminated")
+
+    def on_terminate(self, _):
+        self.after = self.end
+
+    def on_disconnect(self, _):
+        return {}
+
+
+if __name__ == "__main__":
+    sys.exit(Adapter(sys.argv[1], Wire()).serve())
