@@ -43,6 +43,7 @@ _stack() {
     fi
     case $name in
     LEVEL) mapfile -t COMPREPLY < <(compgen -W "$(_stack_fields choice LEVEL range | sed 's/,\| or / /g')" -- "$word") ;;
+    WHAT) mapfile -t COMPREPLY < <(compgen -W "vim emacs code kate" -- "$word") ;;
     ?*) [ -z "$(_stack_fields file "$name" means)" ] || _stack_files "$word" "$name" ;;
     esac
 }

@@ -20,6 +20,15 @@ def own(text):
     return text.replace("./stack ", f"{SELF} ")
 
 
+# What serves on most days, with an example each.
+FIRST = [
+    ("./stack try examples/arrays/sum.gypsy 'a=(3 1 4 1 5)'", "runs a program"),
+    ("./stack check examples/arrays/sum.gypsy", "is it correct?"),
+    ("./stack trace SRC VALS CTRL TEMP", "step by step; try tells these words"),
+    ("./stack page SRC VALS CTRL TEMP BUDGET OUT.html", "the same for the browser"),
+    ("./stack go SRC VALS CTRL TEMP BUDGET IMG", "runs it and stores the image"),
+]
+
 # What a command that prints the report prints.
 REPORT = (
     "The report of a run that came to its end is `finished K`, after K instructions, `condition C`, how main ended, and `NAME = VALUE` for each "
@@ -52,6 +61,10 @@ def page(catalog):
     """The help: all commands, words and statuses."""
     yield f"{SELF} COMMAND WORD..    {SELF} help COMMAND tells more of one command, with an example"
     yield ""
+    yield "To begin with:"
+    yield from (f"    {own(line):64}{what}".rstrip() for line, what in FIRST)
+    yield ""
+    yield "Commands:"
     for command in catalog.commands.values():
         yield f"    {row(command)}"
         yield wrapped(command.does, " " * 12)
@@ -193,9 +206,11 @@ def main(what, *words):
     lines = help_of(catalog, words) if what == "help" else misfit(catalog, words)
     try:
         print("\n".join(lines), file=sys.stdout if what == "help" else sys.stderr, end="\n" if lines else "", flush=True)
-    except BrokenPipeError:
-        # Who reads a pipe may stop where he likes.
+    except OSError as fault:
         os.dup2(os.open(os.devnull, os.O_WRONLY), 1)
+        # Who reads a pipe may stop where he likes.
+        if not isinstance(fault, BrokenPipeError):
+            return 11
     return MISFIT if lines and what == "words" else 0
 
 

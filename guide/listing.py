@@ -12,7 +12,7 @@ import sys
 from pathlib import Path
 
 from places import Source
-from program import Program, lower, status_of
+from program import Program, lower, number, status_of
 
 # An instruction that takes the word behind it, the one that adds the address of a table, and the last one of a program.
 TAKES_WORD = re.compile(r",\(r15\)\+?$")
@@ -65,7 +65,7 @@ def words_of_line():
     parser.add_argument("program", help=argparse.SUPPRESS)
     parser.add_argument("source", metavar="SOURCE", type=Path)
     for name, metavar in (("control", "CTRL"), ("temporary", "TEMP")):
-        parser.add_argument(name, metavar=metavar, type=int)
+        parser.add_argument(name, metavar=metavar, type=number)
     return parser
 
 

@@ -3,7 +3,7 @@ level by the reader's browser.
 
     python3 guide/live.py OUT.html
 
-All crates are proved and the program is built by then (./stack). The kit builds cli_stack once more, with a tool folder whose `clang` keeps the module
+The program is proved and built by then (./stack prove), which leaves the libraries that this needs, and the object where the kit has it. The kit builds cli_stack once more, with a tool folder whose `clang` keeps the module
 that it is given and hands it on; the object that comes of it must be, byte for byte, the one that the built program was linked of. So the page's program
 is made of the module of the proved program, for another machine: a memory of 64 bits as the first one's, and live/shim.c for the few calls of the
 system. A browser needs WebAssembly with such memories: Chromium and Firefox have it.
@@ -80,6 +80,11 @@ def keep_module(kit, room):
     kept, built, log = room / "module.bc", room / "program.o", room / "build.log"
     ours = rows_of_crates()
     rlib = {name: TOP / f"crates/{name}/out/rlib/{name}.rlib" for name in ours}
+    missing = [name for name in ours["cli_stack"] if name in rlib and not rlib[name].exists()]
+    if missing:
+        raise Failed(f"the library of {missing[0]} isn't there: remove {PROGRAM / 'out/cli_stack'}, and ./stack prove leaves it")
+    if not (PROGRAM / "out/cli_stack.o").exists():
+        raise Failed(f"{PROGRAM / 'out/cli_stack.o'} isn't there: the kit leaves it where it builds the program, and not where it takes a proof that it kept")
     words = ["--crate-name", "cli_stack", "src/main.rt", "--extern", f"std={kit}/rlibs/std.rlib", "-L", f"dependency={kit}/rlibs"]
     for name in ours["cli_stack"]:
         words += ["--extern", f"{name}={rlib.get(name, kit / f'rlibs/{name}.rlib')}"]

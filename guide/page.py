@@ -20,7 +20,7 @@ from concurrent.futures import ThreadPoolExecutor
 from pathlib import Path
 from string import Template
 
-from program import Program, lower, status_of
+from program import Program, lower, number, status_of
 
 HERE = Path(__file__).resolve().parent / "page"
 MOMENTS = 3000
@@ -105,6 +105,9 @@ nothing but the difference had there been one. Nor that the system’s files and
 of the repository lists under <em>What is trusted</em>."""
 
 
+UNPROVED = "<strong>The program itself wasn’t proved when this was written: a trial built it.</strong> "
+
+
 def packed(content):
     """Bytes as they can stand in a page."""
     return base64.b64encode(gzip.compress(content, 9, mtime=0)).decode()
@@ -129,9 +132,9 @@ def words_of_line():
     for name in ("source", "values"):
         parser.add_argument(name, metavar=name.upper(), type=Path)
     for name, metavar in (("control", "CTRL"), ("temporary", "TEMP"), ("budget", "BUDGET")):
-        parser.add_argument(name, metavar=metavar, type=int)
+        parser.add_argument(name, metavar=metavar, type=number)
     parser.add_argument("out", metavar="OUT.html", type=Path)
-    parser.add_argument("moments", metavar="MOMENTS", type=int, nargs="?", default=MOMENTS)
+    parser.add_argument("moments", metavar="MOMENTS", type=number, nargs="?", default=MOMENTS)
     return parser
 
 
@@ -140,8 +143,14 @@ def write_page(words, line):
     with Program(words.program, words.source, words.values, words.control, words.temporary) as program:
         answers = gather(program, words.budget, min(words.moments, MOST_MOMENTS))
     belief = BELIEF.format(command=html.escape(" ".join(["./stack page", *line[1:]])), asked=program.asked)
+    if os.environ.get("STACK_TRIED") == "1":
+        belief = UNPROVED + belief.replace("the proved program", "that program")
     text = render(words.source.name, "every level of a run, at every moment", belief, data=packed(json.dumps(answers).encode()))
-    words.out.write_text(text, encoding="utf-8")
+    # A name that is no text can't stand on the page.
+    try:
+        words.out.write_bytes(text.encode("utf-8", "replace"))
+    except OSError as fault:
+        raise OSError(fault.errno, fault.strerror, str(words.out)) from None
     print(f"written {words.out}")
 
 

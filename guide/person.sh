@@ -1,14 +1,25 @@
 # A part of the script `stack`: what a person gets beside the program's own output, all of it on standard error. A terminal there means a
 # person; STACK_EXPLAIN=1 asks for the same elsewhere, and STACK_EXPLAIN=0 for none of it.
 
-# Runs one of the scripts beside this file, where there is a Python.
-guide() {
-    local python
+# Sets `python`, where there is one.
+find_python() {
     for python in /usr/bin/python3 "$(type -P python3)"; do
-        [ -x "$python" ] && { "$python" -S -E -s -B "$here/guide/$1.py" "${@:2}"; return; }
+        [ ! -x "$python" ] || return 0
     done
     say "this needs Python 3, which isn't there. docs/program/cli.md and docs/program/errors.md have the same"
     return 70
+}
+
+# Runs one of the scripts beside this file.
+guide() {
+    local python
+    find_python && "$python" -S -E -s -B "$here/guide/$1.py" "${@:2}"
+}
+
+# Becomes a script in Python.
+become() {
+    find_python || exit
+    exec "$python" -S -E -s -B "$@"
 }
 
 # What the program does on words that fit no command.
@@ -24,11 +35,13 @@ give_help() {
     exit
 }
 
-# Says what is wrong with words that fit no command, and ends as the program does: they are no reason to prove anything.
+# Ends on words that fit no command as the program does, since they are no reason to try or prove anything, and tells a person what is wrong.
 judge_words() {
+    local status
     [ $# -gt 0 ] || return 0
-    guide help words "$@"
-    [ $? = 64 ] || return 0
+    if is_person; then guide help words "$@"; else guide help words "$@" 2>/dev/null; fi
+    status=$?
+    [ "$status" = 64 ] || return 0
     print_usage "$@"
     exit $?
 }
@@ -73,11 +86,14 @@ is_stored_by() {
     esac
 }
 
+# Whether a command's output is an ordinary file of its own. What is standard output can't be looked at again: in a substitution it is another pipe.
+is_own_file() { [ -n "$output" ] && [ -f "$output" ] && [ ! "$output" -ef /dev/stdout ]; }
+
 # Says that a file would be lost, and asks where somebody can answer.
 guard_output() {
     local input reason= answer
     find_files "$@"
-    [ -n "$output" ] && [ -f "$output" ] && [ -s "$output" ] || return 0
+    is_own_file && [ -s "$output" ] || return 0
     for input in "${inputs[@]}"; do
         [ ! "$input" -ef "$output" ] || reason="this command reads $output, and then stores its result there: what the file has now is lost"
     done
@@ -93,7 +109,7 @@ guard_output() {
 tell_stored() {
     case ${2-}:$1 in *:0 | go:3 | go:5 | go:6) ;; *) return 0 ;; esac
     find_files "${@:2}"
-    [ -z "$output" ] || [ ! -f "$output" ] || say "$output is stored, $(($(wc -c <"$output"))) bytes"
+    ! is_own_file || say "$output is stored, $(($(wc -c <"$output"))) bytes"
 }
 
 # The words of a short run of the same command, with SHORT for its length, what it is counted in, and the length of the whole run: sets `sample`,
@@ -107,7 +123,9 @@ find_sample() {
     mean:6) unit=steps whole=$6 sample=("${@:1:5}" SHORT) ;;
     prun:3) unit=steps whole=$3 sample=(prun "$2" SHORT) ;;
     debug:7)
-        unit=steps whole=$(awk '$1 == "step" { sum += $2 } END { printf "%.0f", sum }' "$7" 2>/dev/null)
+        # A script from a pipe was read by the program, and what /dev/stdin is here is the program's own output.
+        [ ! -f "$7" ] || whole=$(awk '$1 == "step" { sum += $2 } END { printf "%.0f", sum }' "$7" 2>/dev/null)
+        unit=steps
         sample=("${@:1:6}" /dev/stdin)
         ;;
     esac
@@ -191,7 +209,8 @@ tell_stopped() {
     if [ "$SECONDS" -ge 2 ]; then
         find_sample "$@"
         read -r speed short < <(take_sample 3)
-        say "stopped after $SECONDS seconds. The program prints at its end alone, so what memory held is not known"
+        [ "${1-}" = debug ] && say "stopped after $SECONDS seconds" ||
+            say "stopped after $SECONDS seconds. The program prints at its end alone, so what memory held is not known"
         [ -z "$speed" ] || tell_stored 5 "$@"
         [ -z "$speed" ] || say "about $(grouped $((SECONDS * speed))) of $(grouped "$whole") $unit were made ($(share "$SECONDS" "$speed")), reckoned from a short run: $(grouped "$speed") a second. After $(grouped "$short") it wasn't at its end"
     fi
@@ -201,6 +220,9 @@ tell_stopped() {
 # Runs the program, and then explains how it ended. The status is the program's: 11 where standard output can't be written, as it is then.
 attend_program() {
     local end status out copy
+    # What is stored in standard output has bytes that no shell hands on.
+    find_files "$@"
+    [ -z "$output" ] || [ ! "$output" -ef /dev/stdout ] || exec "$program" "$@"
     # Of another kind of output nobody knows here whether it can be written: there the program writes itself.
     [ -t 1 ] || [ -f /dev/stdout ] || [ -p /dev/stdout ] || [ /dev/stdout -ef /dev/null ] || exec "$program" "$@"
     SECONDS=0
@@ -217,6 +239,7 @@ attend_program() {
 
 # Runs a source with values that the words give, or prints these: guide/trying.py. Where nothing is built yet this script is the program.
 be_trying() {
+    [ -n "$built" ] || [ $# -le 1 ] || [ "$1" != try ] || have_trial
     [ -n "$built" ] || export STACK_EXPLAIN=0 STACK_UNPROVED=1
     [ -n "$built" ] || program=$here/stack
     guide trying "$program" "$@"

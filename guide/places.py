@@ -2,7 +2,6 @@
 import re
 
 TOKEN = re.compile(r";[^\n]*|[()]|[^\s();]+")
-HEAD = re.compile(r"\(\s*proc\s+([^\s();]+)")
 WIDTH = 60
 
 
@@ -11,13 +10,16 @@ class Source:
 
     def __init__(self, content):
         self.text = content.decode("latin-1")
-        self.ends, opened = {}, []
-        for token in TOKEN.finditer(self.text):
+        self.ends, self.heads, opened = {}, {}, []
+        for token in (it for it in TOKEN.finditer(self.text) if it[0][0] != ";"):
             if token[0] == "(":
                 opened.append(token.start())
             elif token[0] == ")":
                 self.ends[opened.pop()] = token.end()
-        self.heads = {it: HEAD.match(self.text, it)[1] for it in self.ends if HEAD.match(self.text, it)}
+            elif len(opened) == 2:
+                # A procedure is a list in the program's list, and its second atom, behind `proc`, is its name.
+                self.heads.setdefault(opened[1], []).append(token[0])
+        self.heads = {place: words[1] for place, words in self.heads.items()}
 
     def where(self, place):
         """Line and column of a place, as `3:17`."""

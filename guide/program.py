@@ -11,6 +11,10 @@ from pathlib import Path
 codecs.register_error("marked", lambda fault: ("?" * (fault.end - fault.start), fault.end))
 
 
+# The most bytes of a text that is read, of the roles of source and values.
+MOST_TEXT = 1_048_576
+
+
 class Refused(Exception):
     """The program ended with another status than 0."""
 
@@ -30,7 +34,8 @@ class Program:
         self.room = tempfile.TemporaryDirectory()
         self.folder = Path(self.room.name)
         for name, path in self.given.items():
-            (self.folder / name).write_bytes(Path(path).read_bytes())
+            with open(path, "rb") as file:
+                (self.folder / name).write_bytes(file.read(MOST_TEXT + 1))
         return self
 
     def __exit__(self, *_):
@@ -88,6 +93,33 @@ def lower(program):
     return text.decode()
 
 
+def number(text):
+    """A number of the command line, as the program takes it."""
+    if not (text.isascii() and text.isdigit() and len(text) <= 20):
+        raise ValueError(text)
+    return int(text)
+
+
+def open_output():
+    """Has names that are no text printed as they are, and raises an OSError where there is no standard output."""
+    if sys.stdout is None:
+        raise OSError("there is no standard output")
+    sys.stdout.reconfigure(errors="surrogateescape")
+
+
+def no_output():
+    """The status where the output can't be written, which isn't tried again at the end."""
+    os.dup2(os.open(os.devnull, os.O_WRONLY), 1)
+    return 11
+
+
+def printed(name):
+    """A file's name as it can be printed: on a terminal without what moves its cursor."""
+    from help import shown
+
+    return shown(name) if sys.stdout.isatty() else name
+
+
 def tell_person(refused, words):
     """Says on standard error what a refusal means, where a person reads that: as of the command that would be refused so."""
     asked = os.environ.get("STACK_EXPLAIN") or ("1" if sys.stderr.isatty() else "0")
@@ -96,7 +128,9 @@ def tell_person(refused, words):
     from explain import lines_of
 
     source, sizes = str(words.source), [str(words.control), str(words.temporary)]
-    if is_infix(words.source.read_bytes()) and refused.text.startswith("refused"):
+    with words.source.open("rb") as file:
+        is_lowered = is_infix(file.read(MOST_TEXT))
+    if is_lowered and refused.text.startswith("refused"):
         line = ["mini", source, "lowered.gypsy"]
     elif "values" in words:
         line = ["mean", source, str(words.values), *sizes, "0"]
@@ -113,15 +147,20 @@ def status_of(parser, act, line):
     except SystemExit as ended:
         return 1 if ended.code else 0
     try:
+        open_output()
         act(words, line)
+        sys.stdout.flush()
     except FileNotFoundError as missing:
-        print(f"missing {missing.filename}")
+        print(f"missing {printed(str(missing.filename))}")
         return 9
     except Refused as refused:
         print(refused.text, flush=True)
         tell_person(refused, words)
         return refused.status
-    except BrokenPipeError:
-        sys.stderr.close()
-        return 11
+    except OSError as fault:
+        # Of standard output it has no name of a file.
+        if fault.filename is None:
+            return no_output()
+        print(f"shelf fault {printed(str(fault.filename))}")
+        return 10
     return 0

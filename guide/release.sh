@@ -1,5 +1,8 @@
 # A part of the script `stack`: which program this is, how it was proved, and the release for those who only run it.
 
+# What is packed is the same in every environment.
+unset TAR_OPTIONS GZIP
+
 # The lines that say how the program was proved, where there are some.
 proof_lines() {
     if [ -e "$release" ]; then
@@ -33,8 +36,8 @@ say_version() {
 
 # What a release has, beside the program and PROVED: nothing that wants the rest of the repository.
 released_files() {
-    git -C "$here" ls-files -- stack guide docs examples README.md 2>/dev/null | grep . ||
-        (cd "$here" && find stack guide docs examples README.md -type f ! -name '*.pyc')
+    git -C "$here" ls-files -- stack guide editor docs examples README.md 2>/dev/null | grep . ||
+        (cd "$here" && find stack guide editor docs examples README.md -type f ! -name '*.pyc')
 }
 
 # Says what the release is, and how it was proved.
@@ -58,8 +61,8 @@ stage() {
     mkdir -p "$1" || exit 70
     released_files | (cd "$here" && tar -cf - --files-from=-) | tar -xf - -C "$1" || exit 70
     mkdir -p "$1/crates/cli_stack/out" && cp "$program" "$1/crates/cli_stack/out/" || exit 70
-    describe_release >"$1/PROVED"
-    chmod -R u=rwX,go=rX "$1"
+    describe_release >"$1/PROVED" || exit 70
+    chmod -R u=rwX,go=rX "$1" || exit 70
 }
 
 # Whether there is a proved program, of which it is known how it was proved.
@@ -92,7 +95,7 @@ be_pack() {
 # Installs the program, its manual page and its completion below a folder.
 be_install() {
     local folder
-    if [ $# != 1 ]; then
+    if [ $# != 1 ] || [ -z "$1" ]; then
         say "wanted is $self install FOLDER, as $self install ~/.local"
         exit 1
     fi
@@ -103,9 +106,17 @@ be_install() {
         say "$folder is there, and is no release of this program"
         exit 70
     fi
-    rm -rf "$folder"
-    stage "$folder"
+    if { [ -e "$1/bin/stack" ] || [ -L "$1/bin/stack" ]; } && [ "$(readlink "$1/bin/stack")" != ../lib/verified-short-stack/stack ]; then
+        say "$1/bin/stack is there, and is another program"
+        exit 70
+    fi
+    # The old installation stays until the new one is whole.
+    room=$folder.new
+    trap 'rm -rf "$room"' EXIT
+    rm -rf "$room"
+    stage "$room"
     mkdir -p "$1/bin" "$1/share/man/man1" "$1/share/bash-completion/completions" || exit 70
+    rm -rf "$folder" && mv "$room" "$folder" || exit 70
     ln -sfn ../lib/verified-short-stack/stack "$1/bin/stack" || exit 70
     cp "$folder/docs/program/stack.1" "$1/share/man/man1/stack.1" || exit 70
     ln -sfn ../../../lib/verified-short-stack/guide/completion.bash "$1/share/bash-completion/completions/stack" || exit 70

@@ -63,11 +63,26 @@ def list_round(data, place, within=False):
     return []
 
 
+def procedure_round(data, place):
+    """Where the procedure round a place begins: the last list in that of the program."""
+    depth, start = 0, 0
+    for found in TOKEN.finditer(data):
+        if found.start() > place:
+            break
+        if found.group() == b"(":
+            start = found.start() if depth == 1 else start
+            depth += 1
+        elif found.group() == b")":
+            depth -= 1
+    return start
+
+
 def variables_at(data, place):
     """The names of the variables of the procedure round a place of a source that breaks no rule of form."""
-    start = max(found.start() for found in re.finditer(rb"\(\s*proc\b", data[:place]))
     depth, item, before, names = 0, 0, b"", []
-    for token in (found.group() for found in TOKEN.finditer(data, start)):
+    for token in (found.group() for found in TOKEN.finditer(data, procedure_round(data, place))):
+        if token.startswith(b";"):
+            continue
         if token == b"(":
             depth += 1
             # The lists of a procedure are its formals, conditions, locals and conditions.
@@ -146,6 +161,36 @@ def variable_lines(data, place, token):
     yield "A variable is declared among the formals (NAME TYPE), or among the locals (NAME TYPE VALUE)."
 
 
+def unclosed(data):
+    """How many lists are open at the end of a text; and by the indents the first one that seems to end before a line that begins further left, as its
+    line, its column and the line before that one, or None."""
+    opened, seems, line, start, ended = [], None, 1, 0, 0
+    for found in TOKEN.finditer(data):
+        token, at = found.group(), found.start()
+        line, start = line + data.count(b"\n", start, at), max(data.rfind(b"\n", 0, at) + 1, start)
+        if token.startswith(b";"):
+            continue
+        is_first = not data[start:at].strip()
+        if is_first and seems is None:
+            left = at - start
+            seems = next(((row, column + 1, ended) for row, column, leads, most in reversed(opened) if leads and row < line and column > left - (most if left else 0)), None)
+        if token == b"(":
+            # What has no lists of its own at its own indent ends where another begins there.
+            opened.append((line, at - start, is_first, int(re.match(rb"\(\s*(mg-|call\b|if\b|signal\b|no-op\b)", data[at:at + 40]) is not None)))
+        elif token == b")" and opened:
+            opened.pop()
+        ended = line
+    return len(opened), seems
+
+
+def unclosed_lines(data):
+    """What is said of a text in which parentheses are missing."""
+    count, seems = unclosed(data)
+    yield f"At the end of the text {count} {'list is' if count == 1 else 'lists are'} open."
+    if seems:
+        yield f"By the indents the list that begins at {seems[0]}:{seems[1]} ends on line {seems[2]}: look there for a missing ) first."
+
+
 def wanted(rule, data, place):
     """What belongs at a place, in sentences."""
     items = list_round(data, place)
@@ -166,6 +211,8 @@ def wanted(rule, data, place):
         yield character_of(token)
     elif rule == "M9":
         yield from statement_lines(head)
+    elif rule == "G2":
+        yield from unclosed_lines(data)
     elif rule == "G5" and re.match(rb"\s*(#|//|--)", data):
         yield "A comment begins with a ; and ends with its line."
     elif rule in ("S10", "S12"):

@@ -13,7 +13,7 @@ from collections import namedtuple
 from pathlib import Path
 
 from places import WIDTH, Source
-from program import Program, lower, status_of
+from program import Program, lower, number, status_of
 
 STEPS, MOST_STEPS = 200, 20000
 STEPPED = re.compile(r"^stepped \d+(?: ended)?\n", re.M)
@@ -73,8 +73,8 @@ def words_of_line():
     for name in ("source", "values"):
         parser.add_argument(name, metavar=name.upper(), type=Path)
     for name, metavar in (("control", "CTRL"), ("temporary", "TEMP")):
-        parser.add_argument(name, metavar=metavar, type=int)
-    parser.add_argument("steps", metavar="STEPS", type=int, nargs="?", default=STEPS)
+        parser.add_argument(name, metavar=metavar, type=number)
+    parser.add_argument("steps", metavar="STEPS", type=number, nargs="?", default=STEPS)
     return parser
 
 

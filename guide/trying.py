@@ -8,7 +8,6 @@ files are told on standard error. With STACK_UNPROVED=1 PROGRAM isn't proved, an
 """
 import os
 import re
-import shlex
 import subprocess
 import sys
 import tempfile
@@ -16,8 +15,13 @@ from pathlib import Path
 
 import explain
 import help as usage
+from places import Source
+from program import MOST_TEXT, no_output, open_output
+from trace import STEPPED, moment_of
 
 BUDGET, SIZE = 1_000_000_000, 1000
+# A run that takes longer is told where it stands; and in how many of its last steps it is looked for where a condition was raised.
+PATIENCE, LOOKED = 10_000_000, 200
 ZERO = {"integer": "0", "boolean": "false", "character": "#0"}
 DECLARATION = re.compile(r"\s*(int|bool)\s+([A-Za-z][A-Za-z0-9_]*)\s*;")
 UNPROVED = os.environ.get("STACK_UNPROVED") == "1"
@@ -50,11 +54,15 @@ def run(program, words, names=()):
 def read_source(path):
     """The text of a source, or the end of the command."""
     try:
-        return Path(path).read_text(encoding="utf-8", errors="replace")
+        with open(path, "rb") as file:
+            content = file.read(MOST_TEXT + 1)
     except FileNotFoundError:
         raise ended(9, f"missing {path}\n", ["check", path]) from None
     except OSError:
         raise ended(10, f"shelf fault {path}\n", ["check", path]) from None
+    if len(content) > MOST_TEXT:
+        raise ended(12, f"size file {MOST_TEXT}\n", ["check", path])
+    return content.decode("utf-8", "replace")
 
 
 def is_infix(text):
@@ -96,7 +104,7 @@ def values_of(text, words):
     """The values of a source, in the text of a values file: those given by words NAME=VALUE, and 0 and false."""
     try:
         formals = formals_of(text)
-    except (ValueError, StopIteration, IndexError, KeyError, TypeError):
+    except (ValueError, StopIteration, IndexError, KeyError, TypeError, AttributeError):
         raise Ended(1, told="stack: the variables of the source can't be read: check says what is wrong with it") from None
     given = dict(it.split("=", 1) if "=" in it else (it, None) for it in words)
     for name, value in given.items():
@@ -129,12 +137,68 @@ def sizes_of(program, source, room):
         raise
 
 
+class Asked:
+    """What `try` has made of a source, to ask the program more of the same run."""
+
+    def __init__(self, program, room, lowered, sizes):
+        self.program, self.room, self.lowered, self.sizes = program, room, lowered, sizes
+        self.values, self.image = os.path.join(room, "values"), os.path.join(room, "image")
+
+    def go(self, budget):
+        return run(self.program, ["go", self.lowered, self.values, *self.sizes, str(budget), self.image], [(self.values, "VALS"), (self.image, "IMG")])
+
+    def session(self, script):
+        """What a session at the source's level says; nothing where it isn't carried out."""
+        path = os.path.join(self.room, "script")
+        Path(path).write_text(script, encoding="utf-8")
+        words = [self.program, "debug", "gypsy", self.lowered, self.values, *self.sizes, path]
+        ran = subprocess.run(words, stdout=subprocess.PIPE, text=True, errors="replace", check=False)
+        return "" if ran.returncode else ran.stdout
+
+    def told(self, moment):
+        """Where a moment is, in lines: its place and statement, and the variables of its procedure."""
+        source = Source(Path(self.lowered).read_bytes())
+        values = ", ".join(f"{name} = {value}" for name, value in moment.variables.items()).replace(" = ", f"{explain.UNBROKEN}={explain.UNBROKEN}")
+        yield f"    {source.where(moment.place)}  {source.statement(moment.place)}"
+        yield explain.wrapped(f"in {source.procedure(moment.place)}: {values}")
+
+    def standing(self):
+        """Where a run stands that takes long, in lines."""
+        moments = [moment_of(it) for it in STEPPED.split(self.session(f"step {PATIENCE // 10}\nshow\n")) if it]
+        if moments and moments[0].place is not None:
+            yield f"stack: {PATIENCE:,} instructions weren't enough. After {PATIENCE // 10:,} steps the source is here, and it goes on up to {BUDGET:,} instructions:"
+            yield from self.told(moments[0])
+
+    def raised(self, printed):
+        """Where the condition was raised with which a run ended, in lines; none where that is normal."""
+        condition = re.search(r"^condition (.*)$", printed, re.M)
+        if not condition or condition[1] == "normal":
+            return
+        found = re.fullmatch(r"stepped (\d+) ended\n", self.session(f"step {PATIENCE}\n"))
+        if not found:
+            return
+        before = max(int(found[1]) - LOOKED, 0)
+        script = (f"step {before}\n" if before else "") + "show\n" + "step 1\nshow\n" * (int(found[1]) - before)
+        moments = [moment_of(it) for it in STEPPED.split(self.session(script)) if it]
+        normal = [it for it in moments if it.place is not None and it.condition == "normal"]
+        if normal and moments[-1].condition == condition[1]:
+            yield f"stack: the condition {condition[1]} was raised here:"
+            yield from self.told(normal[-1])
+
+
+def tell(lines):
+    """Says lines on standard error."""
+    text = "\n".join(lines)
+    if text:
+        print(text, file=sys.stderr, flush=True)
+
+
 def same_lines(source, text, words, sizes):
     """The lines that do the same with files."""
     stem = Path(source).stem
-    quoted = " ".join(map(shlex.quote, words))
-    path, infix = shlex.quote(source), is_infix(text)
-    values, lowered, image = (shlex.quote(f"{stem}.{it}") for it in ("values", "gypsy", "image"))
+    quoted = " ".join(map(explain.quoted, words))
+    path, infix = explain.quoted(source), is_infix(text)
+    values, lowered, image = (explain.quoted(f"{stem}.{it}") for it in ("values", "gypsy", "image"))
     yield f"{usage.SELF} values {path}{' ' if words else ''}{quoted} >{values}"
     if infix:
         yield f"{usage.SELF} mini {path} {lowered}"
@@ -147,12 +211,44 @@ def try_source(program, source, *words):
         lowered = lower(program, source, text, room)
         if not UNPROVED:
             run(program, ["check", lowered])
-        values, image = os.path.join(room, "values"), os.path.join(room, "image")
-        Path(values).write_text(values_of(text, words), encoding="utf-8")
-        sizes = sizes_of(program, lowered, room)
-        print("stack: the same with files:", file=sys.stderr)
-        print("\n".join(f"    {it}" for it in same_lines(source, text, words, sizes)), file=sys.stderr, flush=True)
-        print(run(program, ["go", lowered, values, *sizes, str(BUDGET), image], [(values, "VALS"), (image, "IMG")]), end="")
+        asked = Asked(program, room, lowered, [])
+        Path(asked.values).write_text(values_of(text, words), encoding="utf-8", errors="surrogateescape")
+        asked.sizes = sizes_of(program, lowered, room)
+        try:
+            printed = run_patiently(asked, not is_infix(text))
+            print(printed, end="", flush=True)
+            tell(asked.raised(printed) if not (UNPROVED or is_infix(text)) else [])
+        except Ended as end:
+            if end.status == 3:
+                # The values come from the command line, and no file has them.
+                end.told = re.sub(r"^VALS:", "the values:", end.told)
+                end.told = "\n".join(filter(None, [end.told, *wrong_lengths(text, words)]))
+            raise
+        finally:
+            tell(["stack: the same with files:", *(f"    {it}" for it in same_lines(source, text, words, asked.sizes))])
+
+
+def run_patiently(asked, has_places):
+    """What `go` prints. Of a source it is told where a long run stands."""
+    if UNPROVED:
+        return asked.go(BUDGET)
+    try:
+        return asked.go(PATIENCE)
+    except Ended as end:
+        if end.status != 5:
+            raise
+        tell(asked.standing() if has_places else [])
+        return asked.go(BUDGET)
+
+
+def wrong_lengths(text, words):
+    """Of each array that isn't given as many items as it has, how many these are, in lines."""
+    kinds = dict(formals_of(text))
+    for name, value in (it.split("=", 1) for it in words):
+        kind = kinds[name]
+        items = value_of(kind, value).strip("() ").split()
+        if isinstance(kind, list) and len(items) != int(kind[2]):
+            yield f"    {usage.shown(name)} has {kind[2]} items, and here {'is' if len(items) == 1 else 'are'} {len(items)}"
 
 
 def print_values(_, source, *words):
@@ -165,10 +261,16 @@ def main(program, what, *words):
         print(f"stack: wanted is {usage.SELF} {what} SRC [NAME=VALUE ..]", file=sys.stderr)
         return 1
     try:
+        open_output()
         (try_source if what == "try" else print_values)(program, *words)
+        sys.stdout.flush()
         return 0
+    except OSError:
+        return no_output()
     except Ended as end:
-        print(end.printed, end="", flush=True)
+        # A terminal's cursor stays where it is.
+        plain = (it if it.isprintable() or it == "\n" else "?" for it in end.printed)
+        print("".join(plain) if sys.stdout.isatty() else end.printed, end="", flush=True)
         print(end.told, file=sys.stderr, end="\n" if end.told else "")
         return end.status
 

@@ -81,12 +81,17 @@ def read_image(data: bytes) -> Image:
     words = it.numbers(it.number())
     if not 1 <= size <= 2**20 or base + size >= WORDS or len(words) > size or flags > 15:
         raise Refused("its window or its flags are beyond their limits")
+    places = [(slot.address, slot.length or 1) for slot in slots] + [(final, 1)] + ([(condition, 1)] if condition != NO_ADDRESS else [])
+    if not all(base <= address - (items - 1) and address < base + size for address, items in places):
+        raise Refused("a variable, the condition word or the end is outside its window")
+    if len({slot.name for slot in slots}) != len(slots):
+        raise Refused("two variables have one name")
     return Image(base, size, final, registers, flags, None if condition == NO_ADDRESS else condition, names, slots, words)
 
 
 def tree_of(text: str):
     """The tree of a text: an atom is a string, a list a list."""
-    tokens = re.findall(r"[()]|[^\s();]+", re.sub(r";[^\n]*", "", text))
+    tokens = re.findall(r"[()]|[^ \t\n\r();]+", re.sub(r";[^\n]*", "", text))
     opened: list[list] = [[]]
     for token in tokens:
         if token == "(":
@@ -103,14 +108,20 @@ def tree_of(text: str):
     return opened[0][0]
 
 
+def number_of(digits: str) -> int:
+    """The number of a numeral, which may begin with many zeros. One that is too large for any use is a large one."""
+    shortened = re.sub(r"^(-?)0+(?=[0-9])", r"\1", digits)
+    return int(shortened) if len(shortened) < 20 else 10**20
+
+
 def item_of(kind: str, text) -> int:
     """The number that stands for an item of a kind."""
     if kind == "boolean" and text in ("true", "false"):
         return int(text == "true")
-    if kind == "character" and isinstance(text, str) and re.fullmatch(r"#[0-9]+", text) and int(text[1:]) <= 127:
-        return int(text[1:])
-    if kind == "integer" and isinstance(text, str) and re.fullmatch(r"-?[0-9]+", text) and -2**31 <= int(text) < 2**31:
-        return int(text)
+    if kind == "character" and isinstance(text, str) and re.fullmatch(r"#[0-9]+", text) and number_of(text[1:]) <= 127:
+        return number_of(text[1:])
+    if kind == "integer" and isinstance(text, str) and re.fullmatch(r"-?[0-9]+", text) and -2**31 <= number_of(text) < 2**31:
+        return number_of(text)
     raise Refused(f"{text} is no {kind}")
 
 

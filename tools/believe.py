@@ -4,11 +4,12 @@
     python3 tools/believe.py [--pages] [--text] [--check] CRATE.PAGE.NAME ..
 
 as stack_build.Implements.Implements. Without a flag it prints how many lines they have. Lines of definitions are counted with the
-comments on them, without imports and empty lines; enums and structs with their documents, without attributes and methods. --pages prints
-the lines of each page, in an order in which they can be read; --text prints the definitions themselves as one text, each after those that
-it uses. --check prints what the walk could have missed, and fails where there is such a thing: an import of another form, a name that
-leads to no definition, lines that are no definition's, and a word that is neither imported, nor defined on the page, nor bound, nor of the
-language. The definitions of the kit are left out.
+comments on them, without imports and empty lines; enums and structs with their documents, without attributes and methods; of a lemma its
+statement. --pages prints the lines of each page, in an order in which they can be read; --text prints the definitions themselves as one
+text, each after those that it uses, and the crate before a name that several pages define. --check prints what the walk could have
+missed, and fails where there is such a thing: an import of another form, a name that leads to no definition, lines that are no
+definition's, and a word that is neither imported, nor defined on the page, nor bound, nor of the language. The definitions of the kit are
+left out.
 """
 import argparse
 import re
@@ -21,17 +22,22 @@ from arguments import parser_of
 
 CRATES = Path(__file__).resolve().parents[1] / "crates"
 IMPORT = re.compile(r"(?:pub )?use Rattle\.(\w+)\.specs\.([\w.]+?)(?:\.\{(.*)\}| as (\w+))?$")
+# What stands in proofs is known by its statement alone.
+PROVED = re.compile(r"use Rattle\.(\w+)\.proofs\.([\w.]+?)\.\{(.*)\}$")
 DECLARED = re.compile(r"declared\.[a-z0-9_.]+\.([A-Z]\w*)")
 MODULE = re.compile(r"module _ ")
 HEAD = re.compile(r"((?:(?:pub|abbrev|unfoldable|data|record) )+)([^\s:(){}]+)|([^\s:(){}]+) : ")
 VARIANT = re.compile(r"\s+([^\s:(){}]+) :")
 TOKEN = re.compile(r"[^\s(){};,]+(?=[\s(){};,]|$)(?! [:=] )")
 WORD = re.compile(r"[^\s(){};,]+")
+# A name in a line: what the line defines, or a word that is no field's and no bound variable's.
+NAME = re.compile(r"^[^\s(){};,]+(?= )|(?<=^pub )[^\s(){};,]+|(?<=^abbrev pub )[^\s(){};,]+|(?<=^unfoldable pub )[^\s(){};,]+"
+                  r"|(?<![^\s(){};,])[^\s(){};,]+(?=[\s(){};,]|$)(?! [:=] )")
 # Where a definition binds variables: before `=`, after `λ`, in brackets before `:`, after `let`, before `←`, and the fields of a record.
 BINDERS = [re.compile(it, re.M) for it in (
     r"^\s*(.*?) =(?: |$)", r"^(?! )((?:(?! : )[\s\S])*?) =(?: |$)", r"λ ([^.]*)\.", r"[({]([^(){}:]*) : ", r"let (\S+)", r"(\S+) ←",
     r"([^\s(){};,]+) [:=]")]
-LANGUAGE = {"", *"= : → × ⊥ ¬ λ _ . Type Unit record data where pub abbrev unfoldable unfolding mutual module let in do ← infixl infixr".split()}
+LANGUAGE = {"", *"= : → × ⊥ ¬ λ _ . Type Unit tt record data where pub abbrev unfoldable unfolding mutual module let in do ← infixl infixr".split()}
 NUMBER = re.compile(r"\d+|0x[\dA-F]+")
 TYPE = r"(enum|struct) {}\b"
 STATEMENT = re.compile(r"(\w+)\.([\w.]+)\.(\w+)")
@@ -68,6 +74,11 @@ class Page:
     def note_import(self, line):
         """An import, by the name that it has here: the crate, the page and the name there."""
         found = IMPORT.match(line)
+        proved = PROVED.match(line)
+        if proved and (isinstance(self, Statement) or (CRATES / proved.group(1)).is_dir()):
+            crate, page, names = proved.groups()
+            self.imports.update({name.strip(): (crate, f"proofs.{page}.{name.strip()}", name.strip()) for name in names.split(",")})
+            return
         if not found:
             if not line.split("use ")[1].startswith("Prim."):
                 self.strange.append(line)
@@ -89,6 +100,18 @@ class Page:
         if module is not None:
             self.under[len(self.blocks)] = module
         self.blocks.append(lines)
+
+
+class Statement(Page):
+    """The statement of a lemma, as a page that has nothing else."""
+
+    def __init__(self, path, name):
+        super().__init__(path)
+        lines = path.read_text().splitlines()
+        start = next(place for place, line in enumerate(lines) if re.match(rf"(pub )?{re.escape(name)} :", line))
+        end = next(place for place in range(start + 1, len(lines)) if not lines[place].startswith("    "))
+        self.blocks = [lines[start:end]]
+        self.head, self.under, self.place, self.strange = [], {}, {name: 0}, []
 
 
 class CodeType:
@@ -150,6 +173,9 @@ def page_of(crate, page):
     declared = DECLARED.match(page)
     if not (CRATES / crate).is_dir():
         return None
+    if page.startswith("proofs."):
+        *front, name = page.split(".")
+        return Statement((CRATES / crate).joinpath(*front).with_suffix(".antt"), name)
     return code_type(crate, declared.group(1)) if declared else Page(CRATES / crate / "specs" / (page.replace(".", "/") + ".antt"))
 
 
@@ -218,15 +244,28 @@ class Walk:
         return sum(definitions.values()), len(definitions), sum(self.lines(CodeType).values())
 
     def text(self):
-        """The definitions as one text, under the names of their pages."""
+        """The definitions as one text, under the names of their pages. A name that several pages define has its crate before it."""
         last = None
+        several = self.several()
         for page, block in self.order:
             if page is not last:
                 yield f"\n-- ==== {page.path.relative_to(CRATES)}"
                 yield from page.head
             last = page
             yield ""
-            yield from page.blocks[block]
+            yield from (with_crates(page, line, several) for line in page.blocks[block])
+
+    def several(self):
+        """What stands before each name that several pages define: the crate, and the page where that isn't enough."""
+        homes = defaultdict(dict)
+        for page, block in self.order:
+            for name in (name for name, there in page.place.items() if there == block):
+                homes[name][page] = crate_of(page)
+        twice = {name: list(pages.values()) for name, pages in homes.items() if len(pages) > 1}
+        return {
+            (page, name): crate if crates.count(crate) == 1 else f"{crate}.{page.path.stem}"
+            for name, crates in twice.items() for page, crate in homes[name].items()
+        }
 
     def findings(self):
         """What the walk could have missed."""
@@ -237,6 +276,33 @@ class Walk:
         for page, block in self.order:
             for word in unknown(page, block) if isinstance(page, Page) else []:
                 yield f"{page.path}: nothing says what {word} is, in: {page.blocks[block][-1]}"
+
+
+def crate_of(page):
+    return page.path.relative_to(CRATES).parts[0]
+
+
+def home_of(page, name):
+    """The page that defines a name, and how it is called there."""
+    while page and name not in page.place and name in page.imports:
+        crate, there, name = page.imports[name]
+        page = page_of(crate, there)
+    return page, name
+
+
+def with_crates(page, line, several):
+    """A line of a definition, with what stands before the names that several pages define."""
+    if isinstance(page, CodeType) or line.startswith("--"):
+        return line
+    parts = line.split('"')
+    parts[::2] = (NAME.sub(lambda it: full_name(page, it.group(), several), part) for part in parts[::2])
+    return '"'.join(parts)
+
+
+def full_name(page, word, several):
+    front, dot, rest = word.partition(".")
+    home = home_of(page, front)
+    return f"{several[home]}.{home[1]}{dot}{rest}" if home in several else word
 
 
 @cache

@@ -5,7 +5,7 @@
 
 In a copy of each crate the body of such a function is `Err(..)`, out of memory at once, without any answers of its own. The prover checks them
 all; it has to find a goal of each open, since memory may run out only where the heap refuses it. (What hands back an item at an error, by
-`AllocFailed`, isn't tried, nor what first asks the heap for more than any machine has: that would be proved.) CLONE has the libraries of the crates below, as for `quick_check.py`. It prints the functions whose contract
+`AllocFailed`, isn't tried.) CLONE has the libraries of the crates below, as for `quick_check.py`. It prints the functions whose contract
 lets that body pass, and its status is 0 where there are none.
 """
 import re

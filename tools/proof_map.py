@@ -10,6 +10,7 @@ from collections import defaultdict
 from pathlib import Path
 
 from arguments import parser_of
+from imports import apart
 
 CITED = re.compile(r"(?:Rattle\.(\w+)\.proofs\.|crate::proofs::)([A-Z]\w*)")
 
@@ -23,7 +24,7 @@ def citers():
     serves = defaultdict(set)
     for path in tracked("crates/*/proofs/*.antt", "crates/*/proofs/**/*.antt"):
         crate = path.parts[1]
-        for found in CITED.finditer(path.read_text()):
+        for found in CITED.finditer(apart(path.read_text())):
             key = found.group(1) or crate, found.group(2)
             if len(path.parts) == 4:
                 if path.name != "Lib.antt" and key != (crate, path.stem):

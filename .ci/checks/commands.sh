@@ -49,6 +49,9 @@ misses() {
     [ ! -e "$1" ] || { echo "$1 was stored"; failed=1; }
 }
 
+# A sum: README.md.
+wants 0 $'finished 1276\ncondition normal\na = (3 1 4 1 5)\nsum = 14' try examples/arrays/sum.gypsy 'a=(3 1 4 1 5)'
+
 # One assignment: docs/learn/walk.md, the first walk.
 seven=$'finished 28\ncondition normal\nx = 7'
 wants 0 "$seven" go examples/first/seven.gypsy examples/first/nine.values 100 100 1000000 seven.image

@@ -9,7 +9,7 @@ status=0
 # It is proved and built where that isn't done yet.
 ./stack prove || exit 1
 mapfile -t documents < <(git grep -l '^```console$' -- '*.md')
-python3 .ci/tools/transcripts.py crates/cli_stack/out/cli_stack "${documents[@]}" || status=1
+python3 .ci/tools/transcripts.py stack "${documents[@]}" || status=1
 
 for file in $(git ls-files examples ':!*.md'); do
     grep -qF "${file#examples/}" examples/README.md || { echo "examples/README.md doesn't name $file"; status=1; }

@@ -71,6 +71,7 @@ touch one.gypsy one.values
 completes migrate mig
 completes "prun prove" pr
 completes piton debug pi
+completes emacs editor em
 completes one.gypsy try one.
 completes one.values page one.gypsy one.
 completes "--version" --v

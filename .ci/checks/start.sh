@@ -115,6 +115,14 @@ stack: its command rt, which needs Python 3, is looked for on the PATH, and then
     [ -z "$(find "$copy/crates" -name out)" ] || says "something was built"
 done
 
+# The gate ends at once, and not after its checks.
+for kit in "$folder/empty" "$folder/nowhere"; do
+    (cd "$caller" && PATH=$bare_path:$kit timeout 20 "$top/.ci/run") >"$folder/out" 2>"$folder/err" </dev/null
+    status=$?
+    ends 70 ""
+    [ "$(<"$folder/err")" = "gate: the kit isn't there, so nothing is proved. Wanted is rattle-kit-13f, or rattle-kit-13b, with its command rt on the PATH; it needs Python 3" ] || says "the gate said $(<"$folder/err")"
+done
+
 # Help needs neither the program nor the kit, and words that fit no command are no reason to prove anything.
 begins "help, before the program is built"
 for words in help --help "help go"; do
@@ -131,6 +139,13 @@ for words in "chekc a.gypsy" "check" ""; do
     ends 1 usage
     grep -q "check SRC\|go SRC" "$folder/err" || says "no help on $words: $(<"$folder/err")"
     [ -z "$(find "$copy/crates" -name out)" ] || says "something was built"
+done
+# The same where nobody reads what is told.
+for words in "chekc a.gypsy" "check" "go a.gypsy below/a.values 0 7 28 a.image"; do
+    # shellcheck disable=SC2086
+    starts $words
+    ends 1 usage
+    errs ""
 done
 calls ""
 
@@ -210,6 +225,55 @@ ends 5 "printed by the trial: build a.gypsy 7 3 none/a.image"
 starts build a.gypsy 7 3 /dev/full
 ends 10 "shelf fault /dev/full"
 
+# With a linker in the kit the trial's program is kept, and serves until a source changes.
+begins "a trial whose program is kept"
+unproved_kept="stack: unproved: this is the program that a trial built. SELF prove proves and builds it"
+mkdir -p "$folder/kit/toolchain/bin"
+touch "$folder/kit/bin/rtlib.py"
+cat >"$folder/kit/toolchain/bin/ld.lld" <<'END'
+#!/bin/sh
+printf '%s\n' '#!/bin/sh' 'echo "printed by what is kept: $*"' 'exit 7' >program
+chmod +x program
+END
+chmod +x "$folder/kit/toolchain/bin/ld.lld"
+starts check a.gypsy
+ends 5 "printed by the trial: check a.gypsy"
+errs "$tried
+$unproved
+stack: what was built for it is kept: until a source changes, commands run that at once, unproved"
+starts check a.gypsy
+ends 7 "printed by what is kept: check a.gypsy"
+errs "$unproved_kept"
+starts listing a.gypsy 7 3
+ends 7 "printed by what is kept: mini s lowered"
+errs "$unproved_kept"
+calls "try --data word-1.file=FILE -- check word-1.file"
+(cd "$caller" && PATH=$bare_path RATTLE_KIT=$folder/empty "$copy/stack" check a.gypsy) >"$folder/out" 2>"$folder/err" </dev/null
+status=$?
+ends 7 "printed by what is kept: check a.gypsy"
+echo "// changed" >>"$copy/crates/stack_text/src/lib.rt"
+starts listing a.gypsy 7 3
+ends 7 "printed by what is kept: mini s lowered"
+errs "$tried
+$unproved_kept"
+calls "try --data word-1.file=FILE -- check word-1.file" "try -- usage"
+sed -i '$ d' "$copy/crates/stack_text/src/lib.rt"
+starts check a.gypsy
+ends 5 "printed by the trial: check a.gypsy"
+STACK_PROVE=1 starts check a.gypsy
+ends 7 "printed by the program: check a.gypsy"
+starts check a.gypsy
+ends 7 "printed by the program: check a.gypsy"
+errs ""
+rm -r "$folder/kit/toolchain" "$folder/kit/bin/rtlib.py"
+
+# Without one these words want the proof.
+begins "a page before the proof"
+starts listing a.gypsy 7 3
+ends 70 ""
+errs "$tried
+stack: listing asks the proved program, which isn't built yet, or was changed since. SELF prove proves and builds it"
+
 begins "a trial, and then the proof"
 STACK_PROVE=1 starts check a.gypsy
 ends 7 "printed by the program: check a.gypsy"
@@ -222,10 +286,10 @@ calls "try --data word-1.file=FILE -- check word-1.file" "${proof_calls[@]}"
 
 # Names that lead out of the folder, that are the kit's own, that aren't there, whose folder isn't there, or that are a folder's.
 begins "the names that a trial gets"
-starts debug piton ../copy/crates.txt stdout src/main.rt none/a.image below
-ends 5 "printed by the trial: debug piton ../copy/crates.txt stdout src/main.rt none/a.image below"
-calls "try --data word-2.file=FILE --data word-6.file/nothing=FILE -- debug piton word-2.file word-3.file nowhere/word-4.file nowhere/word-5.file word-6.file"
-handed word-2.file "$(<"$copy/crates.txt")"
+starts turns 10 28 7 3 ../copy/crates.txt stdout src/main.rt none/a.image below a.gypsy
+ends 5 "printed by the trial: turns 10 28 7 3 ../copy/crates.txt stdout src/main.rt none/a.image below a.gypsy"
+calls "try --data word-5.file=FILE --data word-9.file/nothing=FILE --data word-10.file=FILE -- turns 10 28 7 3 word-5.file word-6.file nowhere/word-7.file nowhere/word-8.file word-9.file word-10.file"
+handed word-5.file "$(<"$copy/crates.txt")"
 
 begins "a trial without an answer"
 touch "$STUB/silent"

@@ -37,6 +37,20 @@ ENDS = [
 ]
 
 
+# A variable may be named as the word before a procedure's name, behind which a comment may stand.
+NAMED = """(program main
+(proc main ((proc integer)) () () () (call p (proc) ()))
+(proc ; adds
+p ((proc integer)) () () () (mg-integer-add proc proc proc)))
+"""
+NAMED_TRACE = """    1     2:38  (call p (proc) ())                                            in p:  proc = 4
+    2     4:29    (mg-integer-add proc proc proc)                             proc = 8
+    3      3:1    end of p                                                    in main:  proc = 8
+    4      2:1  end of main
+ended after 4 steps: condition normal  proc = 8
+"""
+
+
 def answer(*words):
     return subprocess.run([str(it) for it in words], cwd=TOP, capture_output=True, text=True, check=False)
 
@@ -60,6 +74,14 @@ def of_trace(program, source, values, sizes):
         found = text[int(row) - 1][int(column) - 1:]
         if not found.startswith("(proc " if statement == "end" else statement):
             yield f"trace has {statement} where there is {found!r}"
+
+
+def of_names(program, room):
+    (room / "named").write_text(NAMED)
+    (room / "values").write_text("((proc 4))")
+    told = script(program, "trace", room / "named", room / "values", 100, 100).stdout
+    if told != NAMED_TRACE:
+        yield f"where a variable is named proc the trace is {told!r}"
 
 
 def of_listing(program, source, sizes, room):
@@ -107,6 +129,7 @@ def main():
     program = parser.parse_args().program
     differing = list(of_ends(program))
     with tempfile.TemporaryDirectory() as room:
+        differing += of_names(program, Path(room))
         for source, values, *sizes in RUNS:
             source, values = EXAMPLES / source, EXAMPLES / values
             found = [*of_trace(program, source, values, sizes), *of_listing(program, source, sizes, Path(room))]

@@ -14,12 +14,12 @@ sys.path.append(str(Path(__file__).resolve().parents[2] / "tools"))
 import crate_table  # noqa: E402
 from arguments import parser_of  # noqa: E402
 from believe import Walk  # noqa: E402
+from imports import apart  # noqa: E402
 
 SPEC_WIDTH = 140
 PROOF_WIDTH = 160
 CLAUSE_WIDTH = 120
 DEFINITION = re.compile(r"^\s*(?:abbrev |unfoldable )?pub (?:record |data |abbrev )?([^\s:({]+)")
-CITATION = re.compile(r"(?:Rattle\.\w+|crate)(?:\.|::)proofs(?:\.|::)([A-Z]\w*)")
 LINK = re.compile(r"\]\(([^)\s]+)\)")
 LISTING = re.compile(r"^`(crates/[\w./-]+)`:\n\n```\w*\n(.*?^)```$", re.M | re.S)
 NAMED_PATH = re.compile(r"`((?:bench|crates|docs|examples|conformance|guide|hardware|tools|\.ci)/[\w./-]+)`")
@@ -338,7 +338,7 @@ def check_lemmas():
     cited = defaultdict(set)
     for path in tracked("crates/*/proofs/*.antt", "crates/*/proofs/**/*.antt", "crates/*/src/*.rt", "crates/*/src/**/*.rt"):
         crate = path.parts[1]
-        text = path.read_text()
+        text = apart(path.read_text())
         for found in re.finditer(r"(Rattle\.(\w+)\.proofs\.|crate::proofs::)(\w+)", text):
             owner = found.group(2) or crate
             cited[owner, found.group(3)].add(path)

@@ -329,7 +329,7 @@ class Rows:
     def few_words(self):
         """Runs with few words, and the values that they make: the lines that they tell do the same."""
         for words, status, printed, told in FEW:
-            folder = self.folder({"wrong.gypsy": "(())", "wrong.mini": "int x; x < 3;"})
+            folder = self.folder({"wrong.gypsy": "(())", "wrong.mini": "int x; x < 3;", "endless.gypsy": "(program main (proc main () () () () (loop (no-op))))"})
             ending = folder.run(words, explains="")
             holds = (ending.status, ending.printed.decode()) == (status, printed) and one_line(told) in one_line(ending.told)
             self.note("few words", holds, words, ending)
@@ -397,7 +397,10 @@ FEW = [
     (["try", SUM, "a=3 1 4 1 5"], 0, "finished 1276\ncondition normal\na = (3 1 4 1 5)\nsum = 14\n", f"./stack values {SUM} 'a=3 1 4 1 5' >sum.values"),
     ("try examples/calls/down.gypsy n=0", 0, "finished 105\ncondition normal\nn = 0\n", "down.values 1000 1000 1000000000 down.image"),
     ("try examples/infix/gcd.mini x=12 y=18", 0, "finished 940\ncondition normal\nx = 6\ny = 6\n", "./stack mini examples/infix/gcd.mini gcd.gypsy"),
-    (f"try {SUM} a=(1,2)", 3, "values V6 at 1\n", "VALS:1:2: V6:"),
+    (f"try {SUM} a=(1,2)", 3, "values V6 at 1\n", "the values:1:2: V6:"),
+    (f"try {SUM} a=1", 3, "values V6 at 1\n", "a has 5 items, and here is 1"),
+    (f"try {SUM} a=(2147483647,1,0,0,0)", 0, "finished 441\ncondition routineerror\na = (2147483647 1 0 0 0)\nsum = 2147483647\n", "the condition routineerror was raised here: 11:5 (mg-integer-add sum sum item) in main:"),
+    ("try endless.gypsy", 5, "unfinished 1000000000\n", "10,000,000 instructions weren't enough. After 1,000,000 steps the source is here"),
     (f"try {SUM} b=3", 1, "", "b names no formal of main. These can be given: a=, sum="),
     ("try wrong.gypsy", 2, "refused M1 at 0\n", "wrong.gypsy:1:1: M1:"),
     ("try wrong.mini", 2, "refused Y1 at 9\n", "wrong.mini:1:10: Y1:"),

@@ -293,6 +293,8 @@ MISTAKES = [
     Mistake("crates/fm_image/src/writing.rt", "    let name = name.bytes();", "    return Err(Memory::from(AllocError));", "AllocError"),
     Mistake("crates/fm_image/src/writing.rt", "    let name = name.bytes();", "    Err(AllocFailed { value: 1 })?;", "AllocFailed"),
     Mistake("crates/fm_image/src/writing.rt", "extend_from_slice(bytes, name)?", "extend_from_slice(bytes, name).map_err(|_| Memory)?", "Memory"),
+    # A table that makes no room, and says that memory ran out.
+    Mistake("crates/name_tables/src/kept.rt", "        self.set.reserve(more)", "        Err(AllocError)", "AllocError"),
     # An arm of another fault, of any fault, of out of memory or another fault, and of a test of something else.
     Mistake("crates/command_replies/src/show.rt", "Ok(Plan::verdict_alone(heap.handle(), Verdict::Image { rule, place }))", "Err(Memory)", "Memory"),
     Mistake("crates/command_replies/src/show.rt", "Err(ImageFault::Memory) =>", "Err(_) =>", "Err(Memory)"),

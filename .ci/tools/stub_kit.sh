@@ -23,10 +23,17 @@ play_try() {
         printf '%s\n' "checked: no-answer: the program did not end within the time limit" "run=no-answer proved=no" >&2
         exit 6
     fi
+    link_trial
     [[ ${*: -1} != */stored ]] || echo "stored by the trial" >"${*: -1}"
     echo "printed by the trial: $*"
     echo "run=ended status=5 runners=1 proved=no" >&2
     exit 5
+}
+
+# Links the program of a trial, as the kit does in a folder of its own, where it has a linker.
+link_trial() {
+    local linker=${0%/bin/rt}/toolchain/bin/ld.lld
+    [ ! -x "$linker" ] || (cd "$(mktemp -d)" && "$linker" -o program)
 }
 
 # Waits where `holds` names this place, with a child, as the kit has them, until this process is ended. It ends the child then.

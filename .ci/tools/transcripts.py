@@ -2,7 +2,7 @@
 """Runs what documents show as transcripts, and compares what is printed with what they show.
 
 A transcript is a block that begins with ```console: a line that begins with `$ ` is a command, and the lines up to the next one are what it
-prints. The transcripts of one document are run one after the other in one folder, which has `examples`, and `stack`, which is the program. Prints
+prints. The transcripts of one document are run one after the other in one folder, which has `examples`, and `stack`, which is the program, or the script that starts it. Prints
 a line for each command that prints something else, and how many commands there were. The exit status is 1 where there was such a one. With
 `--write` the document gets what was printed.
 """
@@ -61,7 +61,7 @@ class Player:
 
 def main():
     parser = parser_of(__doc__)
-    parser.add_argument("program", type=executable, help="cli_stack")
+    parser.add_argument("program", type=executable, help="cli_stack, or the script stack")
     parser.add_argument("documents", type=file, nargs="+", metavar="DOCUMENT")
     parser.add_argument("--write", action="store_true", help="write what was printed into the documents")
     words = parser.parse_args()
