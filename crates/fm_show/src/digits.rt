@@ -1,7 +1,6 @@
 //! Pieces of text, numbers and words in digits.
 
 ghost use Rattle.std.specs.Prelude.{◌≡◌, ◌++◌};
-ghost use Rattle.std.specs.List.{flat_map};
 ghost use Rattle.stack_heap.specs.Heaps.{OnOkUnless};
 ghost use Rattle.fm_show.specs.Digits.{hex_digits};
 
@@ -33,22 +32,5 @@ pub fn push_number<N: Integer, H: Heap>(
 {
     let mut digits = Buffer::new();
     heap.extend_from_slice(text, digits.format(number).as_bytes())?;
-    Ok(())
-}
-
-/// Appends pieces, one after another.
-///
-/// The only error is out of memory.
-pub(crate) fn push_each<H: Heap>(
-    heap: H,
-    text: &mut Vec<u8>,
-    pieces: &[&[u8]],
-) -> Result<(), Memory>
-    ensures { OnOkUnless (H.may_refuse heap) result
-        (text.new.items ≡ text.old.items ++ flat_map (λ piece. piece.now) pieces.now) }
-{
-    for piece in pieces {
-        heap.extend_from_slice(text, piece)?;
-    }
     Ok(())
 }

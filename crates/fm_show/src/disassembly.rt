@@ -5,10 +5,10 @@ ghost use Rattle.stack_heap.specs.Heaps.{IfOkUnless, OnOkUnless};
 ghost use Rattle.fm_words.specs.Encoding.{significant};
 ghost use Rattle.fm_show.specs.Disassembly.{operation_name, condition_name, condition_text, shown_if, flags_text, register_name, place_text, operand_text, instruction_text, disassembly_text};
 
-use crate::digits::{push_each, push_number};
+use crate::digits::push_number;
 use fm_words::{Cc, Flags, Instr, Mode, Op, OperandA, decode};
 use stack_heap::Heap;
-use stack_text::Memory;
+use stack_text::{Memory, push_each};
 
 /// The instruction that a word is, as text: the operation, the store condition in brackets unless
 /// it is always, the flags to set in braces unless there are none, a space, the second operand, a

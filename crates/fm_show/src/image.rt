@@ -6,14 +6,14 @@ ghost use Rattle.std.specs.List.{flat_map};
 ghost use Rattle.fm_show.specs.Listing.{numbered_lines};
 ghost use Rattle.fm_show.specs.ImageListing.{window_lines, condition_line, name_line, shape_text, slot_line, word_line, variable_line, procedure_lines, procedure_name, mark_line, image_listing};
 
-use crate::digits::{hex_digits, push_each};
+use crate::digits::hex_digits;
 use crate::disassembly::push_instruction;
 use crate::listing::{push_flags, push_registers};
 use fm_image::{Image, Mark, ProcInfo, Slot, VarInfo};
 use fm_words::decode;
 use itoa::Buffer;
 use stack_heap::Heap;
-use stack_text::{Memory, Name, Shape};
+use stack_text::{Memory, Name, Shape, push_each};
 
 /// An image as lines, each of which ends in LF: `base`, `size` and `final` with the window, the sixteen registers and
 /// the flags as `show_machine` has them, `condition` with the address of the condition word where there is one, `name`

@@ -4,12 +4,12 @@ ghost use Rattle.std.specs.Prelude.{◌≡◌, ◌++◌};
 ghost use Rattle.stack_heap.specs.Heaps.{IfOkUnless, OnOkUnless};
 ghost use Rattle.fm_show.specs.Listing.{flag_letter, flags_line, machine_listing, register_line, register_lines};
 
-use crate::digits::{hex_digits, push_each, push_number};
+use crate::digits::{hex_digits, push_number};
 use crate::disassembly::push_register_name;
 use fm_machine::Machine;
 use fm_words::Flags;
 use stack_heap::Heap;
-use stack_text::Memory;
+use stack_text::{Memory, push_each};
 
 /// A machine after `count` instructions, as eighteen lines: `count` with the number, each register
 /// with its word as eight hexadecimal digits, and `flags` with the letters of c, v, n and z, each

@@ -1,6 +1,6 @@
 use Rattle.std.proofs.Common.{◌≡◌, ◌++◌, drop}
 use Rattle.std.specs.List.{flat_map}
-use Rattle.fm_show.proofs.digits.push_each.Given as goal
+use Rattle.stack_text.proofs.pieces.push_each.Given as goal
 
 -- the pieces so far and those that are left are all
 abbrev pub invariant-loop-piece : goal.invariant-loop-piece
