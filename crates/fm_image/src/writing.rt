@@ -141,9 +141,7 @@ fn push_procedures<H: Heap>(
 fn push_mark<H: Heap>(heap: H, bytes: &mut Vec<u8>, mark: &Mark) -> Result<(), Memory>
     ensures { OnOkUnless (H.may_refuse heap) result (bytes.new.items ≡ bytes.old.items ++ mark_bytes mark.now) }
 {
-    push_number(heap, bytes, mark.address)?;
-    push_number(heap, bytes, mark.procedure)?;
-    push_number(heap, bytes, mark.place)
+    push_numbers(heap, bytes, &[mark.address, mark.procedure, mark.place])
 }
 
 fn push_marks<H: Heap>(heap: H, bytes: &mut Vec<u8>, marks: &[Mark]) -> Result<(), Memory>
