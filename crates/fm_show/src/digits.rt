@@ -1,6 +1,7 @@
 //! Pieces of text, numbers and words in digits.
 
 ghost use Rattle.std.specs.Prelude.{◌≡◌, ◌++◌};
+ghost use Rattle.std.specs.Fmt.{decimal};
 ghost use Rattle.stack_heap.specs.Heaps.{OnOkUnless};
 ghost use Rattle.fm_show.specs.Digits.{hex_digits};
 
@@ -32,5 +33,24 @@ pub fn push_number<N: Integer, H: Heap>(
 {
     let mut digits = Buffer::new();
     heap.extend_from_slice(text, digits.format(number).as_bytes())?;
+    Ok(())
+}
+
+/// Appends a number in decimal digits between two texts.
+///
+/// The only error is out of memory.
+pub fn push_counted<H: Heap>(
+    heap: H,
+    text: &mut Vec<u8>,
+    before: &[u8],
+    number: u64,
+    after: &[u8],
+) -> Result<(), Memory>
+    ensures { OnOkUnless (H.may_refuse heap) result
+        (text.new.items ≡ text.old.items ++ (before.now ++ decimal number ++ after.now)) }
+{
+    heap.extend_from_slice(text, before)?;
+    push_number(heap, text, number)?;
+    heap.extend_from_slice(text, after)?;
     Ok(())
 }

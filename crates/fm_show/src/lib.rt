@@ -8,7 +8,7 @@ mod disassembly;
 mod image;
 mod listing;
 
-pub use digits::{hex_digits, push_number};
+pub use digits::{hex_digits, push_counted, push_number};
 pub use disassembly::{disassemble, name_of_condition, name_of_operation};
 pub use image::show_image;
 pub use listing::show_machine;

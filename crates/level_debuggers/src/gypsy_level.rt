@@ -1,9 +1,9 @@
 //! A run of a source.
 
 use crate::advance::Advance;
-use crate::tally_lines::push_counted;
 use crate::watch::Event;
 use display_maps::push_run;
+use fm_show::push_counted;
 use gypsy_check::Accepted;
 use gypsy_meaning::Meaning;
 use gypsy_semantics::Current;

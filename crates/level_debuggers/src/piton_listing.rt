@@ -5,7 +5,7 @@ ghost use Rattle.std.specs.Option.{option_map};
 ghost use Rattle.stack_heap.specs.Heaps.{IfOkUnless, OnOkUnless};
 ghost use Rattle.level_debuggers.specs.PitonLevels.{local_names, names_of, local_line, local_lines, place_line, piton_listing};
 
-use crate::tally_lines::push_counted;
+use fm_show::push_counted;
 use piton_check::{program_name, push_word, words_line};
 use piton_machine::State;
 use piton_syntax::{Program, System};

@@ -2,30 +2,12 @@
 
 ghost use Rattle.std.specs.Prelude.{◌≡◌, ◌++◌};
 ghost use Rattle.stack_heap.specs.Heaps.{OnOkUnless};
-ghost use Rattle.std.specs.Fmt.{decimal};
 ghost use Rattle.level_debuggers.specs.Transcripts.{last_said, places_said, tally_said};
 
 use crate::watch::{Rule, Tally};
-use fm_show::push_number;
+use fm_show::{push_counted, push_number};
 use stack_heap::Heap;
 use stack_text::Memory;
-
-/// Appends a number between two texts.
-pub(crate) fn push_counted<H: Heap>(
-    heap: H,
-    text: &mut Vec<u8>,
-    before: &[u8],
-    number: u64,
-    after: &[u8],
-) -> Result<(), Memory>
-    ensures { OnOkUnless (H.may_refuse heap) result
-        (text.new.items ≡ text.old.items ++ (before.now ++ decimal number ++ after.now)) }
-{
-    heap.extend_from_slice(text, before)?;
-    push_number(heap, text, number)?;
-    heap.extend_from_slice(text, after)?;
-    Ok(())
-}
 
 /// Appends places, each behind a space.
 fn push_places<H: Heap>(heap: H, text: &mut Vec<u8>, places: &[u32]) -> Result<(), Memory>

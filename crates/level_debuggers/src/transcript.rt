@@ -10,9 +10,10 @@ ghost use Rattle.level_debuggers.specs.Walks.{HasMadeSome, stepped};
 use crate::arrival::Arrival;
 use crate::script_end::ScriptEnd;
 use crate::session::{Session, SessionRun};
-use crate::tally_lines::{push_counted, push_tally};
+use crate::tally_lines::push_tally;
 use crate::watch::Rule;
 use debug_script::{Command, Line, Place, WatchWord};
+use fm_show::push_counted;
 use stack_heap::Heap;
 use stack_text::Memory;
 
