@@ -8,10 +8,11 @@ ghost use Rattle.gypsy_syntax.specs.Printed.{local_tree, type_tree, type_tree_by
 ghost use Rattle.gypsy_syntax.specs.Views.SourceView.{local_of};
 
 use crate::literal::{Decl, Local, TypeText};
-use crate::printing::literals::{print_literal, print_number};
+use crate::printing::literals::print_literal;
+use itoa::Buffer;
 use stack_heap::Heap;
-use stack_text::Memory;
 use stack_text::grammar::{Print, print_items, print_name};
+use stack_text::{Memory, push_each};
 
 /// Appends an array's type.
 fn print_array<H: Heap>(
@@ -23,12 +24,10 @@ fn print_array<H: Heap>(
     ensures { OnOkUnless (H.may_refuse heap) result
         (out.new.items ≡ out.old.items ++ tree_text (type_tree_by shape.kind (Some length))) }
 {
-    heap.extend_from_slice(out, b"(array ")?;
-    heap.extend_from_slice(out, shape.kind.name().as_bytes())?;
-    heap.push(out, b' ')?;
-    print_number(heap, out, length)?;
-    heap.push(out, b')')?;
-    Ok(())
+    let mut digits = Buffer::new();
+    let kind = shape.kind.name().as_bytes();
+    let length = digits.format(length).as_bytes();
+    push_each(heap, out, &[b"(array ", kind, b" ", length, b")"])
 }
 
 /// Appends a type.

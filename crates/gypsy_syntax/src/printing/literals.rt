@@ -15,7 +15,7 @@ use stack_text::Memory;
 use stack_text::grammar::{Print, print_name, separate};
 
 /// Appends a number in decimal digits, after a `-` where it is negative.
-pub fn print_number<H: Heap>(heap: H, out: &mut Vec<u8>, number: i128) -> Result<(), Memory>
+fn print_number<H: Heap>(heap: H, out: &mut Vec<u8>, number: i128) -> Result<(), Memory>
     ensures { OnOkUnless (H.may_refuse heap) result (out.new.items ≡ out.old.items ++ signed_decimal number) }
 {
     let mut digits = Buffer::new();
