@@ -1,4 +1,8 @@
 //! What a command stores, what is left to do then, and how it ends.
+//!
+//! `Plan` and `Pending` of `command_replies` are other types, since they say less: a plan follows no session, and
+//! `command_replies` stands on no session's crate. `Ending` in turn has no run that is still to be made. One enum for
+//! all three would have cases that never occur in two of them.
 ghost use Rattle.std.specs.Prelude.{◌≡◌};
 ghost use Rattle.stack_commands.specs.Works.{work_of};
 
