@@ -8,7 +8,6 @@ pub mod BudgetLaws
 pub mod CompletesLaws
 pub mod DecidesLaws
 pub mod EndLaws
-pub mod EnoughLaws
 pub mod ExplainsLaws
 pub mod GoLaws
 pub mod ImplementsLaws

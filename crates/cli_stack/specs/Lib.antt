@@ -24,7 +24,6 @@ pub mod Turns
 pub mod Answer
 pub mod World
 -- what it promises where there is memory enough
-pub mod Enough
 -- laws of commands in a row
 pub mod InARow
 pub mod Again

@@ -1,7 +1,6 @@
 //! Laws of commands in a row, and of a heap and devices that refuse no memory. The functions do nothing: their clauses hold of all files.
 
 ghost use Rattle.cli_stack.specs.Again.{AssembledIsTheSame, CheckIsOfBuild, MigratedRunsTheSame, NeedIsCertified};
-ghost use Rattle.cli_stack.specs.Enough.{EnoughMemoryLasts};
 ghost use Rattle.std.specs.Prelude.{List};
 ghost use Rattle.level_debuggers.specs.Tallies.{Watching};
 ghost use Rattle.cli_stack.specs.First.{FirstGoes};
@@ -62,12 +61,6 @@ pub fn build_is_pit_and_pbuild()
     moments_are_reached();
     places_change_nothing();
 }
-
-/// Over any kind of shelf and of sink: where neither the heap nor a device may refuse memory, the status is never 14, and all holds that
-/// is promised unless memory runs out.
-pub fn enough_memory_lasts<S, K>()
-    ensures { EnoughMemoryLasts S K }
-{}
 
 /// The answer of `go` on the files of `examples/first`: it stores an image, and prints these three lines. Nothing is left to assume.
 pub fn first_goes()

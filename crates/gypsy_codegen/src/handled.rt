@@ -1,6 +1,6 @@
 //! The conditions that a `begin` handles.
 
-ghost use Rattle.std.specs.Prelude.{◌≡◌, ◌==◌, ◌<◌, ◌^◌, ℕ, map, get_or, false, if◌then◌else◌, true};
+ghost use Rattle.std.specs.Prelude.{◌≡◌, ◌==◌, ◌<◌, ℕ, map, get_or, false, if◌then◌else◌, true};
 ghost use Rattle.stack_heap.specs.Heaps.{IfOkUnless, OnOkUnless};
 ghost use Rattle.gypsy_syntax.specs.Programs.{ConditionOf};
 ghost use Rattle.gypsy_space.specs.Nodes.{seen_cond};

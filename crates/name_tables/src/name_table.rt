@@ -2,7 +2,7 @@
 
 ghost use Rattle.std.specs.Prelude.{◌≡◌, ℕ, List, [], OnOk, OnErr, is_some};
 ghost use Rattle.std.specs.Str.{bytes_eq};
-ghost use Rattle.stack_heap.specs.Heaps.{IfOkUnless, IsSmall};
+ghost use Rattle.stack_heap.specs.Heaps.{IfOkUnless, IsSmallItem};
 ghost use Rattle.stack_text.specs.Options.{first_or};
 ghost use Rattle.name_tables.specs.Entries.{look_up};
 
@@ -64,7 +64,7 @@ impl<'a, V: Copy> NameTable<'a, V> {
     ///
     /// `Memory` where the heap refuses it for a new name; the table is then as it was.
     pub fn enter<H: Heap>(&mut self, heap: H, name: &'a [u8], value: V) -> Result<bool, Memory>
-        requires { IsSmall V.row }
+        requires { IsSmallItem V.row }
         ensures known { IfOkUnless (H.may_refuse heap) result
             (λ is_known. is_known ≡ is_some (look_up self.old name.now)) }
         ensures entered { OnOk result ((other : List ℕ) →

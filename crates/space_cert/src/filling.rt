@@ -1,15 +1,15 @@
 //! Vectors of one item.
 
 ghost use Rattle.std.specs.Prelude.{◌≡◌, length, replicate};
-ghost use Rattle.stack_heap.specs.Heaps.{IfOkUnless, IsSmall};
+ghost use Rattle.stack_heap.specs.Heaps.{IfOkUnless, IsSmallItem};
 
 use stack_heap::Heap;
 use stack_text::Memory;
 
 /// One item, once for each of these.
 pub(crate) fn filled<H: Heap, T: Copy, X>(heap: H, item: T, others: &[X]) -> Result<Vec<T>, Memory>
-    requires small { IsSmall T.row }
-    requires small_others { IsSmall X.row }
+    requires small { IsSmallItem T.row }
+    requires small_others { IsSmallItem X.row }
     ensures { IfOkUnless (H.may_refuse heap) result (λ filled. filled.items ≡ replicate (length others.now) item) }
 {
     let mut filled = heap.with_room_for(others)?;

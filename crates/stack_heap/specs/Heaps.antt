@@ -4,8 +4,8 @@ use Rattle.std.specs.Mem.{type_size}
 use Rattle.std.specs.Borrow.{RattleType}
 
 -- an item takes memory, but no more than a kilobyte
-abbrev pub IsSmall : RattleType → Type 0
-IsSmall T = (1 ≤ type_size T) × (type_size T ≤ 1024)
+abbrev pub IsSmallItem : RattleType → Type 0
+IsSmallItem T = (1 ≤ type_size T) × (type_size T ≤ 1024)
 
 -- so many items may be asked for at once, of which no list has any yet: those of the largest window, and some more
 abbrev pub IsModest : ℕ → Type 0

@@ -1,7 +1,7 @@
 //! What takes memory.
 
 ghost use Rattle.std.specs.Prelude.{◌≡◌, ℕ, ◌+◌, ◌-◌, ◌≤◌, ◌∷◌, [], ◌++◌, length, replicate, take, vec_capacity, vec_len, string_bytes, IfOk, OnOk, OnErr, is_ok, if◌then◌else◌};
-ghost use Rattle.stack_heap.specs.Heaps.{IfOkUnless, IsModest, IsSmall, RefusesWithin, room_after};
+ghost use Rattle.stack_heap.specs.Heaps.{IfOkUnless, IsModest, IsSmallItem, RefusesWithin, room_after};
 
 use crate::has_room::HasRoom;
 use std::alloc::{AllocError, AllocFailed, Global};
@@ -28,8 +28,8 @@ pub trait Heap: Copy {
 
     /// An empty vector with room for an item for each of these.
     fn with_room_for<T, X>(self, others: &[X]) -> Result<Vec<T>, AllocError>
-        requires small_others { IsSmall X.row }
-        requires small { IsSmall T.row }
+        requires small_others { IsSmallItem X.row }
+        requires small { IsSmallItem T.row }
         ensures items { IfOkUnless (may_refuse self) result (λ made. made.items ≡ []) }
         ensures capacity { IfOk result (λ made. length others.now ≤ vec_capacity made) }
         ensures room { OnErr result (RefusesWithin (may_refuse_room self) (length others.now)) };
@@ -37,7 +37,7 @@ pub trait Heap: Copy {
     /// An empty vector with room for so many items.
     fn with_room<T>(self, count: usize) -> Result<Vec<T>, AllocError>
         requires modest { IsModest count }
-        requires small { IsSmall T.row }
+        requires small { IsSmallItem T.row }
         ensures items { IfOkUnless (may_refuse self) result (λ made. made.items ≡ []) }
         ensures capacity { IfOk result (λ made. count ≤ vec_capacity made) }
         ensures room { OnErr result (RefusesWithin (may_refuse_room self) count) };
@@ -50,20 +50,20 @@ pub trait Heap: Copy {
 
     /// A vector of these items.
     fn copied<T: Copy>(self, items: &[T]) -> Result<Vec<T>, AllocError>
-        requires small { IsSmall T.row }
+        requires small { IsSmallItem T.row }
         ensures items { IfOkUnless (may_refuse self) result (λ made. made.items ≡ items.now) }
         ensures room { OnErr result (RefusesWithin (may_refuse_room self) (length items.now)) };
 
     /// Appends an item, or leaves the items as they were.
     fn push<T>(self, items: &mut Vec<T>, item: T) -> Result<(), AllocFailed<T>>
-        requires small { IsSmall T.row }
+        requires small { IsSmallItem T.row }
         ensures items { items.new.items ≡ (if is_ok result then items.old.items ++ item ∷ [] else items.old.items) }
         ensures refused { OnErr result (may_refuse self) }
         ensures room { OnErr result (RefusesWithin (may_refuse_room self) (room_after (length items.old.items))) };
 
     /// Appends items, or leaves those that are there as they were.
     fn extend_from_slice<T: Copy>(self, items: &mut Vec<T>, more: &[T]) -> Result<(), AllocError>
-        requires small { IsSmall T.row }
+        requires small { IsSmallItem T.row }
         ensures items { items.new.items ≡ (if is_ok result then items.old.items ++ more.now else items.old.items) }
         ensures refused { OnErr result (may_refuse self) }
         ensures room { OnErr result
@@ -71,7 +71,7 @@ pub trait Heap: Copy {
 
     /// Appends the items of another vector, which then has none, or leaves both as they were.
     fn append<T>(self, items: &mut Vec<T>, more: &mut Vec<T>) -> Result<(), AllocError>
-        requires small { IsSmall T.row }
+        requires small { IsSmallItem T.row }
         ensures items { items.new.items
             ≡ (if is_ok result then items.old.items ++ more.old.items else items.old.items) }
         ensures refused { OnErr result (may_refuse self) }
@@ -81,7 +81,7 @@ pub trait Heap: Copy {
     /// Makes room for so many items more, which are then appended without memory.
     fn reserve<T>(self, items: &mut Vec<T>, more: usize) -> Result<(), AllocError>
         requires modest { IsModest more }
-        requires small { IsSmall T.row }
+        requires small { IsSmallItem T.row }
         ensures items { items.new.items ≡ items.old.items }
         ensures len { vec_len items.new ≡ vec_len items.old }
         ensures ok { OnOk result (vec_len items.new + more ≤ vec_capacity items.new) }
@@ -91,8 +91,8 @@ pub trait Heap: Copy {
 
     /// Makes room for an item more for each of these, which are then appended without memory.
     fn reserve_for<T, X>(self, items: &mut Vec<T>, others: &[X]) -> Result<(), AllocError>
-        requires small_others { IsSmall X.row }
-        requires small { IsSmall T.row }
+        requires small_others { IsSmallItem X.row }
+        requires small { IsSmallItem T.row }
         ensures items { items.new.items ≡ items.old.items }
         ensures len { vec_len items.new ≡ vec_len items.old }
         ensures ok { OnOk result (vec_len items.new + length others.now ≤ vec_capacity items.new) }
@@ -107,7 +107,7 @@ pub trait Heap: Copy {
     /// Cuts the items to so many, or appends copies of one until they are; or leaves them as they were.
     fn resize<T: Copy>(self, items: &mut Vec<T>, count: usize, item: T) -> Result<(), AllocError>
         requires modest { IsModest count }
-        requires small { IsSmall T.row }
+        requires small { IsSmallItem T.row }
         ensures items { items.new.items ≡ (if is_ok result
             then take count items.old.items ++ replicate (count - vec_len items.old) item
             else items.old.items) }
@@ -116,12 +116,12 @@ pub trait Heap: Copy {
 
     /// A value in a box.
     fn boxed<T>(self, value: T) -> Result<Box<T>, AllocFailed<T>>
-        requires small { IsSmall T.row }
+        requires small { IsSmallItem T.row }
         ensures value { IfOkUnless (may_refuse self) result (λ made. made.value ≡ value) };
 
     /// A value that is shared.
     fn shared<T>(self, value: T) -> Result<Rc<T>, AllocFailed<T>>
-        requires small { IsSmall T.row }
+        requires small { IsSmallItem T.row }
         ensures value { IfOkUnless (may_refuse self) result (λ made. made.value ≡ value) };
 
     /// The same shared value again, which takes no memory: refused where it is shared too often to be counted.

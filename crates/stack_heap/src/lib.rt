@@ -1,7 +1,7 @@
 //! The heap as an argument: what takes memory, and what a call says where there is none.
 //!
-//! A function that is generic over `Heap` is proved for each heap, also for one that refuses nothing. Its body knows
-//! nothing of what a heap may refuse but that a method failed, so it runs out of memory only where the heap refused.
+//! A function that is generic over `Heap` is proved for each heap. Its body knows nothing of what a heap may refuse but
+//! that a method failed, so it runs out of memory only if the heap refused a modest request.
 #![tactic(auto)]
 
 mod has_room;

@@ -1,7 +1,7 @@
 //! A vector that contracts see as a list.
 
 ghost use Rattle.std.specs.Prelude.{◌≡◌, ◌==◌, ◌∷◌, [], ◌++◌, length, OnErr};
-ghost use Rattle.stack_heap.specs.Heaps.{IsSmall, OnOkUnless};
+ghost use Rattle.stack_heap.specs.Heaps.{IsSmallItem, OnOkUnless};
 
 use stack_heap::Heap;
 use std::alloc::{AllocFailed, Global};
@@ -75,7 +75,7 @@ impl<T> Seq<T> {
 
     /// Appends an element. Where memory runs out the list is unchanged, and the error has the element.
     pub fn push<H: Heap>(&mut self, heap: H, item: T) -> Result<(), AllocFailed<T>>
-        requires { IsSmall T.row }
+        requires { IsSmallItem T.row }
         ensures ok { OnOkUnless (H.may_refuse heap) result (self.new ≡ self.old ++ item ∷ []) }
         ensures err { OnErr result (self.new ≡ self.old) }
     {

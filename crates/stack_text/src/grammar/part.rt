@@ -1,7 +1,7 @@
 //! Parts of one kind, one for each tree of a list.
 
 ghost use Rattle.std.specs.Prelude.{◌≡◌, map};
-ghost use Rattle.stack_heap.specs.Heaps.{IsSmall};
+ghost use Rattle.stack_heap.specs.Heaps.{IsSmallItem};
 ghost use Rattle.stack_text.specs.Trees.{Node};
 ghost use Rattle.stack_text.specs.Views.TreeView.{node_of, nodes_of};
 ghost use Rattle.stack_text.specs.Grammar.Judged.{Judged, each_of};
@@ -30,7 +30,7 @@ pub trait Part: Drop {
 
 /// The part that each tree is.
 pub fn each<T: Part, H: Heap>(heap: H, trees: &[TextTree]) -> Result<Vec<T>, FormFault>
-    requires { IsSmall T.row }
+    requires { IsSmallItem T.row }
     ensures { ReadsUnless (H.may_refuse heap) (λ parts. map T.view parts.items) result
         (each_of T.part_of (nodes_of trees.now)) }
 {
@@ -44,7 +44,7 @@ pub fn each<T: Part, H: Heap>(heap: H, trees: &[TextTree]) -> Result<Vec<T>, For
 
 /// The part that each item of a list is; where the tree is no list, it breaks the rule.
 pub fn each_in<T: Part, H: Heap>(heap: H, rule: u8, tree: &TextTree) -> Result<Vec<T>, FormFault>
-    requires { IsSmall T.row }
+    requires { IsSmallItem T.row }
     ensures { ReadsUnless (H.may_refuse heap) (λ parts. map T.view parts.items) result
         (list_or rule T.part_of (node_of tree.now)) }
 {
