@@ -12,6 +12,10 @@ import re
 import sys
 from pathlib import Path
 
+sys.path.append(str(Path(__file__).resolve().parents[1] / "tools"))
+
+from imports import DEFINITIONS, grouped  # noqa: E402
+
 IMPORTS = """
 use Rattle.std.specs.Prelude.{ℕ, pos, negsuc, true, false, List, [], ◌∷◌, ◌++◌, codes}
 use Rattle.stack_text.specs.declared.shape.Kind.TheVariants.{Integer, Boolean, Character}
@@ -206,7 +210,7 @@ def main():
     chosen = parser.parse_args()
     page = "\n".join(definitions(chosen.file.read_text(), chosen.name))
     print(f"-- The text of {chosen.file} and its program, as guide/definitions_of.py prints them.")
-    print("\n".join(imports(page)) + "\n\n" + page)
+    print(grouped("\n".join(imports(page)), DEFINITIONS) + "\n\n" + page)
 
 
 if __name__ == "__main__":

@@ -19,6 +19,7 @@ from functools import cache
 from pathlib import Path
 
 from arguments import parser_of
+from imports import apart
 
 CRATES = Path(__file__).resolve().parents[1] / "crates"
 IMPORT = re.compile(r"(?:pub )?use Rattle\.(\w+)\.specs\.([\w.]+?)(?:\.\{(.*)\}| as (\w+))?$")
@@ -55,7 +56,7 @@ class Page:
         module = None
         for part in parts(path.read_text().splitlines()):
             code = [line for line in part if not line.startswith(("use ", "pub use ", "--", "infix"))]
-            for line in part:
+            for line in apart("\n".join(part)).split("\n"):
                 if line.startswith(("use ", "pub use ")):
                     self.note_import(line)
             if not code:

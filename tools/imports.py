@@ -1,21 +1,32 @@
 #!/usr/bin/env python3
-"""Writes the imports of proof files as one `use` for each crate, which Rust's formatter calls the granularity of crates.
+"""Writes imports as one `use` for each crate, which Rust's formatter calls the granularity of crates.
 
     python3 tools/imports.py [--write] [CRATE ..]
 
-From `use Rattle.CRATE.specs.A.{a, b}`, `use Rattle.CRATE.proofs.B.{c}` and so on it makes `use Rattle.CRATE.{specs.A.{a, b}, proofs.B.c}`, in as
-many lines of at most 160 characters as that takes. Names and their order stay; an import of a module or of the logic keeps its line, and so does one
-that is passed on. It prints how many lines there are before and after, and changes files only with `--write`.
+In proof files it makes `use Rattle.CRATE.{specs.A.{a, b}, proofs.B.c}` from `use Rattle.CRATE.specs.A.{a, b}`, `use Rattle.CRATE.proofs.B.{c}`
+and so on. In definitions it makes `use Rattle.CRATE.specs.{A.{a, b}, C.{d}}`, and in code `ghost use` of the same form: names stay in braces
+there, where the kit looks for operators that mean something else than the library's. A line has at most 160 characters, in definitions 140;
+what doesn't fit goes into a further one. Of code only lines next to each other are joined, so each import stays in its block. Names and their
+order stay; an import of a module or of the logic keeps its line, and so do one under another name and one that is passed on. It prints for
+each kind of file how many lines there are before and after, and changes files only with `--write`.
 """
 import re
 import sys
+from collections import namedtuple
+from itertools import groupby
 from pathlib import Path
 
 from arguments import parser_of
 
 TOP = Path(__file__).resolve().parents[1]
-WIDTH = 160
-USE = re.compile(r"use (Rattle\.\w+)\.(.*\})$")
+USE = re.compile(r"( *(?:ghost )?use )(Rattle\.\w+)\.(.*\})(;?)$")
+ANY_USE = re.compile(r"( *)(?:pub |ghost )*use ")
+
+# How a kind of file has its imports: at most how wide; whether below the crate, with a name alone as it is, or below its `specs`, with all names
+# in braces; and whether a file has several blocks of them, or one at its head.
+Form = namedtuple("Form", "width is_below_crate has_blocks")
+PROOFS, DEFINITIONS, CODE = Form(160, True, False), Form(140, False, False), Form(160, False, True)
+KINDS = {"proofs/**/*.antt": PROOFS, "specs/**/*.antt": DEFINITIONS, "src/**/*.rt": CODE}
 
 
 def parts_of(text):
@@ -44,55 +55,70 @@ def names_in(path, text):
         yield ".".join(it for it in (path, *modules) if it), name
 
 
-def item_of(module, names):
+def item_of(module, names, form):
     """How an import has these names of a module."""
-    return f"{module}.{names[0]}" if len(names) == 1 else f"{module}.{{{', '.join(names)}}}"
+    return f"{module}.{names[0]}" if form.is_below_crate and len(names) == 1 else f"{module}.{{{', '.join(names)}}}"
 
 
-def line_of(crate, items):
+def line_of(start, items, end, form):
     """The line that imports names of these modules, each with its names."""
     if len(items) == 1:
         module, names = items[0]
-        return f"use {crate}.{module}.{{{', '.join(names)}}}"
-    return f"use {crate}.{{{', '.join(item_of(*it) for it in items)}}}"
+        return f"{start}{module}.{{{', '.join(names)}}}{end}"
+    return f"{start}{{{', '.join(item_of(*it, form) for it in items)}}}{end}"
 
 
-def written(crate, modules):
-    """The lines that import these names of the modules of a crate, each as full as can be."""
+def written(start, modules, end, form):
+    """The lines that import these names of modules, each as full as can be."""
     lines, line = [], []
     for module, names in modules.items():
         for name in names:
             longer = [*line[:-1], (module, [*line[-1][1], name])] if line and line[-1][0] == module else [*line, (module, [name])]
-            if line and len(line_of(crate, longer)) > WIDTH:
+            if line and len(line_of(start, longer, end, form)) > form.width:
                 lines.append(line)
                 longer = [(module, [name])]
             line = longer
-    return [line_of(crate, it) for it in [*lines, line]]
+    return [line_of(start, it, end, form) for it in [*lines, line]]
 
 
-def grouped(text):
-    """The text of a file with one import for each crate, where the first one stood."""
-    crates, lines = {}, []
-    for line in text.split("\n"):
+def joined(lines, form):
+    """The lines of a block with one import for each crate, where its first one stood."""
+    starts, made = {}, []
+    for line in lines:
         found = USE.match(line)
         if not found:
-            lines.append(line)
+            made.append([line])
             continue
-        crate, rest = found.groups()
-        if crate not in crates:
-            crates[crate] = {}
-            lines.append(crate)
+        use, crate, rest, end = found.groups()
         for module, name in names_in("", rest):
-            crates[crate].setdefault(module, []).append(name)
-    return "\n".join(it for line in lines for it in (written(line, crates[line]) if line in crates else [line]))
+            room, _, page = module.partition(".")
+            start, below = (f"{use}{crate}.", module) if form.is_below_crate or not page else (f"{use}{crate}.{room}.", page)
+            if start not in starts:
+                starts[start] = {}, end
+                made.append(start)
+            starts[start][0].setdefault(below, []).append(name)
+    return [line for it in made for line in (written(it, *starts[it], form) if isinstance(it, str) else it)]
+
+
+def block_of(line):
+    """How far an import is set in; nothing if the line is none."""
+    found = ANY_USE.match(line)
+    return found[1] if found else None
+
+
+def grouped(text, form=PROOFS):
+    """The text of a file with one import for each crate in each block of imports."""
+    lines = text.split("\n")
+    blocks = [list(block) for _, block in groupby(lines, block_of)] if form.has_blocks else [lines]
+    return "\n".join(line for block in blocks for line in joined(block, form))
 
 
 def apart(text):
-    """The text of a file with one import for each module, for whoever looks for modules."""
+    """The text of a file with an import of its own for each name, for whoever looks for modules or names."""
     lines = []
     for line in text.split("\n"):
         found = USE.match(line)
-        lines += [f"use {found[1]}.{module}.{{{name}}}" for module, name in names_in("", found[2])] if found else [line]
+        lines += [f"{found[1]}{found[2]}.{module}.{{{name}}}{found[4]}" for module, name in names_in("", found[3])] if found else [line]
     return "\n".join(lines)
 
 
@@ -101,16 +127,17 @@ def main():
     parser.add_argument("--write", action="store_true", help="change the files")
     parser.add_argument("crates", nargs="*", metavar="CRATE", help="all, if none is named")
     chosen = parser.parse_args()
-    before = after = 0
-    for path in sorted((TOP / "crates").glob("*/proofs/**/*.antt")):
-        if chosen.crates and path.relative_to(TOP).parts[1] not in chosen.crates:
-            continue
-        text = path.read_text()
-        made = grouped(text)
-        before, after = before + text.count("\n"), after + made.count("\n")
-        if chosen.write and made != text:
-            path.write_text(made)
-    print(f"{before} lines, {after} with an import for each crate")
+    for kind, form in KINDS.items():
+        before = after = 0
+        for path in sorted((TOP / "crates").glob(f"*/{kind}")):
+            if chosen.crates and path.relative_to(TOP).parts[1] not in chosen.crates:
+                continue
+            text = path.read_text()
+            made = grouped(text, form)
+            before, after = before + text.count("\n"), after + made.count("\n")
+            if chosen.write and made != text:
+                path.write_text(made)
+        print(f"{kind}: {before} lines, {after} with an import for each crate")
 
 
 if __name__ == "__main__":

@@ -34,6 +34,10 @@ mistake 'Answer.antt: it imports OpenLists, which is internal to stack_text' cra
 mistake 'crates/fm_words/src/lib.rt:[0-9]*: a clause of 1[0-9]* characters' crates/fm_words/src/lib.rt "    ensures { $(printf %0120d 0) }"
 mistake "crates/fm_words/src/word.rt: it imports used_by_nothing and doesn't use it" crates/fm_words/src/word.rt \
     'ghost use Rattle.std.specs.Prelude.{used_by_nothing};'
+mistake 'Answer.antt: it imports TokenSpans, which is internal to stack_text' crates/cli_stack/specs/Answer.antt \
+    'use Rattle.stack_text.specs.{Trees.{Node}, Internal.TokenSpans.{token_in}}'
+mistake "crates/fm_words/src/word.rt: it imports used_by_nobody and doesn't use it" crates/fm_words/src/word.rt \
+    'ghost use Rattle.std.specs.{Prelude.{ℕ}, List.{used_by_nobody}};'
 mistake 'docs/proved/related.md:[0-9]*: a table row without its head' docs/proved/related.md '' '| a row | of no table |'
 mistake 'docs/working/limits.md:[0-9]*: the crate fm_words has no not_there_either' docs/working/limits.md '| 9 | of what | said | `fm_words` (`not_there_either`) | | |'
 mistake 'docs/working/limits.md:[0-9]*: there is no crates/fm_words/specs/Nothing.antt' docs/working/limits.md '| 9 | of what | said | `fm_words/specs/Nothing`: `nowhere` | | |'

@@ -152,7 +152,7 @@ def check_folders():
             if path.parent == other.parent and fronts(path.stem) & fronts(other.stem):
                 say(path.parent, f"{path.stem} and {other.stem} differ by an ending; give them names that say what they hold")
     for path in tracked("crates/*.antt", "crates/*.rt"):
-        for crate, folder, page in IMPORTED_PAGE.findall(path.read_text()):
+        for crate, folder, page in IMPORTED_PAGE.findall(apart(path.read_text())):
             if not folder and page not in internal_pages(crate):
                 continue
             within = path.is_relative_to(Path("crates", crate, "specs")) and ("Internal" in path.parts or path.stem in internal_pages(crate))
@@ -391,7 +391,7 @@ def check_lemma_names():
 def check_imports():
     """Each name that a `ghost use` of the code imports is used in its file."""
     for path in tracked("crates/*/src/*.rt", "crates/*/src/**/*.rt"):
-        text = path.read_text()
+        text = apart(path.read_text())
         rest = re.sub(r"//.*", "", ANY_USE.sub("", text))
         for names in GHOST_USE.findall(text):
             for name in (it.split(" as ")[-1].strip() for it in names.split(",") if it.strip()):
