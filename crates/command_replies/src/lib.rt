@@ -8,6 +8,7 @@ ghost use Rattle.command_replies.specs.Replies.{reply_of};
 
 pub mod asm;
 mod image_run;
+mod lines;
 pub mod migrate;
 pub mod mini;
 pub mod pcheck;

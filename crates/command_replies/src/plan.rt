@@ -1,10 +1,11 @@
 //! What a command makes of its texts: first what it stores, then its reply.
 
 use crate::image_run::ImageRun;
+use crate::lines::line_of;
 use crate::reply::{Reply, Verdict};
 use command_line::FileName;
 use fm_image::{Image, write_image};
-use fm_show::push_number;
+use itoa::Buffer;
 use stack_heap::Heap;
 use stack_text::{Memory, Seq};
 use std::alloc::Global;
@@ -51,9 +52,8 @@ impl Plan {
         ensures stored { IfOkUnless (H.may_refuse heap) result (λ plan. plan.stored ≡ Some file) }
         ensures reply { IfOk result (λ plan. pending_reply plan.pending ≡ built_reply size) }
     {
-        let mut said = heap.copied(b"built ")?;
-        push_number(heap, &mut said, size)?;
-        heap.push(&mut said, b'\n')?;
+        let mut digits = Buffer::new();
+        let said = line_of(heap, &[b"built ", digits.format(size).as_bytes()])?;
         Ok(Plan {
             stored: Some(file),
             pending: Pending::Reply(Reply {
@@ -69,9 +69,7 @@ impl Plan {
         ensures stored { IfOkUnless (H.may_refuse heap) result (λ plan. plan.stored ≡ Some file) }
         ensures reply { IfOk result (λ plan. pending_reply plan.pending ≡ written_reply name.now) }
     {
-        let mut said = heap.copied(b"written ")?;
-        heap.extend_from_slice(&mut said, name.as_str().as_bytes())?;
-        heap.push(&mut said, b'\n')?;
+        let said = line_of(heap, &[b"written ", name.as_str().as_bytes()])?;
         Ok(Plan {
             stored: Some(file),
             pending: Pending::Reply(Reply {

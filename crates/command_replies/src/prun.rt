@@ -5,10 +5,11 @@ ghost use Rattle.std.specs.List.{flat_map, enumerate_from};
 ghost use Rattle.command_replies.specs.Commands.Prun.{area_line, halted_text, run_end_reply, system_run_reply, prun_reply};
 ghost use Rattle.command_replies.specs.Plans.{pending_reply};
 
+use crate::lines::line_of;
 use crate::piton_text::read_checked;
 use crate::plan::Plan;
 use crate::reply::Verdict;
-use fm_show::push_number;
+use itoa::Buffer;
 use piton_check::{Checked, program_name, words_line};
 use piton_machine::State;
 use piton_semantics::PitonRun;
@@ -75,12 +76,11 @@ fn halted_text<H: Heap>(heap: H, system: &System, state: &State) -> Result<Seq<u
     requires { length system.now.areas ≤ 1000 }
     ensures { IfOkUnless (H.may_refuse heap) result (λ text. text ≡ halted_text system.now state.now) }
 {
-    let (steps, counted) = (state.steps(), state.counted());
-    let mut out = heap.copied(b"halted ")?;
-    push_number(heap, &mut out, steps)?;
-    heap.extend_from_slice(&mut out, b"\ncounted ")?;
-    push_number(heap, &mut out, counted)?;
-    heap.push(&mut out, b'\n')?;
+    let mut step_digits = Buffer::new();
+    let mut count_digits = Buffer::new();
+    let steps = step_digits.format(state.steps()).as_bytes();
+    let counted = count_digits.format(state.counted()).as_bytes();
+    let mut out = line_of(heap, &[b"halted ", steps, b"\ncounted ", counted])?;
     area_lines(heap, &mut out, system, state)?;
     words_line(heap, &mut out, system, b"stack", state.stack())?;
     Ok(Seq::from_vec(out))

@@ -5,9 +5,11 @@ ghost use Rattle.std.specs.Fmt.{decimal};
 ghost use Rattle.stack_text.specs.Lines.{line};
 ghost use Rattle.command_replies.specs.Replies.{letter_text, text_rule_number, size_of_text, kind_text, verdict_line};
 
+use crate::lines::line_of;
 use command_line::Status;
 use fm_machine::Machine;
 use fm_show::{hex_digits, push_number};
+use itoa::Buffer;
 use piton_semantics::ErrorKind;
 use stack_heap::Heap;
 use stack_text::{Memory, Name, Seq, TextRule};
@@ -157,13 +159,12 @@ fn refused_line<H: Heap>(
     ensures { IfOkUnless (H.may_refuse heap) result
         (λ line. line.items ≡ verdict_line (Verdict.Refused letter number place)) }
 {
-    let mut text = heap.copied(b"refused ")?;
-    heap.extend_from_slice(&mut text, letter_text(letter).as_bytes())?;
-    push_number(heap, &mut text, number)?;
-    heap.extend_from_slice(&mut text, b" at ")?;
-    push_number(heap, &mut text, place)?;
-    heap.push(&mut text, b'\n')?;
-    Ok(text)
+    let mut number_digits = Buffer::new();
+    let mut place_digits = Buffer::new();
+    let letter = letter_text(letter).as_bytes();
+    let number = number_digits.format(number).as_bytes();
+    let place = place_digits.format(place).as_bytes();
+    line_of(heap, &[b"refused ", letter, number, b" at ", place])
 }
 
 /// The line of a rule, after this front, that is broken at a place.
@@ -171,12 +172,11 @@ fn broken_line<H: Heap>(heap: H, front: &str, rule: u8, place: u64) -> Result<Ve
     ensures { IfOkUnless (H.may_refuse heap) result
         (λ text. text.items ≡ line (front.now ++ decimal rule ++ codes " at " ++ decimal place)) }
 {
-    let mut text = heap.copied(front.as_bytes())?;
-    push_number(heap, &mut text, rule)?;
-    heap.extend_from_slice(&mut text, b" at ")?;
-    push_number(heap, &mut text, place)?;
-    heap.push(&mut text, b'\n')?;
-    Ok(text)
+    let mut rule_digits = Buffer::new();
+    let mut place_digits = Buffer::new();
+    let rule = rule_digits.format(rule).as_bytes();
+    let place = place_digits.format(place).as_bytes();
+    line_of(heap, &[front.as_bytes(), rule, b" at ", place])
 }
 
 /// The line of values that break a rule.
@@ -197,10 +197,8 @@ fn image_line<H: Heap>(heap: H, rule: u8, place: u64) -> Result<Vec<u8>, Memory>
 fn unfinished_line<H: Heap>(heap: H, limit: u64) -> Result<Vec<u8>, Memory>
     ensures { IfOkUnless (H.may_refuse heap) result (λ line. line.items ≡ verdict_line (Verdict.Unfinished limit)) }
 {
-    let mut text = heap.copied(b"unfinished ")?;
-    push_number(heap, &mut text, limit)?;
-    heap.push(&mut text, b'\n')?;
-    Ok(text)
+    let mut digits = Buffer::new();
+    line_of(heap, &[b"unfinished ", digits.format(limit).as_bytes()])
 }
 
 /// The line of an address outside the window.
@@ -208,24 +206,23 @@ fn outside_line<H: Heap>(heap: H, address: u32, count: u64) -> Result<Vec<u8>, M
     ensures { IfOkUnless (H.may_refuse heap) result
         (λ line. line.items ≡ verdict_line (Verdict.Outside address count)) }
 {
-    let mut text = heap.copied(b"outside ")?;
-    heap.extend_from_slice(&mut text, &hex_digits(address))?;
-    heap.extend_from_slice(&mut text, b" after ")?;
-    push_number(heap, &mut text, count)?;
-    heap.push(&mut text, b'\n')?;
-    Ok(text)
+    let mut digits = Buffer::new();
+    let count = digits.format(count).as_bytes();
+    line_of(
+        heap,
+        &[b"outside ", &hex_digits(address), b" after ", count],
+    )
 }
 
 /// The line of a script that breaks a rule.
 fn script_line<H: Heap>(heap: H, rule: u8, line: u32) -> Result<Vec<u8>, Memory>
     ensures { IfOkUnless (H.may_refuse heap) result (λ text. text.items ≡ verdict_line (Verdict.Script rule line)) }
 {
-    let mut text = heap.copied(b"script D")?;
-    push_number(heap, &mut text, rule)?;
-    heap.extend_from_slice(&mut text, b" at line ")?;
-    push_number(heap, &mut text, line)?;
-    heap.push(&mut text, b'\n')?;
-    Ok(text)
+    let mut rule_digits = Buffer::new();
+    let mut line_digits = Buffer::new();
+    let rule = rule_digits.format(rule).as_bytes();
+    let line = line_digits.format(line).as_bytes();
+    line_of(heap, &[b"script D", rule, b" at line ", line])
 }
 
 /// The line of a procedure that reaches itself.
@@ -233,10 +230,7 @@ fn recursive_line<H: Heap>(heap: H, procedure: &Name) -> Result<Vec<u8>, Memory>
     ensures { IfOkUnless (H.may_refuse heap) result
         (λ line. line.items ≡ verdict_line (Verdict.Recursive procedure.now)) }
 {
-    let mut text = heap.copied(b"recursive ")?;
-    heap.extend_from_slice(&mut text, procedure.bytes())?;
-    heap.push(&mut text, b'\n')?;
-    Ok(text)
+    line_of(heap, &[b"recursive ", procedure.bytes()])
 }
 
 /// The line of a certificate that breaks a rule.
@@ -251,12 +245,9 @@ fn certificate_line<H: Heap>(heap: H, rule: u8, place: u32) -> Result<Vec<u8>, M
 fn size_line<H: Heap>(heap: H, of: SizeOf, need: u64) -> Result<Vec<u8>, Memory>
     ensures { IfOkUnless (H.may_refuse heap) result (λ line. line.items ≡ verdict_line (Verdict.Size of need)) }
 {
-    let mut text = heap.copied(b"size ")?;
-    heap.extend_from_slice(&mut text, size_of_text(of).as_bytes())?;
-    heap.push(&mut text, b' ')?;
-    push_number(heap, &mut text, need)?;
-    heap.push(&mut text, b'\n')?;
-    Ok(text)
+    let mut digits = Buffer::new();
+    let of = size_of_text(of).as_bytes();
+    line_of(heap, &[b"size ", of, b" ", digits.format(need).as_bytes()])
 }
 
 /// Why a step of Piton is refused.
