@@ -1,15 +1,25 @@
 #!/usr/bin/env python3
 """Looks where the code makes out of memory of nothing: it should come from an error of the library, or from a call that returned it, alone.
 
-Every contract leaves out of memory free, so the prover takes a body that always returns it; this script doesn't. It prints a line for each
-expression that names the library's errors, and for each variant that is out of memory, but for these places:
+It is a second net. The first is the prover: a call that takes a heap may run out of memory only if that heap may refuse a modest request
+(`H.may_refuse`), so a body that gives up unasked, or after a request that no machine could grant, isn't proved. But the prover takes
+
+- a body that fills the memory first, by modest requests, and then gives up;
+- one that makes room in a table of its own, whose `make_room` (`HasRoom` of `stack_heap`) gives up;
+- any that gives up in a call that takes no heap, since its contract leaves out of memory free.
+
+This script prints a line for each expression that names the library's errors, and for each variant that is out of memory, but for these places:
 
 - a conversion `from` whose argument can be nothing else;
 - an arm of a `match` each of whose patterns is out of memory, or whose guard asks for it;
 - the `else` of a `let Ok(..) = f(..)` where out of memory is all that `f` may fail with.
 
+It prints one too for an `impl` of `Heap` or `HasRoom` outside the file that has them, for a `make_room` there that isn't one call of the
+library's `reserve`, for another name of what it looks for, and for a conversion from out of memory to what has another name.
+
 Tests may make it. Then it makes each of the mistakes at its end in the text that it has read, and prints a line where one isn't found. The exit
-status is 1 where a line was printed. It reads texts: it doesn't see a request that no machine can serve, nor what a macro would write.
+status is 1 where a line was printed. It reads texts. It doesn't see a body that fills the memory and passes the refusal on by `?`, a request
+that no machine can serve in a call that takes no heap, nor what a macro would write.
 """
 import re
 import sys
@@ -25,6 +35,10 @@ TOP = Path(__file__).resolve().parents[2]
 OWN = {"Memory", "OutOfMemory"}
 LIBRARY = {"AllocError", "AllocFailed"}
 EVERY = OWN | LIBRARY
+# The traits by which a refusal could be made, and the one file that implements each.
+IMPLEMENTED = {"Heap": "crates/stack_heap/src/heap.rt", "HasRoom": "crates/name_tables/src/kept.rt"}
+# All that a `make_room` does.
+MAKES_ROOM = re.compile(r"self \. \w+ \. reserve \( more")
 CLOSING = {"(": ")", "[": "]", "{": "}"}
 TOKEN = re.compile(
     r"""(?P<left_out>//[^\n]*|\s+|[bc]?"(?:\\.|[^"\\])*"|r(?P<hashes>\#*)".*?"(?P=hashes)|b?'(?:\\[^']*'|[^'\\]'))"""
@@ -129,7 +143,7 @@ class Reader:
     """The functions of all texts, with what each may fail with, and the places of the text that is read."""
 
     def __init__(self):
-        self.errors, self.places = defaultdict(list), []
+        self.errors, self.places, self.path = defaultdict(list), [], ""
 
     def note_functions(self, tokens, owner=None):
         """Notes what each function may fail with, by its name, and by its type and its name."""
@@ -158,11 +172,14 @@ class Reader:
             if tokens[at].text == "fn":
                 at = self.read_function(tokens, at)
             elif tokens[at].text in NAMING:
-                at = place_of(tokens, at, ";", *["{"] * (tokens[at].text == "struct")) + 1
+                end = place_of(tokens, at, ";", *["{"] * (tokens[at].text == "struct"))
+                self.read_naming(tokens[at:end])
+                at = end + 1
             elif tokens[at].text in HOLDING:
-                at = place_of(tokens, at, "{", ";")
-                self.read_items(tokens[at].inner, False)
-                at += 1
+                end = place_of(tokens, at, "{", ";")
+                self.read_holding(tokens[at:end])
+                self.read_items(tokens[end].inner, False)
+                at = end + 1
             elif tokens[at].text == "let":
                 at = self.read_let(tokens, at, is_given)
             else:
@@ -173,8 +190,29 @@ class Reader:
         body = place_of(tokens, at, "{", ";")
         header = tokens[at + 1 : body]
         if body < len(tokens) and tokens[body].text == "{":
+            texts = list(flat(tokens[body].inner))
+            is_renaming = is_conversion(header) and not OWN & {*texts}
+            is_refusing = header[0].text == "make_room" and not EVERY & {*texts} and not MAKES_ROOM.fullmatch(" ".join(texts))
+            self.places += [it.line for it in tokens[body].inner[:1] if is_renaming or is_refusing]
             self.read_items(tokens[body].inner, is_conversion(header))
         return body + 1
+
+    def read_naming(self, tokens):
+        """Reads an import or the name of a type: what is looked for has no other name."""
+        texts, named = list(flat(tokens)), []
+        if texts[0] == "use":
+            named = [name for name, word in zip(texts, texts[1:]) if word == "as"]
+        elif texts[0] == "type" and "Result" not in texts:
+            named = texts[1:]
+        if (EVERY | {*IMPLEMENTED}) & {*named}:
+            self.places.append(tokens[0].line)
+
+    def read_holding(self, header):
+        """Reads the header of an `impl`: each of these traits is implemented in one file."""
+        texts = [token.text for token in header]
+        traits = {name for name, word in zip(texts, texts[1:]) if word == "for"}
+        if any(IMPLEMENTED[name] != self.path for name in traits & {*IMPLEMENTED}):
+            self.places.append(header[0].line)
 
     def read_let(self, tokens, at, is_given):
         """Reads a `let`: its pattern and its type are no expressions. Returns the place of its value, or after its `else`."""
@@ -266,9 +304,9 @@ def read_all(code):
     return reader, tokens
 
 
-def places_in(reader, tokens):
+def places_in(reader, path, tokens):
     """The lines of a file that make out of memory of nothing."""
-    reader.places = []
+    reader.path, reader.places = path, []
     reader.read_items(tokens, False)
     return reader.places
 
@@ -295,14 +333,26 @@ MISTAKES = [
     Mistake("crates/fm_image/src/writing.rt", "extend_from_slice(bytes, name)?", "extend_from_slice(bytes, name).map_err(|_| Memory)?", "Memory"),
     # A table that makes no room, and says that memory ran out.
     Mistake("crates/name_tables/src/kept.rt", "        self.set.reserve(more)", "        Err(AllocError)", "AllocError"),
+    # One that asks for what no machine has, and a table and a heap of one's own.
+    Mistake("crates/name_tables/src/kept.rt", "        self.set.reserve(more)", "        self.set.reserve(usize::MAX)", "self.set"),
+    Mistake("crates/name_tables/src/kept.rt", "        self.set.reserve(more)", "        self.set.reserve(1)?; self.set.reserve(more)", "self.set"),
+    Mistake("crates/stack_text/src/reader.rt", "/// Puts a tree", "impl<'a> HasRoom for OpenList<'a> {}\n/// Puts a tree", "impl<'a>"),
+    Mistake("crates/stack_text/src/reader.rt", "/// Puts a tree", "impl<'a> stack_heap::Heap for OpenList<'a> {}\n/// Puts a tree", "impl<'a>"),
+    # A heap that is filled first, after which another error is made than that by which it refused.
+    Mistake("crates/stack_text/src/printer.rt", "        heap.push(out, b' ')?;", "while heap.push(out, b' ').is_ok() {}\nreturn Err(Memory);", "Memory"),
+    # Another name for what is looked for.
+    Mistake("crates/stack_text/src/reader.rt", "use stack_heap::Heap;", "use std::alloc::{AllocError as Full};", "use std"),
+    Mistake("crates/stack_text/src/reader.rt", "use stack_heap::Heap;", "use stack_heap::HasRoom as Table;", "use stack_heap"),
+    Mistake("crates/stack_text/src/reader.rt", "use stack_heap::Heap;", "type Full = std::alloc::AllocError;", "type Full"),
     # An arm of another fault, of any fault, of out of memory or another fault, and of a test of something else.
     Mistake("crates/command_replies/src/show.rt", "Ok(Plan::verdict_alone(heap.handle(), Verdict::Image { rule, place }))", "Err(Memory)", "Memory"),
     Mistake("crates/command_replies/src/show.rt", "Err(ImageFault::Memory) =>", "Err(_) =>", "Err(Memory)"),
     Mistake("crates/command_replies/src/show.rt", "Err(ImageFault::Memory) =>", "Err(ImageFault::Memory | ImageFault::Other) =>", "Err(Memory)"),
     Mistake("crates/command_line/src/status.rt", "== io::ErrorKind::OutOfMemory =>", "== io::ErrorKind::NotFound =>", "Status::OutOfMemory"),
-    # A conversion of another error, and one that looks at none of its cases.
+    # A conversion of another error, one that looks at none of its cases, and one to a fault of another name.
     Mistake("crates/fm_asm/src/fault.rt", "fn from(breach: Breach) -> AsmFault {", "fn from(_: Breach) -> AsmFault { AsmFault::Memory;", "AsmFault::Memory"),
     Mistake("crates/stack_build/src/fault.rt", "GypsyFault::Memory => BuildFault::Memory", "_ => BuildFault::Memory", "BuildFault::Memory"),
+    Mistake("crates/space_cert/src/certifying.rt", "        CertFault::Memory\n", "        CertFault::TooDeep\n", "CertFault::TooDeep"),
     # The rest of a call that may fail otherwise too.
     Mistake("crates/print_processor/src/main.rt", "= verilog(alloc) else", "= StdoutSink::put(alloc) else", "PutFault::Memory"),
     # A function of the same name of a type that nobody wrote.
@@ -318,7 +368,7 @@ def is_found(reader, code, mistake):
         return False
     text = text.replace(mistake.old, mistake.new)
     wanted = text[: text.index(mistake.wanted, text.index(mistake.new))].count("\n") + 1
-    if places_in(reader, without_clauses(tokens_of(text))) == [wanted]:
+    if places_in(reader, mistake.path, without_clauses(tokens_of(text))) == [wanted]:
         return True
     print(f"{mistake.path}: this mistake isn't found: {mistake.new}")
     return False
@@ -329,7 +379,7 @@ def main():
     code, count = texts(), 0
     reader, tokens = read_all(code)
     for path, text in code.items():
-        for line in places_in(reader, tokens[path]):
+        for line in places_in(reader, path, tokens[path]):
             told = text.splitlines()[line - 1].strip()
             print(f"{path}:{line}: this makes out of memory of nothing; return an error of the library or of a call: {told}")
             count += 1
