@@ -1,4 +1,4 @@
-//! Laws of commands in a row, and of a heap and devices that refuse no memory. The functions do nothing: their clauses hold of all files.
+//! Laws of commands in a row, and one answer of `go` that is computed. The functions do nothing: their clauses hold of all files.
 
 ghost use Rattle.cli_stack.specs.Again.{AssembledIsTheSame, CheckIsOfBuild, MigratedRunsTheSame, NeedIsCertified};
 ghost use Rattle.std.specs.Prelude.{List};

@@ -63,19 +63,20 @@ means_shown_after image source sizes values finals way count implements fits m =
 
 -- ---- programs that never end
 
-never_ends : (q : Program) (sizes : StackSizes) (v : List ValueOf) → IsEndless q sizes v → NeverEnds q sizes v
-never_ends q sizes v endless j = pick (moment_from q sizes v j) refl
+-- a meaning that is done at no bound has no last moment
+pub never_done : (q : Program) (sizes : StackSizes) (v : List ValueOf) → ((n : ℕ) → meaning q sizes v n ≡ Unfinished) → NeverEnds q sizes v
+never_done q sizes v never j = pick (moment_from q sizes v j) refl
   where
     pick : (m : Move) → moment_from q sizes v j ≡ m → (g : State) × (m ≡ Next g)
     pick (Next g) e = (g, refl)
     pick (Ended x c t) e =
         let over = (agree q sizes v).ended j x c t (moment_over q sizes j (start q v) x c t e) in
-        absurd (let f : Unfinished ≡ Done x c = sym (endless.unfinished (suc j)) ∙ sym (meaning-uncounted q sizes v (suc j)) ∙ ap uncounted over in cc)
+        absurd (let f : Unfinished ≡ Done x c = sym (never (suc j)) ∙ sym (meaning-uncounted q sizes v (suc j)) ∙ ap uncounted over in cc)
 
 pub never_ends_unfinished : (image : ImageOf) (source : SourceOf) (sizes : StackSizes) (values : List ValueOf) → StaysUnfinished image source sizes
     → FitsFormals source values → IsEndless (program_of source) sizes values → RunsOn image values
 never_ends_unfinished image source sizes values stays fits endless budget =
-    stays values budget fits (never_ends (program_of source) sizes values endless)
+    stays values budget fits (never_done (program_of source) sizes values endless.unfinished)
 
 -- ---- from a text
 
@@ -155,20 +156,3 @@ runs_on_in {sizes = sizes} {image = image} {values = values} is builds fits endl
     let o = of_text is builds fits in
     never_ends_unfinished image o.source sizes values o.unfinished o.fits
     (subst (λ (p : Program). IsEndless p sizes values) (sym o.resolves) endless)
-
--- ---- what is built of a text
-
-pub shown_by : {text : List ℕ} {q : Program} {names conditions : List (List ℕ)} {ctrl temp : ℕ} {built : BuiltOf} {values finals : List ValueOf}
-    {way : CurrentCondition} → IsText text q names conditions → BuildsText text ctrl temp built → VarsFit (proc_at q q.main).formals values
-    → Means q (stack_sizes ctrl temp) values (Is finals way) → Shows built.image values (reading_of names conditions finals way)
-shown_by is builds fits means = shown_in is (built_text builds) fits means
-
-pub shown_after_by : {text : List ℕ} {q : Program} {names conditions : List (List ℕ)} {ctrl temp : ℕ} {built : BuiltOf} {values finals : List ValueOf}
-    {way : CurrentCondition} {count : ℕ} → IsText text q names conditions → BuildsText text ctrl temp built → VarsFit (proc_at q q.main).formals values
-    → MeansAfter q (stack_sizes ctrl temp) values (IsAfter finals way count) → ComesTo built.image values count (reading_of names conditions finals way)
-shown_after_by is builds fits means = shown_after_in is (built_text builds) fits means
-
-pub runs_on_by : {text : List ℕ} {q : Program} {names conditions : List (List ℕ)} {ctrl temp : ℕ} {built : BuiltOf} {values : List ValueOf}
-    → IsText text q names conditions → BuildsText text ctrl temp built → VarsFit (proc_at q q.main).formals values
-    → IsEndless q (stack_sizes ctrl temp) values → RunsOn built.image values
-runs_on_by is builds fits endless = runs_on_in is (built_text builds) fits endless

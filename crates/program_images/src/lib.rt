@@ -1,6 +1,7 @@
 //! From what is proved of a program to what the memory of its image shows, or that a run of it doesn't end.
 //!
-//! The rules are `shown_by`, `shown_after_by` and `runs_on_by` of `proofs/ImageRules`. What they rest on is said here.
+//! The rules are `shown_in`, `shown_after_in` and `runs_on_in` of `proofs/ImageRules`. Each is of any image that implements a text,
+//! and `built_text` says that what `build` makes of a text is one. What they rest on is said here.
 #![tactic(auto)]
 
 mod laws;
