@@ -1,8 +1,11 @@
 //! The program over devices that keep a log, as `main` runs it.
-ghost use Rattle.std.specs.Prelude.{map};
+ghost use Rattle.std.specs.Prelude.{◌⊎◌, map};
 ghost use Rattle.command_line.specs.CommandWords.{spelled};
 ghost use Rattle.command_line.specs.CommandRows.{command_of};
-ghost use Rattle.cli_stack.specs.World.{shelf_of};
+ghost use Rattle.device_logs.specs.Logged.{logged_gave, logged_got, logged_took, may_refuse_logged};
+ghost use Rattle.cli_stack.specs.World.{shelf_of, world};
+ghost use Rattle.cli_stack.specs.Promises.{Promises};
+ghost use Rattle.cli_stack.specs.RepliesTo.{devices_of};
 ghost use Rattle.cli_stack.specs.Ran.{HasRun, UnreadIsRefused, logs_of};
 
 use crate::program::cli;
@@ -17,16 +20,30 @@ use stack_shelf::{Shelf, Sink};
 ///
 /// The logs are lists in memory, so what the clause says of them is said of what was really fetched, stored and printed. A body that
 /// doesn't make these calls, or makes others, is refused. Where the status is 0, `go` has handed to the shelf's `store` an image that
-/// implements the very text that its `fetch` returned, and printed its reply to that text and to that of the values.
+/// implements the very text that its `fetch` returned, and printed its reply to that text and to that of the values. A body that
+/// gives up is refused too: out of memory, a missing file and a failed device each need their cause.
 pub fn run_logged<H: Heap, S: Shelf + Drop, K: Sink + Drop>(
     heap: H,
     words: &[String],
-    shelf: &mut LoggedShelf<S>,
-    out: &mut LoggedSink<K>,
+    shelf: &mut LoggedShelf<H, S>,
+    out: &mut LoggedSink<H, K>,
     kept: &mut Option<Machine>,
     watches: Vec<Box<dyn Watch>>,
 ) -> u8
-    ensures { HasRun (command_of (spelled words.now)) (map watching watches.items)
+    // What `cli` promises over any devices: so each failure has its cause, and memory runs out only if a heap may refuse a modest
+    // request, or a device memory.
+    ensures promises { let shelf_refuses = may_refuse_logged (λ heap. H.may_refuse heap) S.may_refuse in
+        let sink_refuses = may_refuse_logged (λ heap. H.may_refuse heap) K.may_refuse in
+        Promises (H.may_refuse heap ⊎ (shelf_refuses ⊎ sink_refuses))
+        (devices_of (logged_gave S.gave) (logged_got S.got) (logged_took K.took) shelf.old shelf.new out.old out.new)
+        (spelled words.now) (map watching watches.items)
+        (world (S.files shelf.old.shelf) (S.counts shelf.old.shelf)
+        (K.taken out.old.sink) (K.faults out.old.sink) kept.old)
+        (world (S.files shelf.new.shelf) (S.counts shelf.new.shelf)
+        (K.taken out.new.sink) (K.faults out.new.sink) kept.new)
+        result }
+    // What was really fetched, stored and printed, by the logs.
+    ensures ran { HasRun (command_of (spelled words.now)) (map watching watches.items)
         (shelf_of (S.files shelf.old.shelf) (S.counts shelf.old.shelf))
         (shelf_of (S.files shelf.new.shelf) (S.counts shelf.new.shelf))
         (logs_of shelf.old out.old) (logs_of shelf.new out.new) result }

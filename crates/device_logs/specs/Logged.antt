@@ -1,5 +1,5 @@
 -- Devices with a log of the calls that went well.
-use Rattle.std.specs.Prelude.{ℕ, ◌^◌, List, [], ◌∷◌, ◌++◌, take}
+use Rattle.std.specs.Prelude.{ℕ, ◌^◌, ◌⊎◌, List, [], ◌∷◌, ◌++◌, take}
 use Rattle.stack_shelf.specs.Files.{Files}
 
 -- a shelf, the files that it gave, and those that it got, in the order of the calls
@@ -17,6 +17,10 @@ logged_gave gave s name bytes =
 abbrev pub logged_got : {S : Type 0} → (S → List ℕ → List ℕ → S) → LoggedShelfOf S → List ℕ → List ℕ → LoggedShelfOf S
 logged_got got s name bytes =
     record { shelf = got s.shelf name bytes; fetched = s.fetched; stored = s.stored ++ (name, bytes) ∷ [] }
+
+-- a device behind a log may refuse memory if a heap may refuse a modest request for the log, or if the device may
+abbrev pub may_refuse_logged : {H : Type 0} → (H → Type 0) → Type 0 → Type 0
+may_refuse_logged {H} heaps device = ((heap : H) × heaps heap) ⊎ device
 
 -- how many bytes the log of a sink has at most: more than any report has, and less than a session may print
 abbrev pub log_limit : ℕ

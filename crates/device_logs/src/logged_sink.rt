@@ -1,8 +1,8 @@
 //! A sink that keeps a log.
 ghost use Rattle.std.specs.Prelude.{◌≡◌, []};
 
+use stack_heap::Heap;
 use stack_shelf::{PutFault, Sink};
-use std::alloc::Global;
 use std::marker::Model;
 
 /// How many bytes a log has at most: more than any report has, and less than a session may print.
@@ -10,14 +10,15 @@ const LOG_LIMIT: usize = 1 << 24;
 
 /// A sink with the first 2^24 of the bytes that it took, by the calls that went well.
 ///
-/// It copies each of these once. Where it has no memory for that, a call returns out of memory.
+/// It copies each of these once. If its heap refuses that, a call returns out of memory.
 #[derive(Drop)]
-pub struct LoggedSink<K: Sink + Drop> {
+pub struct LoggedSink<H: Heap, K: Sink + Drop> {
+    heap: H,
     sink: K,
     printed: Vec<u8>,
 }
 
-impl<K: Sink + Drop> Model for LoggedSink<K> {
+impl<H: Heap, K: Sink + Drop> Model for LoggedSink<H, K> {
     ghost use Rattle.device_logs.specs.Logged.{LoggedSinkOf};
 
     ghost Value = { LoggedSinkOf K };
@@ -25,14 +26,15 @@ impl<K: Sink + Drop> Model for LoggedSink<K> {
     ghost view = { λ s. record { sink = s.sink; printed = s.printed.items } };
 }
 
-impl<K: Sink + Drop> LoggedSink<K> {
+impl<H: Heap, K: Sink + Drop> LoggedSink<H, K> {
     /// A sink with an empty log.
-    pub fn new(alloc: Global, sink: K) -> LoggedSink<K>
+    pub fn new(heap: H, sink: K) -> LoggedSink<H, K>
         ensures { result ≡ record { sink = sink; printed = [] } }
     {
         LoggedSink {
+            heap,
             sink,
-            printed: Vec::new(alloc),
+            printed: Vec::new(heap.handle()),
         }
     }
 
@@ -44,8 +46,8 @@ impl<K: Sink + Drop> LoggedSink<K> {
     }
 }
 
-impl<K: Sink + Drop> Sink for LoggedSink<K> {
-    ghost use Rattle.device_logs.specs.Logged.{logged_took};
+impl<H: Heap, K: Sink + Drop> Sink for LoggedSink<H, K> {
+    ghost use Rattle.device_logs.specs.Logged.{logged_took, may_refuse_logged};
 
     ghost taken = { λ s. K.taken s.sink };
 
@@ -53,11 +55,11 @@ impl<K: Sink + Drop> Sink for LoggedSink<K> {
 
     ghost took = { logged_took K.took };
 
-    ghost may_refuse = { Unit {0} };
+    ghost may_refuse = { may_refuse_logged (λ heap. H.may_refuse heap) K.may_refuse };
 
     fn put(&mut self, bytes: &[u8]) -> Result<(), PutFault> {
         let before = self.printed.len();
-        self.printed.extend_from_slice(bytes)?;
+        self.heap.extend_from_slice(&mut self.printed, bytes)?;
         self.printed.truncate(LOG_LIMIT);
         let put = self.sink.put(bytes);
         if put.is_err() {

@@ -5,8 +5,8 @@ use Rattle.command_line.specs.CommandRows.{command_of}
 use Rattle.cli_stack.proofs.RanLaws.{ran}
 use Rattle.cli_stack.proofs.ran.run_logged.Goals as goal
 
-pub returns : goal.returns
-returns g c =
+pub returns-clause-ran : goal.returns-clause-ran
+returns-clause-ran g c =
     let command = command_of (spelled c.args.words.now) in
     let watches : List Watching = map (λ w. (goal.Watch-dyn g (w.vtable, w.value)).watching w.value) c.args.watches.items in
     let kept = c.cli.ensures.promises in (
