@@ -5,6 +5,10 @@ Each machine has a window of some pages, most of whose words are instructions: o
 all. Pointers lead into the window, so that much of what is stored is code, and is met again. A jump at every few words leads to the end, where
 registers and flags are stored; so that a run which comes there shows them. The whole window is printed as one array, and of a run that doesn't
 come there how far it came.
+
+Every second machine is one of edges: its window ends at the end of a page, or a word before or behind it, or has a few words; a stretch of it
+is zeros, whose pages nothing has filled; pointers lead to the ends of pages and of the window; and it stops at any address, or after any
+number of steps, also where the emulator would go on with several steps at once.
 """
 import shutil
 import struct
@@ -23,6 +27,7 @@ from arguments import drawn_of  # noqa: E402
 
 HERE = Path(__file__).resolve().parent
 BUDGET = 3000
+PAGE = 256
 PC, ALWAYS = 15, 14
 SET = [1, 3, 5, 7]      # the conditions under which a flag is set
 DATA, POINTERS = range(3, 8), (0, 1, 2, 8, 9, 10)
@@ -80,7 +85,23 @@ def machine(rng):
         words += [word(OPERATION["MOVE"], 0, PC, 3, PC, rng.choice(SET)), base + place] if leaves else instruction(rng, rng.choice(starts))
     words = words[:place] + end
     registers = [rng.choice(starts) if r in POINTERS else plain(rng) for r in range(PC)] + [rng.choice(starts)]
-    return base, size, base + size - 1, registers, rng.randrange(16), words
+    return base, size, base + size - 1, registers, rng.randrange(16), words, BUDGET
+
+
+def machine_of_edges(rng):
+    """The same, of a window that ends near the end of a page, with a stretch of zeros."""
+    size = rng.choice([rng.randrange(1, 12), PAGE * rng.randrange(1, 6) + rng.randrange(-2, 3)])
+    base = rng.choice([0, rng.randrange(2**16), 2**32 - 1 - size, 2**31 - size // 2])
+    edges = [base + it for it in range(size) if it % PAGE in (0, 1, PAGE - 2, PAGE - 1) or it in (0, size - 2, size - 1)]
+    words = []
+    while len(words) < size:
+        words += instruction(rng, rng.choice(edges))
+    words = words[:size]
+    zeros = rng.randrange(size)
+    words[zeros : zeros + rng.choice([0, PAGE, 2 * PAGE])] = []
+    words[zeros:zeros] = [0] * (size - len(words))
+    registers = [rng.choice(edges) if r in POINTERS else plain(rng) for r in range(PC)] + [rng.choice(edges)]
+    return base, size, base + rng.randrange(size), registers, rng.randrange(16), words, rng.choice([BUDGET, rng.randrange(60)])
 
 
 def signed(it):
@@ -89,13 +110,13 @@ def signed(it):
 
 def by_program(program, folder, number, it):
     """What `run` prints: the words are the values of a slot, which begins at the window's last word and goes down."""
-    base, size, final, registers, flags, words = it
+    base, size, final, registers, flags, words, budget = it
     fields = [1, base, size, final, *registers, flags, 2**32 - 1, 0, 1, 1]
     slot = b"m" + struct.pack(">4I", 0, size, base + size - 1, 0)
     image, values = Path(folder, f"{number}.image"), Path(folder, f"{number}.values")
     image.write_bytes(b"FM91" + struct.pack(f">{len(fields)}I", *fields) + slot)
     values.write_text(f"((m ({' '.join(str(signed(it)) for it in reversed(words))})))")
-    ran = subprocess.run([program, "run", image.name, values.name, str(BUDGET)], cwd=folder, capture_output=True, text=True, check=False)
+    ran = subprocess.run([program, "run", image.name, values.name, str(budget)], cwd=folder, capture_output=True, text=True, check=False)
     return ran.stdout
 
 
@@ -103,15 +124,16 @@ def by_c(compiler, folder, machines):
     """What the interpreter in C prints of all machines, one after the other."""
     subprocess.run([compiler, "-O1", "-o", Path(folder, "fm9001"), HERE / "fm9001.c"], check=True)
     numbers = "".join(
-        f"{base} {size} {final} {BUDGET} {' '.join(map(str, [*registers, flags, *words]))}\n" for base, size, final, registers, flags, words in machines
+        f"{base} {size} {final} {budget} {' '.join(map(str, [*registers, flags, *words]))}\n"
+        for base, size, final, registers, flags, words, budget in machines
     )
     return subprocess.run([Path(folder, "fm9001")], input=numbers, capture_output=True, text=True, check=True).stdout
 
 
 def by_python(it):
-    base, size, final, registers, flags, words = it
+    base, size, final, registers, flags, words, budget = it
     model = fm9001.Machine(base, words, registers, flags)
-    count, outside = model.run(BUDGET, final)
+    count, outside = model.run(budget, final)
     if outside:
         return f"outside {outside} after {count}\n"
     if model.registers[PC] != final:
@@ -120,9 +142,9 @@ def by_python(it):
 
 
 def main():
-    chosen = drawn_of(__doc__, 400)
+    chosen = drawn_of(__doc__, 800)
     rng = Random(chosen.seed)
-    machines = [machine(rng) for _ in range(chosen.how_many)]
+    machines = [(machine_of_edges if number % 2 else machine)(rng) for number in range(chosen.how_many)]
     compiler = shutil.which("cc") or shutil.which("gcc") or shutil.which("clang")
     with tempfile.TemporaryDirectory() as folder:
         with ThreadPoolExecutor(4) as pool:

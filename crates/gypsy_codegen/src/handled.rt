@@ -1,6 +1,6 @@
 //! The conditions that a `begin` handles.
 
-ghost use Rattle.std.specs.Prelude.{◌≡◌, ◌==◌, ◌<◌, ℕ, map, get_or, false, if◌then◌else◌, true};
+ghost use Rattle.std.specs.Prelude.{◌≡◌, ◌==◌, ◌<◌, ◌^◌, ◌++◌, ℕ, map, replicate, get_or, false, if◌then◌else◌, true};
 ghost use Rattle.stack_heap.specs.Heaps.{IfOkUnless, OnOkUnless};
 ghost use Rattle.gypsy_syntax.specs.Programs.{ConditionOf};
 ghost use Rattle.gypsy_space.specs.Nodes.{seen_cond};
@@ -20,14 +20,25 @@ pub(crate) struct Handled<'a> {
     ghost tells: { (c : ConditionOf) → get_or table.items (number_of c) false ≡ has_cond c (map seen_cond conds.now) },
 }
 
+/// Appends so many entries that are false.
+fn append_false<H: Heap>(heap: H, table: &mut Vec<bool>, count: usize) -> Result<(), Memory>
+    ensures { OnOkUnless (H.may_refuse heap) result (table.new.items ≡ table.old.items ++ replicate count false) }
+{
+    for _ in 0..count {
+        heap.push(table, false)?;
+    }
+    Ok(())
+}
+
 /// Makes one entry of a table true. Those that it doesn't have yet are false.
 fn mark<H: Heap>(heap: H, table: &mut Vec<bool>, number: u64) -> Result<(), Memory>
+    requires { number < 2 ^ 33 }
     ensures { OnOkUnless (H.may_refuse heap) result ((k : ℕ) → get_or table.new.items k false ≡
         (if k == number then true else get_or table.old.items k false)) }
 {
     let at = number as usize;
-    for _ in table.len()..=at {
-        heap.push(table, false)?;
+    if table.len() <= at {
+        append_false(heap, table, at + 1 - table.len())?;
     }
     table[at] = true;
     Ok(())

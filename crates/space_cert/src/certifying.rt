@@ -170,7 +170,7 @@ fn bounds_in<H: Heap>(
     ensures { IfOkUnless (H.may_refuse heap) result (λ bounds.
         bounds.items ≡ bounds_by_needs needs.now.procedures.items (seen_calls calls.now) (reverse order.now)) }
 {
-    let mut bounds = filled(heap, None, calls)?;
+    let mut bounds = filled(heap, None, calls.len())?;
     for procedure in order {
         let callees = calls[*procedure as usize].as_slice();
         let need = run_bound(needs, bounds.as_slice(), callees, *procedure);

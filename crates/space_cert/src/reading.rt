@@ -225,7 +225,7 @@ fn entries<H: Heap>(
     ensures number { IfOk result (λ bs. length bs.items ≡ length names.now) }
     ensures within { IfOk result (λ bs. IsTrue (are_bounds bs.items)) }
 {
-    let mut bounds = filled(heap, None, names)?;
+    let mut bounds = filled(heap, None, names.len())?;
     for tree in trees {
         let entry = entry_at(heap, names, bounds.as_slice(), tree)?;
         bounds[entry.0] = Some(entry.1);

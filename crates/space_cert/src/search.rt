@@ -69,7 +69,7 @@ impl Search {
             (λ s. IsSearch (seen_calls calls.now) main (search_of s)) }
         ensures main { IfOk result (λ s. s.main ≡ main) }
     {
-        let mut marks = filled(heap, Mark::New, calls)?;
+        let mut marks = filled(heap, Mark::New, calls.len())?;
         marks[main as usize] = Mark::Entered(0);
         let mut entered = Vec::new(heap.handle());
         heap.push(&mut entered, main)?;
