@@ -1,12 +1,21 @@
 //! Choices, as trees of choices of two.
 
-ghost use Rattle.std.specs.Prelude.{◌≡◌, ◌≤◌, ◌++◌, length, OnOk};
-ghost use Rattle.fm_netlist.specs.Pieces.{choice_0, choice_1, choice_2, choice_3, choice_4, word_0, word_1, word_2, word_3, word_4};
+ghost use Rattle.std.specs.Prelude.{◌≡◌, ◌≤◌, ◌++◌, codes, length, OnOk};
+ghost use Rattle.fm_netlist.specs.Pieces.{pin_text, choice_0, choice_1, choice_2, choice_3, choice_4, word_0, word_1, word_2, word_3, word_4};
 
-use crate::bits::{FileBit, push, push_bit};
+use crate::bits::{FileBit, PinBit, push, push_bit};
 use fm_circuit::Pin;
 use stack_text::Memory;
 use std::alloc::Global;
+
+/// Appends how a choice begins, with the bit by which it is made.
+fn push_by(alloc: Global, text: &mut Vec<u8>, by: Pin, i: u32) -> Result<(), Memory>
+    ensures { OnOk result (text.new.items ≡ text.old.items ++ (codes "(" ++ pin_text by i ++ codes " ? ")) }
+{
+    let bit = PinBit(by, i);
+    let line = format!(in alloc; "({bit} ? ")?;
+    Ok(text.extend_from_slice(line.as_bytes())?)
+}
 
 /// Appends a bit of the first of several pins.
 #[tactic(auto, unfolding(crate::specs::Pieces::choice_0))]
@@ -31,9 +40,7 @@ pub(crate) fn choose_1(
     requires { 2 ≤ length among.now }
     ensures { OnOk result (text.new.items ≡ text.old.items ++ choice_1 by among.now i) }
 {
-    push(text, "(")?;
-    push_bit(alloc, text, by, 0)?;
-    push(text, " ? ")?;
+    push_by(alloc, text, by, 0)?;
     choose_0(alloc, text, by, &among[1..], i)?;
     push(text, " : ")?;
     choose_0(alloc, text, by, among, i)?;
@@ -52,9 +59,7 @@ pub(crate) fn choose_2(
     requires { 4 ≤ length among.now }
     ensures { OnOk result (text.new.items ≡ text.old.items ++ choice_2 by among.now i) }
 {
-    push(text, "(")?;
-    push_bit(alloc, text, by, 1)?;
-    push(text, " ? ")?;
+    push_by(alloc, text, by, 1)?;
     choose_1(alloc, text, by, &among[2..], i)?;
     push(text, " : ")?;
     choose_1(alloc, text, by, among, i)?;
@@ -73,9 +78,7 @@ pub(crate) fn choose_3(
     requires { 8 ≤ length among.now }
     ensures { OnOk result (text.new.items ≡ text.old.items ++ choice_3 by among.now i) }
 {
-    push(text, "(")?;
-    push_bit(alloc, text, by, 2)?;
-    push(text, " ? ")?;
+    push_by(alloc, text, by, 2)?;
     choose_2(alloc, text, by, &among[4..], i)?;
     push(text, " : ")?;
     choose_2(alloc, text, by, among, i)?;
@@ -94,9 +97,7 @@ pub(crate) fn choose_4(
     requires { 16 ≤ length among.now }
     ensures { OnOk result (text.new.items ≡ text.old.items ++ choice_4 by among.now i) }
 {
-    push(text, "(")?;
-    push_bit(alloc, text, by, 3)?;
-    push(text, " ? ")?;
+    push_by(alloc, text, by, 3)?;
     choose_3(alloc, text, by, &among[8..], i)?;
     push(text, " : ")?;
     choose_3(alloc, text, by, among, i)?;
@@ -119,9 +120,7 @@ fn word_1(alloc: Global, text: &mut Vec<u8>, by: Pin, r: u8, i: u32) -> Result<(
     requires { r ≤ 14 }
     ensures { OnOk result (text.new.items ≡ text.old.items ++ word_1 by r i) }
 {
-    push(text, "(")?;
-    push_bit(alloc, text, by, 0)?;
-    push(text, " ? ")?;
+    push_by(alloc, text, by, 0)?;
     word_0(alloc, text, by, r + 1, i)?;
     push(text, " : ")?;
     word_0(alloc, text, by, r, i)?;
@@ -134,9 +133,7 @@ fn word_2(alloc: Global, text: &mut Vec<u8>, by: Pin, r: u8, i: u32) -> Result<(
     requires { r ≤ 12 }
     ensures { OnOk result (text.new.items ≡ text.old.items ++ word_2 by r i) }
 {
-    push(text, "(")?;
-    push_bit(alloc, text, by, 1)?;
-    push(text, " ? ")?;
+    push_by(alloc, text, by, 1)?;
     word_1(alloc, text, by, r + 2, i)?;
     push(text, " : ")?;
     word_1(alloc, text, by, r, i)?;
@@ -149,9 +146,7 @@ fn word_3(alloc: Global, text: &mut Vec<u8>, by: Pin, r: u8, i: u32) -> Result<(
     requires { r ≤ 8 }
     ensures { OnOk result (text.new.items ≡ text.old.items ++ word_3 by r i) }
 {
-    push(text, "(")?;
-    push_bit(alloc, text, by, 2)?;
-    push(text, " ? ")?;
+    push_by(alloc, text, by, 2)?;
     word_2(alloc, text, by, r + 4, i)?;
     push(text, " : ")?;
     word_2(alloc, text, by, r, i)?;
@@ -163,9 +158,7 @@ fn word_3(alloc: Global, text: &mut Vec<u8>, by: Pin, r: u8, i: u32) -> Result<(
 pub(crate) fn word_4(alloc: Global, text: &mut Vec<u8>, by: Pin, i: u32) -> Result<(), Memory>
     ensures { OnOk result (text.new.items ≡ text.old.items ++ word_4 by i) }
 {
-    push(text, "(")?;
-    push_bit(alloc, text, by, 3)?;
-    push(text, " ? ")?;
+    push_by(alloc, text, by, 3)?;
     word_3(alloc, text, by, 8, i)?;
     push(text, " : ")?;
     word_3(alloc, text, by, 0, i)?;
