@@ -10,22 +10,25 @@ import sys
 import threading
 from pathlib import Path
 
-import beside  # noqa: F401
+import beside
 import explain
 from breakpoints import FILTERS, Breakpoints, Wrong
 from moments import Interrupted, Run
 from program import Refused
 from seen import THREAD, Seen
 from views import View
-from wire import Wire
+from wire import Lost, Unreadable, Wire
 
 CAPABILITIES = dict.fromkeys((
     "supportsConfigurationDoneRequest", "supportsFunctionBreakpoints", "supportsConditionalBreakpoints", "supportsStepBack", "supportsDisassembleRequest",
     "supportsSteppingGranularity", "supportsInstructionBreakpoints", "supportsReadMemoryRequest", "supportsEvaluateForHovers", "supportsTerminateRequest",
     "supportsBreakpointLocationsRequest", "supportsDataBreakpoints",
 ), True)
-# What can be asked without a run.
+# What can be asked without a run, and what stops one that goes on.
 BEFORE = ("initialize", "launch", "disconnect", "terminate", "pause")
+STOPPING = ("pause", "disconnect", "terminate")
+# So long a run that is stopped may take to its end, in seconds.
+LAST = 5
 
 
 class Adapter(Breakpoints, Seen):
@@ -46,47 +49,76 @@ class Adapter(Breakpoints, Seen):
     def event(self, name, **body):
         self.send({"type": "event", "event": name, "body": body})
 
+    def tell(self, text, category="console"):
+        """Says something to a person."""
+        self.event("output", category=category, output=f"{beside.shown(text)}\n")
+
     def serve(self):
+        """Answers until the editor leaves, or has the adapter end."""
         worker = threading.Thread(target=self.work, daemon=True)
         worker.start()
-        while True:
-            message = self.wire.receive()
-            if message is None:
-                break
-            if message.get("command") in ("pause", "disconnect", "terminate") and self.run:
+        while (message := self.receive()) is not None:
+            if message.get("command") in STOPPING and self.run:
                 self.run.stop.set()
             self.requests.put(message)
             if message.get("command") == "disconnect":
                 break
         self.requests.put(None)
-        worker.join(5)
+        if message is None and self.run:
+            # Nobody waits for an answer any more.
+            self.run.stop.set()
+        worker.join(LAST)
         if self.run:
             self.run.close()
         return 0
 
+    def receive(self):
+        """The next message, or None if none can come."""
+        while True:
+            try:
+                return self.wire.receive()
+            except Unreadable as fault:
+                self.tell(str(fault), "stderr")
+            except Lost as lost:
+                print(f"stack: the editor is left: {lost}", file=sys.stderr)
+                return None
+
     def work(self):
+        """Carries out one request after the other. Whatever fails in one, the next one is answered."""
         while (message := self.requests.get()) is not None:
-            if message.get("type") == "request":
+            if message.get("type") == "request" and isinstance(message.get("command"), str):
                 self.take(message)
 
     def take(self, message):
-        answer = {"type": "response", "request_seq": message["seq"], "command": message["command"], "success": True}
-        act = getattr(self, "on_" + message["command"], None)
+        """Carries out a request, and afterwards what was put off until it is answered."""
+        answer = {"type": "response", "request_seq": message.get("seq", 0), "command": message["command"], "success": True}
         self.after = lambda: None
         try:
-            if act is None:
-                raise Wrong(f"there is no {message['command']} here")
-            if self.walk is None and message["command"] not in BEFORE:
-                raise Wrong("no run was started")
-            answer["body"] = act(message.get("arguments") or {}) or {}
-        except (Wrong, Refused, Interrupted, OSError, ValueError, KeyError, IndexError) as fault:
-            answer |= {"success": False, "message": self.told(fault)}
-            answer["body"] = {"error": {"id": 1, "format": answer["message"], "showUser": True}}
+            answer["body"] = self.body_of(message["command"], message.get("arguments"))
+        except Exception as fault:
+            answer |= {"success": False, "message": beside.shown(self.told(fault))}
+            answer["body"] = {"error": {"id": 1, "format": answer["message"].replace("{", "("), "showUser": True}}
         self.send(answer)
-        self.after()
+        try:
+            self.after()
+        except Exception as fault:
+            self.tell(self.told(fault), "stderr")
+
+    def body_of(self, command, arguments):
+        """What a request is answered with."""
+        act = getattr(self, f"on_{command}", None)
+        if act is None:
+            raise Wrong(f"there is no {command} here")
+        if self.walk is None and command not in BEFORE:
+            raise Wrong("no run was started")
+        return act(arguments if isinstance(arguments, dict) else {}) or {}
 
     def told(self, fault):
         """What is said of a fault: of a refusal what docs/program/errors.md says."""
+        if isinstance(fault, KeyError):
+            return f"the request has no {fault}"
+        if isinstance(fault, OSError) and fault.strerror:
+            return f"{fault.filename or self.program}: {fault.strerror}"
         if not isinstance(fault, Refused):
             return str(fault) or type(fault).__name__
         if fault.text.startswith("script "):
@@ -94,7 +126,7 @@ class Adapter(Breakpoints, Seen):
         source, values = self.options.get("program", ""), self.options.get("values")
         line = ["mean", source, values, "1", "1", "0"] if isinstance(values, str) else ["check", source]
         said = explain.lines_of(fault.status, fault.text, line)
-        return "\n".join([fault.text, *said])
+        return "\n".join([fault.text or beside.ended(fault.status), *said])
 
     # ---- Starting ----
 
@@ -116,7 +148,9 @@ class Adapter(Breakpoints, Seen):
         self.walk.look_at(self.level)
         self.after = lambda: self.event("initialized")
         control, temporary = self.run.program.sizes
-        self.event("output", category="console", output=f"{Path(arguments['program']).name}, in stacks of {control} and {temporary} words\n")
+        self.tell(f"{Path(arguments['program']).name}, in stacks of {control} and {temporary} words")
+        if beside.is_unproved():
+            self.tell(beside.UNPROVED)
 
     def on_configurationDone(self, _):
         if self.options.get("stopOnEntry", True):
@@ -127,30 +161,34 @@ class Adapter(Breakpoints, Seen):
     # ---- Moving ----
 
     def move(self, act):
-        """Goes on or back, and tells where the run stands then."""
-        self.run.stop.clear()
+        """Goes on or back, and tells where the run stands then, also if that fails. Who asked to stop before it began has it stand where it is."""
         try:
             stop = act()
             reason = {"ended": "the end of the run", "start": "the beginning of the run"}.get(stop.reason, stop.reason)
         except Interrupted:
             reason = "pause"
-        except Refused as refused:
-            reason = refused.text
+        except Exception as fault:
+            self.tell(self.told(fault), "stderr")
+            reason = self.told(fault).split("\n")[0]
         # Who asked to stop gets answers again.
         self.run.stop.clear()
         self.stopped(reason)
 
     def stopped(self, reason):
-        known = reason in ("entry", "step", "breakpoint", "data breakpoint", "pause")
+        """Tells that the run stands, and its report if it is over."""
+        is_known = reason in ("entry", "step", "breakpoint", "data breakpoint", "pause")
         self.frames = []
         if self.walk.moment.ended and reason != "entry":
-            self.event("output", category="stdout", output=self.report())
-        body = {"reason": reason if known else "goto", "threadId": THREAD, "allThreadsStopped": True}
-        self.event("stopped", **body, **({} if known else {"description": reason, "text": reason}))
+            self.tell_report()
+        body = {"reason": reason if is_known else "goto", "threadId": THREAD, "allThreadsStopped": True}
+        self.event("stopped", **body, **({} if is_known else {"description": beside.shown(reason), "text": beside.shown(reason)}))
 
-    def report(self):
-        """What `run` prints of the run, which is over."""
-        return self.run.program.ask("run", "i", "v", self.walk.moment.count)
+    def tell_report(self):
+        """Tells what `run` prints of the run, which is over."""
+        try:
+            self.tell(self.run.program.ask("run", "i", "v", self.walk.moment.count).rstrip("\n"), "stdout")
+        except (Refused, OSError) as fault:
+            self.tell(self.told(fault), "stderr")
 
     def moving(self, act):
         self.after = lambda: self.move(act)
@@ -218,4 +256,5 @@ class Adapter(Breakpoints, Seen):
 
 
 if __name__ == "__main__":
+    beside.end_by_signals()
     sys.exit(Adapter(sys.argv[1], Wire()).serve())

@@ -4,7 +4,7 @@ import tempfile
 from collections import namedtuple
 from pathlib import Path
 
-import beside  # noqa: F401
+import beside
 import explain
 import infix
 import sources
@@ -13,8 +13,8 @@ from generated import Code, Image
 
 # How long a question may take, in seconds, and the largest stack, and one that is mostly large enough.
 PATIENCE, MOST, SIZE = 30, 65536, 1000
-# The status where a file is too long to be read.
-TOO_LONG = 12
+# The statuses of a text that is right, of values that are refused, of a run that isn't over, and of a file that is too long to be read.
+RIGHT, VALUES, UNFINISHED, TOO_LONG = 0, 3, 5, 12
 # What a text breaks: the rule, its place, its sentence, and what belongs there.
 Finding = namedtuple("Finding", "rule place said hints")
 # What judges a text alone, which is `t`, by its language.
@@ -27,7 +27,7 @@ Answer = namedtuple("Answer", "status text stored")
 
 
 class Unjudged(Exception):
-    """The program says nothing of a text, since another one is refused before it."""
+    """The program says nothing of a text, with the reason."""
 
 
 class Asker:
@@ -37,12 +37,18 @@ class Asker:
         self.path = Path(path).resolve()
 
     def ask(self, files, *words, stored=None):
-        """What the program says over files with these contents, and what it stored under a name."""
+        """What the program says over files with these contents, and what it stored under a name. Raises Unjudged if it doesn't come to its own end."""
         with tempfile.TemporaryDirectory() as room:
             for name, content in files.items():
                 (Path(room) / name).write_bytes(content)
-            line = [self.path, *map(str, words)]
-            ran = subprocess.run(line, cwd=room, capture_output=True, timeout=PATIENCE, check=False)
+            try:
+                ran = subprocess.run([self.path, *map(str, words)], cwd=room, stdin=subprocess.DEVNULL, capture_output=True, timeout=PATIENCE, check=False)
+            except subprocess.TimeoutExpired:
+                raise Unjudged(f"the program was ended after {PATIENCE} seconds") from None
+            except OSError as fault:
+                raise Unjudged(f"the program can't be started: {fault.strerror}") from None
+            if ran.returncode < 0:
+                raise Unjudged(beside.ended(ran.returncode))
             made = Path(room) / stored if stored else None
             return Answer(ran.returncode, ran.stdout.decode(errors="replace"), made.read_bytes() if made and made.is_file() else b"")
 
@@ -61,11 +67,11 @@ class Asker:
         return found[0] if all(found) else None
 
     def judge_values(self, data, source):
-        """What values break for a source or an infix program, or None. Raises Unjudged where that source is refused itself."""
+        """What values break for a source or an infix program, or None. Raises Unjudged if that source is refused itself."""
         answer = self.ask({"s": self.lowered(source), "t": data}, "mean", "s", "t", MOST, MOST, 0)
-        if answer.status not in (0, 3, 5):
-            raise Unjudged
-        found = finding_of(answer, data, None)
+        if answer.status not in (RIGHT, VALUES, UNFINISHED):
+            raise Unjudged(f"of their source the program says {answer.text.strip() or answer.status}")
+        found = None if answer.status == UNFINISHED else finding_of(answer, data, None)
         if found and found.rule == "V4":
             given = [name for name, _ in explain.tree_of(data)]
             missing = [name for name, _ in trying.formals_of(source.decode(errors="replace")) if name.encode() not in given]
@@ -94,10 +100,14 @@ class Asker:
 
 
 def finding_of(answer, data, guide):
-    """What the last line of a refusal says, in the words of docs/program/errors.md, with the hints of a script of `guide`."""
-    found = explain.BREACH.fullmatch(answer.text.rstrip("\n").split("\n")[-1])
-    if not found:
+    """What an answer says of a text: None if it is right, and else what the last line of a refusal says, in the words of docs/program/errors.md, with the
+    hints of a script of `guide`. Raises Unjudged if the answer has no such line."""
+    if answer.status == RIGHT:
         return None
+    last = answer.text.rstrip("\n").split("\n")[-1]
+    found = explain.BREACH.fullmatch(last)
+    if not found:
+        raise Unjudged(f"the program ended with status {answer.status}: {last}" if last else beside.ended(answer.status))
     _, rule, by_line, place = found.groups()
     place = int(place) if not by_line else start_of_line(data, int(place))
     rules, _ = explain.rows_of_page()

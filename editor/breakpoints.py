@@ -2,7 +2,7 @@
 import re
 from pathlib import Path
 
-from going import Target
+from talks import Target
 from positions import Text
 
 # The reference of the variables of the newest activation, behind which those of the others are.

@@ -1,107 +1,22 @@
-"""Going on and back in a run: steps, breakpoints, calls and returns, at each of the three levels.
-
-Each session of the program takes a script that asks over and over, and prints what it says line by line: so it is read while it goes on, and ended where the
-answer has come.
-"""
-import re
-import selectors
-import subprocess
-import tempfile
+"""Going on and back in a run: steps, breakpoints, calls and returns, at each of the three levels."""
+import select
 from collections import namedtuple
 
 from frames import Memory, activations
 from moments import Interrupted
+from talks import MOVED, Stream, Talk, Target
+from watching import Watching, reached
 
-# A place at which a run stops: its level, what `until` calls it, and what has to hold there of what `show` says, if anything.
-Target = namedtuple("Target", "level place holds", defaults=(None,))
-# Where a run came to: a moment, and why it stopped there.
+# Where a run came to: a moment, why it stopped there, and the target that it is at, if it is at one.
 Stop = namedtuple("Stop", "moment reason target", defaults=(None,))
 
-MOVED = re.compile(r"(stepped|arrived) (\d+)( ended)?")
-# How many steps are made between two lines that tell how far a run is, and how many such lines a script has, within 1 MiB.
-PACE, ROUNDS = 100_000, 50_000
-# So many moments of the source are looked through before memory is asked where a call ends, and so many at first where it is gone back.
-SCAN, WINDOW = 2000, 256
-# So many moments are asked for at a time where variables are watched.
-WATCHED = 20_000
+# So many moments of the source are looked through before memory is asked where a call ends. They are asked for in portions, which grow from few to many.
+SCAN, FEW, MANY, MORE = 2000, 32, 20_000, 8
+# So many steps are looked through at first if a run goes back, and the most bytes of a script that looks.
+WINDOW, LONGEST = 256, 1_000_000
 
 
-def shown_of(moment):
-    """A moment of the source as `show` prints it, but for its first line."""
-    return ["", f"condition {moment.condition}", *(f"{name} = {value}" for name, value in moment.variables.items())]
-
-
-class Talk:
-    """A session over a script that asks for much, read while it goes on."""
-
-    def __init__(self, run, level, script):
-        self.run, self.buffer = run, b""
-        given = tempfile.TemporaryFile(dir=run.room.name)
-        given.write(script.encode())
-        given.seek(0)
-        self.process = subprocess.Popen(run.words(level), cwd=run.folder, stdin=given, stdout=subprocess.PIPE, bufsize=0)
-        given.close()
-        run.program.asked += 1
-
-    def close(self):
-        self.process.kill()
-        self.process.stdout.close()
-        self.process.wait()
-
-    def come(self):
-        """The lines that have come, or None where the session is over."""
-        come = self.process.stdout.read(65536)
-        *whole, self.buffer = (self.buffer + come).split(b"\n")
-        return [it.decode() for it in whole] if come else None
-
-    def lines(self):
-        """All lines, as they come."""
-        with selectors.DefaultSelector() as selector:
-            selector.register(self.process.stdout, selectors.EVENT_READ)
-            while True:
-                if self.run.stop.is_set():
-                    raise Interrupted
-                come = self.come() if selector.select(0.2) else []
-                if come is None:
-                    return
-                yield from come
-
-
-class Stream:
-    """A session that goes on until a run stands at a target, or at its end."""
-
-    def __init__(self, run, target, steps):
-        self.target, self.made, self.came, self.shown = target, 0, None, []
-        line = f"until {target.place} {PACE}\n" + ("show\nstep 1\n" if target.holds else "")
-        first = f"step {steps + 1}\n"
-        if target.place is None:
-            first, line = f"step {steps}\n", f"step {PACE}\n"
-        self.talk = Talk(run, target.level, first + line * min(ROUNDS, 1_000_000 // len(line)))
-
-    def read(self):
-        """Takes what has come. Where the run stands at its target or its end, after how many steps, and at which of the two."""
-        come = self.talk.come()
-        if come is None:
-            return self.made, "gone"
-        return next(filter(None, map(self.take, come)), None)
-
-    def take(self, line):
-        moved = MOVED.fullmatch(line)
-        if not moved:
-            self.shown.append(line)
-            return None
-        if self.came is not None and self.target.holds(self.shown):
-            return self.came, "target"
-        self.made, self.shown, self.came = self.made + int(moved[2]), [], None
-        if moved[3]:
-            return self.made, "ended"
-        if moved[1] == "arrived":
-            self.came = self.made
-            return None if self.target.holds else (self.made, "target")
-        return None
-
-
-class Walk:
+class Walk(Watching):
     """Where somebody stands in a run."""
 
     def __init__(self, run):
@@ -132,19 +47,30 @@ class Walk:
     # ---- Steps ----
 
     def step(self, many=1):
-        """So many steps of the level, back where the number is less than 0."""
+        """So many steps of the level, back if the number is less than 0."""
         return self.at(self.level, self.moment.steps + many)
+
+    def ahead(self, steps, most=None):
+        """The moments of the source behind so many steps, at most so many moments, each with its number of steps. They are asked for in portions."""
+        many = FEW
+        end = None if most is None else steps + most
+        while end is None or steps < end:
+            for it in self.run.moments(steps, many if end is None else min(many, end - steps)):
+                steps += 1
+                yield steps, it
+                if it.place is None:
+                    return
+            many = min(many * MORE, MANY)
+            if self.run.stop.is_set():
+                raise Interrupted
 
     def step_line(self, line_of):
         """To where another line of the source, or another activation, comes next."""
-        first, before = self.moment.steps, self.run.trace_moment(self.moment.steps)
-        while True:
-            for number, it in enumerate(self.run.moments(first, SCAN), 1):
-                if it.place is None or it.depth != before.depth or line_of(it.place) != line_of(before.place):
-                    return self.at("gypsy", first + number)
-            first += SCAN
-            if self.run.stop.is_set():
-                raise Interrupted
+        before = self.run.trace_moment(self.moment.steps)
+        for steps, it in self.ahead(self.moment.steps):
+            if it.place is None or it.depth != before.depth or line_of(it.place) != line_of(before.place):
+                return self.at("gypsy", steps)
+        return self.at("gypsy", self.moment.steps)
 
     def back_line(self, line_of):
         """Back to where what stands before began to be done."""
@@ -164,19 +90,19 @@ class Walk:
     def over(self, stops=(), out=False, line_of=None):
         """To where the activation goes on behind the calls of what comes next; with `out`, to where the one goes on that called it. `stops` are targets
         on the way. With `line_of` to another line."""
-        first, before = self.moment.steps, self.run.trace_moment(self.moment.steps)
+        before = self.run.trace_moment(self.moment.steps)
         depth = before.depth - out
-        places = {it.place: it for it in stops if it.level == "gypsy" and not it.holds}
-        for number, it in enumerate(self.run.moments(first, SCAN), 1):
+        for steps, it in self.ahead(self.moment.steps, SCAN):
             stays = line_of and it.place is not None and it.depth == before.depth and line_of(it.place) == line_of(before.place)
             if it.depth <= depth and not stays or it.place is None:
-                return self.at("gypsy", first + number)
-            if it.place in places:
-                return self.at("gypsy", first + number, "breakpoint", places[it.place])
+                return self.at("gypsy", steps)
+            target = reached(stops, it)
+            if target:
+                return self.at("gypsy", steps, "breakpoint", target)
         return self.return_to(depth, stops)
 
     def return_to(self, depth, stops):
-        """To where the activation of this depth goes on, which waits for a call now or at the next steps; where there is none, to the end."""
+        """To where the activation of this depth goes on, which waits for a call now or at the next steps; if there is none, to the end."""
         if depth == 0:
             return self.go(stops)
         entered = self.moment
@@ -202,42 +128,37 @@ class Walk:
 
     def go(self, targets):
         """On to the first target after here, or to the end."""
-        wanted = list(targets) or [Target(self.level, None)]
-        streams = [Stream(self.run, it, self.steps(it.level)) for it in wanted]
+        streams = []
         try:
-            first = self.first_of(streams)
+            for it in list(targets) or [Target(self.level, None)]:
+                streams.append(Stream(self.run, it, self.steps(it.level)))
+            (steps, why), first = self.first_of(streams)
         except Interrupted:
             # The one that tells how far it is at this level, or else any.
-            known = next((it for it in streams if it.target.level == self.level), streams[0])
-            self.run.stop.clear()
-            self.at(known.target.level, known.made)
+            known = next((it for it in streams if it.target.level == self.level), next(iter(streams), None))
+            if known:
+                self.run.stop.clear()
+                self.at(known.target.level, known.made)
             raise
         finally:
             for it in streams:
-                it.talk.close()
-        steps, why, stream = first
-        best = self.run.moment(stream.target.level, steps), why, stream.target
+                it.close()
+        best = self.run.moment(first.target.level, steps), why, first.target
         for it in streams:
-            if it is not stream and it.target.place is not None:
+            if it is not first and it.target.place is not None:
                 best = self.nearer(it.target, best)
         self.moment, why, target = best
-        return Stop(self.moment, {"target": "breakpoint", "gone": "pause"}.get(why, why), target if why == "target" else None)
+        return Stop(self.moment, "breakpoint", target) if why == "target" else Stop(self.moment, why)
 
     def first_of(self, streams):
-        """Which stream comes first to its target, or to the end."""
-        with selectors.DefaultSelector() as selector:
-            for it in streams:
-                selector.register(it.talk.process.stdout, selectors.EVENT_READ, it)
-            while selector.get_map():
-                for key, _ in selector.select(0.2):
-                    found = key.data.read()
-                    if found and found[1] == "gone":
-                        selector.unregister(key.fileobj)
-                    elif found:
-                        return *found, key.data
-                if self.run.stop.is_set():
-                    raise Interrupted
-        return streams[0].made, "gone", streams[0]
+        """Which stream comes first to its target or to the end, behind where it has come to."""
+        while True:
+            for it in select.select(streams, [], [], 0.2)[0]:
+                come = it.read()
+                if come:
+                    return come, it
+            if self.run.stop.is_set():
+                raise Interrupted
 
     def nearer(self, target, best):
         """The better of what was found and where another target is reached before it."""
@@ -251,9 +172,10 @@ class Walk:
 
     def hits(self, target, low, high, once=False):
         """The numbers of steps from one up to below another after which a run stands at a target."""
+        rounds = 1 if once and not target.holds else FEW
         while low < high:
             line = f"until {target.place} {high - low}\n" + ("show\n" if target.holds else "") + "step 1\n"
-            many = 1 if once and not target.holds else min(high - low, 1_000_000 // len(line))
+            many, rounds = min(high - low, rounds, LONGEST // len(line)), rounds * MORE
             talk, at, asked, came, shown = Talk(self.run, target.level, f"step {low}\n" + line * many), 0, 0, None, []
             try:
                 for it in talk.lines():
@@ -273,62 +195,8 @@ class Walk:
                 talk.close()
             if asked <= 2 * many:
                 return
+            # All was asked, and the run goes on.
             low = at
-
-    # ---- Where a variable changes ----
-
-    def changes(self, watches, first, stops=()):
-        """After which steps, from a number on, a variable has another value than where its activation was active last, and a stop after which a run stands
-        at a target of the source. A variable is named by its procedure and itself."""
-        seen, places = {}, {it.place: it for it in stops if it.level == "gypsy"}
-        begin = self.run.trace_moment(first)
-        # What an activation that waits has now is known from memory.
-        waiting = activations(self.run, self.run.count_of("gypsy", first))[1:] if begin.depth > 1 else []
-        for depth, it in zip(range(begin.depth - 1, 0, -1), waiting):
-            seen |= {(depth, name): value for name, value in it.variables if (it.procedure, name) in watches}
-        self.note(begin, watches, seen)
-        while True:
-            number = first
-            for number, it in enumerate(self.run.moments(first, WATCHED), first + 1):
-                if it.place is None:
-                    yield number, "ended", None
-                    return
-                if self.note(it, watches, seen):
-                    yield number, "data breakpoint", None
-                target = places.get(it.place)
-                if target and (not target.holds or target.holds(shown_of(it))):
-                    yield number, "breakpoint", target
-            if self.run.stop.is_set():
-                self.run.stop.clear()
-                self.at("gypsy", number)
-                raise Interrupted
-            first = number
-
-    def note(self, moment, watches, seen):
-        """Notes the values of the active procedure, and answers whether one is another than before."""
-        if moment.place is None:
-            return False
-        changed, procedure = False, self.run.text.procedure(moment.place)
-        for key in [it for it in seen if it[0] > moment.depth]:
-            del seen[key]
-        for name in (name for of, name in watches if of == procedure and name in moment.variables):
-            changed |= seen.setdefault((moment.depth, name), moment.variables[name]) != moment.variables[name]
-            seen[moment.depth, name] = moment.variables[name]
-        return changed
-
-    def go_watching(self, watches, stops):
-        """On to where a variable has another value, or to a target of the source."""
-        steps, reason, target = next(self.changes(watches, self.steps("gypsy"), stops))
-        return self.at("gypsy", steps)._replace(reason=reason, target=target)
-
-    def back_watching(self, watches, stops):
-        """Back to the last such place before here, or to the beginning."""
-        here, found = self.steps("gypsy"), (0, "start", None)
-        for it in self.changes(watches, 0, stops):
-            if it[0] >= here:
-                break
-            found = it
-        return self.at("gypsy", found[0])._replace(reason=found[1], target=found[2])
 
     # ---- Going back ----
 
@@ -350,7 +218,7 @@ class Walk:
         return Stop(best[0], "breakpoint", best[1])
 
     def last_hit(self, target, steps):
-        """The most steps, fewer than these, after which a run stands at a target; None where there are none."""
+        """The most steps, fewer than these, after which a run stands at a target; None if there are none."""
         high, window = steps, WINDOW
         while high > 0:
             low = max(0, high - window)

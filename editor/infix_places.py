@@ -1,76 +1,91 @@
 """Which statement of an infix program a place of its lowered source belongs to: docs/languages/mini.md, "The lowered source"."""
-import re
-
+import beside  # noqa: F401
+from infix import tokens_before
 from trees import tree_of
-
-TOKEN = re.compile(r"[A-Za-z]\w*|\d+|:=|<=|\S")
 
 
 class Statement:
-    """A statement from a place to the end of it or of its head, with its blocks."""
+    """A statement at a place, with its blocks."""
 
     def __init__(self, kind, place):
-        self.kind, self.place, self.end, self.blocks = kind, place, place, []
+        self.kind, self.place, self.blocks = kind, place, []
 
 
 class InfixPlaces:
     """The statements of an infix program, and the places of the lowered source that each has become."""
 
     def __init__(self, text, lowered):
-        self.tokens = [(it.group(), it.start(), it.end()) for it in TOKEN.finditer(text.decode("latin-1"))]
-        self.next, self.statements, self.of = 0, [], {}
-        top = self.block("")
-        self.tie(top, tree_of(lowered).item(2).item(6))
+        text = text.decode("latin-1")
+        self.tokens, self.next, self.statements, self.of = tokens_before(text, len(text)), 0, [], {}
+        self.tie(self.read(), tree_of(lowered).item(2).item(6))
 
     def statement_at(self, place):
-        """The statement of a place; the first one where the whole program begins."""
+        """The statement of a place; of the beginning of the whole program it is the first one."""
         return self.of.get(place) or self.statements[0]
 
     # ---- The program ----
 
     def behind(self, wanted):
-        while self.tokens[self.next][0] != wanted:
+        """Goes behind the next token of a kind."""
+        while self.tokens[self.next].kind != wanted:
             self.next += 1
         self.next += 1
-        return self.tokens[self.next - 1]
 
-    def block(self, end):
-        made = []
-        while self.next < len(self.tokens) and self.tokens[self.next][0] != end:
-            kind, at, _ = self.tokens[self.next]
+    def read(self):
+        """Reads the statements with their blocks. Those of the program itself are returned."""
+        top, opened = [], []
+        block = top
+        while self.next < len(self.tokens):
+            kind, _, place = self.tokens[self.next]
             if kind in ("int", "bool"):
                 self.behind(";")
-                continue
-            one = Statement(kind if kind in ("while", "if") else ":=", at)
-            self.statements.append(one)
-            made.append(one)
-            if one.kind == ":=":
-                one.end = self.behind(";")[2]
-                continue
-            self.behind("{")
-            one.end = self.tokens[self.next - 2][2]
-            for number in range(2 if one.kind == "if" else 1):
-                if number:
-                    self.behind("{")
-                one.blocks.append(self.block("}"))
-                self.next += 1
-        return made
+            elif kind == "}":
+                block = self.close(opened)
+            else:
+                one = Statement(kind if kind in ("while", "if") else ":=", place)
+                self.statements.append(one)
+                block.append(one)
+                if one.kind == ":=":
+                    self.behind(";")
+                else:
+                    opened.append((one, block))
+                    block = self.begin(one)
+        return top
+
+    def begin(self, one):
+        """Begins a block of a statement, which is returned."""
+        self.behind("{")
+        one.blocks.append([])
+        return one.blocks[-1]
+
+    def close(self, opened):
+        """Ends a block. The one in which the next statement stands is returned: the other one of an `if`, or the one round the statement."""
+        self.next += 1
+        one, outer = opened[-1]
+        if one.kind == "if" and len(one.blocks) == 1:
+            return self.begin(one)
+        opened.pop()
+        return outer
 
     # ---- What it was lowered to ----
 
     def tie(self, statements, lowered):
-        rest = iter(lowered.items[2:])
-        for one in statements:
-            last = self.take(one, rest)
-            if one.kind == "while":
-                inner = last.item(1)
-                for it in (*inner.items[1:], inner, inner.items[-1].item(3)):
-                    self.of[it.place] = one
-                last = inner.items[-1]
-            for number, block in enumerate(one.blocks):
-                branch = last.item(2 + number)
-                self.of[branch.place] = self.of[branch.item(1).place] = one
-                self.tie(block, branch)
+        """Finds for each statement what it was lowered to."""
+        rest = [(statements, lowered)]
+        while rest:
+            statements, lowered = rest.pop()
+            items = iter(lowered.items[2:])
+            for one in statements:
+                last = self.take(one, items)
+                if one.kind == "while":
+                    inner = last.item(1)
+                    for it in (*inner.items[1:], inner, inner.items[-1].item(3)):
+                        self.of[it.place] = one
+                    last = inner.items[-1]
+                for number, block in enumerate(one.blocks):
+                    branch = last.item(2 + number)
+                    self.of[branch.place] = self.of[branch.item(1).place] = one
+                    rest.append((block, branch))
 
     def take(self, one, rest):
         """The lowered statements of one, of which the last is returned."""

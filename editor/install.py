@@ -2,8 +2,9 @@
 
     install.py STACK vim|emacs|code|kate
 
-STACK is the path of the script `stack`. What was installed before is replaced; no other file of the editor is changed, but Kate's two lists of servers, to
-which an entry is added. For Vim it is a package, also for Neovim; for Emacs one too; for VS Code an extension, which is handed to it where it is there.
+STACK is the path of the script `stack`. What was installed before is replaced. No other file of the editor is changed, but Kate's lists of servers and of
+adapters, to which an entry is added. For Vim and Neovim it is a package, for Emacs one too; for VS Code it is an extension, which its own command installs if
+that is there.
 """
 import json
 import os
@@ -15,6 +16,7 @@ import zipfile
 from pathlib import Path
 
 from beside import EDITOR
+from help import shown
 
 VERSION, EXTENSION = "1.0.0", "stack.verified-short-stack"
 PACKAGE = '(define-package "stack-modes" "1.0" "The languages of the verified short stack" \'((emacs "28.1")))\n'
@@ -34,20 +36,32 @@ MANIFEST = """<?xml version="1.0" encoding="utf-8"?>
 LANGUAGES = {"gypsy": "Micro-Gypsy", "piton": "Piton", "mini": "Infix", "stackvalues": "Values", "fm9001": "FM9001"}
 
 
+class Unfit(Exception):
+    """What is there can't be added to, with the reason."""
+
+
 def home(*names, variable=None, instead=()):
-    """A folder of a person's: below that of a variable of the environment, where that is set."""
+    """A folder of a person's: below that of a variable of the environment, if that is set."""
     base = os.environ.get(variable or "")
     return Path(base, *names) if base else Path.home().joinpath(*instead, *names)
 
 
+def quoted(path, ending):
+    """A path as it stands between the quotes of a file with this ending: Vim doubles a quote, and Emacs, Lua and JSON have an escape for it."""
+    return path.replace("'", "''") if ending == ".vim" else json.dumps(path, ensure_ascii=False)[1:-1]
+
+
 def put(source, target, stack):
     """Copies files of this folder, with the path of the script in them, in place of what is there."""
-    if target.exists():
+    if target.is_symlink():
+        target.unlink()
+    elif target.exists():
         shutil.rmtree(target)
     shutil.copytree(source, target)
-    for path in target.rglob("*"):
-        if path.is_file() and "@STACK@" in path.read_text(encoding="utf-8"):
-            path.write_text(path.read_text(encoding="utf-8").replace("@STACK@", stack), encoding="utf-8")
+    for path in (it for it in target.rglob("*") if it.is_file()):
+        text = path.read_text(encoding="utf-8")
+        if "@STACK@" in text:
+            path.write_text(text.replace("@STACK@", quoted(stack, path.suffix)), encoding="utf-8")
     return target
 
 
@@ -68,7 +82,7 @@ def for_emacs(stack):
 
 
 def for_code(stack):
-    """An extension, by the editor's own command where it is there."""
+    """An extension, by the editor's own command if that is there."""
     with tempfile.TemporaryDirectory() as room:
         put(EDITOR / "code", Path(room) / "extension", stack)
         target = Path.home() / f".vscode/extensions/{EXTENSION}-{VERSION}"
@@ -109,8 +123,11 @@ def for_kate(stack):
 def add(path, part, name, entry):
     """Adds an entry to a list of Kate's."""
     path.parent.mkdir(parents=True, exist_ok=True)
-    found = json.loads(path.read_text(encoding="utf-8")) if path.is_file() else {}
-    found.setdefault(part, {})[name] = entry
+    try:
+        found = json.loads(path.read_text(encoding="utf-8")) if path.is_file() else {}
+        found.setdefault(part, {})[name] = entry
+    except (ValueError, AttributeError, TypeError):
+        raise Unfit(f"{path} isn't as Kate writes it, and stays as it is") from None
     path.write_text(json.dumps(found, indent=4) + "\n", encoding="utf-8")
 
 
@@ -119,9 +136,15 @@ INSTALLS = {"vim": for_vim, "emacs": for_emacs, "code": for_code, "kate": for_ka
 
 def main(stack, name="", *rest):
     if rest or name not in INSTALLS:
-        print(f"stack: wanted is one of {', '.join(INSTALLS)}", file=sys.stderr)
+        print(f"stack: wanted is one of {', '.join(INSTALLS)}; editors start server and adapter themselves", file=sys.stderr)
         return 1
-    return INSTALLS[name](str(Path(stack).resolve())) or 0
+    try:
+        return INSTALLS[name](str(Path(stack).resolve())) or 0
+    except Unfit as unfit:
+        print(f"stack: {shown(str(unfit))}", file=sys.stderr)
+    except (OSError, shutil.Error) as fault:
+        print(f"stack: {shown(str(getattr(fault, 'filename', None) or name))}: {shown(getattr(fault, 'strerror', None) or str(fault))}", file=sys.stderr)
+    return 70
 
 
 if __name__ == "__main__":

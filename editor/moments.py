@@ -10,7 +10,7 @@ import threading
 from collections import OrderedDict, namedtuple
 from pathlib import Path
 
-import beside  # noqa: F401
+import beside
 import trying
 from generated import Code
 from infix_places import InfixPlaces
@@ -22,7 +22,7 @@ from trees import tree_of
 
 LEVELS = ("gypsy", "piton", "fm9001")
 KEPT = 5000
-# The most words that one line of a script asks for, and the size of a stack where `need` tells none.
+# The most words that one line of a script asks for, and the size of a stack if `need` tells none.
 LINE, SIZE = 4096, 1000
 
 # A moment of a run: how many steps of its level led to it and how many instructions they cost, whether the run is over, and what `show` and `up` say of it.
@@ -94,7 +94,8 @@ class Run:
                             asked.kill()
                             raise Interrupted from None
         if asked.returncode:
-            raise Refused(asked.returncode, said.strip().split("\n")[-1])
+            last = said.strip().split("\n")[-1]
+            raise Refused(asked.returncode, last if asked.returncode > 0 and last else beside.ended(asked.returncode))
         return said
 
     def words(self, level):
@@ -124,7 +125,7 @@ class Run:
         return Moment(level, int(made[1]), count, bool(made[2]) or self.is_over(level, rest), tuple(rest[:cut]), tuple(rest[cut:]))
 
     def is_over(self, level, shown):
-        """Whether a run stands at its end, where it was asked for no step."""
+        """Whether a run stands at its end, if it was asked for no step."""
         if level == "fm9001":
             return int(shown[16].split()[1], 16) == self.image.final
         return shown[0] in ("ended", "halted")
@@ -151,7 +152,7 @@ class Run:
     # ---- Places ----
 
     def spot(self, place):
-        """The place in the text that is shown: of an infix program where its statement begins."""
+        """The place in the text that is shown: of an infix program it is where its statement begins."""
         return self.tied.statement_at(place).place if self.tied else place
 
     def line(self, place):
@@ -185,7 +186,7 @@ class Run:
         low = self.moment(level, low)
         if low.count > count:
             low = self.moment(level, 0)
-        # What is guessed from what the steps so far cost comes near at once; where it doesn't, the middle is taken.
+        # What is guessed from what the steps so far cost comes near at once; if it doesn't, the middle is taken.
         high, before, rounds = None, None, 0
         while low.count < count and not low.ended and (high is None or high - low.steps > 1):
             near = before if before and before.steps != low.steps else self.start if low.steps == 0 else self.moment(level, 0)

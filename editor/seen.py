@@ -9,8 +9,8 @@ from moments import LEVELS
 THREAD = 1
 # What the variables of a moment are shown under, by their reference, beside those of activations.
 SCOPES = {1: "Counts", 2: "Piton", 3: "Processor", 4: "Temporary stack", 5: "Control stack"}
-# So many words of a stack are shown, from its top on.
-SHOWN = 4096
+# So many words of a stack are shown, from its top on; and so many words and instructions at most are given at a time.
+SHOWN, MOST = 4096, 65536
 
 
 class Seen:
@@ -98,7 +98,7 @@ class Seen:
             self.walk.look_at(rest)
             self.after = lambda: self.stopped("step")
             return {"result": f"{rest}, {self.walk.moment.steps} steps", "variablesReference": 0}
-        if word == "goto" and rest.isdigit():
+        if word == "goto" and rest.isascii() and rest.isdigit():
             return self.moving(lambda: self.walk.at(self.walk.level, int(rest))) | {"result": "", "variablesReference": 0}
         if word in ("show", "up", "words", "until", "step"):
             # Words are those of the processor's memory, wherever the run is looked at.
@@ -111,7 +111,7 @@ class Seen:
 
     def on_disassemble(self, arguments):
         address = int(arguments["memoryReference"], 0) + arguments.get("offset", 0) + arguments.get("instructionOffset", 0)
-        return {"instructions": [self.disassembled(it) for it in range(address, address + arguments["instructionCount"])]}
+        return {"instructions": [self.disassembled(it) for it in range(address, address + min(arguments["instructionCount"], MOST))]}
 
     def disassembled(self, address):
         if address not in self.run.image.words:
@@ -127,8 +127,8 @@ class Seen:
 
     def on_readMemory(self, arguments):
         byte = int(arguments["memoryReference"], 0) * 4 + arguments.get("offset", 0)
-        first, many = byte // 4, -(-(arguments["count"] + byte % 4) // 4)
-        words = Memory(self.run, self.walk.moment.count).read(first, many)
+        first, many = byte // 4, min(-(-(arguments["count"] + byte % 4) // 4), MOST)
+        words = Memory(self.run, self.walk.moment.count).read(first, many) if many > 0 <= first else []
         within = words[:words.index(None)] if None in words else words
         content = b"".join(it.to_bytes(4, "big") for it in within)[byte % 4:][:arguments["count"]]
         return {"address": hex(byte // 4), "data": base64.b64encode(content).decode(), "unreadableBytes": arguments["count"] - len(content)}

@@ -3,7 +3,7 @@
     terminal.py PROGRAM SRC [NAME=VALUE ..]                  values 0 and false for the others, sizes as `need` has them
     terminal.py PROGRAM LEVEL SRC VALS CTRL TEMP
 
-`./stack debug` starts it on a terminal, where it is given no script. Keys are told at its foot.
+`./stack debug` starts it on a terminal if it is given no script. Its foot has the keys.
 """
 import curses
 import os
@@ -11,12 +11,15 @@ import select
 import sys
 import threading
 
-import beside  # noqa: F401
+import beside
 from explain import lines_of
-from going import Target
+from help import shown
 from moments import LEVELS, Interrupted, Run
+from panes import NEXT, Pane
 from positions import Text
 from program import Refused
+from talks import Target
+from trying import Ended
 from views import View
 
 KEYS = "s step  n over  o out  b back  c go on  r back to  1 2 3 level  ↑↓ line  Enter break  w watch  g go to  q quit"
@@ -24,36 +27,6 @@ DONE = {
     "ended": "the end of the run", "start": "the beginning of the run", "breakpoint": "a breakpoint", "data breakpoint": "a variable changed",
     "pause": "stopped",
 }
-
-
-class Pane:
-    """A part of the screen with a heading: lines, of which one comes next and some are marked."""
-
-    def __init__(self, screen, top, left, height, width):
-        self.screen, self.top, self.left, self.height, self.width = screen, top, left, height, width
-
-    def draw(self, title, lines, here=None, cursor=None, marks=()):
-        """Lines as texts, scrolled to the cursor or to what comes next."""
-        if self.height < 2 or self.width < 4:
-            return
-        self.put(0, f" {title} ".ljust(self.width - 1, " "), curses.A_REVERSE)
-        wanted = cursor if cursor is not None else here
-        room = self.height - 1
-        first = max(0, min((wanted or 0) - room // 2, len(lines) - room))
-        for row in range(room):
-            number = first + row
-            text = lines[number] if number < len(lines) else ""
-            sign = "●" if number in marks else "▶" if number == here else " "
-            style = curses.A_BOLD | curses.color_pair(1) if number == here and number < len(lines) else curses.A_NORMAL
-            if number == cursor and cursor is not None:
-                style |= curses.A_UNDERLINE
-            self.put(row + 1, f"{sign}{text}"[:self.width - 1].ljust(self.width - 1), style)
-
-    def put(self, row, text, style):
-        try:
-            self.screen.addstr(self.top + row, self.left, text, style)
-        except curses.error:
-            pass
 
 
 class Debugger:
@@ -66,18 +39,34 @@ class Debugger:
         self.addresses = sorted(run.image.words)
         self.word_lines = [f"{it:08x} {run.image.words[it].number:08x} {run.code.shown_word(it)}" for it in self.addresses]
         self.walk.look_at(level)
-        curses.curs_set(0)
-        curses.use_default_colors()
-        curses.init_pair(1, curses.COLOR_YELLOW, -1)
+        show_cursor(False)
+        if curses.has_colors():
+            curses.use_default_colors()
+            curses.init_pair(NEXT, curses.COLOR_YELLOW, -1)
+        if beside.is_unproved():
+            self.note = beside.UNPROVED
 
     def serve(self):
+        """Draws, and takes keys, until one leaves."""
         while True:
             self.draw()
-            key = self.screen.get_wch()
+            key = self.key()
             if key in ("q", "\x1b"):
                 return
             self.note = ""
-            self.act(key)
+            try:
+                self.act(key)
+            except (Refused, OSError) as fault:
+                self.note = said_of(fault)
+
+    def key(self):
+        """The next key. While the window gets another size none comes."""
+        try:
+            return self.screen.get_wch()
+        except curses.error:
+            if not sys.stdin.isatty():
+                raise
+            return curses.KEY_RESIZE
 
     # ---- Keys ----
 
@@ -121,7 +110,7 @@ class Debugger:
             self.status("goes on; any key stops it")
             self.screen.refresh()
             if select.select([sys.stdin], [], [], 0.3)[0]:
-                self.screen.get_wch()
+                self.key()
                 self.status("stops")
                 self.screen.refresh()
                 self.run.stop.set()
@@ -135,22 +124,22 @@ class Debugger:
             return DONE.get(act().reason, "")
         except Interrupted:
             return "stopped"
-        except Refused as refused:
-            return refused.text
+        except Exception as fault:
+            return said_of(fault)
 
     def asked(self, text):
         """Asks for a word."""
         curses.echo()
-        curses.curs_set(1)
+        show_cursor(True)
         self.status(text)
         self.screen.move(self.screen.getmaxyx()[0] - 2, len(text))
         given = self.screen.getstr().decode(errors="replace").strip()
         curses.noecho()
-        curses.curs_set(0)
+        show_cursor(False)
         return given
 
     def watch(self):
-        """Asks for a variable of the active procedure, where whose changes the run stops, or stops no more."""
+        """Asks for a variable of the active procedure: where it changes the run stops, or stops no more."""
         found = self.walk.activations()
         name = self.asked("a variable to watch, or not any more: ")
         if not found or name not in dict(found[0].variables):
@@ -163,7 +152,7 @@ class Debugger:
     def go_to(self):
         """Asks after how many steps of this level."""
         given = self.asked(f"steps of {self.walk.level}: ")
-        if given.isdigit():
+        if given.isascii() and given.isdigit():
             self.move(lambda: self.walk.at(self.walk.level, int(given)))
 
     def mark(self, line):
@@ -222,32 +211,64 @@ class Debugger:
             yield from (f"   {name} = {value}" for name, value in it.variables)
 
 
+def show_cursor(is_shown):
+    """Shows or hides the cursor, on a terminal that can."""
+    try:
+        curses.curs_set(int(is_shown))
+    except curses.error:
+        pass
+
+
+def said_of(fault):
+    """What is said of a fault, on one line."""
+    if isinstance(fault, OSError):
+        return f"{fault.filename or 'the program'}: {fault.strerror}"
+    return str(fault) or type(fault).__name__
+
+
 def run_of(program, words):
     """The run of a command line, and its level."""
     if words[0] in LEVELS:
-        level, source, values, control, temporary = words
-        return Run(program, source, values, (), int(control), int(temporary)), level
+        level, source, values, *sizes = words
+        return Run(program, source, values, (), *(int(it) if it.isdecimal() else it for it in sizes)), level
     return Run(program, words[0], None, words[1:]), "gypsy"
+
+
+def refused_status(refused, source):
+    """Says what was refused, and what docs/program/errors.md says of it."""
+    print(refused.text)
+    print("\n".join(lines_of(refused.status, refused.text, ["check", source])), file=sys.stderr)
+    return refused.status
 
 
 def main(program, *words):
     os.environ.setdefault("ESCDELAY", "25")
+    source = words[1] if words[0] in LEVELS else words[0]
     try:
         run, level = run_of(program, words)
     except Refused as refused:
-        print(refused.text)
-        source = words[1] if words[0] in LEVELS else words[0]
-        print("\n".join(lines_of(refused.status, refused.text, ["check", source])), file=sys.stderr)
-        return refused.status
+        return refused_status(refused, source)
     except FileNotFoundError as missing:
-        print(f"missing {missing.filename}")
+        print(f"missing {shown(str(missing.filename))}")
         return 9
+    except OSError as fault:
+        print(f"shelf fault {shown(str(fault.filename))}")
+        return 10
+    except (Ended, ValueError) as fault:
+        print(said_of(fault), file=sys.stderr)
+        return 1
     try:
         curses.wrapper(lambda screen: Debugger(screen, run, level).serve())
+    except KeyboardInterrupt:
+        return 130
+    except (Refused, Interrupted, OSError, curses.error) as fault:
+        print(f"stack: {shown(said_of(fault))}", file=sys.stderr)
+        return 70
     finally:
         run.close()
     return 0
 
 
 if __name__ == "__main__":
+    beside.end_by_signals()
     sys.exit(main(*sys.argv[1:]))

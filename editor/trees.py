@@ -12,21 +12,23 @@ class Tree:
         self.place, self.end, self.text, self.items = place, end, text, [] if text is None else None
 
     def head(self):
-        """The first item of a list where that is an atom, or nothing."""
+        """The first item of a list if that is an atom, or nothing."""
         return self.items[0].text or "" if self.items else ""
 
     def item(self, number):
-        """An item, or an empty list where there are fewer."""
+        """An item, or an empty list if there are fewer."""
         return self.items[number] if self.items and number < len(self.items) else Tree(self.end, self.end)
 
     def parts(self):
         return self.items or []
 
     def walk(self):
-        """The tree and all trees in it."""
-        yield self
-        for it in self.parts():
-            yield from it.walk()
+        """The tree and all trees in it, in their order."""
+        rest = [self]
+        while rest:
+            it = rest.pop()
+            yield it
+            rest.extend(reversed(it.parts()))
 
 
 @lru_cache(8)
@@ -57,6 +59,17 @@ def path_to(tree, place):
 
 
 def spelled(tree, width=100):
-    """A tree on one line, cut where it is long."""
-    text = tree.text if tree.text is not None else f"({' '.join(spelled(it, 10 ** 6) for it in tree.parts())})"
+    """A tree on one line, cut if it is long."""
+    text, rest = "", [tree]
+    while rest and len(text) <= width:
+        it = rest.pop()
+        if isinstance(it, str):
+            text += it
+        elif it.text is not None:
+            text += it.text
+        else:
+            text += "("
+            rest.append(")")
+            for number, part in reversed(list(enumerate(it.items))):
+                rest += [part, " "] if number else [part]
     return text if len(text) <= width else f"{text[:width - 3]}..."

@@ -2,7 +2,8 @@
 import re
 
 from frames import Activation, Memory, activations
-from going import Target, Walk
+from going import Walk
+from talks import Target
 
 # So many instructions are made in no time. Farther on it takes a while to find out where a run stands at another level, or what the processor has there.
 NEAR, NEAR_MACHINE = 1_000_000, 10_000_000

@@ -27,7 +27,7 @@ _stack_files() {
 }
 
 _stack() {
-    local word=${COMP_WORDS[COMP_CWORD]} row name
+    local word=${COMP_WORDS[COMP_CWORD]} row name ending
     if [ "$COMP_CWORD" = 1 ] || { [ "$COMP_CWORD" = 2 ] && [ "${COMP_WORDS[1]}" = help ]; }; then
         mapfile -t COMPREPLY < <(compgen -W "$({ _stack_fields command "" command; _stack_fields own "" own; } | cut -d ' ' -f 1)" -- "$word")
         return
@@ -42,7 +42,13 @@ _stack() {
         name=${row[${#row[@]} - 3 + (COMP_CWORD - ${#row[@]}) % 2]}
     fi
     case $name in
-    LEVEL) mapfile -t COMPREPLY < <(compgen -W "$(_stack_fields choice LEVEL range | sed 's/,\| or / /g')" -- "$word") ;;
+    LEVEL)
+        mapfile -t COMPREPLY < <(compgen -W "$(_stack_fields choice LEVEL range | sed 's/,\| or / /g')" -- "$word")
+        # In place of a level there may be a source, for the debugger of a terminal.
+        for ending in $(_stack_fields file SRC ending); do
+            mapfile -t -O "${#COMPREPLY[@]}" COMPREPLY < <(compgen -f -X "!*.$ending" -- "$word")
+        done
+        ;;
     WHAT) mapfile -t COMPREPLY < <(compgen -W "vim emacs code kate" -- "$word") ;;
     ?*) [ -z "$(_stack_fields file "$name" means)" ] || _stack_files "$word" "$name" ;;
     esac

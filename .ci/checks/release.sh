@@ -71,6 +71,7 @@ touch one.gypsy one.values
 completes migrate mig
 completes "prun prove" pr
 completes piton debug pi
+completes one.gypsy debug one
 completes emacs editor em
 completes one.gypsy try one.
 completes one.values page one.gypsy one.

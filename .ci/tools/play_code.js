@@ -29,7 +29,7 @@ const vscode = {
     getConfiguration: () => ({ get: () => stack }), textDocuments: [document], onDidOpenTextDocument: listen("open"), onDidChangeTextDocument: listen("change"),
     onDidCloseTextDocument: listen("close"),
   },
-  window: { showErrorMessage: (it) => say("error", it) },
+  window: { showErrorMessage: (it) => say("error", it), showWarningMessage: (it) => say("warning", it) },
   Uri: { parse: (it) => it },
   languages: {
     createDiagnosticCollection: () => ({ set: (_, found) => showFound(found) }), registerHoverProvider: keep("hover"), registerDefinitionProvider: keep("definition"),

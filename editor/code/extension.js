@@ -15,7 +15,11 @@ class Server {
     this.process = spawn(path, ["editor", "server"], { stdio: ["pipe", "pipe", "ignore"] });
     Object.assign(this, { buffer: Buffer.alloc(0), waiting: new Map(), last: 0, onNote });
     this.process.stdout.on("data", (data) => this.take(data));
+    // What is written when the server has ended goes nowhere, and what waits for it is refused.
+    this.process.stdin.on("error", () => {});
     this.process.on("exit", (status) => {
+      for (const { refuse } of this.waiting.values()) refuse(new Error("the language server has ended"));
+      this.waiting.clear();
       if (status) vscode.window.showErrorMessage(`The language server of the short stack ended with ${status}. "${path} prove" proves and builds the program.`);
     });
     this.process.on("error", (fault) => vscode.window.showErrorMessage(`${path}: ${fault.message}. The setting stack.path tells where the script is.`));
@@ -74,7 +78,8 @@ const symbolOf = (it) => {
 };
 const diagnosticOf = (it) => {
   const made = new vscode.Diagnostic(rangeOf(it.range), it.message, it.severity - 1);
-  return Object.assign(made, { source: it.source, code: { value: it.code, target: vscode.Uri.parse(it.codeDescription.href) }, asked: it });
+  const code = it.code && { value: it.code, target: vscode.Uri.parse(it.codeDescription.href) };
+  return Object.assign(made, { source: it.source, code, asked: it });
 };
 const offerOf = (it) => {
   const made = new vscode.CompletionItem(it.label, it.kind - 1);
@@ -86,6 +91,7 @@ function activate(context) {
   const found = vscode.languages.createDiagnosticCollection("stack");
   const server = new Server(stackPath(), ({ method, params }) => {
     if (method === "textDocument/publishDiagnostics") found.set(vscode.Uri.parse(params.uri), params.diagnostics.map(diagnosticOf));
+    if (method === "window/showMessage") vscode.window.showWarningMessage(params.message);
   });
   const isOurs = (document) => LANGUAGES.includes(document.languageId) && document.uri.scheme === "file";
   const at = (document, position) => ({ textDocument: { uri: document.uri.toString() }, position });

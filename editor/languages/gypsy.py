@@ -47,18 +47,24 @@ def of_procedure(tree):
             yield from (mention("type", "", one) for one in it.item(1).walk() if one.text and NAME.fullmatch(one.text))
     for number, sort in ((3, "formal"), (5, "local")):
         yield from (mention("condition", scope, it, True, f"{it.text}, a {sort} condition of {scope}") for it in tree.item(number).parts() if it.text)
-    yield from of_statement(tree.item(6), scope)
+    yield from of_statements(tree.item(6), scope)
 
 
-def of_statement(tree, scope):
-    head = tree.head()
-    if not head:
-        return
-    yield mention("predefined" if head in pages.predefined() else "form", "", tree.item(0))
-    if head in STATEMENTS:
-        numbers = STATEMENTS[head] or range(1, len(tree.items))
-        for number in numbers:
-            yield from of_statement(tree.item(number), scope)
+def of_statements(tree, scope):
+    """The names in a statement and in the statements in it."""
+    rest = [tree]
+    while rest:
+        one = rest.pop()
+        head = one.head()
+        if head:
+            yield mention("predefined" if head in pages.predefined() else "form", "", one.item(0))
+            yield from of_arguments(head, one, scope)
+        if head in STATEMENTS:
+            rest += reversed([one.item(it) for it in STATEMENTS[head] or range(1, len(one.items))])
+
+
+def of_arguments(head, tree, scope):
+    """The names in a statement itself."""
     if head == "call" and tree.item(1).text:
         yield mention("procedure", "", tree.item(1))
     conditions = {"signal": [tree.item(1)], "begin": tree.item(2).parts(), "call": tree.item(3).parts()}.get(head, [])
@@ -92,7 +98,7 @@ def said_of(data, one):
     if one.kind == "predefined":
         takes, literals, does, fails = pages.predefined()[one.name]
         yield f"**{one.name}** {takes}"
-        yield f"{does}. " + (f"Fails where {fails}: `routineerror`, and no variable is changed." if fails else "It never fails.")
+        yield f"{does}. " + (f"Fails if {fails}: `routineerror`, and no variable is changed." if fails else "It never fails.")
         yield "Every argument is a variable." if literals == "none" else f"The literal is {literals}."
     elif one.kind == "form":
         yield f"**{one.name}** `{forms().get(one.name, '')}`"
@@ -148,7 +154,7 @@ def offers(data, place):
         for name, (takes, _, does, fails) in pages.predefined().items():
             arguments = re.match(r"`([^`]*)`", takes)[1].split()
             filled = " ".join(f"${{{number}:{it}}}" for number, it in enumerate(arguments, 1))
-            said = f"{takes}. {does}." + (f" Fails where {fails}." if fails else "")
+            said = f"{takes}. {does}." + (f" Fails if {fails}." if fails else "")
             yield Offer("predefined", name, f"{name} {filled}", f"({name} {' '.join(arguments)})", said)
         for name, snippet in SNIPPETS.items():
             yield Offer("form", name, snippet, forms().get(name, ""))
