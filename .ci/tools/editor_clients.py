@@ -19,7 +19,7 @@ from positions import Text  # noqa: E402
 from wire import Wire  # noqa: E402
 
 # So long an answer may take, in seconds.
-SECONDS = 20
+SECONDS = 60
 
 
 class Silent(Exception):

@@ -20,7 +20,7 @@ import server_rows as server
 import unfit_rows as unfit
 from arguments import parser_of
 from arguments import program as executable
-from editor_clients import EXAMPLES, Client, Silent
+from editor_clients import EXAMPLES, SECONDS, Client, Silent
 from wire import Quiet
 
 THEMES = [
@@ -58,7 +58,7 @@ def differences(theme, program):
     try:
         yield from theme(program)
     except Quiet:
-        yield "there was no answer in 20 seconds"
+        yield f"there was no answer in {SECONDS} seconds"
     except Silent:
         yield "what serves has ended in place of an answer"
     yield from (it for it in Client.aside if "Traceback" in it)
