@@ -2,7 +2,7 @@ use Rattle.std.proofs.Common.{ℕ, ◌≤◌, ◌^◌, List, length, sym, subst}
 use Rattle.std.proofs.lemmas.Result.{IfOk-weaker}
 use Rattle.stack_build.specs.Build.{BuildsText}
 use Rattle.proved_programs.specs.Sum.{SumsUp}
-use Rattle.proved_programs.proofs.SumLaws.{sum_image}
+use Rattle.proved_programs.proofs.SumLaws.{sum_built}
 use Rattle.proved_programs.proofs.TextLaws.{sum_short}
 use Rattle.proved_programs.proofs.building.build_sum.Goals as goal
 
@@ -12,5 +12,5 @@ build-requires-clause-text c = subst (λ (t : List ℕ). length t ≤ 2 ^ 31) (s
 pub returns : goal.returns
 returns c =
     IfOk-weaker c.build.result (BuildsText c.args.text.now c.args.ctrl c.args.temp) (λ built. SumsUp built.image)
-    (λ built builds. sum_image c.args.ctrl c.args.temp built (subst (λ (t : List ℕ). BuildsText t c.args.ctrl c.args.temp built) c.requires.text.is builds))
+    (λ built builds. sum_built c.args.ctrl c.args.temp built (subst (λ (t : List ℕ). BuildsText t c.args.ctrl c.args.temp built) c.requires.text.is builds))
     c.build.ensures.implements
