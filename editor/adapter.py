@@ -117,6 +117,8 @@ class Adapter(Breakpoints, Seen):
         """What is said of a fault: of a refusal what docs/program/errors.md says."""
         if isinstance(fault, KeyError):
             return f"the request has no {fault}"
+        if isinstance(fault, (TypeError, AttributeError)):
+            return f"a part of the request has another form ({fault})"
         if isinstance(fault, OSError) and fault.strerror:
             return f"{fault.filename or self.program}: {fault.strerror}"
         if not isinstance(fault, Refused):

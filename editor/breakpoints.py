@@ -20,7 +20,7 @@ class Wrong(Exception):
 
 
 def number_of(text):
-    """A value that can be compared: a number where it is one."""
+    """A value that can be compared: a number if it is one."""
     digits = text.lstrip("#")
     return int(digits) if re.fullmatch(r"-?\d+", digits) else text
 

@@ -98,7 +98,7 @@ class Code:
         return self.programs[name]
 
     def shown_word(self, address):
-        """A word as an instruction or, where it is none, as the number that it is."""
+        """A word as an instruction, or as a number if it is none."""
         word = self.image.word(address)
         return f"= {word.number:08x}" if address in self.taken or address > self.image.final else word.text
 
@@ -115,7 +115,7 @@ class Code:
         return rows[number] if number >= 0 else None
 
     def place_at(self, address):
-        """The place of the statement whose code has an address, or None where it is no procedure of the source."""
+        """The place of the statement whose code has an address, or None if it is no procedure of the source."""
         if self.program_at(address) not in self.image.variables:
             return None
         number = bisect_right(self.marked, (address, 1 << 60)) - 1

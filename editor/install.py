@@ -69,7 +69,7 @@ def for_vim(stack):
     own = put(EDITOR / "vim", Path.home() / ".vim/pack/stack/start/stack", stack)
     other = put(EDITOR / "vim", home("nvim/site/pack/stack/start/stack", variable="XDG_DATA_HOME", instead=[".local/share"]), stack)
     print(f"{own}\n{other}")
-    print("Vim has colours, :make and, with ALE, its server; Neovim starts the server by itself: K tells of a word, gd goes where it is declared")
+    print("Vim has colours and :make, and with the package ALE the server. Neovim starts the server by itself: K explains a word, gd goes to its declaration")
 
 
 def for_emacs(stack):
@@ -78,7 +78,7 @@ def for_emacs(stack):
     put(EDITOR / "emacs", folder, stack)
     (folder / "stack-modes-pkg.el").write_text(PACKAGE)
     (folder / "stack-modes-autoloads.el").write_text(AUTOLOADS)
-    print(f"{folder}\nEmacs has the modes when it starts anew: M-x eglot starts the server, M-x dap-debug or M-x dape the debugger, where they are installed")
+    print(f"{folder}\nEmacs has the modes from its next start on. M-x eglot or M-x lsp starts the server, M-x dap-debug or M-x dape the debugger, if these packages are installed")
 
 
 def for_code(stack):
@@ -99,7 +99,7 @@ def for_code(stack):
         kept = home("stack.vsix", variable="XDG_DATA_HOME", instead=[".local/share"])
         kept.parent.mkdir(parents=True, exist_ok=True)
         shutil.copy(package, kept)
-        print(f"{target}\nThere is no command code, so the extension was copied. Where it isn't taken so: code --install-extension {kept}")
+        print(f"{target}\nThere is no command code, so the extension was copied. If VS Code doesn't find it: code --install-extension {kept}")
 
 
 def for_kate(stack):
@@ -117,7 +117,7 @@ def for_kate(stack):
     # Kate 22 looks in the first of these folders, later ones in the second.
     for folder in ("gdbplugin", "debugger"):
         add(config / f"kate/{folder}/dap.json", "dap", "stack", {"url": "", "run": run, "configurations": {"launch": {"request": request}}})
-    print(f"{target}\nThere are the colours, and Kate's lists of servers and adapters have an entry")
+    print(f"{target}\nKate has the colours, and an entry in its lists of language servers and of debuggers.")
 
 
 def add(path, part, name, entry):

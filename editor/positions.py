@@ -27,7 +27,7 @@ class Text:
         return {"line": number, "character": units(self.data[self.starts[number]:place])}
 
     def place(self, position):
-        """The place of an editor's position, or the end of its line where that is shorter."""
+        """The place of an editor's position, or the end of its line if that is shorter."""
         if position["line"] >= len(self.starts):
             return len(self.data)
         start, left = self.starts[position["line"]], position["character"]

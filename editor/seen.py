@@ -27,7 +27,7 @@ class Seen:
         return {"stackFrames": self.frames[first:first + many], "totalFrames": len(self.frames)}
 
     def stack(self):
-        """The frames: of the lower levels that are looked at where the run stands there, and then the activations of the source."""
+        """The frames: where the run stands at the lower levels that are looked at, and then the activations of the source."""
         moment, number = self.walk.moment, 0
         address = self.walk.address()
         low = {} if address is None else {"instructionPointerReference": hex(address)}

@@ -134,7 +134,11 @@ def no_method(method):
 
 def told(what, fault):
     """What is said of a fault, on one line: of a part that a message lacks its name."""
-    said = f"it has no {fault}" if isinstance(fault, KeyError) else str(fault) or type(fault).__name__
+    said = str(fault) or type(fault).__name__
+    if isinstance(fault, KeyError):
+        said = f"it has no {fault}"
+    elif isinstance(fault, (TypeError, AttributeError)):
+        said = f"a part of it has another form ({fault})"
     return f"{what} can't be answered: {said}".replace("\n", " ")
 
 

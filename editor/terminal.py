@@ -237,7 +237,8 @@ def run_of(program, words):
 def refused_status(refused, source):
     """Says what was refused, and what docs/program/errors.md says of it."""
     print(refused.text)
-    print("\n".join(lines_of(refused.status, refused.text, ["check", source])), file=sys.stderr)
+    for line in lines_of(refused.status, refused.text, ["check", source]):
+        print(line, file=sys.stderr)
     return refused.status
 
 

@@ -24,18 +24,18 @@ class View(Walk):
         return Memory(self.run, self.moment.count)
 
     def address(self):
-        """Where the program counter stands, or None where it takes long to find out."""
+        """Where the program counter stands, or None if it takes long to find out."""
         return self.memory().registers[15] if self.is_near("fm9001") else None
 
     def condition(self):
-        """The condition that is on its way out, or nothing where there is none or it isn't known."""
+        """The condition that is on its way out, or nothing if there is none or it isn't known."""
         if not self.is_near("gypsy"):
             return ""
         condition = self.run.trace_moment(self.steps("gypsy")).condition
         return "" if condition == "normal" and not self.moment.ended else condition
 
     def piton(self):
-        """What `show` says at the level of Piton, or nothing where that takes long."""
+        """What `show` says at the level of Piton, or nothing if that takes long."""
         return self.run.moment("piton", self.steps("piton")).shown if self.is_near("piton") else ()
 
     def instruction(self):
@@ -93,5 +93,5 @@ class View(Walk):
 
 
 def stepped(stop, target):
-    """A stop that was a step where it is at its own target."""
+    """A stop, which was a step if it is at its own target."""
     return stop._replace(reason="step", target=None) if stop.target is target else stop

@@ -10,7 +10,7 @@ NOTHING = "(program main (proc main () () () () (no-op)))\n"
 UNFIT = [
     (b"Content-Length: 9\r\n\r\n{\"id\": 1 ", True), (b"Content-Length: 2\r\n\r\n[]", True), (b"content-length:4\r\n\r\n\xff\xfe{}", True),
     (b"Content-Length: 200000\r\n\r\n" + b"[" * 200000, True), (b"Content-Length: -1\r\n\r\n{}", False), (b"Content-Type: x\r\n\r\n{}", False),
-    (b"x" * 5000, False), (b"Content-Length: 99999999999\r\n\r\n{}", False),
+    (b"x" * 5000, False), (b"Content-Length: 99999999999\r\n\r\n{}", False), (b"Content-Length: 999999999\r\n\r\n{}", False),
 ]
 
 
@@ -48,6 +48,9 @@ def of_requests(program):
             answer = editor.ask(method, textDocument={"uri": "file:///nowhere.gypsy"})
             if not isinstance(answer, dict) or "message" not in answer or "Traceback" in answer["message"]:
                 yield f"{method} without its parts: {answer}"
+        answer = editor.ask("textDocument/hover", textDocument=5)
+        if "another form" not in answer["message"]:
+            yield f"with a part of another form: {answer}"
         logged = [it["params"]["message"] for it in editor.notes if it.get("method") == "window/logMessage"]
         if len(logged) != 3 or not all("it has no 'textDocument'" in it for it in logged):
             yield f"of notes without their parts it is told: {logged}"
@@ -56,6 +59,9 @@ def of_requests(program):
             answer = editor.ask(command)
             if answer.get("success") is not False or "Traceback" in answer["message"]:
                 yield f"{command} without its parts: {answer}"
+        answer = editor.ask("setBreakpoints", source=5)
+        if "another form" not in answer["message"]:
+            yield f"with a part of another form: {answer}"
         many = editor.ask("disassemble", memoryReference="0x0", instructionCount=10 ** 12)["instructions"]
         if len(many) > 65536 or not editor.ask("threads")["threads"]:
             yield f"disassembled are {len(many)} words"
@@ -83,7 +89,8 @@ def of_program(program):
                 prepare()
                 editor.open(source)
                 rows += [(it["severity"], it["message"]) for it in editor.found(source)]
-        wanted = [(3, "This text isn't judged: the program was ended by signal 9"), (3, "This text isn't judged: the program can't be started: No such file or directory")]
+        reasons = ("the program was ended by signal 9", "the program can't be started: No such file or directory")
+        wanted = [(3, f"This text isn't judged: {it}") for it in reasons]
         if before or rows != wanted:
             yield f"of a text that isn't judged it is told: {before}, {rows}"
         (Path(room) / "fails").unlink()
