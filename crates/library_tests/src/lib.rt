@@ -11,6 +11,8 @@ mod devices;
 #[cfg(test)]
 mod messages;
 #[cfg(test)]
+mod piton_runs;
+#[cfg(test)]
 mod sessions;
 #[cfg(test)]
 mod trees;
