@@ -1,16 +1,11 @@
-//! Calls that no command makes: of the machine's pages, and of the generator for callers who have no program of the source.
+//! Calls that no command makes: of the machine's pages, and of the room that a source's calls have.
 
 use fm_machine::Machine;
 use gypsy_check::check;
-use gypsy_codegen::generate;
 use gypsy_space::needs;
 use gypsy_syntax::read_gypsy;
 use std::alloc::Global;
 use std::test::Fail;
-
-/// A source with one procedure.
-const SOURCE: &[u8] =
-    b"(program main (proc main ((x integer)) () () () (mg-simple-constant-assignment x 7)))";
 
 /// What a machine has of pages, and at three addresses round the last of its window.
 type Seen = (u32, [Option<u32>; 3], u32);
@@ -30,19 +25,28 @@ fn a_page_has_a_place_from_its_first_word_on(rt: HostRuntime) -> Result<(), Fail
     Ok(())
 }
 
-/// How many areas the system has that is generated of the source.
-fn generated(alloc: Global, ctrl: u32, temp: u32, base: u32) -> Result<usize, Fail> {
-    if base > 1000 {
-        return Err(Fail::from("too high"));
-    }
-    let accepted = check(alloc, read_gypsy(alloc, SOURCE)?)?;
+/// A procedure that calls itself until its argument is 0.
+const RECURSIVE: &[u8] = b"(program main
+(proc main ((n integer)) () () () (call p (n) ()))
+(proc p ((n integer)) () ((b boolean false) (one integer 1)) ()
+(seq (mg-simple-constant-eq b n 0)
+(if b (no-op) (seq (mg-integer-subtract n n one) (call p (n) ()))))))";
+
+/// Whether the third call of the procedure by itself has room, where both stacks just suffice, and where one has a word less. Main
+/// has a word and a frame of three in use, and each of the two calls before it two words and a frame of five.
+fn rooms(alloc: Global) -> Result<[bool; 3], Fail> {
+    let accepted = check(alloc, read_gypsy(alloc, RECURSIVE)?)?;
     let needs = needs(alloc, &accepted)?;
-    let made = generate(alloc, &accepted, &needs, ctrl, temp, base)?;
-    Ok(made.system().areas.len())
+    let (temporary, control) = (1 + 2 * 2, 3 + 2 * 5);
+    Ok([
+        needs.room(1, temporary, control, 10, 24),
+        needs.room(1, temporary, control, 9, 24),
+        needs.room(1, temporary, control, 10, 23),
+    ])
 }
 
 #[test]
-fn a_system_is_generated_without_the_program(rt: HostRuntime) -> Result<(), Fail> {
-    assert!(rt; generated(rt.alloc(), 100, 100, 0)? > 0);
+fn a_call_has_room_for_its_words_and_its_frame(rt: HostRuntime) -> Result<(), Fail> {
+    assert!(rt; rooms(rt.alloc())? == [true, false, false]);
     Ok(())
 }

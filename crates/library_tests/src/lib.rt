@@ -9,7 +9,11 @@ mod calls;
 #[cfg(test)]
 mod devices;
 #[cfg(test)]
+mod generated;
+#[cfg(test)]
 mod messages;
+#[cfg(test)]
+mod pieces;
 #[cfg(test)]
 mod piton_runs;
 #[cfg(test)]
