@@ -121,11 +121,19 @@ def of_names(program):
         strange = [it for it in json.dumps(told, ensure_ascii=False) if not it.isprintable()]
         if strange or "m?[2J" not in str(told):
             yield f"what would move a cursor is told: {strange}, {told[1]}"
+        values = path.with_name("x\x1by.values")
+        values.with_suffix(".gypsy").write_text(NOTHING)
+        values.write_text("((z 1))")
+        editor.open(values)
+        told = editor.found(values)[0]["message"]
+        if "Judged for x?y.gypsy." not in told:
+            yield f"of values for a source with a control character in its name it is told: {told!r}"
         deep = "(program main (proc main () () () () " + "(seq " * 20000
         path.write_text(deep)
         editor.open(path)
-        if not editor.found(path) or not editor.at("references", path, 22, context={}) or not editor.at("completion", path, len(deep)):
-            yield "of a text that is nested deeply something isn't told"
+        told = editor.found(path), editor.at("references", path, 22, context={}), editor.at("completion", path, len(deep))
+        if not all(told) or not all(isinstance(it, list) for it in told):
+            yield f"of a text that is nested deeply it is told: {str(told)[:200]}"
         path.write_text("; \x1b[2J \x9b\0\t here\n" + NOTHING)
         screen = Screen(program, str(path))
         if not screen.until("; ?[2J ??  here") or screen.close():
