@@ -2,6 +2,7 @@
 #![tactic(auto)]
 
 mod driver;
+mod in_memory;
 mod laws;
 mod moments;
 mod program;
