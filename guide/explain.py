@@ -11,10 +11,12 @@ import sys
 import textwrap
 from collections import namedtuple
 
+import ends
 import help as usage
 import infix
 import sources
 from catalog import GUIDE, expected, plain, read_catalog
+from sources import tree_of
 
 PAGE = GUIDE.parent / "docs/program/errors.md"
 # Stands for a space at which no line is broken.
@@ -29,7 +31,6 @@ RAISED = {"size control": ("CTRL",), "size temporary": ("TEMP",), "unfinished": 
 # The fields of an image that are always at the same place.
 FIELDS = {0: "magic", 4: "version", 8: "base", 12: "size", 16: "final pc", 84: "flags", 88: "condition address", 92: "number of conditions"}
 FIELDS.update({20 + 4 * it: f"r{it}" for it in range(16)})
-TOKEN = sources.TOKEN
 
 # A last line of the page, as a pattern with a group for each word in capitals, or else its status; and what is said of it.
 Ending = namedtuple("Ending", "pattern status says next")
@@ -207,19 +208,6 @@ def breach_lines(line, found, task, rules):
         yield wrapped(f"Without an entry: {', '.join(names)}.")
 
 
-def tree_of(data):
-    """The tree of an accepted text: an atom, or a list of trees."""
-    lists = [[]]
-    for token in TOKEN.findall(data):
-        if token == b"(":
-            lists.append([])
-        elif token == b")":
-            lists[-2].append(lists.pop())
-        elif not token.startswith(b";"):
-            lists[-1].append(token)
-    return lists[0][0]
-
-
 def without_entry(line, task):
     """The formals of a source's main to which the values give nothing."""
     paths = [line.words[it] for it in (line.index(name, task) for name in ("SRC", "VALS")) if it is not None]
@@ -243,10 +231,7 @@ def is_replaced(line, path):
 def instruction_at(data, program, place):
     """Where an instruction of a program stands in a Piton text, or None."""
     items, name = [], None
-    for found in TOKEN.finditer(data):
-        token = found.group()
-        if token.startswith(b";"):
-            continue
+    for token, at in sources.tokens(data):
         if token == b")":
             items.pop()
             continue
@@ -256,7 +241,7 @@ def instruction_at(data, program, place):
         if len(items) == 2 and items[0] >= 8:
             name = token if items[1] == 1 else name
             if name == program and items[1] == place + 4:
-                return found.start()
+                return at
         if token == b"(":
             items.append(0)
     return None
@@ -347,11 +332,12 @@ def lines_of(status, end, words):
 
 
 def main(status, end, *words):
-    lines = "\n".join(lines_of(int(status), end, list(words)))
+    lines = ends.shown("\n".join(lines_of(int(status), end, list(words))))
     if is_coloured():
         lines = "\n".join(map(coloured, lines.split("\n")))
-    print(lines, file=sys.stderr, end="\n" if lines else "")
+    sys.stderr.write_as_it_is(lines + ("\n" if lines else ""))
+    return 0
 
 
 if __name__ == "__main__":
-    main(*sys.argv[1:])
+    ends.end(lambda: main(*sys.argv[1:]))

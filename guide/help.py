@@ -7,6 +7,7 @@ import os
 import sys
 import textwrap
 
+import ends
 from catalog import expected, plain, read_catalog, row
 
 WIDTH = 100
@@ -204,15 +205,9 @@ def help_of(catalog, words):
 def main(what, *words):
     catalog = read_catalog()
     lines = help_of(catalog, words) if what == "help" else misfit(catalog, words)
-    try:
-        print("\n".join(lines), file=sys.stdout if what == "help" else sys.stderr, end="\n" if lines else "", flush=True)
-    except OSError as fault:
-        os.dup2(os.open(os.devnull, os.O_WRONLY), 1)
-        # Who reads a pipe may stop where he likes.
-        if not isinstance(fault, BrokenPipeError):
-            return 11
+    print("\n".join(lines), file=sys.stdout if what == "help" else sys.stderr, end="\n" if lines else "")
     return MISFIT if lines and what == "words" else 0
 
 
 if __name__ == "__main__":
-    sys.exit(main(*sys.argv[1:]))
+    ends.end(lambda: main(*sys.argv[1:]))

@@ -11,8 +11,9 @@ import re
 import sys
 from pathlib import Path
 
+from ends import end
 from places import Source
-from program import Program, lower, number, status_of
+from program import Program, carried_out, lower, number
 
 # An instruction that takes the word behind it, the one that adds the address of a table, and the last one of a program.
 TAKES_WORD = re.compile(r",\(r15\)\+?$")
@@ -70,4 +71,4 @@ def words_of_line():
 
 
 if __name__ == "__main__":
-    sys.exit(status_of(words_of_line(), print_listing, sys.argv[1:]))
+    end(lambda: carried_out(words_of_line(), print_listing, sys.argv[1:]))

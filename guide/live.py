@@ -19,6 +19,7 @@ import sys
 import tempfile
 from pathlib import Path
 
+import ends
 import page
 from explain import rows_of_page
 
@@ -166,8 +167,8 @@ def words_of_line():
     return parser
 
 
-def main():
-    words = words_of_line().parse_args()
+def main(line):
+    words = words_of_line().parse_args(line)
     with tempfile.TemporaryDirectory() as room:
         try:
             if words.trial:
@@ -176,12 +177,14 @@ def main():
                 module, digest = keep_module(words.kit.resolve(), Path(room))
                 wasm, origin = compile_module(words.kit.resolve(), Path(room), module, words.level), CHECKED.format(digest=digest)
         except Failed as failed:
-            sys.exit(f"live: {failed}")
+            ends.tell(f"{failed}")
+            return ends.FAILED
     if words.keep:
-        words.keep.write_bytes(wasm)
-    words.out.write_text(make_page(wasm, origin), encoding="utf-8")
+        ends.store(words.keep, wasm)
+    ends.store(words.out, make_page(wasm, origin).encode())
     print(f"written {words.out}")
+    return 0
 
 
 if __name__ == "__main__":
-    main()
+    ends.end(lambda: main(sys.argv[1:]))

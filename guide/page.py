@@ -20,13 +20,16 @@ from concurrent.futures import ThreadPoolExecutor
 from pathlib import Path
 from string import Template
 
-from program import Program, lower, number, status_of
+from ends import end, store
+from program import Program, TooMuch, carried_out, lower, number
 
 HERE = Path(__file__).resolve().parent / "page"
 MOMENTS = 3000
 MOST_MOMENTS = 20000
 # The most words that one line of a script asks for, about how many words one session prints, and at how many moments at most: a script has 1 MiB.
 LINE, SESSION, ASKED = 4096, 250_000, 10_000
+# The most bytes that the program prints for a page, which has them all: this script then takes some MOST_MEMORY bytes of memory.
+MOST_ANSWERS = 100_000_000
 
 
 # ---- Memory after each instruction ----
@@ -141,18 +144,19 @@ def words_of_line():
 def write_page(words, line):
     """Asks, and writes the page."""
     with Program(words.program, words.source, words.values, words.control, words.temporary) as program:
-        answers = gather(program, words.budget, min(words.moments, MOST_MOMENTS))
+        program.left = MOST_ANSWERS
+        try:
+            answers = gather(program, words.budget, min(words.moments, MOST_MOMENTS))
+        except TooMuch:
+            raise TooMuch(f"the page would have more than {MOST_ANSWERS:,} bytes of what the program prints: MOMENTS, the last word, takes fewer") from None
     belief = BELIEF.format(command=html.escape(" ".join(["./stack page", *line[1:]])), asked=program.asked)
     if os.environ.get("STACK_TRIED") == "1":
         belief = UNPROVED + belief.replace("the proved program", "that program")
     text = render(words.source.name, "every level of a run, at every moment", belief, data=packed(json.dumps(answers).encode()))
     # A name that is no text can't stand on the page.
-    try:
-        words.out.write_bytes(text.encode("utf-8", "replace"))
-    except OSError as fault:
-        raise OSError(fault.errno, fault.strerror, str(words.out)) from None
+    store(words.out, text.encode("utf-8", "replace"))
     print(f"written {words.out}")
 
 
 if __name__ == "__main__":
-    sys.exit(status_of(words_of_line(), write_page, sys.argv[1:]))
+    end(lambda: carried_out(words_of_line(), write_page, sys.argv[1:]))

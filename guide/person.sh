@@ -30,10 +30,7 @@ print_usage() {
 }
 
 # Gives the help that was asked for, which is no command of the program: so it is the output.
-give_help() {
-    guide help help "$@"
-    exit
-}
+give_help() { become "$here/guide/help.py" help "$@"; }
 
 # Ends on words that fit no command as the program does, since they are no reason to try or prove anything, and tells a person what is wrong.
 judge_words() {
@@ -64,6 +61,11 @@ roles_of() {
 find_files() {
     local role number=0
     output= output_at= inputs=()
+    case ${1-} in
+    turns) inputs=("${@:6}"); return ;;
+    page) [ $# -lt 7 ] || { output=$7 output_at=6 inputs=("$2" "$3"); }; return ;;
+    pack) [ $# -lt 2 ] || { output=$2 output_at=1; }; return ;;
+    esac
     while IFS= read -r role; do
         number=$((number + 1))
         case $role in
@@ -82,12 +84,31 @@ is_stored_by() {
     unasm) [[ $head == ".base "* ]] ;;
     need) [[ $head =~ ^\(\([A-Za-z][^\ \(\)]*\ [0-9]+\ [0-9]+\) ]] ;;
     mini) [[ $head == "(program main"* ]] ;;
+    page) [[ $head == "<!doctype html>"* ]] ;;
+    pack) [[ $head == $'\x1f\x8b'* ]] ;;
     *) [[ $head == FM91* ]] ;;
     esac
 }
 
 # Whether a command's output is an ordinary file of its own. What is standard output can't be looked at again: in a substitution it is another pipe.
-is_own_file() { [ -n "$output" ] && [ -f "$output" ] && [ ! "$output" -ef /dev/stdout ]; }
+is_own_file() { [ -n "$output" ] && [ -f "$output" ] && [ ! "$output" -ef /dev/stdout ] && [ ! "$output" -ef /dev/stderr ]; }
+
+# Whether the program may read a file once more: an ordinary one, and none that is another one in a pipe.
+is_plain_file() { [[ $1 != /dev/* && $1 != /proc/* ]] && [ -f "$1" ]; }
+
+# Ends where the file that a command stores is standard output too, and an ordinary file: what the command prints would be written over what it stores,
+# or be lost with the old file.
+refuse_own_output() {
+    local word
+    [ -f /dev/stdout ] || return 0
+    for word in "${@:2}"; do
+        [ "$word" -ef /dev/stdout ] || continue
+        find_files "$@"
+        [ "$output" = "$word" ] || continue
+        say "$output is to be stored, and is standard output too, a file: what is printed would stand over it. Nothing was started, and no file is changed"
+        exit 70
+    done
+}
 
 # Says that a file would be lost, and asks where somebody can answer.
 guard_output() {
@@ -115,7 +136,11 @@ tell_stored() {
 # The words of a short run of the same command, with SHORT for its length, what it is counted in, and the length of the whole run: sets `sample`,
 # `unit` and `whole`. Without a way to take a sample `sample` is empty. Of `go` it is a run of the image, once that is stored.
 find_sample() {
+    local file
     unit=instructions whole=0 sample=()
+    find_files "$@"
+    # What is no file can be read once, and that is the program's.
+    for file in "${inputs[@]}" ${output:+"$output"}; do is_plain_file "$file" || return; done
     case ${1-}:$# in
     run:4) whole=$4 sample=(run "$2" "$3" SHORT) ;;
     go:7) whole=$6 sample=(run "$7" "$3" SHORT) ;;
@@ -123,8 +148,8 @@ find_sample() {
     mean:6) unit=steps whole=$6 sample=("${@:1:5}" SHORT) ;;
     prun:3) unit=steps whole=$3 sample=(prun "$2" SHORT) ;;
     debug:7)
-        # A script from a pipe was read by the program, and what /dev/stdin is here is the program's own output.
-        [ ! -f "$7" ] || whole=$(awk '$1 == "step" { sum += $2 } END { printf "%.0f", sum }' "$7" 2>/dev/null)
+        # How far `until` goes isn't known before.
+        whole=$(awk '$1 == "until" { exit unknown = 1 } $1 == "step" { sum += $2 } END { printf "%.0f", unknown ? 0 : sum }' "$7" 2>/dev/null)
         unit=steps
         sample=("${@:1:6}" /dev/stdin)
         ;;
@@ -163,44 +188,48 @@ read_speed() {
     [ "$1" != go ] || exec {sampled}< <(sleep 2; take_sample 20)
 }
 
-# Says on a terminal how long the program runs, after two seconds, until its first line comes, which is handed on. How far it is it doesn't say
+# Says on a terminal how long the program runs, after two seconds, until it prints something, of which nothing is read here. How far it is it doesn't say
 # itself: that is reckoned by a short run of the same.
-hand_on_first_line() {
-    local line= part status ticks=0 drawn= said speed= sampled= sample unit whole
-    while IFS= read -r -t 1 part; status=$?; [ "$status" -gt 128 ]; do
-        line+=$part ticks=$((ticks + 1))
-        [ "$ticks" -ge 2 ] || continue
-        [ "$ticks" != 2 ] || { find_sample "$@"; exec {sampled}< <(take_sample 20); }
+await_output() {
+    local pause=0.01 told=1 said drawn= speed= sampled= sample unit whole
+    until read -r -t 0; do
+        sleep "$pause"
+        case $pause in 0.01) pause=0.03 ;; *) pause=0.1 ;; esac
+        [ "$SECONDS" -gt "$told" ] || continue
+        [ "$told" != 1 ] || { find_sample "$@"; exec {sampled}< <(take_sample 20); }
+        told=$SECONDS
         read_speed "$@"
-        said="$1 runs, $SECONDS seconds so far"
-        [ -z "$speed" ] && said+=". Ctrl-C ends it" || said+=": about $(share "$SECONDS" "$speed"), $(rough "$speed") $unit a second"
+        said="$1 runs, $told seconds so far"
+        [ -z "$speed" ] && said+=". Ctrl-C ends it" || said+=": about $(share "$told" "$speed"), $(rough "$speed") $unit a second"
         redraw "$said"
         drawn=$rewind
         # Where no line can be drawn anew, one is enough for half a minute.
-        [ -n "$rewind" ] || [ $((ticks % 30)) != 2 ] || say "$said"
+        [ -n "$rewind" ] || [ $((told % 30)) != 2 ] || say "$said"
     done
     printf '%s' "$drawn" >&2
-    line+=$part
-    [ "$status" != 0 ] || line+=$'\n'
-    printf '%s' "$line" 2>/dev/null && printf '%s' "$line" >&"$copy"
 }
 
 # Hands on what the program prints, to standard output and to the descriptor `copy`.
 hand_on() {
     case ${1-} in
-    run | go | prun | mean | debug | big | turns) [ ! -t 2 ] || hand_on_first_line "$@" || return ;;
+    run | go | prun | mean | debug | big | turns) [ ! -t 2 ] || await_output "$@" ;;
     esac
     tee "/dev/fd/$copy" 2>/dev/null
 }
 
-# Hands on to a terminal what can't move its cursor. Elsewhere the output is the program's byte by byte.
-hand_on_shown() {
-    if [ -t 1 ]; then
-        hand_on "$@" | LC_ALL=C tr '\001-\010\013-\037\177' '?'
-    else
-        hand_on "$@"
-    fi
+# Hands on lines with `?` in place of what would move a terminal's cursor or change the order of what it shows: control characters, also those of two
+# bytes and single bytes that are no text, and the marks that `say` takes out.
+show_plainly() {
+    LC_ALL=C sed -uE 's/[\x01-\x08\x0b-\x1f\x7f]/?/g
+        s/\xc2[\x80-\x9f]|\xd8\x9c|\xe2\x80[\x8b-\x8f\xa8-\xae]|\xe2\x81[\xa6-\xa9]|\xef\xbb\xbf/?/g
+        s/(^|[\x01-\x7f])[\x80-\xbf]+/\1?/g'
 }
+
+# Prints a line, which has names of files.
+print_line() { if [ -t 1 ]; then printf '%s\n' "$1" | show_plainly; else printf '%s\n' "$1"; fi; }
+
+# Hands on to a terminal what it can show. Elsewhere the output is the program's byte by byte.
+hand_on_shown() { if [ -t 1 ]; then hand_on "$@" | show_plainly; else hand_on "$@"; fi; }
 
 # Says how far a run was that was stopped, as far as it can be known from outside, and ends as what was stopped does.
 tell_stopped() {
@@ -217,18 +246,28 @@ tell_stopped() {
     kill -INT $$
 }
 
+# Whether the program's output can be handed on, and looked at on the way: it is known here whether it can be written, no word means what would be another
+# file in a pipe, and there are the commands and the descriptors for it.
+can_hand_on() {
+    local word
+    type -P sed tee tail >/dev/null || return
+    [ -t 1 ] || [ -f /dev/stdout ] || [ -p /dev/stdout ] || [ /dev/stdout -ef /dev/null ] || return
+    for word in "${@:2}"; do
+        case $word in /dev/stdout | /dev/stderr | /dev/fd/[12] | /proc/*/fd/*) return 1 ;; esac
+    done
+    find_files "$@"
+    [ -z "$output" ] || { [ ! "$output" -ef /dev/stdout ] && [ ! "$output" -ef /dev/stderr ]; } || return
+    case $(ulimit -n) in [0-9] | [12][0-9]) return 1 ;; esac
+}
+
 # Runs the program, and then explains how it ended. The status is the program's: 11 where standard output can't be written, as it is then.
 attend_program() {
     local end status out copy
-    # What is stored in standard output has bytes that no shell hands on.
-    find_files "$@"
-    [ -z "$output" ] || [ ! "$output" -ef /dev/stdout ] || exec "$program" "$@"
-    # Of another kind of output nobody knows here whether it can be written: there the program writes itself.
-    [ -t 1 ] || [ -f /dev/stdout ] || [ -p /dev/stdout ] || [ /dev/stdout -ef /dev/null ] || exec "$program" "$@"
+    can_hand_on "$@" || exec "$program" "$@"
     SECONDS=0
     exec {out}>&1
     trap 'tell_stopped "$@"' INT
-    end=$(set -o pipefail; "$program" "$@" {out}>&- | { hand_on_shown "$@" {copy}>&1 >&"$out" || exit 11; } | tail -c 4096)
+    end=$(set -o pipefail; "$program" "$@" {out}>&- | { hand_on_shown "$@" {copy}>&1 >&"$out" || exit 11; } | tail -c 4096 | tr -d '\0')
     status=$?
     # Who reads a pipe may stop where he likes.
     [ "$status" = 0 ] || [ "$status" -gt 64 ] || { [ "$status" = 11 ] && [ -p /dev/stdout ]; } || guide explain "$status" "$end" "$@"
@@ -242,6 +281,5 @@ be_trying() {
     [ -n "$built" ] || [ $# -le 1 ] || [ "$1" != try ] || have_trial
     [ -n "$built" ] || export STACK_EXPLAIN=0 STACK_UNPROVED=1
     [ -n "$built" ] || program=$here/stack
-    guide trying "$program" "$@"
-    exit
+    become "$here/guide/trying.py" "$program" "$@"
 }

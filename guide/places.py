@@ -1,38 +1,48 @@
 """Where a place of a source is, and what stands there."""
-import re
+from bisect import bisect_right
 
-TOKEN = re.compile(r";[^\n]*|[()]|[^\s();]+")
+from sources import tokens
+
 WIDTH = 60
 
 
 class Source:
-    """A source of Micro-Gypsy that was accepted, as the text that the program read: a character for each byte."""
+    """A source of Micro-Gypsy that was accepted. A name is the text that the program read: a character for each byte. It is read once."""
 
     def __init__(self, content):
-        self.text = content.decode("latin-1")
-        self.ends, self.heads, opened = {}, {}, []
-        for token in (it for it in TOKEN.finditer(self.text) if it[0][0] != ";"):
-            if token[0] == "(":
-                opened.append(token.start())
-            elif token[0] == ")":
-                self.ends[opened.pop()] = token.end()
+        self.data, self.ends, words, opened = content, {}, {}, []
+        for token, place in tokens(content):
+            if token == b"(":
+                opened.append(place)
+            elif token == b")":
+                self.ends[opened.pop()] = place + 1
             elif len(opened) == 2:
                 # A procedure is a list in the program's list, and its second atom, behind `proc`, is its name.
-                self.heads.setdefault(opened[1], []).append(token[0])
-        self.heads = {place: words[1] for place, words in self.heads.items()}
+                words.setdefault(opened[1], []).append(token.decode("latin-1"))
+        self.heads = {place: atoms[1] for place, atoms in words.items()}
+        self.procedures = sorted(self.heads)
+        self.lines, at = [0], content.find(b"\n")
+        while at >= 0:
+            self.lines.append(at + 1)
+            at = content.find(b"\n", at + 1)
 
     def where(self, place):
         """Line and column of a place, as `3:17`."""
-        return f"{self.text.count(chr(10), 0, place) + 1}:{place - self.text.rfind(chr(10), 0, place)}"
+        line = bisect_right(self.lines, place)
+        return f"{line}:{place - self.lines[line - 1] + 1}"
 
     def procedure(self, place):
         """The name of the procedure that a place is in."""
-        return self.heads[max(it for it in self.heads if it <= place)]
+        return self.heads[self.procedures[bisect_right(self.procedures, place) - 1]]
 
     def statement(self, place, width=WIDTH):
-        """What stands at a place, on one line and cut where it is long. At a procedure's own place it is its end."""
+        """What stands at a place, on one line and cut where it is long: no more of it is read. At a procedure's own place it is its end."""
         if place in self.heads:
             return f"end of {self.heads[place]}"
-        text = re.sub(r";[^\n]*", " ", self.text[place:self.ends[place]])
-        flat = re.sub(r"\s+", " ", text).replace(" )", ")")
-        return flat if len(flat) <= width else f"{flat[:width - 3]}..."
+        flat, after, end = "", place, self.ends[place]
+        for token, at in tokens(self.data, place, end):
+            flat += (" " if at > after and token != b")" else "") + token.decode("latin-1")
+            after = at + len(token)
+            if len(flat) > width:
+                return f"{flat[:width - 3]}..."
+        return flat

@@ -5,7 +5,10 @@ import re
 import subprocess
 import sys
 import tempfile
+from contextlib import contextmanager
 from pathlib import Path
+
+from ends import tell
 
 # A byte that is no text becomes one byte that is, so that places stay.
 codecs.register_error("marked", lambda fault: ("?" * (fault.end - fault.start), fault.end))
@@ -13,6 +16,7 @@ codecs.register_error("marked", lambda fault: ("?" * (fault.end - fault.start), 
 
 # The most bytes of a text that is read, of the roles of source and values.
 MOST_TEXT = 1_048_576
+TOO_MUCH = 70
 
 
 class Refused(Exception):
@@ -23,19 +27,33 @@ class Refused(Exception):
         self.status, self.text = status, text
 
 
+class TooMuch(Exception):
+    """The program would print more than is asked for."""
+
+
+def read_text(path):
+    """The bytes of a text, or of one that is too long so many that this is seen."""
+    with open(path, "rb") as file:
+        return file.read(MOST_TEXT + 1)
+
+
 class Program:
-    """The program at a path over a folder with a source `s` and perhaps values `v`, in stacks of the given sizes. The folder goes at the end."""
+    """The program at a path over a folder with a source `s` and perhaps values `v`, in stacks of the given sizes. The folder goes at the end. Where it is
+    said how many bytes are `left`, the program prints no more."""
 
     def __init__(self, path, source, values, control, temporary):
-        self.path, self.sizes, self.asked = Path(path).resolve(), (control, temporary), 0
+        self.path, self.sizes, self.asked, self.left = Path(path).resolve(), (control, temporary), 0, None
         self.given = {"s": source} | ({"v": values} if values else {})
 
     def __enter__(self):
         self.room = tempfile.TemporaryDirectory()
         self.folder = Path(self.room.name)
-        for name, path in self.given.items():
-            with open(path, "rb") as file:
-                (self.folder / name).write_bytes(file.read(MOST_TEXT + 1))
+        try:
+            for name, path in self.given.items():
+                (self.folder / name).write_bytes(read_text(path))
+        except BaseException:
+            self.room.cleanup()
+            raise
         return self
 
     def __exit__(self, *_):
@@ -45,14 +63,35 @@ class Program:
         """A file of the folder, with a character for each byte that is no text."""
         return (self.folder / name).read_bytes().decode("utf-8", "marked")
 
+    @contextmanager
+    def started(self, *words, script=None):
+        """The program, started on these words. A script is what it reads as /dev/stdin. It is over at the end, and killed where that comes before its own."""
+        with tempfile.TemporaryFile(dir=self.folder) as given:
+            given.write((script or "").encode())
+            given.seek(0)
+            running = subprocess.Popen([self.path, *map(str, words)], cwd=self.folder, stdin=given, stdout=subprocess.PIPE, stderr=subprocess.DEVNULL)
+            self.asked += 1
+            try:
+                yield running
+            except BaseException:
+                running.kill()
+                raise
+            finally:
+                running.stdout.close()
+                running.wait()
+
     def ask(self, *words, script=None, ends=(0,)):
-        """What the program prints. A script is what it reads as /dev/stdin."""
-        self.asked += 1
-        line = [self.path, *map(str, words)]
-        ran = subprocess.run(line, cwd=self.folder, input=script, capture_output=True, encoding="utf-8", errors="replace", check=False)
-        if ran.returncode not in ends:
-            raise Refused(ran.returncode, ran.stdout.strip())
-        return ran.stdout
+        """What the program prints."""
+        with self.started(*words, script=script) as running:
+            said = running.stdout.read() if self.left is None else running.stdout.read(self.left + 1)
+            if self.left is not None:
+                self.left -= len(said)
+                if self.left < 0:
+                    raise TooMuch
+        said = said.decode("utf-8", "replace")
+        if running.returncode not in ends:
+            raise Refused(running.returncode, said.strip())
+        return said
 
     def session(self, level, script):
         return self.ask("debug", level, "s", "v", *self.sizes, "/dev/stdin", script=script)
@@ -95,29 +134,9 @@ def lower(program):
 
 def number(text):
     """A number of the command line, as the program takes it."""
-    if not (text.isascii() and text.isdigit() and len(text) <= 20):
+    if not re.fullmatch(r"[0-9]{1,20}", text):
         raise ValueError(text)
     return int(text)
-
-
-def open_output():
-    """Has names that are no text printed as they are, and raises an OSError where there is no standard output."""
-    if sys.stdout is None:
-        raise OSError("there is no standard output")
-    sys.stdout.reconfigure(errors="surrogateescape")
-
-
-def no_output():
-    """The status where the output can't be written, which isn't tried again at the end."""
-    os.dup2(os.open(os.devnull, os.O_WRONLY), 1)
-    return 11
-
-
-def printed(name):
-    """A file's name as it can be printed: on a terminal without what moves its cursor."""
-    from help import shown
-
-    return shown(name) if sys.stdout.isatty() else name
 
 
 def tell_person(refused, words):
@@ -128,9 +147,8 @@ def tell_person(refused, words):
     from explain import lines_of
 
     source, sizes = str(words.source), [str(words.control), str(words.temporary)]
-    with words.source.open("rb") as file:
-        is_lowered = is_infix(file.read(MOST_TEXT))
-    if is_lowered and refused.text.startswith("refused"):
+    # What is no ordinary file isn't read once more.
+    if refused.text.startswith("refused") and words.source.is_file() and is_infix(read_text(words.source)):
         line = ["mini", source, "lowered.gypsy"]
     elif "values" in words:
         line = ["mean", source, str(words.values), *sizes, "0"]
@@ -139,28 +157,20 @@ def tell_person(refused, words):
     print("\n".join(lines_of(refused.status, refused.text, line)), file=sys.stderr)
 
 
-def status_of(parser, act, line):
-    """Does what the words ask for, and returns the status: that of the program where it refuses something, whose last line is printed then; 1 where
-    the words are no such row, and 9 where a file is missing."""
+def carried_out(parser, act, line):
+    """Does what the words ask for, and returns the status: that of the program where it refuses something, whose last line is printed then, and 1 where the
+    words are no such row."""
     try:
         words = parser.parse_args(line)
     except SystemExit as ended:
         return 1 if ended.code else 0
     try:
-        open_output()
         act(words, line)
-        sys.stdout.flush()
-    except FileNotFoundError as missing:
-        print(f"missing {printed(str(missing.filename))}")
-        return 9
+        return 0
     except Refused as refused:
         print(refused.text, flush=True)
         tell_person(refused, words)
         return refused.status
-    except OSError as fault:
-        # Of standard output it has no name of a file.
-        if fault.filename is None:
-            return no_output()
-        print(f"shelf fault {printed(str(fault.filename))}")
-        return 10
-    return 0
+    except TooMuch as much:
+        tell(str(much))
+        return TOO_MUCH

@@ -1,7 +1,16 @@
 # A part of the script `stack`: which program this is, how it was proved, and the release for those who only run it.
 
-# What is packed is the same in every environment.
-unset TAR_OPTIONS GZIP
+# The file of the completion and the program, from where they are installed.
+completion=../../../lib/verified-short-stack/guide/completion.bash
+started=../lib/verified-short-stack/stack
+
+# Has the folder or the file that `room` names go, however the script ends.
+clean_at_end() {
+    trap 'rm -rf -- "$room"' EXIT
+    trap 'exit 130' INT
+    trap 'exit 143' TERM
+    trap 'exit 129' HUP
+}
 
 # The lines that say how the program was proved, where there are some.
 proof_lines() {
@@ -17,11 +26,18 @@ proof_line() { proof_lines | sed -n "s/^$1 //p"; }
 
 # Says on standard output which program this is, and whether it is the one that was proved.
 say_version() {
+    local status=0 text
+    text=$(describe_version) || status=$?
+    printf '%s\n' "$text" 2>/dev/null || exit 11
+    exit "$status"
+}
+
+describe_version() {
     local wanted
     echo "the verified short stack, for Linux on x86-64"
     if [ -z "$built" ]; then
         echo "the program isn't built yet, or was changed since: $self prove proves and builds it"
-        exit 0
+        return
     fi
     proof_lines
     wanted=$(proof_line sha256)
@@ -29,9 +45,8 @@ say_version() {
         echo "how it was proved wasn't written down: $self prove does that"
     elif [ "$(sha256sum <"$program" | cut -d ' ' -f 1)" != "$wanted" ]; then
         echo "the program isn't the one that was proved: its sha256 is another"
-        exit 70
+        return 70
     fi
-    exit 0
 }
 
 # What a release has, beside the program and PROVED: nothing that wants the rest of the repository.
@@ -73,9 +88,9 @@ demand_proof() {
     fi
 }
 
-# Stores a release: the same bytes for the same files and the same proof.
+# Stores a release: the same bytes for the same files and the same proof. It is written beside its name, and renamed.
 be_pack() {
-    local name made
+    local name made part
     demand_proof pack
     if [ -e "$release" ]; then
         say "this is a release already"
@@ -83,43 +98,71 @@ be_pack() {
     fi
     name=stack-$(proof_line commit | cut -c -7)
     made=${1-$name-linux-x86-64.tar.gz}
+    ! is_person || guard_output pack "$made"
     room=$(mktemp -d) || exit 70
-    trap 'rm -rf "$room"' EXIT
+    clean_at_end
     stage "$room/$name"
+    part=$made
+    if [ ! -L "$made" ] && { [ ! -e "$made" ] || [ -f "$made" ]; }; then
+        part=$(mktemp -p "$(dirname -- "$made")" partly-stored-XXXXXX) && trap 'rm -rf -- "$room" "$part"' EXIT && chmod "$(rights_of "$made")" -- "$part" || exit 10
+    fi
     tar -cf - -C "$room" --sort=name --format=ustar --owner=0 --group=0 --numeric-owner --mtime="$(proof_line 'proved on')" "$name" |
-        gzip -n -9 >"$made" || exit 10
+        gzip -n -9 >"$part" && [ "${PIPESTATUS[*]}" = "0 0" ] || exit 10
+    [ "$part" = "$made" ] || mv -fT -- "$part" "$made" || exit 10
     say "$made is stored, $(wc -c <"$made") bytes. Unpacked anywhere on Linux for x86-64 it runs, with neither the kit nor Python"
     exit 0
 }
 
-# Installs the program, its manual page and its completion below a folder.
+# The rights of a file, or those of a new one.
+rights_of() { stat -Lc %a -- "$1" 2>/dev/null || printf '%o' $((0666 & ~$(umask))); }
+
+# Ends where what is to be installed under a name would replace what another program has there.
+keep_others() {
+    if { [ -e "$1" ] || [ -L "$1" ]; } && ! "${@:2}"; then
+        say "$1 is there, and is another program's"
+        exit 70
+    fi
+}
+
+leads_to() { [ "$(readlink -- "$2")" = "$1" ]; }
+is_own_page() { [ -f "$1" ] && grep -qs '^stack .- compiles, links, runs and shows programs of the verified short stack$' -- "$1"; }
+
+# Has a name lead to a file, and to nothing else at any moment.
+make_link() {
+    local new
+    new=$(mktemp -u -- "$2.XXXXXX") && ln -s -- "$1" "$new" && mv -fT -- "$new" "$2"
+}
+
+# Installs the program, its manual page and its completion below a folder. The old installation stays until the new one is whole, and what another program
+# has there stays.
 be_install() {
-    local folder
+    local folder old
     if [ $# != 1 ] || [ -z "$1" ]; then
         say "wanted is $self install FOLDER, as $self install ~/.local"
         exit 1
     fi
     demand_proof install
+    case $1 in -*) set -- "./$1" ;; esac
     folder=$1/lib/verified-short-stack
     [ ! "$folder" -ef "$here" ] || { say "$folder is this release itself"; exit 70; }
     if [ -e "$folder" ] && [ ! -e "$folder/PROVED" ]; then
         say "$folder is there, and is no release of this program"
         exit 70
     fi
-    if { [ -e "$1/bin/stack" ] || [ -L "$1/bin/stack" ]; } && [ "$(readlink "$1/bin/stack")" != ../lib/verified-short-stack/stack ]; then
-        say "$1/bin/stack is there, and is another program"
-        exit 70
-    fi
-    # The old installation stays until the new one is whole.
-    room=$folder.new
-    trap 'rm -rf "$room"' EXIT
-    rm -rf "$room"
-    stage "$room"
-    mkdir -p "$1/bin" "$1/share/man/man1" "$1/share/bash-completion/completions" || exit 70
-    rm -rf "$folder" && mv "$room" "$folder" || exit 70
-    ln -sfn ../lib/verified-short-stack/stack "$1/bin/stack" || exit 70
-    cp "$folder/docs/program/stack.1" "$1/share/man/man1/stack.1" || exit 70
-    ln -sfn ../../../lib/verified-short-stack/guide/completion.bash "$1/share/bash-completion/completions/stack" || exit 70
+    keep_others "$1/bin/stack" leads_to "$started" "$1/bin/stack"
+    keep_others "$1/share/bash-completion/completions/stack" leads_to "$completion" "$1/share/bash-completion/completions/stack"
+    keep_others "$1/share/man/man1/stack.1" is_own_page "$1/share/man/man1/stack.1"
+    mkdir -p "$1/lib" "$1/bin" "$1/share/man/man1" "$1/share/bash-completion/completions" || exit 70
+    room=$(mktemp -d "$folder.XXXXXX") || exit 70
+    clean_at_end
+    stage "$room/new"
+    # From here on it goes to its end.
+    trap '' INT TERM HUP
+    old=$room/old
+    [ ! -e "$folder" ] && [ ! -L "$folder" ] || mv -T "$folder" "$old" || exit 70
+    mv -T "$room/new" "$folder" || { mv -T "$old" "$folder"; exit 70; }
+    cp "$folder/docs/program/stack.1" "$room/stack.1" && mv -fT "$room/stack.1" "$1/share/man/man1/stack.1" || exit 70
+    make_link "$completion" "$1/share/bash-completion/completions/stack" && make_link "$started" "$1/bin/stack" || exit 70
     say "$1/bin/stack is installed, with its manual page and its completion. All else of it lies in $folder"
     exit 0
 }

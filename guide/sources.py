@@ -1,4 +1,5 @@
-"""What belongs at a place of a source of Micro-Gypsy that is refused, as far as the rule, what stands there and docs/languages/gypsy.md tell."""
+"""Texts in parentheses, read with the places of what they have; and what belongs at a place of a source of Micro-Gypsy that is refused, as far as the
+rule, what stands there and docs/languages/gypsy.md tell."""
 import re
 from difflib import get_close_matches
 from functools import cache
@@ -10,7 +11,10 @@ LANGUAGE = GUIDE.parent / "docs/languages/gypsy.md"
 SYNTAX = re.compile(r"^## Syntax\n.*?^```text\n(.*?)^```$", re.M | re.S)
 FORM = re.compile(r"^(?:statement)? +(\(([a-z-]+)\b.*\))$", re.M)
 ROW = re.compile(r"^\| (`mg-[^|]*) \| (`[^|]*) \| ([^|]*) \|", re.M)
-TOKEN = re.compile(rb";[^\n]*|[()]|[^\s();]+")
+# As docs/languages/text-form.md has it: nothing else keeps tokens apart.
+TOKEN = re.compile(rb";[^\n]*|[()]|[^ \t\r\n();]+")
+NUMERAL = re.compile(r"-?[0-9]+")
+NAME = re.compile(r"[A-Za-z][A-Za-z0-9_*$-]{0,63}")
 TYPES = {"int": "integer", "bool": "boolean", "char": "character", "string": "(array character LENGTH)", "real": "integer", "float": "integer"}
 WHILE = "A while is a loop that is left: (loop (seq (mg-integer-le b y x) (if b (signal leave) (no-op)) ..)) goes on while x < y."
 ASSIGNED = "x := 7 is (mg-simple-constant-assignment x 7), and x := y is (mg-simple-variable-assignment x y)."
@@ -29,6 +33,31 @@ ELSEWHERE = {
 }
 
 
+def tokens(data, start=0, end=None):
+    """The tokens of a text, or of a part of it, each with where it begins. Comments are none."""
+    return ((it.group(), it.start()) for it in TOKEN.finditer(data, start, len(data) if end is None else end) if it.group()[:1] != b";")
+
+
+def tree_of(data):
+    """The tree of an accepted text: an atom, or a list of trees."""
+    lists = [[]]
+    for token, _ in tokens(data):
+        if token == b"(":
+            lists.append([])
+        elif token == b")":
+            lists[-2].append(lists.pop())
+        else:
+            lists[-1].append(token)
+    return lists[0][0]
+
+
+def number_of(numeral, most):
+    """The number of a numeral, which may begin with zeros; of one beyond `most` in size, one that is beyond too."""
+    sign, digits = numeral[0] == "-", numeral.lstrip("-").lstrip("0") or "0"
+    number = int(digits) if len(digits) <= len(str(most)) else most + 1
+    return -number if sign else number
+
+
 @cache
 def forms():
     """The form of each statement, by the block under "Syntax", and what each predefined procedure takes, by its row, by their first words."""
@@ -45,10 +74,7 @@ def list_round(data, place, within=False):
     """The items of the list that begins at a place or is the innermost round it, each with where it begins, as its token, or `(` for a list; none
     where there is no such list. With `within` it is the innermost round it alone."""
     opened = []
-    for found in TOKEN.finditer(data):
-        token, at = found.group(), found.start()
-        if token.startswith(b";"):
-            continue
+    for token, at in tokens(data):
         if token == b")":
             if not opened:
                 return []
@@ -66,13 +92,11 @@ def list_round(data, place, within=False):
 def procedure_round(data, place):
     """Where the procedure round a place begins: the last list in that of the program."""
     depth, start = 0, 0
-    for found in TOKEN.finditer(data):
-        if found.start() > place:
-            break
-        if found.group() == b"(":
-            start = found.start() if depth == 1 else start
+    for token, at in tokens(data, 0, place + 1):
+        if token == b"(":
+            start = at if depth == 1 else start
             depth += 1
-        elif found.group() == b")":
+        elif token == b")":
             depth -= 1
     return start
 
@@ -80,9 +104,7 @@ def procedure_round(data, place):
 def variables_at(data, place):
     """The names of the variables of the procedure round a place of a source that breaks no rule of form."""
     depth, item, before, names = 0, 0, b"", []
-    for token in (found.group() for found in TOKEN.finditer(data, procedure_round(data, place))):
-        if token.startswith(b";"):
-            continue
+    for token, _ in tokens(data, procedure_round(data, place)):
         if token == b"(":
             depth += 1
             # The lists of a procedure are its formals, conditions, locals and conditions.
@@ -165,12 +187,9 @@ def unclosed(data):
     """How many lists are open at the end of a text; and by the indents the first one that seems to end before a line that begins further left, as its
     line, its column and the line before that one, or None."""
     opened, seems, line, start, ended = [], None, 1, 0, 0
-    for found in TOKEN.finditer(data):
-        token, at = found.group(), found.start()
-        line, start = line + data.count(b"\n", start, at), max(data.rfind(b"\n", 0, at) + 1, start)
-        if token.startswith(b";"):
-            continue
-        is_first = not data[start:at].strip()
+    for token, at in tokens(data):
+        line, start = line + data.count(b"\n", start, at), max(data.rfind(b"\n", start, at) + 1, start)
+        is_first = line != ended
         if is_first and seems is None:
             left = at - start
             seems = next(((row, column + 1, ended) for row, column, leads, most in reversed(opened) if leads and row < line and column > left - (most if left else 0)), None)

@@ -5,6 +5,8 @@
 import re
 import sys
 
+import ends
+
 
 def lines_of(end):
     """A line for each array of characters in a report."""
@@ -14,5 +16,10 @@ def lines_of(end):
         yield f'stack: as a text {name} = "{shown}"'
 
 
+def main(end):
+    print("".join(f"{it}\n" for it in lines_of(end)), file=sys.stderr, end="")
+    return 0
+
+
 if __name__ == "__main__":
-    print("".join(f"{it}\n" for it in lines_of(sys.argv[1])), file=sys.stderr, end="")
+    ends.end(lambda: main(*sys.argv[1:]))

@@ -12,8 +12,9 @@ import sys
 from collections import namedtuple
 from pathlib import Path
 
+from ends import end
 from places import WIDTH, Source
-from program import Program, lower, number, status_of
+from program import Program, Refused, carried_out, lower, number
 
 STEPS, MOST_STEPS = 200, 20000
 STEPPED = re.compile(r"^stepped \d+(?: ended)?\n", re.M)
@@ -31,12 +32,20 @@ def moment_of(block):
 
 
 def moments_of(program, steps):
-    """The moments of a run, up to its end or to so many steps."""
-    for block in STEPPED.split(program.moments("gypsy", "show\n", steps)):
-        moment = moment_of(block)
-        yield moment
-        if moment.place is None:
-            return
+    """The moments of a run, up to its end or to so many steps, each as soon as it is printed."""
+    script = "show\n" + "step 1\nshow\n" * steps
+    with program.started("debug", "gypsy", "s", "v", *program.sizes, "/dev/stdin", script=script) as session:
+        block = []
+        for line in session.stdout:
+            text = line.decode("utf-8", "replace")
+            if not STEPPED.match(text):
+                block.append(text)
+                continue
+            yield moment_of("".join(block))
+            block = []
+        if session.wait():
+            raise Refused(session.returncode, "".join(block).strip())
+        yield moment_of("".join(block))
 
 
 def changes(source, before, after):
@@ -56,15 +65,19 @@ def print_trace(words, _):
         is_lowered = lower(program) is not None
         program.ask("check", "s")
         source = Source((program.folder / "s").read_bytes())
-        moments = list(moments_of(program, min(words.steps, MOST_STEPS)))
-    for number, (before, after) in enumerate(zip(moments, moments[1:]), 1):
-        statement = "  " * (before.depth - 1) + source.statement(before.place)
-        print(f"{number:5}  {source.where(before.place):>7}  {statement:{WIDTH}}  {'  '.join(changes(source, before, after))}".rstrip())
-    last = moments[-1]
+        before, count = None, 0
+        for after in moments_of(program, min(words.steps, MOST_STEPS)):
+            if before is not None:
+                count += 1
+                statement = "  " * (before.depth - 1) + source.statement(before.place)
+                print(f"{count:5}  {source.where(before.place):>7}  {statement:{WIDTH}}  {'  '.join(changes(source, before, after))}".rstrip())
+            before = after
+            if after.place is None:
+                break
     # Of a lowered source the temporaries are left out.
-    shown = (f"{name} = {value}" for name, value in last.variables.items() if not (is_lowered and "$" in name))
-    state = "  ".join([f"condition {last.condition}", *shown])
-    print(f"ended after {len(moments) - 1} steps: {state}" if last.place is None else f"not ended after {len(moments) - 1} steps: {state}")
+    shown = (f"{name} = {value}" for name, value in before.variables.items() if not (is_lowered and "$" in name))
+    state = "  ".join([f"condition {before.condition}", *shown])
+    print(f"{'ended' if before.place is None else 'not ended'} after {count} steps: {state}")
 
 
 def words_of_line():
@@ -79,4 +92,4 @@ def words_of_line():
 
 
 if __name__ == "__main__":
-    sys.exit(status_of(words_of_line(), print_trace, sys.argv[1:]))
+    end(lambda: carried_out(words_of_line(), print_trace, sys.argv[1:]))

@@ -13,15 +13,19 @@ import sys
 import tempfile
 from pathlib import Path
 
+import ends
 import explain
 import help as usage
 from places import Source
-from program import MOST_TEXT, no_output, open_output
+from program import MOST_TEXT, read_text
+from sources import NAME, NUMERAL, number_of
 from trace import STEPPED, moment_of
 
 BUDGET, SIZE = 1_000_000_000, 1000
 # A run that takes longer is told where it stands; and in how many of its last steps it is looked for where a condition was raised.
 PATIENCE, LOOKED = 10_000_000, 200
+# The most items of an array, and the most variables of a procedure.
+MOST_ITEMS, MOST_FORMALS = 4096, 200
 ZERO = {"integer": "0", "boolean": "false", "character": "#0"}
 DECLARATION = re.compile(r"\s*(int|bool)\s+([A-Za-z][A-Za-z0-9_]*)\s*;")
 UNPROVED = os.environ.get("STACK_UNPROVED") == "1"
@@ -54,8 +58,7 @@ def run(program, words, names=()):
 def read_source(path):
     """The text of a source, or the end of the command."""
     try:
-        with open(path, "rb") as file:
-            content = file.read(MOST_TEXT + 1)
+        content = read_text(path)
     except FileNotFoundError:
         raise ended(9, f"missing {path}\n", ["check", path]) from None
     except OSError:
@@ -63,6 +66,11 @@ def read_source(path):
     if len(content) > MOST_TEXT:
         raise ended(12, f"size file {MOST_TEXT}\n", ["check", path])
     return content.decode("utf-8", "replace")
+
+
+def is_text(name):
+    """Whether a name is text in UTF-8."""
+    return not any("\ud800" <= it <= "\udfff" for it in name)
 
 
 def is_infix(text):
@@ -80,7 +88,22 @@ def formals_of(text):
         return found
     _, main, *procedures = explain.tree_of(text.encode())
     formals = next(it[2] for it in procedures if it[1] == main)
-    return [(name.decode(), [it.decode() for it in kind] if isinstance(kind, list) else kind.decode()) for name, kind in formals]
+    return [(name_of(name), [it.decode() for it in kind] if isinstance(kind, list) else kind.decode()) for name, kind in formals]
+
+
+def name_of(atom):
+    """A name, as the program reads it."""
+    if not NAME.fullmatch(atom.decode()):
+        raise ValueError(atom)
+    return atom.decode()
+
+
+def length_of(numeral):
+    """The length of an array, as the program reads it."""
+    length = number_of(numeral, MOST_ITEMS) if NUMERAL.fullmatch(numeral) else 0
+    if not 1 <= length <= MOST_ITEMS:
+        raise ValueError(numeral)
+    return length
 
 
 def zero_of(kind):
@@ -88,7 +111,7 @@ def zero_of(kind):
     if isinstance(kind, str):
         return ZERO[kind]
     _, simple, length = kind
-    return f"({' '.join([ZERO[simple]] * int(length))})"
+    return f"({' '.join([ZERO[simple]] * length_of(length))})"
 
 
 def value_of(kind, given):
@@ -104,6 +127,7 @@ def values_of(text, words):
     """The values of a source, in the text of a values file: those given by words NAME=VALUE, and 0 and false."""
     try:
         formals = formals_of(text)
+        zeros = [zero_of(kind) for _, kind in formals[:MOST_FORMALS]]
     except (ValueError, StopIteration, IndexError, KeyError, TypeError, AttributeError):
         raise Ended(1, told="stack: the variables of the source can't be read: check says what is wrong with it") from None
     given = dict(it.split("=", 1) if "=" in it else (it, None) for it in words)
@@ -112,7 +136,7 @@ def values_of(text, words):
             what = "is no NAME=VALUE" if value is None else "names no formal of main"
             there = ", ".join(f"{it}=" for it, _ in formals) or "none"
             raise Ended(1, told=f"stack: {usage.shown(name)} {what}. These can be given: {there}")
-    rows = [f"({name} {value_of(kind, given[name]) if name in given else zero_of(kind)})" for name, kind in formals]
+    rows = [f"({name} {value_of(kind, given[name]) if name in given else zero})" for (name, kind), zero in zip(formals, zeros)]
     return f"({' '.join(rows)})\n"
 
 
@@ -208,24 +232,37 @@ def same_lines(source, text, words, sizes):
 def try_source(program, source, *words):
     text = read_source(source)
     with tempfile.TemporaryDirectory() as room:
-        lowered = lower(program, source, text, room)
-        if not UNPROVED:
-            run(program, ["check", lowered])
-        asked = Asked(program, room, lowered, [])
-        Path(asked.values).write_text(values_of(text, words), encoding="utf-8", errors="surrogateescape")
-        asked.sizes = sizes_of(program, lowered, room)
+        path = source
+        if not os.path.isfile(source) or not is_text(source):
+            # It has been read, which may be possible once alone; and the program takes no name that isn't text.
+            path = os.path.join(room, "source")
+            Path(path).write_text(text, encoding="utf-8")
         try:
-            printed = run_patiently(asked, not is_infix(text))
-            print(printed, end="", flush=True)
-            tell(asked.raised(printed) if not (UNPROVED or is_infix(text)) else [])
+            asked = Asked(program, room, lower(program, path, text, room), [])
+            try_text(asked, source, text, words)
         except Ended as end:
-            if end.status == 3:
-                # The values come from the command line, and no file has them.
-                end.told = re.sub(r"^VALS:", "the values:", end.told)
-                end.told = "\n".join(filter(None, [end.told, *wrong_lengths(text, words)]))
+            end.printed, end.told = end.printed.replace(path, source), end.told.replace(path, source)
             raise
-        finally:
-            tell(["stack: the same with files:", *(f"    {it}" for it in same_lines(source, text, words, asked.sizes))])
+
+
+def try_text(asked, source, text, words):
+    """Runs a text in the room that it was given."""
+    if not UNPROVED:
+        run(asked.program, ["check", asked.lowered])
+    Path(asked.values).write_text(values_of(text, words), encoding="utf-8", errors="surrogateescape")
+    asked.sizes = sizes_of(asked.program, asked.lowered, asked.room)
+    try:
+        printed = run_patiently(asked, not is_infix(text))
+        print(printed, end="", flush=True)
+        tell(asked.raised(printed) if not (UNPROVED or is_infix(text)) else [])
+    except Ended as end:
+        if end.status == 3:
+            # The values come from the command line, and no file has them.
+            end.told = re.sub(r"^VALS:", "the values:", end.told)
+            end.told = "\n".join(filter(None, [end.told, *wrong_lengths(text, words)]))
+        raise
+    finally:
+        tell(["stack: the same with files:", *(f"    {it}" for it in same_lines(source, text, words, asked.sizes))])
 
 
 def run_patiently(asked, has_places):
@@ -247,7 +284,7 @@ def wrong_lengths(text, words):
     for name, value in (it.split("=", 1) for it in words):
         kind = kinds[name]
         items = value_of(kind, value).strip("() ").split()
-        if isinstance(kind, list) and len(items) != int(kind[2]):
+        if isinstance(kind, list) and len(items) != length_of(kind[2]):
             yield f"    {usage.shown(name)} has {kind[2]} items, and here {'is' if len(items) == 1 else 'are'} {len(items)}"
 
 
@@ -258,22 +295,16 @@ def print_values(_, source, *words):
 
 def main(program, what, *words):
     if not words:
-        print(f"stack: wanted is {usage.SELF} {what} SRC [NAME=VALUE ..]", file=sys.stderr)
+        ends.tell(f"wanted is {usage.SELF} {what} SRC [NAME=VALUE ..]")
         return 1
     try:
-        open_output()
         (try_source if what == "try" else print_values)(program, *words)
-        sys.stdout.flush()
         return 0
-    except OSError:
-        return no_output()
     except Ended as end:
-        # A terminal's cursor stays where it is.
-        plain = (it if it.isprintable() or it == "\n" else "?" for it in end.printed)
-        print("".join(plain) if sys.stdout.isatty() else end.printed, end="", flush=True)
+        print(end.printed, end="", flush=True)
         print(end.told, file=sys.stderr, end="\n" if end.told else "")
         return end.status
 
 
 if __name__ == "__main__":
-    sys.exit(main(*sys.argv[1:]))
+    ends.end(lambda: main(*sys.argv[1:]))

@@ -1,20 +1,20 @@
 """Images and values as the board of this folder is loaded with them, and its memory as the report of a run.
 
-Not proved: docs/languages/image-file.md, docs/languages/values.md and docs/program/cli.md say what `cli_stack` makes of the same files, and .ci/checks/circuit.sh
-compares the two.
+The files are those that the program accepts, which is asked before: nothing is judged here. Not proved: docs/languages/image-file.md,
+docs/languages/values.md and docs/program/cli.md say what `cli_stack` makes of the same files, and .ci/checks/circuit.sh compares the two.
 """
-import re
 import struct
+import sys
 from dataclasses import dataclass
+from pathlib import Path
+
+sys.path.append(str(Path(__file__).resolve().parent.parent / "guide"))
+from sources import number_of, tree_of  # noqa: E402
 
 WORDS = 2**32
 NO_ADDRESS = WORDS - 1
 KINDS = ("integer", "boolean", "character")
 CONDITIONS = ("leave", "routineerror", "normal")    # the numbers 0, 1 and 2; an image names the others
-
-
-class Refused(Exception):
-    """A file isn't what it has to be."""
 
 
 @dataclass(frozen=True)
@@ -49,8 +49,6 @@ class Reader:
 
     def take(self, count: int) -> bytes:
         self.place += count
-        if self.place > len(self.data):
-            raise Refused("the file ends within a field")
         return self.data[self.place - count:self.place]
 
     def numbers(self, count: int) -> list[int]:
@@ -64,83 +62,32 @@ class Reader:
 
     def slot(self) -> Slot:
         name, (kind, length, address) = self.name(), self.numbers(3)
-        if kind >= len(KINDS):
-            raise Refused("a slot has a kind that is none")
         return Slot(name, KINDS[kind], length, address)
 
 
 def read_image(data: bytes) -> Image:
     """The image of a file, of version 1 or 2. The procedures and marks of version 2 aren't read: a run needs none."""
     it = Reader(data)
-    if it.take(4) != b"FM91" or it.number() not in (1, 2):
-        raise Refused("it doesn't begin as an image of version 1 or 2")
+    it.take(8)
     base, size, final = it.numbers(3)
     registers, flags, condition = it.numbers(16), it.number(), it.number()
     names = [it.name() for _ in range(it.number())]
     slots = [it.slot() for _ in range(it.number())]
     words = it.numbers(it.number())
-    if not 1 <= size <= 2**20 or base + size >= WORDS or len(words) > size or flags > 15:
-        raise Refused("its window or its flags are beyond their limits")
-    places = [(slot.address, slot.length or 1) for slot in slots] + [(final, 1)] + ([(condition, 1)] if condition != NO_ADDRESS else [])
-    if not all(base <= address - (items - 1) and address < base + size for address, items in places):
-        raise Refused("a variable, the condition word or the end is outside its window")
-    if len({slot.name for slot in slots}) != len(slots):
-        raise Refused("two variables have one name")
     return Image(base, size, final, registers, flags, None if condition == NO_ADDRESS else condition, names, slots, words)
 
 
-def tree_of(text: str):
-    """The tree of a text: an atom is a string, a list a list."""
-    tokens = re.findall(r"[()]|[^ \t\n\r();]+", re.sub(r";[^\n]*", "", text))
-    opened: list[list] = [[]]
-    for token in tokens:
-        if token == "(":
-            opened.append([])
-        elif token == ")" and len(opened) > 1:
-            last = opened.pop()
-            opened[-1].append(last)
-        elif token != ")":
-            opened[-1].append(token)
-        else:
-            raise Refused("a list is closed that isn't open")
-    if len(opened) != 1 or len(opened[0]) != 1:
-        raise Refused("it isn't one tree")
-    return opened[0][0]
-
-
-def number_of(digits: str) -> int:
-    """The number of a numeral, which may begin with many zeros. One that is too large for any use is a large one."""
-    shortened = re.sub(r"^(-?)0+(?=[0-9])", r"\1", digits)
-    return int(shortened) if len(shortened) < 20 else 10**20
-
-
-def item_of(kind: str, text) -> int:
+def item_of(kind: str, text: bytes) -> int:
     """The number that stands for an item of a kind."""
-    if kind == "boolean" and text in ("true", "false"):
-        return int(text == "true")
-    if kind == "character" and isinstance(text, str) and re.fullmatch(r"#[0-9]+", text) and number_of(text[1:]) <= 127:
-        return number_of(text[1:])
-    if kind == "integer" and isinstance(text, str) and re.fullmatch(r"-?[0-9]+", text) and -2**31 <= number_of(text) < 2**31:
-        return number_of(text)
-    raise Refused(f"{text} is no {kind}")
+    if kind == "boolean":
+        return int(text == b"true")
+    return number_of(text.decode().removeprefix("#"), WORDS)
 
 
-def read_values(text: str, slots: list[Slot]) -> list[list[int]]:
+def read_values(data: bytes, slots: list[Slot]) -> list[list[int]]:
     """The items of each slot, from a text of values, which has an entry for each."""
-    entries = tree_of(text)
-    if not isinstance(entries, list) or not all(isinstance(it, list) and len(it) == 2 and isinstance(it[0], str) for it in entries):
-        raise Refused("it isn't a list of entries (NAME VALUE)")
-    values = dict(entries)
-    if len(values) != len(entries) or set(values) != {slot.name for slot in slots}:
-        raise Refused(f"the entries aren't those of the image's variables ({', '.join(slot.name for slot in slots) or 'it has none'})")
-    return [slot_items(slot, values[slot.name]) for slot in slots]
-
-
-def slot_items(slot: Slot, value) -> list[int]:
-    items = value if isinstance(value, list) else [value]
-    if isinstance(value, list) != (slot.length > 0) or len(items) != (slot.length or 1):
-        raise Refused(f"the value of {slot.name} has another shape than the variable")
-    return [item_of(slot.kind, item) for item in items]
+    values = {name.decode(): value if isinstance(value, list) else [value] for name, value in tree_of(data)}
+    return [[item_of(slot.kind, item) for item in values[slot.name]] for slot in slots]
 
 
 def loaded(image: Image, values: list[list[int]]) -> list[int]:

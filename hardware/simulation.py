@@ -72,16 +72,19 @@ def write_words(path: Path, words: list[int]) -> None:
     path.write_text("@0\n" + "".join(f"{word:08x}\n" for word in words))
 
 
-def simulate(program: list[str], image: Image, memory: list[int], budget: int, folder: Path, wave: Path | None = None,
+def simulate(program: list[str], image: Image, memory: list[int], budget: int, folder: Path, wave: str | None = None,
              trace: int = 0) -> Simulated:
     """A run of an image with this window on the board, for at most so many instructions. `program` is what `compiled` gave of bench.v;
-    the files of the run lie in the folder. `wave` is where all signals are stored, and `trace` how many cycles are told."""
+    the files of the run lie in the folder. `wave` is the name of one there in which all signals are stored, and `trace` how many cycles are told."""
     write_words(folder / "words.hex", memory)
     write_words(folder / "registers.hex", image.registers)
     numbers = {"base": image.base, "size": image.size, "final": image.final, "flags": image.flags, "budget": budget, "trace": trace}
     words = [f"+{name}={number}" for name, number in numbers.items()]
-    text = check_output([*program, *words, *([f"+wave={wave.resolve()}"] if wave else [])], folder)
-    return simulated_in(text, (folder / "after.hex").read_text())
+    text = check_output([*program, *words, *([f"+wave={wave}"] if wave else [])], folder)
+    try:
+        return simulated_in(text, (folder / "after.hex").read_text())
+    except FileNotFoundError:
+        raise NotSimulated(f"the bench left no memory, and printed\n{text[-2000:]}") from None
 
 
 def simulated_in(text: str, after: str) -> Simulated:

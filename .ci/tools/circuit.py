@@ -37,7 +37,7 @@ sys.path.append(str(Path(__file__).resolve().parents[2] / "tools"))
 from arguments import parser_of  # noqa: E402
 from arguments import program as executable  # noqa: E402
 from fm9001 import CONDITIONS, MASK, OPERATIONS, PC, SIGN, Machine, flag_letters  # noqa: E402
-from images import Image, Refused, loaded, read_image, read_values, reading  # noqa: E402
+from images import Image, loaded, read_image, read_values, reading  # noqa: E402
 from simulation import NETLIST, PROCESSOR, NotSimulated, Simulated, compiled, missing_packages, report, simulate, write_words  # noqa: E402
 
 STACK = 300             # words of each stack, of the examples
@@ -173,12 +173,9 @@ class Program:
             raise SystemExit(f"circuit: {' '.join(map(str, words))} ended with status {ran.returncode}: {ran.stdout}")
 
 
-def fits(image: Path, values: Path) -> bool:
-    try:
-        read_values(values.read_text(), read_image(image.read_bytes()).slots)
-    except Refused:
-        return False
-    return True
+def fits(program: Program, image: Path, values: Path) -> bool:
+    """Whether the program takes these values for an image: it makes no instruction then."""
+    return program.run("run", image, values, 0).returncode in (0, 5)
 
 
 def example_runs(program: Program, most: int) -> Iterator[Run]:
@@ -201,7 +198,7 @@ def example_runs(program: Program, most: int) -> Iterator[Run]:
             case _:
                 continue
         for values in sorted([*source.parent.glob("*.values"), TOP / "examples/piton/none.values"]):
-            if fits(image, values) and program.run("run", image, values, most).returncode == 0:
+            if fits(program, image, values) and program.run("run", image, values, most).returncode == 0:
                 words = [*session, str(values), str(STACK), str(STACK)] if session else None
                 yield Run(f"{source.name} {values.name}", image, values, words)
 
@@ -302,7 +299,7 @@ def run_difference(program: Program, run: Run, image: Image, memory: list[int], 
 def difference(simulated: list[str], program: Program, run: Run, seen: Counter) -> str:
     """What is otherwise on the board; how the run ended is counted."""
     image = read_image(run.image.read_bytes())
-    memory = loaded(image, read_values(run.values.read_text(), image.slots))
+    memory = loaded(image, read_values(run.values.read_bytes(), image.slots))
     if found := loading_difference(program, run, image, memory):
         return found
     board = simulate(simulated, image, memory, run.budget, program.folder)

@@ -6,7 +6,10 @@ const perform = (program, words, given) => {
   const open = new Map(), printed = [], written = {};
   let next = 3, memory;
   const part = (at, size) => new Uint8Array(memory.buffer, Number(at), Number(size));
-  const name = (at) => { const all = new Uint8Array(memory.buffer, Number(at), 4096); return decoder.decode(all.slice(0, all.indexOf(0))); };
+  const name = (at) => {
+    const all = new Uint8Array(memory.buffer, Number(at), Math.min(4096, memory.buffer.byteLength - Number(at)));
+    return decoder.decode(all.slice(0, all.indexOf(0)));
+  };
   const env = {
     read(number, at, size) {
       const file = open.get(number), taken = file.bytes.subarray(file.at, file.at + Number(size));
