@@ -28,7 +28,7 @@ MOMENTS = 3000
 MOST_MOMENTS = 20000
 # The most words that one line of a script asks for, about how many words one session prints, and at how many moments at most: a script has 1 MiB.
 LINE, SESSION, ASKED = 4096, 250_000, 10_000
-# The most bytes that the program prints for a page, which has them all: this script then takes some MOST_MEMORY bytes of memory.
+# The most bytes that the program prints for a page, which has them all.
 MOST_ANSWERS = 100_000_000
 
 

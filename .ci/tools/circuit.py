@@ -344,6 +344,15 @@ def script_difference(program: Program, run: Run) -> str:
     return ""
 
 
+def wave_difference(run: Run, folder: Path) -> str:
+    """What is otherwise where waves are stored under a long name with a line end in it."""
+    wave = folder / ("long\n" * 40) / ("w" * 200)
+    wave.parent.mkdir()
+    words = [sys.executable, str(HARDWARE / "run"), str(run.image), str(run.values), "5", "--wave", str(wave)]
+    ended = subprocess.run(words, capture_output=True, text=True, check=False)
+    return "" if ended.returncode == 5 and wave.is_file() and wave.stat().st_size > 1000 else f"waves with a long name: {ended}"
+
+
 def check_images(arguments: argparse.Namespace, folder: Path) -> Iterator[str]:
     simulated = compiled(arguments.simulator, HARDWARE / "bench.v", folder)
     program = Program(arguments.program.resolve(), folder)
@@ -357,6 +366,7 @@ def check_images(arguments: argparse.Namespace, folder: Path) -> Iterator[str]:
             yield f"{run.name}: {found}"
     if arguments.simulator == "icarus":
         yield from filter(None, (script_difference(program, run) for run in (examples[0], runs[len(examples)], runs[-1])))
+        yield from filter(None, [wave_difference(examples[0], folder)])
     yield from (f"no run is {end}" for end in ("finished", "unfinished", "outside") if not seen[end])
     print(f"{len(runs)} images in {arguments.simulator}: {seen['finished']} finished, {seen['unfinished']} unfinished, "
           f"{seen['outside']} outside; {seen['instructions']} instructions, {seen['cycles']} cycles")

@@ -271,6 +271,27 @@ class Rows:
         ended = self.on_terminal(folder, ["page", "S", "V", "20", "20", "5", "S", "5"], self.stack, b"n\n", b"go on?")
         self.note("pages", ended[0] == 130 and (folder / "S").read_text() == SOURCE, "a page that is its source", ended)
 
+    # ---- The board ----
+
+    def boards(self):
+        """`hardware/run` refuses what `run` refuses, with its line and status, and needs no simulator for that."""
+        folder = self.folder()
+        self.run(folder, ["build", "S", "20", "20", "image"], self.stack)
+        image = (folder / "image").read_bytes()
+        slot = image.index(b"\0\0\0\1x")
+        images = {
+            "an end outside": image[:16] + b"\xff\xff\xff\0" + image[20:], "flags": image[:84] + b"\0\0\0\x10" + image[88:],
+            "a condition word outside": image[:88] + b"\xff\xff\xff\0" + image[92:], "a slot above": image[:slot + 13] + b"\0\x10\0\0" + image[slot + 17:],
+            "a name": image[:slot + 4] + b"(" + image[slot + 5:], "bytes behind": image + b"x", "a part": image[:200], "a length": image[:slot] + b"\xff\xff\xff\xff",
+            "one name twice": image[:slot - 4] + b"\0\0\0\2" + image[slot:slot + 17] + image[slot:],
+        }
+        values = ["((x\f5))", "((x\x1c5))", "((x\xa05))", "((x 1_0))", "((x 1) (x 2))", "((y 1))", "()", "((x 2147483648))", "((x #5))", "((x 5)) y"]
+        for name, data, text in [*((name, it, "((x 5))") for name, it in images.items()), *((it, image, it) for it in values)]:
+            (folder / "I").write_bytes(data)
+            (folder / "W").write_bytes(text.encode("latin-1"))
+            ended, wanted = (self.run(folder, ["run", "I", "W", "0"][first:], stack, explains="0") for first, stack in ((1, self.top / "hardware/run"), (0, self.stack)))
+            self.note("boards", wanted[0] in (3, 4) and ended[:2] == wanted[:2] and b"Traceback" not in ended[2], name, (ended, wanted))
+
     # ---- What is told ----
 
     def terminals(self):
@@ -376,7 +397,7 @@ def main():
     words = parser.parse_args()
     with tempfile.TemporaryDirectory() as room:
         rows = Rows(words.stack, room)
-        themes = (rows.sessions, rows.bytes, rows.own_output, rows.statuses, rows.sources, rows.growth, rows.pages, rows.terminals, rows.signals, rows.releases, rows.surroundings)
+        themes = (rows.sessions, rows.bytes, rows.own_output, rows.statuses, rows.sources, rows.growth, rows.pages, rows.boards, rows.terminals, rows.signals, rows.releases, rows.surroundings)
         for theme in themes:
             if words.only in (None, theme.__name__):
                 theme()

@@ -1,0 +1,81 @@
+#!/usr/bin/env python3
+"""Tries labels that were picked to collide: `pcheck` and `asm` make as many instructions of them as of ordinary ones, and say the same.
+
+    python3 .ci/tools/picked_names.py PROGRAM COUNTING
+
+Under the fixed seed of the standard library's hasher the picked names begin their search at one place of a hash table, so a table without a key of its own
+looks at all of them for each. COUNTING is the compiled counting_instructions.c: instructions are counted, and no time is taken. The exit status is 1 where
+picked names took more than a tenth more, or fewer than no table could do with.
+"""
+import subprocess
+import sys
+import tempfile
+from itertools import islice, product
+from pathlib import Path
+from string import ascii_letters
+
+sys.path.append(str(Path(__file__).resolve().parents[2] / "tools"))
+
+from arguments import parser_of  # noqa: E402
+from arguments import program as executable  # noqa: E402
+
+COUNT, LENGTH, BITS, MORE = 600, 8, 10, 1.1
+WORD, MULTIPLIER, SEED = 2**64 - 1, 0x9E3779B97F4A7C15, 0x243F6A8885A308D3
+
+
+def folded(left, right):
+    """Both halves of a product, one over the other."""
+    whole = left * right
+    return (whole ^ whole >> 64) & WORD
+
+
+def taken(state, byte):
+    """The hasher's state behind a byte."""
+    return folded(state ^ byte * 0x010101, MULTIPLIER ^ 2)
+
+
+def picked():
+    """Names whose hashes have low bits 0, under the fixed seed: the length as a number of 8 bytes, and then each byte."""
+    begin = folded(SEED ^ LENGTH, MULTIPLIER ^ 16)
+    for front in product(ascii_letters, repeat=LENGTH - 1):
+        state = begin
+        for it in front:
+            state = taken(state, ord(it))
+        for last in ascii_letters:
+            made = taken(state, ord(last))
+            if not (made ^ made >> 32) & (2**BITS - 1):
+                yield "".join(front) + last
+
+
+def piton(names):
+    return f"(piton main 9 9 0 () () (main () (){''.join(f'(dl {it}()(no-op))' for it in names)}(ret)))"
+
+
+def assembly(names):
+    return f".base 0\n.size {len(names)}\n.final 0\n.start 0\n" + "".join(f"{it}: .word 0\n" for it in names)
+
+
+def instructions(counting, program, words, text):
+    """What a command says of a text, and how many instructions it makes."""
+    with tempfile.TemporaryDirectory() as room:
+        Path(room, "t").write_text(text)
+        ran = subprocess.run([counting, "count", program, *words], cwd=room, stdout=subprocess.PIPE, check=False)
+        return (ran.returncode, ran.stdout), int(Path(room, "count").read_text())
+
+
+def main():
+    parser = parser_of(__doc__)
+    parser.add_argument("program", type=executable, help="cli_stack")
+    parser.add_argument("counting", type=executable, help="the compiled counting_instructions.c")
+    words = parser.parse_args()
+    chosen, ordinary, failed = list(islice(picked(), COUNT)), [f"l{it:07d}" for it in range(COUNT)], 0
+    for command, form in (["pcheck", "t"], piton), (["asm", "t", "o"], assembly):
+        (said, few), (also, many) = (instructions(words.counting, words.program, command, form(it)) for it in (ordinary, chosen))
+        holds = said[0] == 0 and said == also and COUNT * LENGTH < many < MORE * few
+        failed += not holds
+        print(f"{command[0]}: {COUNT} ordinary names {few:,} instructions, picked ones {many:,}{'' if holds else ': FAILED'}")
+    return 1 if failed else 0
+
+
+if __name__ == "__main__":
+    sys.exit(main())
