@@ -1,12 +1,14 @@
 #!/usr/bin/env python3
 """Tries labels that were picked to collide: `pcheck` and `asm` make as many instructions of them as of ordinary ones, and say the same.
 
-    python3 .ci/tools/picked_names.py PROGRAM COUNTING
+    python3 .ci/tools/picked_names.py PROGRAM
 
 Under the fixed seed of the standard library's hasher the picked names begin their search at one place of a hash table, so a table without a key of its own
-looks at all of them for each. COUNTING is the compiled counting_instructions.c: instructions are counted, and no time is taken. The exit status is 1 where
-picked names took more than a tenth more, or fewer than no table could do with.
+looks at all of them for each. Valgrind counts the instructions: no time is taken. The exit status is 1 where picked names took more than a tenth more than
+ordinary ones, and 2 where there is no Valgrind.
 """
+import re
+import shutil
 import subprocess
 import sys
 import tempfile
@@ -19,7 +21,8 @@ sys.path.append(str(Path(__file__).resolve().parents[2] / "tools"))
 from arguments import parser_of  # noqa: E402
 from arguments import program as executable  # noqa: E402
 
-COUNT, LENGTH, BITS, MORE = 600, 8, 10, 1.1
+COUNT, LENGTH, BITS, MORE = 2000, 8, 9, 1.1
+COUNTED = ["valgrind", "--tool=cachegrind", "--cache-sim=no", "--cachegrind-out-file=/dev/null"]
 WORD, MULTIPLIER, SEED = 2**64 - 1, 0x9E3779B97F4A7C15, 0x243F6A8885A308D3
 
 
@@ -55,23 +58,25 @@ def assembly(names):
     return f".base 0\n.size {len(names)}\n.final 0\n.start 0\n" + "".join(f"{it}: .word 0\n" for it in names)
 
 
-def instructions(counting, program, words, text):
+def instructions(program, words, text):
     """What a command says of a text, and how many instructions it makes."""
     with tempfile.TemporaryDirectory() as room:
         Path(room, "t").write_text(text)
-        ran = subprocess.run([counting, "count", program, *words], cwd=room, stdout=subprocess.PIPE, check=False)
-        return (ran.returncode, ran.stdout), int(Path(room, "count").read_text())
+        ran = subprocess.run([*COUNTED, program, *words], cwd=room, capture_output=True, text=True, check=False)
+        return (ran.returncode, ran.stdout), int(re.search(r"I\s+refs:\s+([0-9,]+)", ran.stderr)[1].replace(",", ""))
 
 
 def main():
     parser = parser_of(__doc__)
     parser.add_argument("program", type=executable, help="cli_stack")
-    parser.add_argument("counting", type=executable, help="the compiled counting_instructions.c")
-    words = parser.parse_args()
+    program = parser.parse_args().program
+    if not shutil.which(COUNTED[0]):
+        print("valgrind isn't there: apt-get install valgrind")
+        return 2
     chosen, ordinary, failed = list(islice(picked(), COUNT)), [f"l{it:07d}" for it in range(COUNT)], 0
     for command, form in (["pcheck", "t"], piton), (["asm", "t", "o"], assembly):
-        (said, few), (also, many) = (instructions(words.counting, words.program, command, form(it)) for it in (ordinary, chosen))
-        holds = said[0] == 0 and said == also and COUNT * LENGTH < many < MORE * few
+        (said, few), (also, many) = (instructions(program, command, form(it)) for it in (ordinary, chosen))
+        holds = said[0] == 0 and said == also and many < MORE * few
         failed += not holds
         print(f"{command[0]}: {COUNT} ordinary names {few:,} instructions, picked ones {many:,}{'' if holds else ': FAILED'}")
     return 1 if failed else 0
