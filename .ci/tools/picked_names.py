@@ -5,7 +5,7 @@
 
 Under the fixed seed of the standard library's hasher the picked names begin their search at one place of a hash table, so a table without a key of its own
 looks at all of them for each. Valgrind counts the instructions: no time is taken. The exit status is 1 where picked names took more than a tenth more than
-ordinary ones, and 2 where there is no Valgrind.
+ordinary ones, and 2 where there is no Valgrind, or it can't run the program, as one with an address sanitizer.
 """
 import re
 import shutil
@@ -24,6 +24,10 @@ from arguments import program as executable  # noqa: E402
 COUNT, LENGTH, BITS, MORE = 2000, 8, 9, 1.1
 COUNTED = ["valgrind", "--tool=cachegrind", "--cache-sim=no", "--cachegrind-out-file=/dev/null"]
 WORD, MULTIPLIER, SEED = 2**64 - 1, 0x9E3779B97F4A7C15, 0x243F6A8885A308D3
+
+
+class NotCounted(Exception):
+    """Nothing is known of how many instructions a program makes, for the reason that the text says."""
 
 
 def folded(left, right):
@@ -63,7 +67,21 @@ def instructions(program, words, text):
     with tempfile.TemporaryDirectory() as room:
         Path(room, "t").write_text(text)
         ran = subprocess.run([*COUNTED, program, *words], cwd=room, capture_output=True, text=True, check=False)
-        return (ran.returncode, ran.stdout), int(re.search(r"I\s+refs:\s+([0-9,]+)", ran.stderr)[1].replace(",", ""))
+    found = re.search(r"I\s+refs:\s+([0-9,]+)", ran.stderr)
+    if not found:
+        raise NotCounted(f"valgrind doesn't run the program to its end: {ran.stderr[-200:]!r}")
+    return (ran.returncode, ran.stdout), int(found[1].replace(",", ""))
+
+
+def counted(program):
+    """Whether picked names take no more instructions than ordinary ones."""
+    chosen, ordinary, failed = list(islice(picked(), COUNT)), [f"l{it:07d}" for it in range(COUNT)], 0
+    for command, form in (["pcheck", "t"], piton), (["asm", "t", "o"], assembly):
+        (said, few), (also, many) = (instructions(program, command, form(it)) for it in (ordinary, chosen))
+        holds = said[0] == 0 and said == also and many < MORE * few
+        failed += not holds
+        print(f"{command[0]}: {COUNT} ordinary names {few:,} instructions, picked ones {many:,}{'' if holds else ': FAILED'}")
+    return not failed
 
 
 def main():
@@ -73,13 +91,11 @@ def main():
     if not shutil.which(COUNTED[0]):
         print("valgrind isn't there: apt-get install valgrind")
         return 2
-    chosen, ordinary, failed = list(islice(picked(), COUNT)), [f"l{it:07d}" for it in range(COUNT)], 0
-    for command, form in (["pcheck", "t"], piton), (["asm", "t", "o"], assembly):
-        (said, few), (also, many) = (instructions(program, command, form(it)) for it in (ordinary, chosen))
-        holds = said[0] == 0 and said == also and many < MORE * few
-        failed += not holds
-        print(f"{command[0]}: {COUNT} ordinary names {few:,} instructions, picked ones {many:,}{'' if holds else ': FAILED'}")
-    return 1 if failed else 0
+    try:
+        return 0 if counted(program) else 1
+    except NotCounted as fault:
+        print(fault)
+        return 2
 
 
 if __name__ == "__main__":
