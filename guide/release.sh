@@ -104,7 +104,7 @@ be_pack() {
     stage "$room/$name"
     part=$made
     if [ ! -L "$made" ] && { [ ! -e "$made" ] || [ -f "$made" ]; }; then
-        part=$(mktemp -p "$(dirname -- "$made")" partly-stored-XXXXXX) && trap 'rm -rf -- "$room" "$part"' EXIT && chmod "$(rights_of "$made")" -- "$part" || exit 10
+        part=$(mktemp -p "$(dirname -- "$made")" partly-stored-XXXXXX) && trap 'rm -rf -- "$room" "$part"' EXIT && chmod -- "$(rights_of "$made")" "$part" || exit 10
     fi
     tar -cf - -C "$room" --sort=name --format=ustar --owner=0 --group=0 --numeric-owner --mtime="$(proof_line 'proved on')" "$name" |
         gzip -n -9 >"$part" && [ "${PIPESTATUS[*]}" = "0 0" ] || exit 10

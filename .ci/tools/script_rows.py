@@ -335,7 +335,7 @@ class Rows:
     def releases(self):
         """What is packed and installed comes whole, beside what others have there."""
         folder, stack = self.folder(), self.played
-        for name, more in ("one", {}), ("two", {"TAR_OPTIONS": "--exclude=*.md", "GZIP": "-1", "GIT_DIR": str(folder)}):
+        for name, more in ("one", {}), ("two", {"TAR_OPTIONS": "--exclude=*.md", "GZIP": "-1", "GIT_DIR": str(folder), "POSIXLY_CORRECT": "1"}):
             ended = self.run(folder, ["pack", f"{name}.tar.gz"], stack, more=more)
             self.note("releases", ended[0] == 0, more, ended)
         self.note("releases", (folder / "one.tar.gz").read_bytes() == (folder / "two.tar.gz").read_bytes(), "the same bytes in any environment")
