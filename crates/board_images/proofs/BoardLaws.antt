@@ -1,40 +1,23 @@
 -- What images do on a board.
-use Rattle.std.proofs.Common.{◌≡◌, ℕ, zero, suc, ◌+◌, ◌≤◌, List, Result, Ok, Err, refl, sym, ap, subst, ◌∙◌, arith}
-use Rattle.std.specs.Prelude.{IfOk, option_map}
+use Rattle.std.{proofs.Common.{◌≡◌, ℕ, zero, suc, ◌+◌, ◌≤◌, List, Result, Ok, Err, refl, sym, ap, subst, ◌∙◌, arith}, specs.Prelude.{IfOk, option_map}}
 use Rattle.stack_text.specs.Values.{ValueOf}
-use Rattle.fm_machine.specs.State.{Fm}
-use Rattle.fm_machine.specs.Step.{then_on, read_word, fm_step}
-use Rattle.fm_machine.specs.Run.{fm_run, pc_of, Avoids}
-use Rattle.fm_machine.specs.Outcome.{IsOutcome, RunOutcome, outcome}
-use Rattle.fm_machine.specs.declared.fault.Outside.{Outside}
-use Rattle.fm_machine.specs.declared.processor.Run.{Run}
+use Rattle.fm_machine.{specs.State.Fm, specs.Step.{then_on, read_word, fm_step}, specs.Run.{fm_run, pc_of, Avoids}, specs.Outcome.{IsOutcome, RunOutcome}}
+use Rattle.fm_machine.{specs.Outcome.outcome, specs.declared.fault.Outside.Outside, specs.declared.processor.Run.Run, proofs.RunLaws.outcome_is}
 use Rattle.fm_machine.specs.declared.processor.Run.TheVariants as run
-use Rattle.fm_machine.proofs.RunLaws.{outcome_is}
-use Rattle.fm_image.specs.Image.{ImageOf}
-use Rattle.fm_image.specs.Spelling.{Spelled}
+use Rattle.fm_image.{specs.Image.ImageOf, specs.Spelling.Spelled}
 use Rattle.fm_loader.specs.Loaded.{loaded}
-use Rattle.fm_circuit.specs.Board.{Board, cycles}
-use Rattle.fm_circuit.specs.Following.{StandsFor, IsAt, if_ok, cycles_with, step_cycles, run_cycles}
-use Rattle.fm_circuit.proofs.RunningLaws.{runs, avoided, at_address}
+use Rattle.fm_circuit.{specs.Board.{Board, cycles}, specs.Following.{StandsFor, IsAt, if_ok, cycles_with, step_cycles, run_cycles}, proofs.RunningLaws.runs}
+use Rattle.fm_circuit.proofs.RunningLaws.{avoided, at_address}
 use Rattle.display_maps.specs.Reading.{ReadingOf}
-use Rattle.gypsy_syntax.specs.Sources.{SourceOf}
-use Rattle.gypsy_syntax.specs.Resolved.{program_of}
-use Rattle.gypsy_space.specs.Costs.{Tally}
-use Rattle.gypsy_space.specs.Needs.{StackSizes, stack_sizes}
-use Rattle.gypsy_semantics.specs.Calls.{CurrentCondition}
-use Rattle.gypsy_semantics.specs.Counted.{CountedOutcome, CountedDone, CountedUnfinished, counted_meaning, uncounted, tally_of}
-use Rattle.gypsy_semantics.specs.Machine.{At, Move, Next, Ended}
-use Rattle.gypsy_semantics.specs.Meaning.{Done, meaning}
-use Rattle.gypsy_semantics.proofs.CountLaws.{meaning-uncounted}
+use Rattle.gypsy_syntax.{specs.Sources.SourceOf, specs.Resolved.program_of}
+use Rattle.gypsy_space.{specs.Costs.Tally, specs.Needs.{StackSizes, stack_sizes}}
+use Rattle.gypsy_semantics.{specs.Calls.CurrentCondition, specs.Counted.{CountedOutcome, CountedDone, CountedUnfinished, counted_meaning, uncounted, tally_of}}
+use Rattle.gypsy_semantics.{specs.Machine.{At, Move, Next, Ended}, specs.Meaning.{Done, meaning}, proofs.CountLaws.meaning-uncounted}
 use Rattle.gypsy_codegen.specs.Moments.{moment_from}
-use Rattle.stack_build.specs.Implements.{FitsFormals, Finishes}
-use Rattle.stack_build.specs.ComesTo.{ComesTo}
-use Rattle.stack_build.specs.Moments.{ArrivesAt}
-use Rattle.stack_build.specs.Build.{BuildsText}
+use Rattle.stack_build.{specs.Implements.{FitsFormals, Finishes}, specs.ComesTo.ComesTo, specs.Moments.ArrivesAt, specs.Build.BuildsText}
 use Rattle.stack_build.specs.Joined.{BuiltImplements}
 use Rattle.board_images.specs.OnBoard.{StandsAfter, ComesOnBoard, ArrivesOnBoard, RunsOnBoard, KeepsMomentsOnBoard, StaysUnfinishedOnBoard, SpelledOnBoard}
-use Rattle.board_images.specs.OnBoard.{BuiltRunsOnBoard, cycles_to}
-use Rattle.board_images.proofs.LoadedLaws.{loaded_words}
+use Rattle.board_images.{specs.OnBoard.{BuiltRunsOnBoard, cycles_to}, proofs.LoadedLaws.loaded_words}
 
 -- a meaning that is done has a count
 finishes : (source : SourceOf) (sizes : StackSizes) (values finals : List ValueOf) (way : CurrentCondition) (bound : ℕ)

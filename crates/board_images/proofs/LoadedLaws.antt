@@ -1,24 +1,13 @@
 -- A loaded machine has words of 32 bits.
-use Rattle.std.proofs.Common.{◌≡◌, ℕ, zero, suc, ◌+◌, ◌-◌, ◌^◌, true, ℤ, List, [], ◌∷◌, arith}
-use Rattle.std.specs.Prelude.{nat_lt, replicate}
-use Rattle.std.specs.List.{list_all}
+use Rattle.std.{proofs.Common.{◌≡◌, ℕ, zero, suc, ◌+◌, ◌-◌, ◌^◌, true, ℤ, List, [], ◌∷◌, arith}, specs.Prelude.{nat_lt, replicate}, specs.List.list_all}
 use Rattle.std.proofs.lemmas.Bool.{and_parts, ltb-true}
-use Rattle.stack_text.specs.declared.shape.Shape.{Shape}
-use Rattle.stack_text.specs.Values.{ValueOf}
-use Rattle.fm_words.specs.Word.{is_int, word_of_int}
-use Rattle.fm_words.proofs.WordLaws.{word_of_int_below}
-use Rattle.fm_image.specs.declared.slot.Slot.{Slot}
-use Rattle.fm_image.specs.Image.{ImageOf}
-use Rattle.fm_image.specs.Spelling.{are_words}
+use Rattle.stack_text.{specs.declared.shape.Shape.Shape, specs.Values.ValueOf}
+use Rattle.fm_words.{specs.Word.{is_int, word_of_int}, proofs.WordLaws.word_of_int_below}
+use Rattle.fm_image.{specs.declared.slot.Slot.Slot, specs.Image.ImageOf, specs.Spelling.are_words}
 use Rattle.fm_loader.specs.Loaded.{loaded, with_words, with_items, with_values}
-use Rattle.fm_circuit.specs.Following.{AreWords, HasWords}
-use Rattle.fm_circuit.proofs.WordsLaws.{words_with}
-use Rattle.gypsy_syntax.specs.Sources.{SourceOf}
-use Rattle.gypsy_syntax.specs.Resolved.{program_of}
-use Rattle.gypsy_syntax.specs.Programs.{proc_at}
-use Rattle.gypsy_syntax.specs.ValuesFit.{VarsFit}
-use Rattle.stack_build.specs.Implements.{FitsFormals}
-use Rattle.stack_build.proofs.ReadBack.{items_fit}
+use Rattle.fm_circuit.{specs.Following.{AreWords, HasWords}, proofs.WordsLaws.words_with}
+use Rattle.gypsy_syntax.{specs.Sources.SourceOf, specs.Resolved.program_of, specs.Programs.proc_at, specs.ValuesFit.VarsFit}
+use Rattle.stack_build.{specs.Implements.FitsFormals, proofs.ReadBack.items_fit}
 
 words_from : (xs : List ℕ) → are_words xs ≡ true → AreWords xs
 words_from [] h i = omega arith

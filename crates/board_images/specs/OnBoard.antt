@@ -2,28 +2,19 @@
 use Rattle.std.specs.Prelude.{◌≡◌, ℕ, ◌*◌, ◌<◌, ◌≤◌, ◌^◌, List, length, Ok}
 use Rattle.stack_text.specs.Values.{ValueOf}
 use Rattle.fm_machine.specs.State.{Fm}
-use Rattle.fm_image.specs.Image.{ImageOf}
-use Rattle.fm_image.specs.Spelling.{Spelled}
+use Rattle.fm_image.specs.{Image.{ImageOf}, Spelling.{Spelled}}
 use Rattle.fm_loader.specs.Loaded.{loaded}
-use Rattle.fm_circuit.specs.Board.{Board, cycles}
-use Rattle.fm_circuit.specs.Following.{StandsFor, IsAt, run_cycles}
+use Rattle.fm_circuit.specs.{Board.{Board, cycles}, Following.{StandsFor, IsAt, run_cycles}}
 use Rattle.display_maps.specs.Reading.{ReadingOf, reading}
-use Rattle.gypsy_syntax.specs.Sources.{SourceOf}
-use Rattle.gypsy_syntax.specs.Resolved.{program_of}
+use Rattle.gypsy_syntax.specs.{Sources.{SourceOf}, Resolved.{program_of}}
 use Rattle.gypsy_space.specs.Needs.{StackSizes, stack_sizes}
-use Rattle.gypsy_semantics.specs.Calls.{CurrentCondition}
-use Rattle.gypsy_semantics.specs.Machine.{Item, Frame, At, Move, Next, Ended}
-use Rattle.gypsy_semantics.specs.Meaning.{Done}
-use Rattle.gypsy_codegen.specs.Moments.{moment_from}
+use Rattle.gypsy_semantics.specs.{Calls.{CurrentCondition}, Machine.{Item, Frame, At, Move, Next, Ended}, Meaning.{Done}}
 use Rattle.gypsy_semantics.specs.Views.Moments.{NeverEnds}
-use Rattle.stack_build.specs.Implements.{FitsFormals, Finishes, Implements, meaning_shown}
-use Rattle.stack_build.specs.Moments.{MemoryReads, KeepsMoments}
-use Rattle.stack_build.specs.StaysUnfinished.{StaysUnfinished}
-use Rattle.stack_build.specs.Build.{BuiltOf, accepted_source, built}
-use Rattle.mini_syntax.specs.Breaches.{body_of}
-use Rattle.mini_syntax.specs.Grammar.{InfixProgram}
-use Rattle.mini_gypsy.specs.Meant.{program_run}
-use Rattle.mini_gypsy.specs.Stored.{MeansAlways}
+use Rattle.gypsy_codegen.specs.Moments.{moment_from}
+use Rattle.stack_build.specs.{Implements.{FitsFormals, Finishes, Implements, meaning_shown}, Moments.{MemoryReads, KeepsMoments}}
+use Rattle.stack_build.specs.{StaysUnfinished.{StaysUnfinished}, Build.{BuiltOf, accepted_source, built}}
+use Rattle.mini_syntax.specs.{Breaches.{body_of}, Grammar.{InfixProgram}}
+use Rattle.mini_gypsy.specs.{Meant.{program_run}, Stored.{MeansAlways}}
 
 -- 1. What a board comes to.
 

@@ -1,64 +1,35 @@
 -- `asm` after `unasm`, `cert` after `need`, and `check` beside `build`.
 use Rattle.std.proofs.Common.{◌≡◌, ◌≢◌, ◌≤◌, ◌∷◌, [], ℕ, List, Bool, true, false, if◌then◌else◌, Option, Some, None, Result, Ok, Err, length, append-nil, refl}
-use Rattle.std.proofs.Common.{sym, ap, ◌∙◌, subst, arith}
-use Rattle.std.specs.Prelude.{codes, nat_lt}
-use Rattle.std.specs.Result.{MatchResult}
-use Rattle.stack_text.specs.Results.{◌>>=◌}
-use Rattle.stack_text.specs.Lines.{line}
-use Rattle.stack_shelf.specs.Files.{Files, file_at, put_file}
-use Rattle.stack_shelf.specs.Shelf.{fetched, within}
+use Rattle.std.{proofs.Common.{sym, ap, ◌∙◌, subst, arith}, specs.Prelude.{codes, nat_lt}, specs.Result.MatchResult}
+use Rattle.stack_text.{specs.Results.◌>>=◌, specs.Lines.line}
+use Rattle.stack_shelf.{specs.Files.{Files, file_at, put_file}, specs.Shelf.{fetched, within}}
 use Rattle.level_debuggers.specs.Tallies.{Watching}
 use Rattle.fm_words.specs.WindowLimit.{most_window}
-use Rattle.fm_image.specs.Image.{ImageOf}
-use Rattle.fm_image.specs.Reading.{read_of}
-use Rattle.fm_image.specs.Spelling.{spelling}
-use Rattle.fm_asm.specs.Assembling.{assembly_of}
-use Rattle.fm_asm.specs.Printing.{is_plain, assembly_text}
-use Rattle.fm_asm.proofs.PrintLaws.{printed_is_assembled}
+use Rattle.fm_image.{specs.Image.ImageOf, specs.Reading.read_of, specs.Spelling.spelling}
+use Rattle.fm_asm.{specs.Assembling.assembly_of, specs.Printing.{is_plain, assembly_text}, proofs.PrintLaws.printed_is_assembled}
 use Rattle.piton_syntax.specs.Systems.{SystemOf}
-use Rattle.gypsy_syntax.specs.Programs.{Program}
-use Rattle.gypsy_syntax.specs.Resolved.{procedure_names, program_of}
-use Rattle.gypsy_syntax.specs.Sources.{SourceOf}
+use Rattle.gypsy_syntax.{specs.Programs.Program, specs.Resolved.{procedure_names, program_of}, specs.Sources.SourceOf}
 use Rattle.gypsy_space.specs.Needs.{StackSizes, stack_sizes}
-use Rattle.gypsy_codegen.specs.Generation.{generation}
-use Rattle.gypsy_codegen.specs.declared.fault.GenFault.{GenFault}
+use Rattle.gypsy_codegen.{specs.Generation.generation, specs.declared.fault.GenFault.GenFault}
 use Rattle.gypsy_codegen.specs.declared.fault.GenFault.TheVariants as gen
-use Rattle.space_cert.specs.Accepting.{is_covered}
-use Rattle.space_cert.specs.CertAgain.{CertificatesAreReadAgain}
-use Rattle.space_cert.specs.CertText.{bounds_in, certificate_text}
-use Rattle.space_cert.specs.Certified.{certified}
-use Rattle.space_cert.specs.Covers.{Bounds, Covers, IsAtMost, sizes_for}
-use Rattle.space_cert.specs.Least.{AreLeastBounds, IsFirstRecursive}
-use Rattle.space_cert.proofs.AcceptLaws.{covered_is}
-use Rattle.space_cert.proofs.CertAgainLaws.{certificates_again}
-use Rattle.space_cert.proofs.CertifiedLaws.{certified_is}
-use Rattle.space_cert.proofs.LeastLaws.{covers_main}
-use Rattle.stack_build.specs.declared.fault.BuildFault.{BuildFault}
+use Rattle.space_cert.{specs.Accepting.is_covered, specs.CertAgain.CertificatesAreReadAgain, specs.CertText.{bounds_in, certificate_text}}
+use Rattle.space_cert.{specs.Certified.certified, specs.Covers.{Bounds, Covers, IsAtMost, sizes_for}, specs.Least.{AreLeastBounds, IsFirstRecursive}}
+use Rattle.space_cert.{proofs.AcceptLaws.covered_is, proofs.CertAgainLaws.certificates_again, proofs.CertifiedLaws.certified_is, proofs.LeastLaws.covers_main}
+use Rattle.stack_build.{specs.declared.fault.BuildFault.BuildFault, specs.Build.{accepted_source, source_built, built, generated_by, linked_of, built_with}}
+use Rattle.stack_build.{specs.Build.placed_size, proofs.KnownLaws.source_is_accepted}
 use Rattle.stack_build.specs.declared.fault.BuildFault.TheVariants as fault
-use Rattle.stack_build.specs.Build.{accepted_source, source_built, built, generated_by, linked_of, built_with, placed_size}
-use Rattle.stack_build.proofs.KnownLaws.{source_is_accepted}
 use Rattle.command_line.specs.declared.command.Command.TheVariants as command
-use Rattle.command_line.specs.declared.early_end.EarlyEnd.{EarlyEnd}
-use Rattle.command_line.specs.declared.role.Role.TheVariants.{Source, Image, Assembly, Certificate}
-use Rattle.command_line.specs.declared.status.Status.TheVariants.{Done, Refused}
-use Rattle.command_line.specs.Roles.{limit_of}
-use Rattle.command_line.specs.Gathered.{text_or_end}
-use Rattle.command_line.specs.CommandFiles.{inputs_of, output_of}
-use Rattle.command_line.proofs.FileLaws.{was_short}
-use Rattle.command_replies.specs.Replies.{status_of, reply_text, all_said, judgement_reply}
-use Rattle.command_replies.specs.Commands.Asm.{assembled_stored}
-use Rattle.stack_commands.specs.Commands.Build.{image_stored, build_reply}
-use Rattle.stack_commands.specs.Commands.Cert.{yes_or_no, judged_reply, certificate_reply, cert_reply_by}
-use Rattle.stack_commands.specs.Commands.Need.{sizes_text, bounds_stored, bounds_reply, certified_stored, certified_reply, need_stored_by, need_reply_by}
-use Rattle.stack_commands.specs.Commands.SourceText.{accepted_in, unless_refused}
+use Rattle.command_line.{specs.declared.early_end.EarlyEnd.EarlyEnd, specs.declared.role.Role.TheVariants.{Source, Image, Assembly, Certificate}}
+use Rattle.command_line.{specs.declared.status.Status.TheVariants.{Done, Refused}, specs.Roles.limit_of, specs.Gathered.text_or_end}
+use Rattle.command_line.{specs.CommandFiles.{inputs_of, output_of}, proofs.FileLaws.was_short}
+use Rattle.command_replies.{specs.Replies.{status_of, reply_text, all_said, judgement_reply}, specs.Commands.Asm.assembled_stored}
 use Rattle.command_replies.specs.Commands.Unasm.{printed_stored, printed_reply}
-use Rattle.stack_commands.specs.Prepared.{stored_by, reply_by}
-use Rattle.cli_stack.specs.Again.{HasBytes, AssembledIsTheSame, NeedIsCertified, ChecksAsBuild, CheckIsOfBuild}
-use Rattle.cli_stack.specs.Answer.{Answer, set_file, answer_with, answer_on, files_after}
-use Rattle.cli_stack.proofs.AssemblesLaws.{spells_again, first_below}
-use Rattle.cli_stack.proofs.GoLaws.{early_done, build_done}
-use Rattle.cli_stack.proofs.PutLaws.{put_there, put_other}
-use Rattle.cli_stack.proofs.TellsLaws.{is_there}
+use Rattle.stack_commands.{specs.Commands.Build.{image_stored, build_reply}, specs.Commands.Cert.{yes_or_no, judged_reply, certificate_reply, cert_reply_by}}
+use Rattle.stack_commands.specs.Commands.Need.{sizes_text, bounds_stored, bounds_reply, certified_stored, certified_reply, need_stored_by, need_reply_by}
+use Rattle.stack_commands.{specs.Commands.SourceText.{accepted_in, unless_refused}, specs.Prepared.{stored_by, reply_by}}
+use Rattle.cli_stack.{specs.Again.{HasBytes, AssembledIsTheSame, NeedIsCertified, ChecksAsBuild, CheckIsOfBuild}, specs.Answer.{Answer, set_file, answer_with}}
+use Rattle.cli_stack.{specs.Answer.{answer_on, files_after}, proofs.AssemblesLaws.{spells_again, first_below}, proofs.GoLaws.{early_done, build_done}}
+use Rattle.cli_stack.{proofs.PutLaws.{put_there, put_other}, proofs.TellsLaws.is_there}
 
 abbrev Fetched : Type 0
 Fetched = Result (List ℕ) EarlyEnd

@@ -1,28 +1,14 @@
 -- What answers mean, law by law.
 use Rattle.std.proofs.Common.{List, Option, Some, None, IfSome}
 use Rattle.stack_shelf.specs.Files.{Files}
-use Rattle.cli_stack.specs.SessionMoments.{BuiltSaysEnds, BuiltSaysMoments}
-use Rattle.level_debuggers.specs.RunWalks.{MachinesArrive, MachinesWalk}
-use Rattle.level_debuggers.specs.ScriptSteps.{ArrivalsAreSaid, StepsAreSaid, TextStays, UpIsSaid, WordsAreSaid}
+use Rattle.cli_stack.{specs.SessionMoments.{BuiltSaysEnds, BuiltSaysMoments}, specs.Answer.answer_to, specs.AnswerMeans.CommandMeans, specs.Tells.TellsMeanings}
+use Rattle.cli_stack.{proofs.AssemblesLaws.assembles, proofs.ByTurnsLaws.each_task_is_told, proofs.DecidesLaws.decides, proofs.ExplainsLaws.explains}
+use Rattle.cli_stack.{proofs.ImplementsLaws.{implements, implements_of, stores, stores_of}, proofs.LinksLaws.links, proofs.LowersLaws.lowers}
+use Rattle.cli_stack.{proofs.MeansLaws.means, proofs.RoomLaws.needs, proofs.TaskCountLaws.HasFew, proofs.TellsLaws.tells}
+use Rattle.level_debuggers.{specs.RunWalks.{MachinesArrive, MachinesWalk}, specs.ScriptSteps.{ArrivalsAreSaid, StepsAreSaid, TextStays, UpIsSaid, WordsAreSaid}}
 use Rattle.level_debuggers.specs.Tallies.{Watching}
-use Rattle.stack_build.specs.Joined.{BuiltImplements, BuiltTakesValues}
-use Rattle.stack_build.specs.Meant.{KeptMeansOnly}
-use Rattle.stack_build.specs.PlacedWords.{PlacedAreWords}
+use Rattle.stack_build.{specs.Joined.{BuiltImplements, BuiltTakesValues}, specs.Meant.KeptMeansOnly, specs.PlacedWords.PlacedAreWords}
 use Rattle.command_line.specs.declared.command.Command.{Command}
-use Rattle.cli_stack.specs.Answer.{answer_to}
-use Rattle.cli_stack.specs.AnswerMeans.{CommandMeans}
-use Rattle.cli_stack.specs.Tells.{TellsMeanings}
-use Rattle.cli_stack.proofs.AssemblesLaws.{assembles}
-use Rattle.cli_stack.proofs.ByTurnsLaws.{each_task_is_told}
-use Rattle.cli_stack.proofs.DecidesLaws.{decides}
-use Rattle.cli_stack.proofs.ExplainsLaws.{explains}
-use Rattle.cli_stack.proofs.ImplementsLaws.{implements, implements_of, stores, stores_of}
-use Rattle.cli_stack.proofs.LinksLaws.{links}
-use Rattle.cli_stack.proofs.LowersLaws.{lowers}
-use Rattle.cli_stack.proofs.MeansLaws.{means}
-use Rattle.cli_stack.proofs.RoomLaws.{needs}
-use Rattle.cli_stack.proofs.TaskCountLaws.{HasFew}
-use Rattle.cli_stack.proofs.TellsLaws.{tells}
 
 pub answers_mean : BuiltImplements → BuiltTakesValues → KeptMeansOnly → PlacedAreWords → BuiltSaysMoments → BuiltSaysEnds
     → UpIsSaid → WordsAreSaid → ArrivalsAreSaid → StepsAreSaid → TextStays → MachinesWalk → MachinesArrive

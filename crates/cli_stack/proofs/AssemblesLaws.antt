@@ -1,43 +1,24 @@
 -- The image that is stored of an assembly text is the one that it spells, and a text that is stored of an image spells it.
 use Rattle.std.proofs.Common.{◌≡◌, ◌≤◌, ◌<◌, ◌∷◌, [], inl, inr, ℕ, zero, suc, List, Bool, true, false, Some, None, Result, Ok, Err, length, get_or, refl, sym}
-use Rattle.std.proofs.Common.{ap, subst, arith}
-use Rattle.std.specs.Prelude.{◌^◌, All, IsTrue, if◌then◌else◌}
-use Rattle.std.proofs.lemmas.Bool.{and_parts, cases_lt, ltb-true}
+use Rattle.std.{proofs.Common.{ap, subst, arith}, specs.Prelude.{◌^◌, All, IsTrue, if◌then◌else◌}, proofs.lemmas.Bool.{and_parts, cases_lt, ltb-true}}
 use Rattle.std.proofs.lemmas.List.{get_or_past}
-use Rattle.stack_text.specs.Results.{◌>>=◌}
-use Rattle.stack_text.specs.declared.breach.Breach.{Breach}
-use Rattle.stack_shelf.specs.Files.{Files}
-use Rattle.stack_shelf.specs.Shelf.{fetched}
+use Rattle.stack_text.{specs.Results.◌>>=◌, specs.declared.breach.Breach.Breach}
+use Rattle.stack_shelf.{specs.Files.Files, specs.Shelf.fetched}
 use Rattle.level_debuggers.specs.Tallies.{Watching}
-use Rattle.fm_image.specs.Image.{ImageOf}
-use Rattle.fm_image.specs.Limits.{is_image}
-use Rattle.fm_image.specs.Reading.{read_of}
-use Rattle.fm_image.specs.Spelling.{spelling, are_words, Spelled}
-use Rattle.fm_image.proofs.ImageLaws.{read_spells}
-use Rattle.fm_image.proofs.ReaderLaws.{IsBytes}
-use Rattle.fm_asm.specs.Assembling.{assembly_of}
-use Rattle.fm_asm.specs.Cuts.{without_trailing}
-use Rattle.fm_asm.specs.Assembly.{IsAssembly}
-use Rattle.fm_asm.specs.Printing.{is_plain, plain_image, start_of, assembly_text}
-use Rattle.fm_asm.proofs.FileLaws.{assembled_fits}
-use Rattle.fm_asm.proofs.LengthLaws.{printed_short}
-use Rattle.fm_asm.proofs.PrintLaws.{printed_spells}
+use Rattle.fm_image.{specs.Image.ImageOf, specs.Limits.is_image, specs.Reading.read_of, specs.Spelling.{spelling, are_words, Spelled}}
+use Rattle.fm_image.{proofs.ImageLaws.read_spells, proofs.ReaderLaws.IsBytes}
+use Rattle.fm_asm.{specs.Assembling.assembly_of, specs.Cuts.without_trailing, specs.Assembly.IsAssembly, specs.Printing.{is_plain, plain_image, start_of}}
+use Rattle.fm_asm.{specs.Printing.assembly_text, proofs.FileLaws.assembled_fits, proofs.LengthLaws.printed_short, proofs.PrintLaws.printed_spells}
 use Rattle.fm_asm.proofs.RelatedLaws.{assembled_is_spelled}
 use Rattle.stack_build.proofs.ImageBytes.{file_few}
-use Rattle.command_line.specs.declared.command.Command.{Command}
+use Rattle.command_line.{specs.declared.command.Command.Command, specs.declared.early_end.EarlyEnd.EarlyEnd, specs.declared.role.Role.TheVariants.Source}
+use Rattle.command_line.{specs.declared.role.Role.TheVariants.{Piton, Values, Image, Assembly, Certificate}, specs.Roles.limit_of, specs.Gathered.text_or_end}
+use Rattle.command_line.{specs.CommandFiles.{inputs_of, output_of}, proofs.FileLaws.was_short}
 use Rattle.command_line.specs.declared.command.Command.TheVariants as command
-use Rattle.command_line.specs.declared.early_end.EarlyEnd.{EarlyEnd}
-use Rattle.command_line.specs.declared.role.Role.TheVariants.{Source, Piton, Values, Image, Assembly, Certificate}
-use Rattle.command_line.specs.Roles.{limit_of}
-use Rattle.command_line.specs.Gathered.{text_or_end}
-use Rattle.command_line.specs.CommandFiles.{inputs_of, output_of}
-use Rattle.command_line.proofs.FileLaws.{was_short}
-use Rattle.command_replies.specs.Commands.Asm.{assembled_stored}
-use Rattle.command_replies.specs.Commands.Unasm.{printed_stored}
+use Rattle.command_replies.{specs.Commands.Asm.assembled_stored, specs.Commands.Unasm.printed_stored}
 use Rattle.stack_commands.specs.Prepared.{stored_by}
-use Rattle.cli_stack.specs.Answer.{set_file, answer_on, answer_to}
-use Rattle.cli_stack.specs.Assembles.{HoldsAssembled, SpellsAgain, HoldsAssembly, StoresAssembled, StoresAssembly, Assembles}
-use Rattle.cli_stack.proofs.RoleLaws.{set_bytes, written_role, only_file, only_role, both_roles}
+use Rattle.cli_stack.{specs.Answer.{set_file, answer_on, answer_to}, specs.Assembles.{HoldsAssembled, SpellsAgain, HoldsAssembly, StoresAssembled}}
+use Rattle.cli_stack.{specs.Assembles.{StoresAssembly, Assembles}, proofs.RoleLaws.{set_bytes, written_role, only_file, only_role, both_roles}}
 
 -- 1. The image of a text.
 

@@ -1,63 +1,42 @@
 -- A larger budget changes no answer of a run that came to an end.
 use Rattle.std.proofs.Common.{◌≡◌, ◌≢◌, ◌≤◌, ◌+◌, ◌++◌, ℕ, zero, suc, Bool, true, false, List, [], ◌∷◌, None, Result, Ok, Err, refl, sym, ap, ◌∙◌, arith}
-use Rattle.std.specs.List.{list_all}
-use Rattle.std.proofs.lemmas.Bool.{and_from, and_parts}
-use Rattle.stack_text.specs.Results.{◌>>=◌}
-use Rattle.stack_text.specs.Values.{ValueOf}
+use Rattle.std.{specs.List.list_all, proofs.lemmas.Bool.{and_from, and_parts}}
+use Rattle.stack_text.{specs.Results.◌>>=◌, specs.Values.ValueOf}
 use Rattle.level_debuggers.specs.Tallies.{Watching}
-use Rattle.fm_machine.specs.State.{Fm}
-use Rattle.fm_machine.specs.Outcome.{IsOutcome, RunOutcome, outcome}
-use Rattle.fm_machine.specs.declared.processor.Run.{Run}
+use Rattle.fm_machine.{specs.State.Fm, specs.Outcome.{IsOutcome, RunOutcome, outcome}, specs.declared.processor.Run.Run, proofs.RunLaws.outcome_is}
+use Rattle.fm_machine.proofs.RunLaws.{outcome_only}
 use Rattle.fm_machine.specs.declared.processor.Run.TheVariants as run
-use Rattle.fm_machine.proofs.RunLaws.{outcome_is, outcome_only}
-use Rattle.fm_image.specs.Image.{ImageOf}
-use Rattle.fm_image.specs.Reading.{read_of}
-use Rattle.fm_loader.specs.Loaded.{loaded}
-use Rattle.fm_loader.specs.Values.{values_in}
-use Rattle.fm_turns.specs.EqualTurns.{whole_run}
-use Rattle.fm_turns.specs.Starting.{NewTask}
-use Rattle.piton_check.specs.Instruction.{SystemView}
-use Rattle.piton_check.specs.PitonChecking.{CheckedOf}
-use Rattle.piton_semantics.specs.declared.error_kind.ErrorKind.{ErrorKind}
-use Rattle.piton_semantics.specs.declared.stepped.PitonRun.{PitonRun}
+use Rattle.fm_image.{specs.Image.ImageOf, specs.Reading.read_of}
+use Rattle.fm_loader.{specs.Loaded.loaded, specs.Values.values_in}
+use Rattle.fm_turns.{specs.EqualTurns.whole_run, specs.Starting.NewTask}
+use Rattle.piton_check.{specs.Instruction.SystemView, specs.PitonChecking.CheckedOf}
+use Rattle.piton_semantics.{specs.declared.error_kind.ErrorKind.ErrorKind, specs.declared.stepped.PitonRun.PitonRun, specs.Fits.system_in}
+use Rattle.piton_semantics.{specs.StateView.{state_run, seen_step}, proofs.SeenLaws.stays}
 use Rattle.piton_semantics.specs.declared.stepped.PitonRun.TheVariants as piton_run
-use Rattle.piton_semantics.specs.Fits.{system_in}
 use Rattle.piton_semantics.specs.StateView as piton
-use Rattle.piton_semantics.specs.StateView.{state_run, seen_step}
 use Rattle.piton_semantics.specs.State as piton_state
-use Rattle.piton_semantics.proofs.SeenLaws.{stays}
 use Rattle.piton_syntax.specs.Systems.{SystemOf}
 use Rattle.gypsy_syntax.specs.Sources.{SourceOf}
 use Rattle.gypsy_space.specs.Needs.{StackSizes, stack_sizes}
-use Rattle.gypsy_semantics.specs.declared.answers.MeanRun.{MeanRun}
+use Rattle.gypsy_semantics.{specs.declared.answers.MeanRun.MeanRun, specs.declared.answers.Moved.Moved, specs.Views.RunView.{Seen, Stage, Running, Finished}}
+use Rattle.gypsy_semantics.specs.Views.RunView.{answer_from, answer_of, end_by, left_from, left_of, meaning_run, ran_on}
 use Rattle.gypsy_semantics.specs.declared.answers.MeanRun.TheVariants as mean_run
-use Rattle.gypsy_semantics.specs.declared.answers.Moved.{Moved}
 use Rattle.gypsy_semantics.specs.declared.answers.Moved.TheVariants as moved
-use Rattle.gypsy_semantics.specs.Views.RunView.{Seen, Stage, Running, Finished, answer_from, answer_of, end_by, left_from, left_of, meaning_run, ran_on}
-use Rattle.stack_build.specs.Starts.{gypsy_start}
-use Rattle.stack_build.specs.declared.start_fault.StartFault.{StartFault}
-use Rattle.stack_build.specs.declared.fault.BuildFault.{BuildFault}
+use Rattle.stack_build.{specs.Starts.gypsy_start, specs.declared.start_fault.StartFault.StartFault, specs.declared.fault.BuildFault.BuildFault}
 use Rattle.stack_build.specs.Build.{BuiltOf, built}
 use Rattle.command_line.specs.declared.command.Command.TheVariants as command
-use Rattle.command_line.specs.declared.command.TaskFiles.{TaskFiles}
-use Rattle.command_line.specs.declared.early_end.EarlyEnd.{EarlyEnd}
-use Rattle.command_line.specs.declared.role.Role.TheVariants.{Source, Piton, Values, Image, TaskSource, TaskValues}
-use Rattle.command_line.specs.declared.status.Status.TheVariants.{Done, Unfinished}
-use Rattle.command_line.specs.CommandFiles.{inputs_of, output_of, task_inputs}
-use Rattle.command_line.specs.Gathered.{Texts, gathered, text_of, texts_of}
-use Rattle.command_replies.specs.declared.reply.Verdict.{Verdict}
-use Rattle.stack_commands.specs.declared.turns.tasks.TasksFault.{TasksFault}
-use Rattle.command_replies.specs.Replies.{ReplyOf, reply_text, status_of}
-use Rattle.stack_commands.specs.Commands.Go.{go_reply}
-use Rattle.stack_commands.specs.Commands.Mean.{mean_accepted_reply, mean_end_reply, mean_ran_reply, mean_run_reply, mean_started_reply}
-use Rattle.command_replies.specs.Commands.PitonText.{checked_in}
-use Rattle.command_replies.specs.Commands.Prun.{checked_run_reply, ran_reply, run_end_reply, system_run_reply}
-use Rattle.command_replies.specs.Commands.Run.{end_reply, outcome_reply, run_reply, values_reply, image_reply}
-use Rattle.stack_commands.specs.Commands.SourceText.{accepted_in}
+use Rattle.command_line.{specs.declared.command.TaskFiles.TaskFiles, specs.declared.early_end.EarlyEnd.EarlyEnd, specs.declared.role.Role.TheVariants.Source}
+use Rattle.command_line.{specs.declared.role.Role.TheVariants.{Piton, Values, Image, TaskSource, TaskValues}, specs.declared.status.Status.TheVariants.Done}
+use Rattle.command_line.{specs.declared.status.Status.TheVariants.Unfinished, specs.CommandFiles.{inputs_of, output_of, task_inputs}, specs.Gathered.Texts}
+use Rattle.command_line.specs.Gathered.{gathered, text_of, texts_of}
+use Rattle.command_replies.{specs.declared.reply.Verdict.Verdict, specs.Replies.{ReplyOf, reply_text, status_of}, specs.Commands.PitonText.checked_in}
+use Rattle.command_replies.{specs.Commands.Prun.{checked_run_reply, ran_reply, run_end_reply, system_run_reply}, specs.Commands.Run.{end_reply, outcome_reply}}
+use Rattle.command_replies.specs.Commands.Run.{run_reply, values_reply, image_reply}
+use Rattle.stack_commands.{specs.declared.turns.tasks.TasksFault.TasksFault, specs.Commands.Go.go_reply, specs.Commands.Mean.mean_accepted_reply}
+use Rattle.stack_commands.{specs.Commands.Mean.{mean_end_reply, mean_ran_reply, mean_run_reply, mean_started_reply}, specs.Commands.SourceText.accepted_in}
 use Rattle.stack_commands.specs.Commands.Turns.{is_end, last_round, round_line, task_text, tasks_of, tasks_reply, tasks_text, tasks_verdict, turns_by}
 use Rattle.stack_commands.specs.Prepared.{stored_by, reply_by}
-use Rattle.cli_stack.specs.Answer.{answer_with, answer_on}
-use Rattle.cli_stack.specs.InARow.{BudgetsSettle}
+use Rattle.cli_stack.{specs.Answer.{answer_with, answer_on}, specs.InARow.BudgetsSettle}
 
 -- 1. Runs of step machines.
 

@@ -1,55 +1,33 @@
 -- What is told of sources whose images take turns is what each of them means.
 use Rattle.std.proofs.Common.{◌≡◌, ◌≤◌, inl, inr, ⊎_elim, ◌+◌, ◌*◌, ◌++◌, ℕ, Bool, suc, eqb, ltb, List, [], ◌∷◌, length, map, append-nil, true, false, Option}
-use Rattle.std.proofs.Common.{None, Result, Ok, refl, sym, ap, subst, ◌∙◌, arith, append_assoc, length-append}
-use Rattle.std.specs.Prelude.{All, ◌^◌, slice_index_or}
-use Rattle.std.specs.List.{list_all}
-use Rattle.std.proofs.lemmas.Bool.{and_from, and_parts, le-ltb, ne_eqb}
-use Rattle.std.proofs.lemmas.List.Elements.{All-nil, All-cons, All-head, All-tail}
-use Rattle.stack_text.specs.Results.{◌>>=◌}
-use Rattle.stack_text.specs.Values.{ValueOf}
+use Rattle.std.{proofs.Common.{None, Result, Ok, refl, sym, ap, subst, ◌∙◌, arith, append_assoc, length-append}, specs.Prelude.{All, ◌^◌, slice_index_or}}
+use Rattle.std.{specs.List.list_all, proofs.lemmas.Bool.{and_from, and_parts, le-ltb, ne_eqb}, proofs.lemmas.List.Elements.{All-nil, All-cons, All-head}}
+use Rattle.std.proofs.lemmas.List.Elements.{All-tail}
+use Rattle.stack_text.{specs.Results.◌>>=◌, specs.Values.ValueOf}
 use Rattle.stack_shelf.specs.Files.{Files}
-use Rattle.fm_machine.specs.Outcome.{RunOutcome}
-use Rattle.fm_machine.specs.declared.processor.Run.{Run}
+use Rattle.fm_machine.{specs.Outcome.RunOutcome, specs.declared.processor.Run.Run, proofs.RunLaws.outcome_only}
 use Rattle.fm_machine.specs.declared.processor.Run.TheVariants as run
-use Rattle.fm_machine.proofs.RunLaws.{outcome_only}
-use Rattle.fm_image.specs.Image.{ImageOf}
-use Rattle.fm_image.proofs.LimitLaws.{sized}
-use Rattle.fm_loader.specs.Loaded.{loaded}
-use Rattle.fm_loader.specs.Values.{values_in}
-use Rattle.fm_turns.specs.EqualTurns.{whole_run}
-use Rattle.fm_turns.specs.Starting.{NewTask, new_task}
+use Rattle.fm_image.{specs.Image.ImageOf, proofs.LimitLaws.sized}
+use Rattle.fm_loader.{specs.Loaded.loaded, specs.Values.values_in}
+use Rattle.fm_turns.{specs.EqualTurns.whole_run, specs.Starting.{NewTask, new_task}}
 use Rattle.level_debuggers.specs.Tallies.{Watching}
 use Rattle.gypsy_syntax.specs.Sources.{SourceOf}
 use Rattle.gypsy_space.specs.Needs.{StackSizes, stack_sizes}
-use Rattle.stack_build.specs.declared.fault.BuildFault.{BuildFault}
-use Rattle.stack_build.specs.Build.{BuiltOf, BuildsText}
-use Rattle.stack_build.specs.Implements.{FitsFormals, Implements}
-use Rattle.stack_build.specs.Meant.{KeptMeansOnly}
-use Rattle.stack_build.specs.Moments.{KeepsMoments}
-use Rattle.stack_build.specs.Joined.{BuiltImplements, BuiltTakesValues}
-use Rattle.stack_build.proofs.MeantLaws.{not_within}
-use Rattle.command_line.specs.declared.command.Command.{Command}
+use Rattle.stack_build.{specs.declared.fault.BuildFault.BuildFault, specs.Build.{BuiltOf, BuildsText}, specs.Implements.{FitsFormals, Implements}}
+use Rattle.stack_build.{specs.Meant.KeptMeansOnly, specs.Moments.KeepsMoments, specs.Joined.{BuiltImplements, BuiltTakesValues}, proofs.MeantLaws.not_within}
+use Rattle.command_line.{specs.declared.command.Command.Command, specs.declared.command.TaskFiles.TaskFiles, specs.declared.early_end.EarlyEnd.EarlyEnd}
+use Rattle.command_line.{specs.declared.role.Role.TheVariants.{TaskSource, TaskValues}, specs.CommandFiles.{task_inputs, inputs_of}, specs.Gathered.Texts}
+use Rattle.command_line.specs.Gathered.{texts_of, gathered}
 use Rattle.command_line.specs.declared.command.Command.TheVariants as command
-use Rattle.command_line.specs.declared.command.TaskFiles.{TaskFiles}
-use Rattle.command_line.specs.declared.early_end.EarlyEnd.{EarlyEnd}
-use Rattle.command_line.specs.declared.role.Role.TheVariants.{TaskSource, TaskValues}
-use Rattle.command_line.specs.CommandFiles.{task_inputs, inputs_of}
-use Rattle.command_line.specs.Gathered.{Texts, texts_of, gathered}
-use Rattle.stack_commands.specs.declared.turns.tasks.TasksFault.{TasksFault}
-use Rattle.command_replies.specs.declared.reply.Verdict.{Verdict}
-use Rattle.command_replies.specs.declared.reply.Verdict.TheVariants.{Done, SomeUnfinished}
+use Rattle.stack_commands.{specs.declared.turns.tasks.TasksFault.TasksFault, specs.Prepared.reply_by, specs.Commands.Turns.{few_enough, image_or_fault}}
+use Rattle.stack_commands.specs.Commands.Turns.{images_from, word_count, small_enough, values_or_fault, tasks_from, tasks_of, last_round, round_line, task_text}
+use Rattle.stack_commands.specs.Commands.Turns.{tasks_text, is_end, tasks_verdict, tasks_reply, turns_by, turns_reply}
+use Rattle.command_replies.{specs.declared.reply.Verdict.Verdict, specs.declared.reply.Verdict.TheVariants.{Done, SomeUnfinished}, specs.Replies.ReplyOf}
+use Rattle.command_replies.{specs.Replies.{reply_text, status_of, verdict_line}, specs.Commands.Run.run_reply}
 use Rattle.command_line.specs.declared.status.Status.TheVariants as exit
-use Rattle.command_replies.specs.Replies.{ReplyOf, reply_text, status_of, verdict_line}
-use Rattle.command_replies.specs.Commands.Run.{run_reply}
-use Rattle.stack_commands.specs.Prepared.{reply_by}
-use Rattle.cli_stack.specs.Answer.{answer_with, answer_on, answer_to}
-use Rattle.cli_stack.specs.Turns.{TaskOf, IsTask, AreTasks, TellsTask, TellsInTurn, IsDoneWithin, TellsTasks, TellsEach}
-use Rattle.cli_stack.proofs.DecidesLaws.{done, spent_told}
-use Rattle.cli_stack.proofs.TaskCountLaws.{HasFew}
-use Rattle.stack_commands.specs.Commands.Turns.{few_enough, image_or_fault, images_from, word_count, small_enough, values_or_fault, tasks_from, tasks_of}
-use Rattle.stack_commands.specs.Commands.Turns.{last_round, round_line, task_text, tasks_text, is_end, tasks_verdict, tasks_reply, turns_by, turns_reply}
-use Rattle.cli_stack.proofs.TasksReadyLaws.{tasks_ready, text_behind}
-use Rattle.cli_stack.proofs.TellsLaws.{is_there}
+use Rattle.cli_stack.{specs.Answer.{answer_with, answer_on, answer_to}, specs.Turns.{TaskOf, IsTask, AreTasks, TellsTask, TellsInTurn, IsDoneWithin}}
+use Rattle.cli_stack.{specs.Turns.{TellsTasks, TellsEach}, proofs.DecidesLaws.{done, spent_told}, proofs.TaskCountLaws.HasFew}
+use Rattle.cli_stack.{proofs.TasksReadyLaws.{tasks_ready, text_behind}, proofs.TellsLaws.is_there}
 
 -- What the files of tasks lead to, from this number and this base on.
 record ComesTo (files : Files) (sizes : StackSizes) (turn budget i base : ℕ) (names : List TaskFiles) (tasks : List TaskOf) : Type 0 where

@@ -1,53 +1,28 @@
 -- Where nothing is wrong, `go` stores the image and tells the meaning.
 use Rattle.std.proofs.Common.{◌≡◌, ◌≤◌, inr, ℕ, List, [], ◌∷◌, true, Option, Some, None, IfSome, Result, Ok, refl, sym, ap, ◌∙◌, subst, arith}
-use Rattle.std.specs.Prelude.{◌≢◌, nat_le}
-use Rattle.std.proofs.lemmas.Bool.{le-leb}
-use Rattle.stack_text.specs.Values.{ValueOf}
+use Rattle.std.{specs.Prelude.{◌≢◌, nat_le}, proofs.lemmas.Bool.le-leb}
+use Rattle.stack_text.{specs.Values.ValueOf, specs.Results.unless_fault}
 use Rattle.fm_image.specs.Spelling.{spelling}
 use Rattle.fm_loader.specs.Values.{values_in}
-use Rattle.stack_shelf.specs.Files.{Files}
-use Rattle.stack_shelf.specs.Causes.{Rose}
-use Rattle.stack_shelf.specs.Shelf.{appended}
+use Rattle.stack_shelf.{specs.Files.Files, specs.Causes.Rose, specs.Shelf.appended}
 use Rattle.level_debuggers.specs.Tallies.{Watching}
-use Rattle.gypsy_syntax.specs.Programs.{Program}
-use Rattle.gypsy_syntax.specs.Sources.{SourceOf}
-use Rattle.gypsy_syntax.specs.Resolved.{program_of}
+use Rattle.gypsy_syntax.{specs.Programs.Program, specs.Sources.SourceOf, specs.Resolved.program_of}
 use Rattle.gypsy_space.specs.Needs.{StackSizes, stack_sizes, main_used, main_need}
 use Rattle.gypsy_semantics.specs.Calls.{CurrentCondition}
-use Rattle.gypsy_codegen.specs.declared.fault.GenFault.{GenFault}
-use Rattle.gypsy_codegen.specs.Acceptable.{total_words, LimitsFit}
-use Rattle.gypsy_codegen.specs.Generation.{are_sizes, size_fault, generation}
-use Rattle.stack_text.specs.Results.{unless_fault}
-use Rattle.gypsy_codegen.specs.Text.{generated}
-use Rattle.gypsy_codegen.proofs.AnswerLaws.{no_fault}
-use Rattle.stack_build.specs.declared.fault.BuildFault.{BuildFault}
-use Rattle.stack_build.specs.Build.{BuiltOf, built, built_with}
-use Rattle.stack_build.specs.Image.{formal_slots, image_of}
-use Rattle.stack_build.specs.Implements.{Finishes}
-use Rattle.stack_build.proofs.BuildLaws.{built_small, text_builds}
-use Rattle.command_line.specs.declared.command.Command.{Command}
+use Rattle.gypsy_codegen.{specs.declared.fault.GenFault.GenFault, specs.Acceptable.{total_words, LimitsFit}, specs.Generation.{are_sizes, size_fault}}
+use Rattle.gypsy_codegen.{specs.Generation.generation, specs.Text.generated, proofs.AnswerLaws.no_fault}
+use Rattle.stack_build.{specs.declared.fault.BuildFault.BuildFault, specs.Build.{BuiltOf, built, built_with}, specs.Image.{formal_slots, image_of}}
+use Rattle.stack_build.{specs.Implements.Finishes, proofs.BuildLaws.{built_small, text_builds}, proofs.SlotLaws.image_takes}
+use Rattle.command_line.{specs.declared.command.Command.Command, specs.declared.early_end.EarlyEnd.EarlyEnd, specs.declared.role.Role.Role}
+use Rattle.command_line.{specs.declared.role.Role.TheVariants.{Source, Values, Image}, specs.declared.status.Status.Status}
+use Rattle.command_line.{specs.declared.status.Status.TheVariants.{ShelfFault, SinkFault}, specs.CommandFiles.{inputs_of, output_of, file_names}}
+use Rattle.command_line.{specs.Ends.end_line, specs.Gathered.Texts}
 use Rattle.command_line.specs.declared.command.Command.TheVariants as command
-use Rattle.command_line.specs.declared.early_end.EarlyEnd.{EarlyEnd}
 use Rattle.command_line.specs.declared.early_end.EarlyEnd.TheVariants as early
-use Rattle.command_line.specs.declared.role.Role.{Role}
-use Rattle.command_line.specs.declared.role.Role.TheVariants.{Source, Values, Image}
-use Rattle.command_line.specs.declared.status.Status.{Status}
-use Rattle.command_line.specs.declared.status.Status.TheVariants.{ShelfFault, SinkFault}
-use Rattle.command_line.specs.CommandFiles.{inputs_of, output_of, file_names}
-use Rattle.command_line.specs.Ends.{end_line}
-use Rattle.command_line.specs.Gathered.{Texts}
-use Rattle.stack_commands.specs.Prepared.{stored_by}
-use Rattle.cli_stack.specs.Answer.{set_file, answer_on, answer_to, answer_by, files_after}
-use Rattle.stack_commands.specs.Commands.Build.{image_stored}
-use Rattle.cli_stack.specs.Tells.{IsBuilt, TellsReport, TellsMeanings}
-use Rattle.cli_stack.specs.FilesAndSizes.{IsReadable}
-use Rattle.cli_stack.specs.Completes.{HasSource, Completed, CompletesRun, CompletesCommand}
-use Rattle.cli_stack.specs.Causes.{RoseAt}
-use Rattle.cli_stack.specs.Agrees.{Agrees}
-use Rattle.cli_stack.specs.World.{World}
-use Rattle.cli_stack.proofs.MeansLaws.{first_name, others}
-use Rattle.stack_build.proofs.SlotLaws.{image_takes}
-use Rattle.cli_stack.proofs.TellsLaws.{both_there}
+use Rattle.stack_commands.{specs.Prepared.stored_by, specs.Commands.Build.image_stored}
+use Rattle.cli_stack.{specs.Answer.{set_file, answer_on, answer_to, answer_by, files_after}, specs.Tells.{IsBuilt, TellsReport, TellsMeanings}}
+use Rattle.cli_stack.{specs.FilesAndSizes.IsReadable, specs.Completes.{HasSource, Completed, CompletesRun, CompletesCommand}, specs.Causes.RoseAt}
+use Rattle.cli_stack.{specs.Agrees.Agrees, specs.World.World, proofs.MeansLaws.{first_name, others}, proofs.TellsLaws.both_there}
 
 -- 1. What is within the limits is built.
 

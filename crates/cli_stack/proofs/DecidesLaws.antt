@@ -1,51 +1,29 @@
 -- What `go` decides, by the image that it runs.
 use Rattle.std.proofs.Common.{◌≡◌, ◌≤◌, inl, inr, ⊎_elim, ℕ, List, [], ◌∷◌, ◌++◌, Option, Result, Ok, Err, IfOk, length, refl, sym, ap, ◌∙◌, subst, arith}
 use Rattle.std.specs.Prelude.{◌^◌}
-use Rattle.stack_text.specs.Results.{◌>>=◌}
-use Rattle.stack_text.specs.Values.{ValueOf}
-use Rattle.stack_shelf.specs.Files.{Files}
-use Rattle.stack_shelf.specs.Shelf.{fetched}
-use Rattle.fm_machine.specs.Outcome.{RunOutcome, IsOutcome, outcome}
-use Rattle.fm_machine.specs.declared.processor.Run.{Run}
+use Rattle.stack_text.{specs.Results.◌>>=◌, specs.Values.ValueOf}
+use Rattle.stack_shelf.{specs.Files.Files, specs.Shelf.fetched}
+use Rattle.fm_machine.{specs.Outcome.{RunOutcome, IsOutcome, outcome}, specs.declared.processor.Run.Run, proofs.RunLaws.outcome_is}
 use Rattle.fm_machine.specs.declared.processor.Run.TheVariants as run
-use Rattle.fm_machine.proofs.RunLaws.{outcome_is}
-use Rattle.fm_image.specs.Image.{ImageOf}
-use Rattle.fm_image.proofs.ImageLaws.{spelled_reads}
-use Rattle.fm_loader.specs.Loaded.{loaded}
-use Rattle.fm_loader.specs.Values.{values_in}
+use Rattle.fm_image.{specs.Image.ImageOf, proofs.ImageLaws.spelled_reads}
+use Rattle.fm_loader.{specs.Loaded.loaded, specs.Values.values_in}
 use Rattle.level_debuggers.specs.Tallies.{Watching}
 use Rattle.gypsy_syntax.specs.Sources.{SourceOf}
 use Rattle.gypsy_space.specs.Needs.{StackSizes, stack_sizes}
-use Rattle.stack_build.specs.declared.fault.BuildFault.{BuildFault}
-use Rattle.stack_build.specs.declared.fault.BuildFault.TheVariants as fault
-use Rattle.stack_build.specs.Build.{BuiltOf, BuildsText, built}
-use Rattle.stack_build.specs.Implements.{FitsFormals, Implements}
-use Rattle.stack_build.specs.Joined.{BuiltImplements, BuiltTakesValues}
-use Rattle.stack_build.specs.Meant.{KeptMeansOnly, IsMeant}
-use Rattle.stack_build.specs.Moments.{KeepsMoments}
+use Rattle.stack_build.{specs.declared.fault.BuildFault.BuildFault, specs.Build.{BuiltOf, BuildsText, built}, specs.Implements.{FitsFormals, Implements}}
+use Rattle.stack_build.{specs.Joined.{BuiltImplements, BuiltTakesValues}, specs.Meant.{KeptMeansOnly, IsMeant}, specs.Moments.KeepsMoments}
 use Rattle.stack_build.proofs.MeantLaws.{not_within}
-use Rattle.command_line.proofs.FileLaws.{was_short}
-use Rattle.command_line.specs.declared.command.Command.{Command}
+use Rattle.stack_build.specs.declared.fault.BuildFault.TheVariants as fault
+use Rattle.command_line.{proofs.FileLaws.was_short, specs.declared.command.Command.Command, specs.declared.early_end.EarlyEnd.EarlyEnd}
+use Rattle.command_line.{specs.declared.role.Role.TheVariants.{Source, Values, Image}, specs.CommandFiles.inputs_of, specs.Ends.end_status}
+use Rattle.command_line.{specs.Gathered.{Texts, text_or_end}, specs.Roles.limit_of}
 use Rattle.command_line.specs.declared.command.Command.TheVariants as command
-use Rattle.command_line.specs.declared.early_end.EarlyEnd.{EarlyEnd}
 use Rattle.command_line.specs.declared.early_end.EarlyEnd.TheVariants as early
-use Rattle.command_line.specs.declared.role.Role.TheVariants.{Source, Values, Image}
-use Rattle.command_line.specs.CommandFiles.{inputs_of}
-use Rattle.command_line.specs.Ends.{end_status}
-use Rattle.command_line.specs.Gathered.{Texts, text_or_end}
-use Rattle.command_line.specs.Roles.{limit_of}
 use Rattle.command_replies.specs.declared.reply.Verdict.TheVariants as verdict
-use Rattle.command_replies.specs.Replies.{ReplyOf, status_of, verdict_line}
-use Rattle.stack_commands.specs.Commands.Go.{go_reply}
-use Rattle.command_replies.specs.Commands.Run.{end_reply, run_reply, values_reply, image_file_reply}
-use Rattle.stack_commands.specs.Commands.SourceText.{build_verdict}
-use Rattle.stack_commands.specs.Prepared.{reply_by}
-use Rattle.cli_stack.specs.Answer.{answer_with, answer_on, answer_to}
-use Rattle.cli_stack.specs.Decides.{TellsUnfinished, IsDone, Decided, IsReadyToRun, Decides}
-use Rattle.cli_stack.specs.FilesAndSizes.{IsReadable}
-use Rattle.cli_stack.specs.Kept.{IsRunEnd}
-use Rattle.cli_stack.specs.Tells.{IsRead}
-use Rattle.cli_stack.proofs.TellsLaws.{both_there, reply_tells}
+use Rattle.command_replies.{specs.Replies.{ReplyOf, status_of, verdict_line}, specs.Commands.Run.{end_reply, run_reply, values_reply, image_file_reply}}
+use Rattle.stack_commands.{specs.Commands.Go.go_reply, specs.Commands.SourceText.build_verdict, specs.Prepared.reply_by}
+use Rattle.cli_stack.{specs.Answer.{answer_with, answer_on, answer_to}, specs.Decides.{TellsUnfinished, IsDone, Decided, IsReadyToRun, Decides}}
+use Rattle.cli_stack.{specs.FilesAndSizes.IsReadable, specs.Kept.IsRunEnd, specs.Tells.IsRead, proofs.TellsLaws.{both_there, reply_tells}}
 
 -- 1. A run of an image that keeps to a source.
 

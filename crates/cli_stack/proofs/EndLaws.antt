@@ -1,75 +1,36 @@
 -- Where the step machine has come to its end, Piton's machine has halted, and a session says the meaning.
 use Rattle.std.proofs.Common.{◌≡◌, ◌≤◌, ◌<◌, ◌+◌, ◌-◌, ℕ, zero, suc, Bool, true, List, [], ◌∷◌, ◌++◌, length, map, reverse, Option, Some, refl, sym, ap, subst}
-use Rattle.std.proofs.Common.{◌∙◌, arith, append_assoc, length-append, if◌then◌else◌}
-use Rattle.std.specs.Prelude.{◌==◌, slice_index, unwrap_or}
-use Rattle.std.specs.List.{list_all, zip}
-use Rattle.std.proofs.lemmas.Bool.{and_from, le-leb, lt-ltb}
-use Rattle.std.proofs.lemmas.List.{length-map, map-append, reverse-reverse}
-use Rattle.stack_text.specs.declared.name.Named.{Named}
-use Rattle.stack_text.specs.declared.shape.Shape.{Shape}
-use Rattle.stack_text.specs.Values.{ValueOf, item_count}
+use Rattle.std.{proofs.Common.{◌∙◌, arith, append_assoc, length-append, if◌then◌else◌}, specs.Prelude.{◌==◌, slice_index, unwrap_or}, specs.List.list_all}
+use Rattle.std.{specs.List.zip, proofs.lemmas.Bool.{and_from, le-leb, lt-ltb}, proofs.lemmas.List.{length-map, map-append, reverse-reverse}}
+use Rattle.stack_text.{specs.declared.name.Named.Named, specs.declared.shape.Shape.Shape, specs.Values.{ValueOf, item_count}}
 use Rattle.fm_words.specs.Word.{word_of_int}
-use Rattle.fm_image.specs.declared.slot.Slot.{Slot}
-use Rattle.fm_image.specs.Image.{ImageOf}
-use Rattle.fm_image.specs.Limits.{Tables}
-use Rattle.display_maps.specs.declared.shown.Shown.{Shown}
-use Rattle.display_maps.specs.Reading.{ReadingOf, condition_of, item_of}
-use Rattle.display_maps.specs.ReadingAt.{read_from}
-use Rattle.display_maps.specs.Report.{lines_of_reading}
-use Rattle.display_maps.specs.ValueReading.{value_shown}
-use Rattle.display_maps.proofs.ItemLaws.{items_read}
-use Rattle.piton_words.specs.declared.word.Word.{Word}
-use Rattle.piton_words.specs.declared.word.Word.TheVariants.{Nat}
-use Rattle.piton_check.specs.Instruction.{SystemView}
-use Rattle.piton_check.specs.PitonChecking.{CheckedOf}
-use Rattle.piton_semantics.specs.Addresses.{Addresses, numbers, word_number}
-use Rattle.piton_semantics.specs.Fits.{system_in}
-use Rattle.piton_semantics.specs.Law.{Steps, advanced}
-use Rattle.piton_semantics.specs.Placed.{addresses_of, areas_start, ctrl_start, end_of, temp_start}
-use Rattle.piton_semantics.specs.StateView.{Seen, opening, started}
+use Rattle.fm_image.{specs.declared.slot.Slot.Slot, specs.Image.ImageOf, specs.Limits.Tables}
+use Rattle.display_maps.{specs.declared.shown.Shown.Shown, specs.Reading.{ReadingOf, condition_of, item_of}, specs.ReadingAt.read_from}
+use Rattle.display_maps.{specs.Report.lines_of_reading, specs.ValueReading.value_shown, proofs.ItemLaws.items_read}
+use Rattle.piton_words.{specs.declared.word.Word.Word, specs.declared.word.Word.TheVariants.Nat}
+use Rattle.piton_check.{specs.Instruction.SystemView, specs.PitonChecking.CheckedOf}
+use Rattle.piton_semantics.{specs.Addresses.{Addresses, numbers, word_number}, specs.Fits.system_in, specs.Law.{Steps, advanced}, specs.Placed.addresses_of}
+use Rattle.piton_semantics.{specs.Placed.{areas_start, ctrl_start, end_of, temp_start}, specs.StateView.{Seen, opening, started}, specs.State.PitonState}
 use Rattle.piton_semantics.specs.State as piton
-use Rattle.piton_semantics.specs.State.{PitonState}
-use Rattle.gypsy_syntax.specs.declared.literal.Decl.{Decl}
-use Rattle.gypsy_syntax.specs.Programs.{Proc, Program, proc_at, shapes_of, words_of}
-use Rattle.gypsy_syntax.specs.Resolved.{program_of, shape_of}
-use Rattle.gypsy_syntax.specs.Sources.{ProcOf, SourceOf}
+use Rattle.gypsy_syntax.{specs.declared.literal.Decl.Decl, specs.Programs.{Proc, Program, proc_at, shapes_of, words_of}, specs.Resolved.{program_of, shape_of}}
+use Rattle.gypsy_syntax.{specs.Sources.{ProcOf, SourceOf}, specs.ValuesFit.VarsFit}
 use Rattle.gypsy_check.specs.Accepted.{IsAccepted}
 use Rattle.gypsy_space.specs.Needs.{StackSizes, ctrl_need, frame_of, main_need, main_used, temp_need}
-use Rattle.gypsy_semantics.specs.Calls.{CurrentCondition}
-use Rattle.gypsy_semantics.specs.Counted.{CountedDone, counted_meaning}
-use Rattle.gypsy_syntax.specs.ValuesFit.{VarsFit}
-use Rattle.gypsy_semantics.specs.Machine.{Move, start}
-use Rattle.gypsy_semantics.proofs.Runs.{agree}
-use Rattle.gypsy_codegen.specs.Acceptable.{GeneratedIsAcceptable}
-use Rattle.gypsy_codegen.specs.Generated.{generated_view}
-use Rattle.gypsy_codegen.specs.Moments.{EachMomentIsReached, HasMoment}
-use Rattle.gypsy_codegen.specs.Whole.{RunsTo, SizesFit, opened}
-use Rattle.gypsy_codegen.specs.WordsOf.{number_of_way, words_of_values}
-use Rattle.gypsy_codegen.proofs.MomentLaws.{moment_over}
+use Rattle.gypsy_semantics.{specs.Calls.CurrentCondition, specs.Counted.{CountedDone, counted_meaning}, specs.Machine.{Move, start}, proofs.Runs.agree}
+use Rattle.gypsy_codegen.{specs.Acceptable.GeneratedIsAcceptable, specs.Generated.generated_view, specs.Moments.{EachMomentIsReached, HasMoment}}
+use Rattle.gypsy_codegen.{specs.Whole.{RunsTo, SizesFit, opened}, specs.WordsOf.{number_of_way, words_of_values}, proofs.MomentLaws.moment_over}
 use Rattle.gypsy_codegen.proofs.StackLaws.{values_words}
-use Rattle.stack_build.specs.Formals.{formal_conditions, formal_conditions_in, formals_in, shown_conditions, shown_formals}
-use Rattle.stack_build.specs.Image.{image_of, image_with, slots_from, source_tables}
-use Rattle.stack_build.specs.Implements.{meaning_shown, variable_shown, way_shown}
-use Rattle.stack_build.specs.Internal.Showing.{shapes_in}
-use Rattle.stack_build.specs.Starts.{main_words}
-use Rattle.stack_build.proofs.Ending.{EndsWell, ends_well, way_read}
-use Rattle.stack_build.proofs.MainLaws.{main_is}
-use Rattle.stack_build.proofs.Numbers.{each_fits, values_numbers}
-use Rattle.stack_build.proofs.ReadBack.{items_fit}
-use Rattle.stack_build.proofs.StartLaws.{made}
-use Rattle.stack_build.proofs.Storing.{items_words}
-use Rattle.level_debuggers.specs.Levels.{LevelOf, Piton, lifted, next_of, up_text}
-use Rattle.level_debuggers.specs.PitonLevels.{PitonLevelOf, piton_from}
-use Rattle.level_debuggers.specs.PitonReadings.{area_number, covers, element_at, element_numbers, elements_down, piton_at, piton_end, piton_reading_of}
-use Rattle.level_debuggers.specs.PitonReadings.{piton_up, variable_at}
-use Rattle.level_debuggers.specs.RunWalks.{SystemsWalk, WalksTo}
-use Rattle.level_debuggers.specs.Steps as step
-use Rattle.level_debuggers.specs.Steps.{Makes, Over, Stops}
-use Rattle.level_debuggers.specs.Texts.{mark_text, no_mark}
-use Rattle.level_debuggers.specs.Walks.{walk, walk_on}
-use Rattle.cli_stack.specs.SessionMoments.{BuiltSaysEnds, system_run}
-use Rattle.cli_stack.proofs.StandingLaws.{condition_at}
+use Rattle.stack_build.{specs.Formals.{formal_conditions, formal_conditions_in, formals_in, shown_conditions, shown_formals}, specs.Image.image_of}
+use Rattle.stack_build.{specs.Image.{image_with, slots_from, source_tables}, specs.Implements.{meaning_shown, variable_shown, way_shown}}
+use Rattle.stack_build.{specs.Internal.Showing.shapes_in, specs.Starts.main_words, proofs.Ending.{EndsWell, ends_well, way_read}, proofs.MainLaws.main_is}
+use Rattle.stack_build.{proofs.Numbers.{each_fits, values_numbers}, proofs.ReadBack.items_fit, proofs.StartLaws.made, proofs.Storing.items_words}
 use Rattle.stack_build.proofs.ImageLimits.{words_front}
+use Rattle.level_debuggers.{specs.Levels.{LevelOf, Piton, lifted, next_of, up_text}, specs.PitonLevels.{PitonLevelOf, piton_from}}
+use Rattle.level_debuggers.specs.PitonReadings.{area_number, covers, element_at, element_numbers, elements_down, piton_at, piton_end, piton_reading_of}
+use Rattle.level_debuggers.{specs.PitonReadings.{piton_up, variable_at}, specs.RunWalks.{SystemsWalk, WalksTo}, specs.Steps.{Makes, Over, Stops}}
+use Rattle.level_debuggers.{specs.Texts.{mark_text, no_mark}, specs.Walks.{walk, walk_on}}
+use Rattle.level_debuggers.specs.Steps as step
+use Rattle.cli_stack.{specs.SessionMoments.{BuiltSaysEnds, system_run}, proofs.StandingLaws.condition_at}
 
 -- 1. A walk stays where a run is over.
 

@@ -1,86 +1,49 @@
 -- What a session says where the source's step machine has come to a state, and to `words` and `until`.
 use Rattle.std.proofs.Common.{◌≡◌, ◌≤◌, ℕ, zero, suc, List, [], ◌∷◌, ◌++◌, Option, Some, None, Result, Ok, Err, length, refl, sym, ap, ◌∙◌, subst, arith}
-use Rattle.std.proofs.Common.{append_assoc}
-use Rattle.std.proofs.Common.{inl, inr}
-use Rattle.std.specs.Prelude.{Bool, true, if◌then◌else◌, ◌^◌, IsTrue}
-use Rattle.std.proofs.lemmas.Bool.{eq-eqb}
-use Rattle.stack_text.specs.Results.{◌>>=◌}
-use Rattle.stack_text.specs.Values.{ValueOf}
+use Rattle.std.{proofs.Common.{append_assoc, inl, inr}, specs.Prelude.{Bool, true, if◌then◌else◌, ◌^◌, IsTrue}, proofs.lemmas.Bool.eq-eqb}
+use Rattle.stack_text.{specs.Results.◌>>=◌, specs.Values.ValueOf}
 use Rattle.stack_shelf.specs.Files.{Files}
 use Rattle.fm_image.specs.Image.{ImageOf}
-use Rattle.fm_loader.specs.Loaded.{loaded}
-use Rattle.fm_loader.specs.Values.{values_in}
-use Rattle.fm_machine.specs.Run.{Avoids, IsFirst, pc_of}
+use Rattle.fm_loader.{specs.Loaded.loaded, specs.Values.values_in}
+use Rattle.fm_machine.{specs.Run.{Avoids, IsFirst, pc_of}, specs.Step.fm_step}
 use Rattle.fm_machine.specs.State as fm
-use Rattle.fm_machine.specs.Step.{fm_step}
-use Rattle.display_maps.specs.Reading.{ReadingOf, reading}
-use Rattle.display_maps.specs.ReadingAt.{reading_at}
-use Rattle.display_maps.specs.Report.{lines_of_reading}
-use Rattle.gypsy_syntax.specs.Resolved.{program_of}
-use Rattle.gypsy_syntax.specs.Sources.{SourceOf}
+use Rattle.display_maps.{specs.Reading.{ReadingOf, reading}, specs.ReadingAt.reading_at, specs.Report.lines_of_reading}
+use Rattle.gypsy_syntax.{specs.Resolved.program_of, specs.Sources.SourceOf}
 use Rattle.gypsy_check.specs.Accepted.{IsAccepted}
-use Rattle.gypsy_space.specs.Needs.{StackSizes, stack_sizes}
-use Rattle.gypsy_space.specs.Costs.{Tally}
-use Rattle.gypsy_semantics.specs.Calls.{CurrentCondition}
-use Rattle.gypsy_semantics.specs.Machine.{State, Move, Next, Ended}
-use Rattle.gypsy_semantics.specs.Views.Moments.{moment_from}
-use Rattle.gypsy_semantics.specs.Views.RunView.{Seen, spent_at}
-use Rattle.stack_build.specs.Build.{BuiltOf, BuildsText, built, source_built, accepted_source}
-use Rattle.stack_build.specs.declared.fault.BuildFault.{BuildFault}
-use Rattle.stack_build.specs.Image.{places_fit}
-use Rattle.stack_build.specs.Implements.{meaning_shown}
-use Rattle.stack_build.specs.ComesTo.{ComesTo}
-use Rattle.stack_build.specs.Joined.{BuiltImplements, BuiltTakesValues}
-use Rattle.stack_build.specs.Moments.{ArrivesAt, ArrivesAtEnd, KeepsMoments}
-use Rattle.stack_build.specs.Starts.{gypsy_start, system_start, image_start, built_start}
-use Rattle.stack_build.specs.declared.start_fault.StartFault.{StartFault}
-use Rattle.stack_build.proofs.KnownLaws.{source_is_accepted}
-use Rattle.debug_script.specs.declared.fault.ScriptFault.{ScriptFault}
-use Rattle.debug_script.specs.declared.command.Place.{Place}
-use Rattle.debug_script.specs.declared.command.Place.TheVariants as place
-use Rattle.debug_script.specs.declared.reading.Line.{Line}
+use Rattle.gypsy_space.{specs.Needs.{StackSizes, stack_sizes}, specs.Costs.Tally}
+use Rattle.gypsy_semantics.{specs.Calls.CurrentCondition, specs.Machine.{State, Move, Next, Ended}, specs.Views.Moments.moment_from, specs.Views.RunView.Seen}
+use Rattle.gypsy_semantics.specs.Views.RunView.{spent_at}
+use Rattle.stack_build.{specs.Build.{BuiltOf, BuildsText, built, source_built, accepted_source}, specs.declared.fault.BuildFault.BuildFault}
+use Rattle.stack_build.{specs.Image.places_fit, specs.Implements.meaning_shown, specs.ComesTo.ComesTo, specs.Joined.{BuiltImplements, BuiltTakesValues}}
+use Rattle.stack_build.{specs.Moments.{ArrivesAt, ArrivesAtEnd, KeepsMoments}, specs.Starts.{gypsy_start, system_start, image_start, built_start}}
+use Rattle.stack_build.{specs.declared.start_fault.StartFault.StartFault, proofs.KnownLaws.source_is_accepted}
+use Rattle.debug_script.{specs.declared.fault.ScriptFault.ScriptFault, specs.declared.command.Place.Place, specs.declared.reading.Line.Line}
 use Rattle.debug_script.specs.Scripts.{script_of}
-use Rattle.level_debuggers.specs.Arrivals.{IsFirstArrival}
-use Rattle.level_debuggers.specs.GypsyLevels.{GypsyLevelOf, gypsy_next, gypsy_up}
-use Rattle.level_debuggers.specs.Levels as levels
-use Rattle.level_debuggers.specs.Levels.{LevelOf, Fm, has_places, lifted, next_of, program_named, up_text}
-use Rattle.level_debuggers.specs.FmLevels.{FmLevelOf, fm_after, word_lines}
-use Rattle.level_debuggers.specs.RunWalks.{MachinesArrive, MachinesWalk, WalksTo}
-use Rattle.level_debuggers.specs.ScriptSteps.{ArrivalsAreSaid, AskForSteps, GoesOn, SaysAfter, StepsAreSaid, TextStays, UpIsSaid, WordsAreSaid}
-use Rattle.level_debuggers.specs.ScriptSteps.{all_asked, steps_of_lines, stepped_lines, until_line, up_line, line_of_words}
-use Rattle.level_debuggers.specs.Steps as step
-use Rattle.level_debuggers.specs.Steps.{Over, Stops, Makes}
-use Rattle.level_debuggers.specs.Texts.{mark_text}
-use Rattle.level_debuggers.specs.declared.arrival.Arrival.TheVariants as arrival
-use Rattle.level_debuggers.specs.declared.script_end.ScriptEnd.{ScriptEnd}
-use Rattle.level_debuggers.specs.declared.script_end.ScriptEnd.TheVariants as end
-use Rattle.level_debuggers.specs.Tallies.{Watching}
-use Rattle.level_debuggers.specs.Transcripts.{Followed, arrival_text, followed}
+use Rattle.debug_script.specs.declared.command.Place.TheVariants as place
+use Rattle.level_debuggers.{specs.Arrivals.IsFirstArrival, specs.GypsyLevels.{GypsyLevelOf, gypsy_next, gypsy_up}, specs.Levels.{LevelOf, Fm, has_places}}
+use Rattle.level_debuggers.{specs.Levels.{lifted, next_of, program_named, up_text}, specs.FmLevels.{FmLevelOf, fm_after, word_lines}}
+use Rattle.level_debuggers.{specs.RunWalks.{MachinesArrive, MachinesWalk, WalksTo}, specs.ScriptSteps.{ArrivalsAreSaid, AskForSteps, GoesOn, SaysAfter}}
+use Rattle.level_debuggers.specs.ScriptSteps.{StepsAreSaid, TextStays, UpIsSaid, WordsAreSaid, all_asked, steps_of_lines, stepped_lines, until_line, up_line}
+use Rattle.level_debuggers.{specs.ScriptSteps.line_of_words, specs.Steps.{Over, Stops, Makes}, specs.Texts.mark_text}
+use Rattle.level_debuggers.{specs.declared.script_end.ScriptEnd.ScriptEnd, specs.Tallies.Watching, specs.Transcripts.{Followed, arrival_text, followed}}
 use Rattle.level_debuggers.specs.Walks.{SessionOf, stepped, walk, walk_on}
-use Rattle.cli_stack.proofs.EndLaws.{walk_past}
-use Rattle.cli_stack.specs.SessionMoments.{BothSay, BuiltSaysEnds, BuiltSaysMoments, image_run, state_text, steps_at, system_run}
-use Rattle.command_line.specs.declared.command.Command.{Command}
+use Rattle.level_debuggers.specs.Levels as levels
+use Rattle.level_debuggers.specs.Steps as step
+use Rattle.level_debuggers.specs.declared.arrival.Arrival.TheVariants as arrival
+use Rattle.level_debuggers.specs.declared.script_end.ScriptEnd.TheVariants as end
+use Rattle.cli_stack.{proofs.EndLaws.walk_past, specs.SessionMoments.{BothSay, BuiltSaysEnds, BuiltSaysMoments, image_run, state_text, steps_at, system_run}}
+use Rattle.cli_stack.{specs.Answer.{answer_on, answer_to}, specs.FilesAndSizes.IsReadable, specs.Decides.IsReadyToRun, specs.Explains.{Asks, BeginsWith}}
+use Rattle.cli_stack.{specs.Explains.{Explains, ExplainsRun, LeadsToEnd, SaysTo, StandsAfter, steps_to}, proofs.DecidesLaws.ready_runs}
+use Rattle.cli_stack.proofs.TellsLaws.{is_there}
+use Rattle.command_line.{specs.declared.command.Command.Command, specs.declared.early_end.EarlyEnd.EarlyEnd, specs.declared.role.Role.Role}
+use Rattle.command_line.{specs.declared.role.Role.TheVariants.{Source, Values, Script}, specs.declared.words.reader.Level.Level}
+use Rattle.command_line.{specs.declared.words.reader.Level.TheVariants.{Gypsy, Piton, Fm9001}, specs.CommandFiles.inputs_of, specs.Gathered.{Texts, gathered}}
 use Rattle.command_line.specs.declared.command.Command.TheVariants as command
-use Rattle.command_line.specs.declared.early_end.EarlyEnd.{EarlyEnd}
-use Rattle.command_line.specs.declared.role.Role.{Role}
-use Rattle.command_line.specs.declared.role.Role.TheVariants.{Source, Values, Script}
-use Rattle.command_line.specs.declared.words.reader.Level.{Level}
-use Rattle.command_line.specs.declared.words.reader.Level.TheVariants.{Gypsy, Piton, Fm9001}
-use Rattle.command_line.specs.CommandFiles.{inputs_of}
-use Rattle.command_line.specs.Gathered.{Texts, gathered}
-use Rattle.command_replies.specs.declared.reply.Verdict.{Verdict}
-use Rattle.command_replies.specs.Replies.{ReplyOf, reply_text, verdict_line}
-use Rattle.stack_commands.specs.Commands.SourceText.{accepted_in}
-use Rattle.stack_commands.specs.Commands.Debug.{end_verdict, error_verdict, lines_reply, or_verdict, run_at, run_in, script_reply, session_on, session_reply}
+use Rattle.command_replies.{specs.declared.reply.Verdict.Verdict, specs.Replies.{ReplyOf, reply_text, verdict_line}}
+use Rattle.stack_commands.{specs.Commands.SourceText.accepted_in, specs.Commands.Debug.{end_verdict, error_verdict, lines_reply, or_verdict, run_at, run_in}}
+use Rattle.stack_commands.{specs.Commands.Debug.{script_reply, session_on, session_reply}, specs.Prepared.reply_by}
 use Rattle.command_replies.specs.declared.reply.Verdict.TheVariants as verdict
 use Rattle.piton_semantics.specs.declared.error_kind.ErrorKind.{ErrorKind}
-use Rattle.stack_commands.specs.Prepared.{reply_by}
-use Rattle.cli_stack.specs.Answer.{answer_on, answer_to}
-use Rattle.cli_stack.specs.FilesAndSizes.{IsReadable}
-use Rattle.cli_stack.specs.Decides.{IsReadyToRun}
-use Rattle.cli_stack.specs.Explains.{Asks, BeginsWith, Explains, ExplainsRun, LeadsToEnd, SaysTo, StandsAfter, steps_to}
-use Rattle.cli_stack.proofs.DecidesLaws.{ready_runs}
-use Rattle.cli_stack.proofs.TellsLaws.{is_there}
 
 -- 1. The run that the session has.
 

@@ -1,23 +1,16 @@
 -- Where `go` ends well, it ran the image of its source on values that fit.
-use Rattle.std.proofs.Common.{◌≡◌, ◌≤◌, ℕ, List, Option, Result, Ok, Err, IfOk, length, refl, sym, ◌∙◌, subst, arith}
-use Rattle.std.specs.Prelude.{◌^◌}
+use Rattle.std.{proofs.Common.{◌≡◌, ◌≤◌, ℕ, List, Option, Result, Ok, Err, IfOk, length, refl, sym, ◌∙◌, subst, arith}, specs.Prelude.◌^◌}
 use Rattle.stack_text.specs.Values.{ValueOf}
 use Rattle.fm_loader.specs.Values.{values_in}
 use Rattle.gypsy_syntax.specs.Sources.{SourceOf}
 use Rattle.gypsy_space.specs.Needs.{StackSizes}
-use Rattle.stack_build.specs.declared.fault.BuildFault.{BuildFault}
+use Rattle.stack_build.{specs.declared.fault.BuildFault.BuildFault, specs.Build.{BuiltOf, Builds, BuildsText, built, accepted_source}}
+use Rattle.stack_build.{specs.Implements.FitsFormals, specs.Joined.{BuiltImplements, BuiltTakesValues}}
 use Rattle.stack_build.specs.declared.fault.BuildFault.TheVariants as fault
-use Rattle.stack_build.specs.Build.{BuiltOf, Builds, BuildsText, built, accepted_source}
-use Rattle.stack_build.specs.Implements.{FitsFormals}
-use Rattle.stack_build.specs.Joined.{BuiltImplements, BuiltTakesValues}
-use Rattle.command_line.specs.declared.early_end.EarlyEnd.{EarlyEnd}
+use Rattle.command_line.{specs.declared.early_end.EarlyEnd.EarlyEnd, specs.declared.status.Status.TheVariants.Done, specs.Ends.end_status}
 use Rattle.command_line.specs.declared.early_end.EarlyEnd.TheVariants as early
-use Rattle.command_line.specs.declared.status.Status.TheVariants.{Done}
-use Rattle.command_line.specs.Ends.{end_status}
-use Rattle.command_replies.specs.Replies.{status_of}
-use Rattle.command_replies.specs.Commands.Run.{run_reply, values_reply}
-use Rattle.stack_commands.specs.Commands.SourceText.{build_verdict}
-use Rattle.stack_commands.specs.Commands.Go.{go_reply}
+use Rattle.command_replies.{specs.Replies.status_of, specs.Commands.Run.{run_reply, values_reply}}
+use Rattle.stack_commands.{specs.Commands.SourceText.build_verdict, specs.Commands.Go.go_reply}
 use Rattle.cli_stack.specs.Answer.{Answer, answer_with}
 
 pub early_done : (e : EarlyEnd) → end_status e ≡ Done → ⊥

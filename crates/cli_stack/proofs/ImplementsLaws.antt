@@ -1,31 +1,19 @@
 -- What a command stores does as its source means.
 use Rattle.std.proofs.Common.{◌≡◌, ◌≤◌, ℕ, zero, suc, List, [], ◌∷◌, Some, None, Result, Ok, Err, IfOk, length, refl, sym, ap, subst, arith, if◌then◌else◌}
-use Rattle.std.proofs.lemmas.List.Elements.{All-head}
-use Rattle.std.specs.Prelude.{◌^◌, Contains, IsSomeAnd, Option}
+use Rattle.std.{proofs.lemmas.List.Elements.All-head, specs.Prelude.{◌^◌, Contains, IsSomeAnd, Option}}
 use Rattle.stack_text.specs.Results.{◌>>=◌}
-use Rattle.stack_shelf.specs.Files.{Files, file_at}
-use Rattle.stack_shelf.specs.Shelf.{fetched}
+use Rattle.stack_shelf.{specs.Files.{Files, file_at}, specs.Shelf.fetched}
 use Rattle.gypsy_space.specs.Needs.{StackSizes, stack_sizes}
 use Rattle.level_debuggers.specs.Tallies.{Watching}
-use Rattle.stack_build.specs.declared.fault.BuildFault.{BuildFault}
-use Rattle.stack_build.specs.Build.{BuiltOf, built, BuildsText}
-use Rattle.stack_build.specs.Joined.{BuiltImplements}
-use Rattle.command_line.proofs.FileLaws.{was_short}
-use Rattle.command_line.specs.declared.command.Command.{Command}
+use Rattle.stack_build.{specs.declared.fault.BuildFault.BuildFault, specs.Build.{BuiltOf, built, BuildsText}, specs.Joined.BuiltImplements}
+use Rattle.command_line.{proofs.FileLaws.was_short, specs.declared.command.Command.Command, specs.declared.early_end.EarlyEnd.EarlyEnd}
+use Rattle.command_line.{specs.declared.role.Role.Role, specs.declared.role.Role.TheVariants.{Source, Piton, Values, Image, Assembly, Certificate}}
+use Rattle.command_line.{specs.Roles.{limit_of, is_role}, specs.Gathered.{Texts, AreShort, roles_of, text_of, text_or_end}, specs.CommandFiles.inputs_of}
+use Rattle.command_line.specs.CommandFiles.{output_of}
 use Rattle.command_line.specs.declared.command.Command.TheVariants as command
-use Rattle.command_line.specs.declared.early_end.EarlyEnd.{EarlyEnd}
-use Rattle.command_line.specs.declared.role.Role.{Role}
-use Rattle.command_line.specs.declared.role.Role.TheVariants.{Source, Piton, Values, Image, Assembly, Certificate}
-use Rattle.command_line.specs.Roles.{limit_of, is_role}
-use Rattle.command_line.specs.Gathered.{Texts, AreShort, roles_of, text_of, text_or_end}
-use Rattle.command_line.specs.CommandFiles.{inputs_of, output_of}
-use Rattle.stack_commands.specs.Prepared.{stored_by}
-use Rattle.cli_stack.specs.Answer.{set_file, answer_on, answer_to}
-use Rattle.cli_stack.specs.FilesAndSizes.{sizes_of}
-use Rattle.stack_commands.specs.Commands.Build.{image_stored}
-use Rattle.cli_stack.specs.Implements.{IsImplementation, KeepsToSource, HoldsStored, StoresMoments, StoresMomentsOf}
-use Rattle.cli_stack.specs.Implements.{StoresImplementation, StoresImplementationOf}
-use Rattle.cli_stack.specs.RepliesTo.{AreTexts}
+use Rattle.stack_commands.{specs.Prepared.stored_by, specs.Commands.Build.image_stored}
+use Rattle.cli_stack.{specs.Answer.{set_file, answer_on, answer_to}, specs.FilesAndSizes.sizes_of, specs.Implements.{IsImplementation, KeepsToSource}}
+use Rattle.cli_stack.{specs.Implements.{HoldsStored, StoresMoments, StoresMomentsOf, StoresImplementation, StoresImplementationOf}, specs.RepliesTo.AreTexts}
 use Rattle.cli_stack.proofs.RoleLaws.{set_bytes, written_role, only_file, only_role}
 
 -- a source's text is short enough to be read

@@ -1,32 +1,17 @@
 -- `go` is `build`, and then `run`.
 use Rattle.std.proofs.Common.{◌≡◌, ◌≢◌, ◌≤◌, ℕ, List, [], ◌∷◌, Option, Some, None, IfOk, Result, Ok, Err, length, refl, sym, ap, ◌∙◌, subst, arith}
 use Rattle.stack_text.specs.Results.{◌>>=◌}
-use Rattle.stack_shelf.specs.Files.{Files, file_at, put_file}
-use Rattle.stack_shelf.specs.Shelf.{fetched, within}
+use Rattle.stack_shelf.{specs.Files.{Files, file_at, put_file}, specs.Shelf.{fetched, within}}
 use Rattle.level_debuggers.specs.Tallies.{Watching}
-use Rattle.fm_image.specs.Reading.{read_of}
-use Rattle.fm_image.proofs.ImageLaws.{spelled_reads}
-use Rattle.stack_build.specs.declared.fault.BuildFault.{BuildFault}
-use Rattle.stack_build.specs.Build.{BuiltOf, built, BuildsText}
-use Rattle.stack_build.specs.Joined.{BuiltImplements}
+use Rattle.fm_image.{specs.Reading.read_of, proofs.ImageLaws.spelled_reads}
+use Rattle.stack_build.{specs.declared.fault.BuildFault.BuildFault, specs.Build.{BuiltOf, built, BuildsText}, specs.Joined.BuiltImplements}
 use Rattle.command_line.specs.declared.command.Command.TheVariants as command
-use Rattle.command_line.specs.declared.early_end.EarlyEnd.{EarlyEnd}
-use Rattle.command_line.specs.declared.role.Role.TheVariants.{Source, Values, Image}
-use Rattle.command_line.specs.Roles.{limit_of}
-use Rattle.command_line.specs.Gathered.{text_or_end}
-use Rattle.command_line.specs.CommandFiles.{inputs_of, output_of}
-use Rattle.command_line.proofs.FileLaws.{was_short}
-use Rattle.command_replies.specs.Replies.{ReplyOf}
-use Rattle.stack_commands.specs.Commands.Build.{image_stored, build_reply}
-use Rattle.stack_commands.specs.Commands.Go.{go_reply}
-use Rattle.command_replies.specs.Commands.Run.{image_reply, image_file_reply}
-use Rattle.stack_commands.specs.Prepared.{stored_by, reply_by}
-use Rattle.cli_stack.specs.Answer.{Answer, set_file, answer_with, answer_on, files_after}
-use Rattle.cli_stack.specs.FilesAndSizes.{IsReadable}
-use Rattle.cli_stack.specs.InARow.{EndsAlike, IsInTwo, GoIsBuildAndRun}
-use Rattle.cli_stack.proofs.GoLaws.{early_done, build_done}
-use Rattle.cli_stack.proofs.PutLaws.{put_there, put_other}
-use Rattle.cli_stack.proofs.TellsLaws.{is_there}
+use Rattle.command_line.{specs.declared.early_end.EarlyEnd.EarlyEnd, specs.declared.role.Role.TheVariants.{Source, Values, Image}, specs.Roles.limit_of}
+use Rattle.command_line.{specs.Gathered.text_or_end, specs.CommandFiles.{inputs_of, output_of}, proofs.FileLaws.was_short}
+use Rattle.command_replies.{specs.Replies.ReplyOf, specs.Commands.Run.{image_reply, image_file_reply}}
+use Rattle.stack_commands.{specs.Commands.Build.{image_stored, build_reply}, specs.Commands.Go.go_reply, specs.Prepared.{stored_by, reply_by}}
+use Rattle.cli_stack.{specs.Answer.{Answer, set_file, answer_with, answer_on, files_after}, specs.FilesAndSizes.IsReadable, specs.InARow.{EndsAlike, IsInTwo}}
+use Rattle.cli_stack.{specs.InARow.GoIsBuildAndRun, proofs.GoLaws.{early_done, build_done}, proofs.PutLaws.{put_there, put_other}, proofs.TellsLaws.is_there}
 
 module _ (implement : BuiltImplements) (source values image : List ℕ) (control temporary budget : ℕ) (watches : List Watching) (files : Files)
     (differ : image ≢ values) where

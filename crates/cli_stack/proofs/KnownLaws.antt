@@ -1,18 +1,9 @@
 -- The checked system of a text is one, by its definition alone.
-use Rattle.std.proofs.Common.{◌≡◌, ◌≤◌, ℕ, List, Option, Some, None, Result, Ok, Err, length, refl, subst}
-use Rattle.std.specs.Prelude.{◌^◌}
-use Rattle.stack_text.specs.declared.breach.Breach.{Breach}
-use Rattle.stack_text.specs.Breaches.{least}
-use Rattle.stack_text.proofs.BreachLaws.{none_least}
-use Rattle.stack_text.proofs.ReaderLaws.{text_keeps_form}
-use Rattle.piton_syntax.specs.declared.fault.PitonFault.{PitonFault}
-use Rattle.piton_syntax.specs.PitonReading.{KeepsForm, piton_in, piton_reader}
-use Rattle.piton_syntax.specs.Systems.{SystemOf}
+use Rattle.std.{proofs.Common.{◌≡◌, ◌≤◌, ℕ, List, Option, Some, None, Result, Ok, Err, length, refl, subst}, specs.Prelude.◌^◌}
+use Rattle.stack_text.{specs.declared.breach.Breach.Breach, specs.Breaches.least, proofs.BreachLaws.none_least, proofs.ReaderLaws.text_keeps_form}
+use Rattle.piton_syntax.{specs.declared.fault.PitonFault.PitonFault, specs.PitonReading.{KeepsForm, piton_in, piton_reader}, specs.Systems.SystemOf}
 use Rattle.piton_syntax.proofs.KeepsLaws.{read_keeps}
-use Rattle.piton_check.specs.PitonChecking.{CheckedOf, IsChecked}
-use Rattle.piton_check.specs.Resolved.{resolved}
-use Rattle.piton_check.specs.Violations.{violations}
-use Rattle.piton_check.proofs.CheckedLaws.{checked_from}
+use Rattle.piton_check.{specs.PitonChecking.{CheckedOf, IsChecked}, specs.Resolved.resolved, specs.Violations.violations, proofs.CheckedLaws.checked_from}
 use Rattle.command_replies.specs.Commands.PitonText.{checked_unless, checked_by, checked_in}
 
 -- the checked system of a text is one

@@ -1,55 +1,29 @@
 -- What is stored of a Piton text does what its system does.
 use Rattle.std.proofs.Common.{◌≡◌, ◌≤◌, ℕ, Bool, true, false, List, [], ◌∷◌, ◌++◌, Some, None, Result, Ok, Err, length, refl, sym, ap, ◌∙◌, subst, append-nil}
-use Rattle.std.proofs.Common.{arith}
-use Rattle.std.specs.Prelude.{◌^◌, if◌then◌else◌, codes}
-use Rattle.std.specs.Fmt.{decimal}
-use Rattle.std.proofs.lemmas.Bool.{ltb-false}
-use Rattle.stack_text.specs.Results.{◌>>=◌}
+use Rattle.std.{proofs.Common.arith, specs.Prelude.{◌^◌, if◌then◌else◌, codes}, specs.Fmt.decimal, proofs.lemmas.Bool.ltb-false}
+use Rattle.stack_text.{specs.Results.◌>>=◌, specs.Lines.line}
 use Rattle.level_debuggers.specs.Tallies.{Watching}
-use Rattle.stack_shelf.specs.Files.{Files, file_at}
-use Rattle.stack_shelf.specs.Shelf.{fetched}
-use Rattle.fm_machine.specs.Outcome.{RunOutcome, outcome}
-use Rattle.fm_machine.specs.declared.processor.Run.TheVariants.{Ended}
-use Rattle.fm_machine.proofs.RunLaws.{outcome_only}
-use Rattle.fm_image.specs.Image.{ImageOf}
-use Rattle.fm_image.specs.Spelling.{spelling, Spelled}
-use Rattle.fm_image.proofs.ImageLaws.{spelled_reads}
+use Rattle.stack_shelf.{specs.Files.{Files, file_at}, specs.Shelf.fetched}
+use Rattle.fm_machine.{specs.Outcome.{RunOutcome, outcome}, specs.declared.processor.Run.TheVariants.Ended, proofs.RunLaws.outcome_only, specs.State.Fm}
+use Rattle.fm_image.{specs.Image.ImageOf, specs.Spelling.{spelling, Spelled}, proofs.ImageLaws.spelled_reads}
 use Rattle.fm_loader.specs.Loaded as loader
 use Rattle.fm_loader.specs.Values.{values_in}
 use Rattle.piton_check.specs.PitonChecking.{CheckedOf, IsChecked}
-use Rattle.piton_semantics.specs.Fits.{IsInitialStack, system_in}
-use Rattle.piton_semantics.specs.Placed.{placed}
-use Rattle.piton_linker.specs.Theorem.{ComesToStand}
-use Rattle.piton_linker.proofs.ProcessorLaws.{checked_runs}
-use Rattle.fm_machine.specs.State.{Fm}
+use Rattle.piton_semantics.{specs.Fits.{IsInitialStack, system_in}, specs.Placed.placed}
+use Rattle.piton_linker.{specs.Theorem.ComesToStand, proofs.ProcessorLaws.checked_runs}
 use Rattle.display_maps.specs.Report.{shaped}
-use Rattle.stack_build.specs.Image.{linked_image}
-use Rattle.stack_build.specs.PlacedWords.{PlacedAreWords}
-use Rattle.command_line.specs.declared.command.Command.{Command}
+use Rattle.stack_build.{specs.Image.linked_image, specs.PlacedWords.PlacedAreWords}
+use Rattle.command_line.{specs.declared.command.Command.Command, specs.declared.early_end.EarlyEnd.EarlyEnd, specs.declared.role.Role.Role}
+use Rattle.command_line.{specs.declared.role.Role.TheVariants.{Source, Piton, Values, Image, Assembly}, specs.Roles.limit_of, specs.Gathered.Texts}
+use Rattle.command_line.{specs.Gathered.text_or_end, specs.CommandFiles.{inputs_of, output_of}, proofs.FileLaws.was_short}
 use Rattle.command_line.specs.declared.command.Command.TheVariants as command
-use Rattle.command_line.specs.declared.early_end.EarlyEnd.{EarlyEnd}
-use Rattle.command_line.specs.declared.role.Role.{Role}
-use Rattle.command_line.specs.declared.role.Role.TheVariants.{Source, Piton, Values, Image, Assembly}
-use Rattle.command_line.specs.Roles.{limit_of}
-use Rattle.command_line.specs.Gathered.{Texts, text_or_end}
-use Rattle.command_line.specs.CommandFiles.{inputs_of, output_of}
-use Rattle.stack_text.specs.Lines.{line}
-use Rattle.command_line.proofs.FileLaws.{was_short}
-use Rattle.command_replies.specs.declared.reply.Verdict.{Verdict}
-use Rattle.command_replies.specs.declared.reply.Verdict.TheVariants.{Done}
-use Rattle.command_replies.specs.Replies.{ReplyOf, status_of, verdict_line}
-use Rattle.command_replies.specs.Commands.Run.{outcome_reply, run_reply, image_file_reply}
-use Rattle.command_replies.specs.Commands.PitonText.{checked_in}
-use Rattle.stack_commands.specs.Commands.Pbuild.{is_large, checked_stored}
-use Rattle.stack_commands.specs.Prepared.{stored_by, reply_by}
-use Rattle.cli_stack.specs.Answer.{set_file, answer_on, answer_to}
-use Rattle.cli_stack.specs.FilesAndSizes.{IsReadable}
-use Rattle.cli_stack.specs.Links.{cost_to_step, FollowsSystem, TellsCost, TellsCosts, HoldsLinked, StoresLinked}
-use Rattle.cli_stack.proofs.RoleLaws.{set_bytes, written_role, only_file, only_role, both_roles}
-use Rattle.cli_stack.proofs.KnownLaws.{text_is_checked}
-use Rattle.stack_commands.proofs.LinkedLaws.{image_short, image_spelled}
-use Rattle.cli_stack.proofs.LoadedLaws.{image_loaded}
-use Rattle.cli_stack.proofs.TellsLaws.{both_there}
+use Rattle.command_replies.{specs.declared.reply.Verdict.Verdict, specs.declared.reply.Verdict.TheVariants.Done, specs.Replies.{ReplyOf, status_of}}
+use Rattle.command_replies.{specs.Replies.verdict_line, specs.Commands.Run.{outcome_reply, run_reply, image_file_reply}, specs.Commands.PitonText.checked_in}
+use Rattle.stack_commands.{specs.Commands.Pbuild.{is_large, checked_stored}, specs.Prepared.{stored_by, reply_by}, proofs.LinkedLaws.image_short}
+use Rattle.stack_commands.proofs.LinkedLaws.{image_spelled}
+use Rattle.cli_stack.{specs.Answer.{set_file, answer_on, answer_to}, specs.FilesAndSizes.IsReadable, specs.Links.{cost_to_step, FollowsSystem, TellsCost}}
+use Rattle.cli_stack.{specs.Links.{TellsCosts, HoldsLinked, StoresLinked}, proofs.RoleLaws.{set_bytes, written_role, only_file, only_role, both_roles}}
+use Rattle.cli_stack.{proofs.KnownLaws.text_is_checked, proofs.LoadedLaws.image_loaded, proofs.TellsLaws.both_there}
 
 -- 1. The image of a checked system.
 

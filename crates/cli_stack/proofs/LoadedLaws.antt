@@ -2,14 +2,9 @@
 use Rattle.std.proofs.Common.{◌≡◌, ℕ, List, [], ap}
 use Rattle.fm_words.specs.Code.{no_flags}
 use Rattle.fm_loader.specs.Loaded as loader
-use Rattle.piton_check.specs.PitonChecking.{CheckedOf, IsChecked}
-use Rattle.piton_check.specs.Instruction.{SystemView}
-use Rattle.piton_semantics.specs.Fits.{system_in}
-use Rattle.piton_semantics.specs.Placed.{placed, loaded}
-use Rattle.piton_semantics.proofs.SizeLaws.{length-placed}
-use Rattle.piton_semantics.proofs.SoundLaws.{known}
-use Rattle.stack_build.specs.Image.{linked_image}
-use Rattle.stack_build.proofs.Windows.{all_stand}
+use Rattle.piton_check.{specs.PitonChecking.{CheckedOf, IsChecked}, specs.Instruction.SystemView}
+use Rattle.piton_semantics.{specs.Fits.system_in, specs.Placed.{placed, loaded}, proofs.SizeLaws.length-placed, proofs.SoundLaws.known}
+use Rattle.stack_build.{specs.Image.linked_image, proofs.Windows.all_stand}
 
 -- the loaded machine is the placed one
 pub image_loaded : (c : CheckedOf) → IsChecked c → loader.loaded (linked_image (system_in c)) [] ≡ loaded (system_in c) (system_in c).stack

@@ -1,66 +1,35 @@
 -- What is stored of an infix program means what the program does, and so does what is built of that.
 use Rattle.std.proofs.Common.{◌≡◌, ◌≤◌, ⊎_elim, ◌∷◌, [], ℕ, List, Option, Some, None, Result, Ok, Err, length, map, refl, sym, ap, ◌∙◌, subst, arith}
 use Rattle.std.specs.Prelude.{◌<◌, ◌^◌, IsSomeAnd, option_map}
-use Rattle.stack_text.specs.Names.{place_among}
-use Rattle.stack_text.specs.Results.{◌>>=◌}
-use Rattle.stack_text.specs.Values.{ValueOf}
-use Rattle.stack_shelf.specs.Files.{Files}
-use Rattle.stack_shelf.specs.Shelf.{fetched}
+use Rattle.stack_text.{specs.Names.place_among, specs.Results.◌>>=◌, specs.Values.ValueOf}
+use Rattle.stack_shelf.{specs.Files.Files, specs.Shelf.fetched}
 use Rattle.fm_image.specs.Image.{ImageOf}
 use Rattle.fm_loader.specs.Loaded.{loaded}
-use Rattle.display_maps.specs.Reading.{reading}
-use Rattle.display_maps.specs.Report.{report_text}
+use Rattle.display_maps.{specs.Reading.reading, specs.Report.report_text}
 use Rattle.level_debuggers.specs.Tallies.{Watching}
-use Rattle.gypsy_syntax.specs.Places.{unplaced_decl, unplaced_proc, without_places}
-use Rattle.gypsy_syntax.specs.Resolved.{program_of}
-use Rattle.gypsy_syntax.specs.Sources.{ProcOf, SourceOf}
-use Rattle.gypsy_space.specs.Costs.{Tally}
-use Rattle.gypsy_space.specs.Needs.{StackSizes, stack_sizes}
-use Rattle.gypsy_semantics.specs.Calls.{CurrentCondition}
-use Rattle.gypsy_semantics.specs.Counted.{CountedOutcome, CountedDone, CountedUnfinished, counted_meaning, uncounted, tally_of}
-use Rattle.gypsy_semantics.specs.Meaning.{Done as RunDone, meaning}
-use Rattle.gypsy_semantics.proofs.CountLaws.{meaning-uncounted}
-use Rattle.mini_syntax.specs.MiniReading.{IsFaultless, TextReading, faultless, faulty}
-use Rattle.mini_syntax.specs.Breaches.{body_of, declared_of}
-use Rattle.mini_syntax.specs.declared.program.Declared.{Declared}
-use Rattle.mini_syntax.specs.Grammar.{InfixProgram}
-use Rattle.mini_syntax.specs.Language.{Stmt}
-use Rattle.mini_gypsy.specs.Lowered.{decl_of, lowered}
-use Rattle.mini_gypsy.specs.Stored.{lowering_by, MeansAlways, source_for, StandsFor, stored_text}
-use Rattle.mini_gypsy.proofs.PlaceLaws.{map_over}
-use Rattle.mini_syntax.proofs.AnswerLaws.{read}
-use Rattle.mini_gypsy.proofs.BareRuleLaws.{procedure_same}
-use Rattle.mini_gypsy.proofs.StoredLaws.{stands, stored_short}
-use Rattle.stack_build.specs.Build.{accepted_source}
-use Rattle.stack_build.specs.Formals.{formals_in, main_of, shown_formals}
-use Rattle.stack_build.specs.Implements.{meaning_shown, FitsFormals, Finishes, Implements}
-use Rattle.stack_build.specs.Joined.{BuiltImplements, BuiltTakesValues}
-use Rattle.stack_build.specs.Meant.{KeptMeansOnly}
-use Rattle.stack_build.proofs.BuildLaws.{accepted_found}
-use Rattle.command_line.specs.declared.command.Command.{Command}
+use Rattle.gypsy_syntax.{specs.Places.{unplaced_decl, unplaced_proc, without_places}, specs.Resolved.program_of, specs.Sources.{ProcOf, SourceOf}}
+use Rattle.gypsy_space.{specs.Costs.Tally, specs.Needs.{StackSizes, stack_sizes}}
+use Rattle.gypsy_semantics.{specs.Calls.CurrentCondition, specs.Counted.{CountedOutcome, CountedDone, CountedUnfinished, counted_meaning, uncounted, tally_of}}
+use Rattle.gypsy_semantics.{specs.Meaning.{Done as RunDone, meaning}, proofs.CountLaws.meaning-uncounted}
+use Rattle.mini_syntax.{specs.MiniReading.{IsFaultless, TextReading, faultless, faulty}, specs.Breaches.{body_of, declared_of}}
+use Rattle.mini_syntax.{specs.declared.program.Declared.Declared, specs.Grammar.InfixProgram, specs.Language.Stmt, proofs.AnswerLaws.read}
+use Rattle.mini_gypsy.{specs.Lowered.{decl_of, lowered}, specs.Stored.{lowering_by, MeansAlways, source_for, StandsFor, stored_text}, proofs.PlaceLaws.map_over}
+use Rattle.mini_gypsy.{proofs.BareRuleLaws.procedure_same, proofs.StoredLaws.{stands, stored_short}}
+use Rattle.stack_build.{specs.Build.accepted_source, specs.Formals.{formals_in, main_of, shown_formals}, specs.Implements.{meaning_shown, FitsFormals}}
+use Rattle.stack_build.{specs.Implements.{Finishes, Implements}, specs.Joined.{BuiltImplements, BuiltTakesValues}, specs.Meant.KeptMeansOnly}
+use Rattle.stack_build.{proofs.BuildLaws.accepted_found, proofs.MeantLaws.first_once}
+use Rattle.command_line.{specs.declared.command.Command.Command, specs.declared.early_end.EarlyEnd.EarlyEnd, specs.declared.role.Role.TheVariants.Infix}
+use Rattle.command_line.{specs.declared.role.Role.TheVariants.Source, specs.declared.status.Status.TheVariants.{Done, Refused}, specs.CommandFiles.inputs_of}
+use Rattle.command_line.{specs.CommandFiles.output_of, specs.Ends.end_status, specs.Gathered.text_or_end, specs.Roles.limit_of, proofs.FileLaws.was_short}
 use Rattle.command_line.specs.declared.command.Command.TheVariants as command
-use Rattle.command_line.specs.declared.early_end.EarlyEnd.{EarlyEnd}
 use Rattle.command_line.specs.declared.early_end.EarlyEnd.TheVariants as early
-use Rattle.command_line.specs.declared.role.Role.TheVariants.{Infix, Source}
-use Rattle.command_line.specs.declared.status.Status.TheVariants.{Done, Refused}
-use Rattle.command_line.specs.CommandFiles.{inputs_of, output_of}
-use Rattle.command_line.specs.Ends.{end_status}
-use Rattle.command_line.specs.Gathered.{text_or_end}
-use Rattle.command_line.specs.Roles.{limit_of}
-use Rattle.command_line.proofs.FileLaws.{was_short}
 use Rattle.command_replies.specs.Commands.Mini.{lowering_of, lowered_stored, lowered_reply}
 use Rattle.stack_commands.specs.Prepared.{stored_by, reply_by}
-use Rattle.cli_stack.specs.Answer.{Answer, set_file, answer_with, answer_on, answer_to}
-use Rattle.cli_stack.specs.Implements.{IsImplementation, HoldsStored, StoresImplementation}
-use Rattle.cli_stack.specs.FilesAndSizes.{IsReadable, sizes_of}
-use Rattle.cli_stack.specs.Decides.{IsReadyToRun, IsDone, IsNotDone, Decided}
-use Rattle.cli_stack.specs.Tells.{TellsReport}
-use Rattle.cli_stack.specs.Lowers.{formal_type, declared_type, MeansProgram, TellsMini, RunEnds, CarriesRuns, HoldsRuns, StoresRuns, TellsFrom, TellsRuns}
-use Rattle.cli_stack.specs.Lowers.{TellsOwn, LowersPrograms}
-use Rattle.cli_stack.proofs.DecidesLaws.{decides, ready_runs}
-use Rattle.stack_build.proofs.MeantLaws.{first_once}
-use Rattle.cli_stack.proofs.GoLaws.{early_done}
-use Rattle.cli_stack.proofs.ImplementsLaws.{implements, stores}
+use Rattle.cli_stack.{specs.Answer.{Answer, set_file, answer_with, answer_on, answer_to}, specs.Implements.{IsImplementation, HoldsStored}}
+use Rattle.cli_stack.{specs.Implements.StoresImplementation, specs.FilesAndSizes.{IsReadable, sizes_of}, specs.Decides.{IsReadyToRun, IsDone, IsNotDone}}
+use Rattle.cli_stack.{specs.Decides.Decided, specs.Tells.TellsReport, specs.Lowers.{formal_type, declared_type, MeansProgram, TellsMini, RunEnds, CarriesRuns}}
+use Rattle.cli_stack.{specs.Lowers.{HoldsRuns, StoresRuns, TellsFrom, TellsRuns, TellsOwn, LowersPrograms}, proofs.DecidesLaws.{decides, ready_runs}}
+use Rattle.cli_stack.{proofs.GoLaws.early_done, proofs.ImplementsLaws.{implements, stores}}
 
 -- 1. The variables of what is stored.
 

@@ -1,80 +1,46 @@
 -- Only the end of a run of an image leaves a machine.
 use Rattle.std.proofs.Common.{◌≡◌, ◌⊎◌, inl, inr, ⊎_elim, ℕ, List, Bool, true, false, Option, None, Some, Result, Ok, Err, refl, sym, ap, subst}
-use Rattle.std.specs.Prelude.{◌^◌, codes, if◌then◌else◌}
-use Rattle.std.specs.Option.{option_map}
-use Rattle.fm_machine.specs.Outcome.{RunOutcome, outcome}
-use Rattle.fm_machine.specs.State.{Fm, MachineOf}
-use Rattle.fm_machine.specs.declared.processor.Run.{Run}
+use Rattle.std.{specs.Prelude.{◌^◌, codes, if◌then◌else◌}, specs.Option.option_map}
+use Rattle.fm_machine.{specs.Outcome.{RunOutcome, outcome}, specs.State.{Fm, MachineOf}, specs.declared.processor.Run.Run}
 use Rattle.fm_machine.specs.declared.processor.Run.TheVariants as run
-use Rattle.fm_image.specs.Image.{ImageOf}
-use Rattle.fm_image.specs.Reading.{read_of}
-use Rattle.stack_text.specs.declared.breach.Breach.{Breach}
-use Rattle.fm_asm.specs.Assembling.{assembly_of}
-use Rattle.fm_asm.specs.Printing.{is_plain}
-use Rattle.fm_loader.specs.Loaded.{loaded}
-use Rattle.fm_loader.specs.Values.{values_in}
-use Rattle.stack_text.specs.Values.{ValueOf}
+use Rattle.fm_image.{specs.Image.ImageOf, specs.Reading.read_of}
+use Rattle.stack_text.{specs.declared.breach.Breach.Breach, specs.Values.ValueOf}
+use Rattle.fm_asm.{specs.Assembling.assembly_of, specs.Printing.is_plain}
+use Rattle.fm_loader.{specs.Loaded.loaded, specs.Values.values_in}
 use Rattle.piton_syntax.specs.Systems.{SystemOf}
-use Rattle.piton_check.specs.PitonChecking.{CheckedOf}
-use Rattle.piton_check.specs.Instruction.{SystemView}
-use Rattle.piton_semantics.specs.Fits.{system_in}
-use Rattle.piton_semantics.specs.Placed.{placed}
-use Rattle.piton_semantics.specs.declared.stepped.PitonRun.{PitonRun}
-use Rattle.piton_semantics.specs.declared.stepped.PitonRun.TheVariants as piton_run
-use Rattle.piton_semantics.specs.StateView.{Ran, state_run, opening}
+use Rattle.piton_check.{specs.PitonChecking.CheckedOf, specs.Instruction.SystemView}
+use Rattle.piton_semantics.{specs.Fits.system_in, specs.Placed.placed, specs.declared.stepped.PitonRun.PitonRun, specs.StateView.{Ran, state_run, opening}}
 use Rattle.piton_semantics.specs.StateView.{Seen as PitonSeen}
-use Rattle.gypsy_syntax.specs.Resolved.{procedure_names, program_of}
-use Rattle.gypsy_syntax.specs.Sources.{SourceOf}
-use Rattle.space_cert.specs.Certified.{certified}
-use Rattle.space_cert.specs.CertText.{bounds_in}
-use Rattle.space_cert.specs.Covers.{Bounds}
+use Rattle.piton_semantics.specs.declared.stepped.PitonRun.TheVariants as piton_run
+use Rattle.gypsy_syntax.{specs.Resolved.{procedure_names, program_of}, specs.Sources.SourceOf}
+use Rattle.space_cert.{specs.Certified.certified, specs.CertText.bounds_in, specs.Covers.Bounds}
 use Rattle.gypsy_space.specs.Needs.{StackSizes as StackWords, stack_sizes}
-use Rattle.gypsy_semantics.specs.declared.answers.MeanRun.{MeanRun}
+use Rattle.gypsy_semantics.{specs.declared.answers.MeanRun.MeanRun, specs.Views.RunView.{Seen as MeanSeen, Ran as MeanRan, meaning_run as mean_run_of}}
 use Rattle.gypsy_semantics.specs.declared.answers.MeanRun.TheVariants as mean_run
-use Rattle.gypsy_semantics.specs.Views.RunView.{Seen as MeanSeen, Ran as MeanRan, meaning_run as mean_run_of}
 use Rattle.gypsy_gen.specs.Large.{large_of}
-use Rattle.debug_script.specs.declared.fault.ScriptFault.{ScriptFault}
-use Rattle.debug_script.specs.declared.reading.Line.{Line}
-use Rattle.debug_script.specs.Scripts.{script_of}
-use Rattle.level_debuggers.specs.Levels.{LevelOf}
-use Rattle.level_debuggers.specs.Tallies.{Watching}
-use Rattle.stack_build.specs.declared.fault.BuildFault.{BuildFault}
-use Rattle.stack_build.specs.declared.start_fault.StartFault.{StartFault}
-use Rattle.stack_build.specs.Starts.{gypsy_start}
-use Rattle.stack_build.specs.Build.{BuiltOf, built, source_built, compiled}
-use Rattle.stack_build.specs.Image.{linked_image}
+use Rattle.debug_script.{specs.declared.fault.ScriptFault.ScriptFault, specs.declared.reading.Line.Line, specs.Scripts.script_of}
+use Rattle.level_debuggers.{specs.Levels.LevelOf, specs.Tallies.Watching}
+use Rattle.stack_build.{specs.declared.fault.BuildFault.BuildFault, specs.declared.start_fault.StartFault.StartFault, specs.Starts.gypsy_start}
+use Rattle.stack_build.{specs.Build.{BuiltOf, built, source_built, compiled}, specs.Image.linked_image}
 use Rattle.fm_turns.specs.Starting.{NewTask}
-use Rattle.command_line.specs.declared.command.Command.{Command}
+use Rattle.command_line.{specs.declared.command.Command.Command, specs.Gathered.{Texts, text_of, texts_of}}
 use Rattle.command_line.specs.declared.command.Command.TheVariants as command
 use Rattle.command_line.specs.declared.role.Role.TheVariants as role
-use Rattle.command_line.specs.Gathered.{Texts, text_of, texts_of}
-use Rattle.stack_commands.specs.declared.turns.tasks.TasksFault.{TasksFault}
+use Rattle.stack_commands.{specs.declared.turns.tasks.TasksFault.TasksFault, specs.Prepared.reply_by, specs.Commands.Go.go_reply}
+use Rattle.stack_commands.{specs.Commands.Big.{go_on_source, big_reply}, specs.Commands.Build.build_reply, specs.Commands.Debug.{run_in, lines_reply}}
+use Rattle.stack_commands.{specs.Commands.Debug.{script_reply, session_reply}, specs.Commands.Mean.{mean_end_reply, mean_run_reply, mean_started_reply}}
+use Rattle.stack_commands.{specs.Commands.Mean.mean_accepted_reply, specs.Commands.Pbuild.{is_large, linked_reply, checked_reply}, specs.Commands.Pit.pit_reply}
+use Rattle.stack_commands.{specs.Commands.Need.{bounds_reply, certified_reply, need_reply_by}, specs.Commands.Cert.{judged_reply, certificate_reply}}
+use Rattle.stack_commands.{specs.Commands.Cert.cert_reply_by, specs.Commands.SourceText.accepted_in, specs.Commands.Turns.{fault_reply, tasks_of, tasks_reply}}
+use Rattle.stack_commands.specs.Commands.Turns.{turns_by}
 use Rattle.stack_commands.specs.declared.turns.tasks.TasksFault.TheVariants as tasks_fault
-use Rattle.command_replies.specs.declared.reply.Reply.{Reply}
-use Rattle.command_replies.specs.declared.reply.SizeOf.TheVariants.{Words}
-use Rattle.command_replies.specs.declared.reply.Verdict.{Verdict}
-use Rattle.command_replies.specs.declared.reply.Verdict.TheVariants as verdict
+use Rattle.command_replies.{specs.declared.reply.Reply.Reply, specs.declared.reply.SizeOf.TheVariants.Words, specs.declared.reply.Verdict.Verdict}
 use Rattle.command_replies.specs.Replies.{ReplyOf, reply_of, status_of, verdict_alone, judgement_reply, built_reply, written_reply}
-use Rattle.stack_commands.specs.Prepared.{reply_by}
-use Rattle.stack_commands.specs.Commands.Go.{go_reply}
-use Rattle.stack_commands.specs.Commands.Big.{go_on_source, big_reply}
-use Rattle.stack_commands.specs.Commands.Build.{build_reply}
-use Rattle.stack_commands.specs.Commands.Debug.{run_in, lines_reply, script_reply, session_reply}
-use Rattle.stack_commands.specs.Commands.Mean.{mean_end_reply, mean_run_reply, mean_started_reply, mean_accepted_reply}
-use Rattle.stack_commands.specs.Commands.Pbuild.{is_large, linked_reply, checked_reply}
-use Rattle.stack_commands.specs.Commands.Pit.{pit_reply}
-use Rattle.command_replies.specs.Commands.PitonText.{checked_in}
-use Rattle.command_replies.specs.Commands.Prun.{run_end_reply, checked_run_reply, system_run_reply}
-use Rattle.command_replies.specs.Commands.Run.{end_reply, run_reply, values_reply, image_reply}
-use Rattle.command_replies.specs.Commands.Show.{listing_reply}
-use Rattle.command_replies.specs.Commands.Migrate.{migrated_reply}
-use Rattle.command_replies.specs.Commands.Asm.{assembled_reply}
-use Rattle.command_replies.specs.Commands.Mini.{lowering_of, lowered_reply}
+use Rattle.command_replies.{specs.Commands.PitonText.checked_in, specs.Commands.Prun.{run_end_reply, checked_run_reply, system_run_reply}}
+use Rattle.command_replies.{specs.Commands.Run.{end_reply, run_reply, values_reply, image_reply}, specs.Commands.Show.listing_reply}
+use Rattle.command_replies.{specs.Commands.Migrate.migrated_reply, specs.Commands.Asm.assembled_reply, specs.Commands.Mini.{lowering_of, lowered_reply}}
 use Rattle.command_replies.specs.Commands.Unasm.{printed_reply}
-use Rattle.stack_commands.specs.Commands.Need.{bounds_reply, certified_reply, need_reply_by}
-use Rattle.stack_commands.specs.Commands.Cert.{judged_reply, certificate_reply, cert_reply_by}
-use Rattle.stack_commands.specs.Commands.SourceText.{accepted_in}
-use Rattle.stack_commands.specs.Commands.Turns.{fault_reply, tasks_of, tasks_reply, turns_by}
+use Rattle.command_replies.specs.declared.reply.Verdict.TheVariants as verdict
 use Rattle.cli_stack.specs.Kept.{RunsImage, IsRunEnd}
 
 -- 1. Who may leave a machine.

@@ -1,55 +1,32 @@
 -- What `mean` tells is what its source means.
 use Rattle.std.proofs.Common.{◌≡◌, ◌≤◌, ℕ, zero, suc, false, List, [], ◌∷◌, ◌++◌, append-nil, Option, Some, None, Result, Ok, refl, sym, ap, ◌∙◌, subst, arith}
-use Rattle.std.specs.Prelude.{nat_lt}
-use Rattle.std.proofs.lemmas.Bool.{le-ltb}
-use Rattle.stack_text.specs.Values.{ValueOf}
-use Rattle.stack_text.specs.Results.{◌>>=◌}
+use Rattle.std.{specs.Prelude.nat_lt, proofs.lemmas.Bool.le-ltb}
+use Rattle.stack_text.{specs.Values.ValueOf, specs.Results.◌>>=◌}
 use Rattle.stack_shelf.specs.Files.{Files}
 use Rattle.fm_loader.specs.Values.{values_in}
-use Rattle.gypsy_syntax.specs.Sources.{SourceOf}
-use Rattle.gypsy_syntax.specs.Programs.{Program}
-use Rattle.gypsy_syntax.specs.Resolved.{program_of}
+use Rattle.gypsy_syntax.{specs.Sources.SourceOf, specs.Programs.Program, specs.Resolved.program_of}
 use Rattle.gypsy_space.specs.Needs.{StackSizes, stack_sizes, main_need}
-use Rattle.gypsy_semantics.specs.declared.answers.MeanRun.{MeanRun}
-use Rattle.gypsy_semantics.specs.declared.answers.MeanRun.TheVariants as run
-use Rattle.gypsy_semantics.specs.declared.answers.Moved.{Moved}
-use Rattle.gypsy_semantics.specs.declared.answers.Moved.TheVariants as moved
-use Rattle.gypsy_semantics.specs.Views.RunAgrees.{MeansEnd, EndAgrees, RunAgrees}
-use Rattle.gypsy_semantics.specs.Room.{Suffices}
-use Rattle.gypsy_semantics.specs.Calls.{CurrentCondition}
-use Rattle.gypsy_semantics.specs.Counted.{instruction_count}
-use Rattle.gypsy_semantics.specs.Meaning.{Done as MeaningDone, meaning}
+use Rattle.gypsy_semantics.{specs.declared.answers.MeanRun.MeanRun, specs.declared.answers.Moved.Moved, specs.Views.RunAgrees.{MeansEnd, EndAgrees, RunAgrees}}
+use Rattle.gypsy_semantics.{specs.Room.Suffices, specs.Calls.CurrentCondition, specs.Counted.instruction_count, specs.Meaning.{Done as MeaningDone, meaning}}
 use Rattle.gypsy_semantics.specs.Views.RunView.{Seen, Ran, Stage, Running, Finished, IsOfRun, IsEnd, answer_from, answer_of, end_by, left_from, left_of}
-use Rattle.gypsy_semantics.specs.Views.RunView.{opening, ran_on, meaning_run, values_at}
-use Rattle.gypsy_semantics.specs.Views.Shown.{condition_at, names_at}
-use Rattle.gypsy_semantics.proofs.ReachLaws.{opening_reached, completes}
-use Rattle.gypsy_semantics.proofs.RunLaws.{run_agrees}
-use Rattle.gypsy_semantics.proofs.SeenLaws.{run_same}
+use Rattle.gypsy_semantics.{specs.Views.RunView.{opening, ran_on, meaning_run, values_at}, specs.Views.Shown.{condition_at, names_at}}
+use Rattle.gypsy_semantics.{proofs.ReachLaws.{opening_reached, completes}, proofs.RunLaws.run_agrees, proofs.SeenLaws.run_same}
+use Rattle.gypsy_semantics.specs.declared.answers.MeanRun.TheVariants as run
+use Rattle.gypsy_semantics.specs.declared.answers.Moved.TheVariants as moved
 use Rattle.level_debuggers.specs.Tallies.{Watching}
-use Rattle.stack_build.specs.declared.start_fault.StartFault.{StartFault}
-use Rattle.stack_build.specs.Starts.{or_values, shortage_of, unless_short, gypsy_start}
-use Rattle.stack_build.specs.declared.fault.BuildFault.{BuildFault}
-use Rattle.stack_build.specs.Build.{accepted_source}
-use Rattle.stack_build.specs.Image.{formal_slots}
-use Rattle.command_line.specs.declared.command.Command.{Command}
-use Rattle.command_line.specs.declared.command.Command.TheVariants as command
-use Rattle.command_line.specs.declared.early_end.EarlyEnd.{EarlyEnd}
-use Rattle.command_line.specs.declared.role.Role.{Role}
+use Rattle.stack_build.{specs.declared.start_fault.StartFault.StartFault, specs.Starts.{or_values, shortage_of, unless_short, gypsy_start}}
+use Rattle.stack_build.{specs.declared.fault.BuildFault.BuildFault, specs.Build.accepted_source, specs.Image.formal_slots}
+use Rattle.command_line.{specs.declared.command.Command.Command, specs.declared.early_end.EarlyEnd.EarlyEnd, specs.declared.role.Role.Role}
 use Rattle.command_line.specs.declared.role.Role.TheVariants.{Source, Piton, Image, Values, Script, Assembly, Certificate, Infix}
-use Rattle.command_line.specs.declared.command.TaskFiles.{TaskFiles}
-use Rattle.command_line.specs.declared.status.Status.TheVariants.{Done}
-use Rattle.command_line.specs.Gathered.{Texts}
+use Rattle.command_line.{specs.declared.command.TaskFiles.TaskFiles, specs.declared.status.Status.TheVariants.Done, specs.Gathered.Texts}
 use Rattle.command_line.specs.CommandFiles.{task_inputs, inputs_of, output_of}
-use Rattle.command_replies.specs.declared.reply.Verdict.{Verdict}
+use Rattle.command_line.specs.declared.command.Command.TheVariants as command
+use Rattle.command_replies.{specs.declared.reply.Verdict.Verdict, specs.Replies.{ReplyOf, status_of, verdict_line}}
 use Rattle.command_replies.specs.declared.reply.Verdict.TheVariants as verdict
-use Rattle.command_replies.specs.Replies.{ReplyOf, status_of, verdict_line}
-use Rattle.stack_commands.specs.Commands.SourceText.{unless_refused, accepted_in}
-use Rattle.stack_commands.specs.Commands.Mean.{said_text, mean_end_reply, mean_run_reply, mean_started_reply, mean_accepted_reply, mean_reply}
-use Rattle.stack_commands.specs.Prepared.{reply_by}
-use Rattle.cli_stack.specs.Answer.{answer_with, answer_on, answer_to}
-use Rattle.cli_stack.specs.FilesAndSizes.{IsReadable}
-use Rattle.cli_stack.specs.Means.{meaning_text, MeansInSteps, TellsSteps, Follows, FollowsMeanings}
-use Rattle.cli_stack.proofs.TellsLaws.{both_there}
+use Rattle.stack_commands.{specs.Commands.SourceText.{unless_refused, accepted_in}, specs.Commands.Mean.{said_text, mean_end_reply, mean_run_reply}}
+use Rattle.stack_commands.{specs.Commands.Mean.{mean_started_reply, mean_accepted_reply, mean_reply}, specs.Prepared.reply_by}
+use Rattle.cli_stack.{specs.Answer.{answer_with, answer_on, answer_to}, specs.FilesAndSizes.IsReadable, specs.Means.{meaning_text, MeansInSteps, TellsSteps}}
+use Rattle.cli_stack.{specs.Means.{Follows, FollowsMeanings}, proofs.TellsLaws.both_there}
 
 -- 1. A reply.
 

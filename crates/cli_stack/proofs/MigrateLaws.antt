@@ -1,41 +1,24 @@
 -- The file that `migrate` stores runs as the one before.
 use Rattle.std.proofs.Common.{◌≡◌, ◌≢◌, ◌≤◌, ◌∷◌, [], ⊎_elim, ℕ, List, Bool, true, false, ◌==◌, ◌&&◌, if◌then◌else◌, Option, Some, None, Result, Ok, Err}
-use Rattle.std.proofs.Common.{length, refl, sym, ap, ◌∙◌, subst, arith}
-use Rattle.std.proofs.lemmas.Bool.{and_parts, eqb-true, or_cases}
+use Rattle.std.{proofs.Common.{length, refl, sym, ap, ◌∙◌, subst, arith}, proofs.lemmas.Bool.{and_parts, eqb-true, or_cases}}
 use Rattle.std.proofs.lemmas.List.{nil_from_length}
-use Rattle.stack_text.specs.Results.{◌>>=◌}
-use Rattle.stack_text.specs.Values.{ValueOf}
-use Rattle.stack_shelf.specs.Files.{Files, file_at, put_file}
-use Rattle.stack_shelf.specs.Shelf.{fetched, within}
+use Rattle.stack_text.{specs.Results.◌>>=◌, specs.Values.ValueOf}
+use Rattle.stack_shelf.{specs.Files.{Files, file_at, put_file}, specs.Shelf.{fetched, within}}
 use Rattle.level_debuggers.specs.Tallies.{Watching}
-use Rattle.fm_image.specs.Procedure.{ProcedureOf}
-use Rattle.fm_image.specs.declared.procedure.Mark.{Mark}
-use Rattle.fm_image.specs.Image.{ImageOf}
-use Rattle.fm_image.specs.Limits.{tables_of, window_of, in_version_2, are_tables}
-use Rattle.fm_image.specs.Reading.{read_of}
-use Rattle.fm_image.specs.Spelling.{spelling, tables_bytes, Spelled}
-use Rattle.fm_image.proofs.ImageLaws.{read_spells, is_read_again}
-use Rattle.fm_image.proofs.LimitLaws.{limits_of, version_2_fits}
+use Rattle.fm_image.{specs.Procedure.ProcedureOf, specs.declared.procedure.Mark.Mark, specs.Image.ImageOf, specs.Limits.{tables_of, window_of, in_version_2}}
+use Rattle.fm_image.{specs.Limits.are_tables, specs.Reading.read_of, specs.Spelling.{spelling, tables_bytes, Spelled}, proofs.ImageLaws.read_spells}
+use Rattle.fm_image.{proofs.ImageLaws.is_read_again, proofs.LimitLaws.{limits_of, version_2_fits}}
 use Rattle.fm_loader.specs.Values.{values_in}
 use Rattle.stack_build.proofs.ImageBytes.{file_few}
 use Rattle.command_line.specs.declared.command.Command.TheVariants as command
-use Rattle.command_line.specs.declared.early_end.EarlyEnd.{EarlyEnd}
-use Rattle.command_line.specs.declared.role.Role.TheVariants.{Values, Image}
-use Rattle.command_line.specs.declared.status.Status.TheVariants.{Done}
-use Rattle.command_line.specs.Roles.{limit_of}
-use Rattle.command_line.specs.Gathered.{text_or_end}
-use Rattle.command_line.specs.CommandFiles.{inputs_of, output_of}
-use Rattle.command_line.proofs.FileLaws.{was_short}
-use Rattle.command_replies.specs.Replies.{status_of}
-use Rattle.command_replies.specs.Commands.Migrate.{migrated_stored, migrated_reply}
-use Rattle.command_replies.specs.Commands.Run.{run_reply, values_reply, image_reply}
+use Rattle.command_line.{specs.declared.early_end.EarlyEnd.EarlyEnd, specs.declared.role.Role.TheVariants.{Values, Image}}
+use Rattle.command_line.{specs.declared.status.Status.TheVariants.Done, specs.Roles.limit_of, specs.Gathered.text_or_end, specs.CommandFiles.inputs_of}
+use Rattle.command_line.{specs.CommandFiles.output_of, proofs.FileLaws.was_short}
+use Rattle.command_replies.{specs.Replies.status_of, specs.Commands.Migrate.{migrated_stored, migrated_reply}, specs.Commands.Run.{run_reply, values_reply}}
+use Rattle.command_replies.specs.Commands.Run.{image_reply}
 use Rattle.stack_commands.specs.Prepared.{stored_by, reply_by}
-use Rattle.cli_stack.specs.Answer.{Answer, set_file, answer_with, answer_on, files_after}
-use Rattle.cli_stack.specs.Again.{HasBytes, MigratedRunsTheSame}
-use Rattle.cli_stack.proofs.AssemblesLaws.{are_bytes}
-use Rattle.cli_stack.proofs.GoLaws.{early_done}
-use Rattle.cli_stack.proofs.PutLaws.{put_there, put_other}
-use Rattle.cli_stack.proofs.TellsLaws.{is_there}
+use Rattle.cli_stack.{specs.Answer.{Answer, set_file, answer_with, answer_on, files_after}, specs.Again.{HasBytes, MigratedRunsTheSame}}
+use Rattle.cli_stack.{proofs.AssemblesLaws.are_bytes, proofs.GoLaws.early_done, proofs.PutLaws.{put_there, put_other}, proofs.TellsLaws.is_there}
 
 -- 1. Its file is short enough to be read.
 

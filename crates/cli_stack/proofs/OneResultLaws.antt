@@ -1,70 +1,34 @@
 -- At all sizes of the stacks from those that `need` tells, `go` prints one report.
 use Rattle.std.proofs.Common.{◌≡◌, ◌≤◌, ◌-◌, ◌++◌, ◌∷◌, [], ℕ, suc, List, Option, IfOk, Result, Ok, Err, length, append-nil, refl, sym, ap, ◌∙◌, subst, arith}
-use Rattle.std.specs.Prelude.{◌^◌, codes, option_map}
-use Rattle.std.specs.Fmt.{decimal}
-use Rattle.stack_text.specs.Lines.{line}
-use Rattle.stack_text.specs.Results.{◌>>=◌}
-use Rattle.stack_text.specs.Values.{ValueOf, item_count}
-use Rattle.stack_shelf.specs.Files.{Files}
-use Rattle.stack_shelf.specs.Shelf.{fetched}
+use Rattle.std.{specs.Prelude.{◌^◌, codes, option_map}, specs.Fmt.decimal}
+use Rattle.stack_text.{specs.Lines.line, specs.Results.◌>>=◌, specs.Values.{ValueOf, item_count}}
+use Rattle.stack_shelf.{specs.Files.Files, specs.Shelf.fetched}
 use Rattle.level_debuggers.specs.Tallies.{Watching}
-use Rattle.fm_machine.specs.State.{Fm}
-use Rattle.fm_machine.specs.Run.{IsFirst}
-use Rattle.fm_machine.specs.Outcome.{RunOutcome, IsOutcome, outcome}
-use Rattle.fm_machine.specs.declared.processor.Run.{Run}
-use Rattle.fm_machine.specs.declared.processor.Run.TheVariants as run
+use Rattle.fm_machine.{specs.State.Fm, specs.Run.IsFirst, specs.Outcome.{RunOutcome, IsOutcome, outcome}, specs.declared.processor.Run.Run}
 use Rattle.fm_machine.proofs.RunLaws.{outcome_is}
+use Rattle.fm_machine.specs.declared.processor.Run.TheVariants as run
 use Rattle.fm_image.specs.Image.{ImageOf}
-use Rattle.fm_loader.specs.Loaded.{loaded}
-use Rattle.fm_loader.specs.Values.{values_in}
-use Rattle.display_maps.specs.declared.shown.Shown.{Shown}
-use Rattle.display_maps.specs.Reading.{ReadingOf, reading}
-use Rattle.display_maps.specs.Report.{VariableOf, reading_lines, shaped, report_text}
-use Rattle.gypsy_syntax.specs.declared.literal.Decl.{Decl}
-use Rattle.gypsy_syntax.specs.Resolved.{program_of, shape_of}
-use Rattle.gypsy_syntax.specs.Sources.{SourceOf}
-use Rattle.gypsy_space.specs.Costs.{Tally}
-use Rattle.gypsy_space.specs.Needs.{StackSizes}
-use Rattle.gypsy_semantics.specs.Calls.{CurrentCondition}
-use Rattle.gypsy_semantics.specs.Counted.{CountedOutcome, uncounted, tally_of}
-use Rattle.gypsy_semantics.specs.Machine.{At, Move, Next, Ended, start}
-use Rattle.gypsy_semantics.proofs.CountLaws.{meaning-uncounted}
-use Rattle.gypsy_semantics.proofs.Runs.{agree}
-use Rattle.gypsy_codegen.specs.Moments.{moment_from}
-use Rattle.gypsy_codegen.proofs.MomentLaws.{moment_over, counts_grow}
-use Rattle.space_cert.specs.Covers.{Covers}
-use Rattle.space_cert.specs.Larger.{EndsWith, IsSameRun}
-use Rattle.space_cert.proofs.LargerLaws.{covered_same}
-use Rattle.space_cert.proofs.LeastLaws.{covers_main}
-use Rattle.stack_build.specs.declared.fault.BuildFault.{BuildFault}
-use Rattle.stack_build.specs.Build.{BuiltOf, Builds, BuildsText, accepted_source, built}
-use Rattle.stack_build.specs.Formals.{shown_formals}
-use Rattle.stack_build.specs.Image.{slots_from, formal_slots, image_of}
-use Rattle.stack_build.specs.Implements.{FitsFormals, Finishes, meaning_shown}
-use Rattle.stack_build.specs.Joined.{BuiltImplements, BuiltTakesValues}
-use Rattle.stack_build.specs.Moments.{ArrivesAt}
-use Rattle.stack_build.proofs.KnownLaws.{source_is_accepted}
+use Rattle.fm_loader.{specs.Loaded.loaded, specs.Values.values_in}
+use Rattle.display_maps.{specs.declared.shown.Shown.Shown, specs.Reading.{ReadingOf, reading}, specs.Report.{VariableOf, reading_lines, shaped, report_text}}
+use Rattle.gypsy_syntax.{specs.declared.literal.Decl.Decl, specs.Resolved.{program_of, shape_of}, specs.Sources.SourceOf}
+use Rattle.gypsy_space.{specs.Costs.Tally, specs.Needs.StackSizes}
+use Rattle.gypsy_semantics.{specs.Calls.CurrentCondition, specs.Counted.{CountedOutcome, uncounted, tally_of}, specs.Machine.{At, Move, Next, Ended, start}}
+use Rattle.gypsy_semantics.{proofs.CountLaws.meaning-uncounted, proofs.Runs.agree}
+use Rattle.gypsy_codegen.{specs.Moments.moment_from, proofs.MomentLaws.{moment_over, counts_grow}}
+use Rattle.space_cert.{specs.Covers.Covers, specs.Larger.{EndsWith, IsSameRun}, proofs.LargerLaws.covered_same, proofs.LeastLaws.covers_main}
+use Rattle.stack_build.{specs.declared.fault.BuildFault.BuildFault, specs.Build.{BuiltOf, Builds, BuildsText, accepted_source, built}}
+use Rattle.stack_build.{specs.Formals.shown_formals, specs.Image.{slots_from, formal_slots, image_of}, specs.Implements.{FitsFormals, Finishes, meaning_shown}}
+use Rattle.stack_build.{specs.Joined.{BuiltImplements, BuiltTakesValues}, specs.Moments.ArrivesAt, proofs.KnownLaws.source_is_accepted}
+use Rattle.stack_build.{proofs.MeantLaws.first_once, proofs.SlotLaws.image_takes}
 use Rattle.command_line.specs.declared.command.Command.TheVariants as command
-use Rattle.command_line.specs.declared.early_end.EarlyEnd.{EarlyEnd}
-use Rattle.command_line.specs.declared.role.Role.TheVariants.{Source, Values}
-use Rattle.command_line.specs.declared.status.Status.TheVariants.{Done}
-use Rattle.command_line.specs.Roles.{limit_of}
-use Rattle.command_line.specs.Gathered.{text_or_end}
-use Rattle.command_line.specs.CommandFiles.{inputs_of, output_of}
-use Rattle.command_line.proofs.FileLaws.{was_short}
-use Rattle.command_replies.specs.Replies.{status_of}
-use Rattle.stack_commands.specs.Commands.Build.{build_reply}
-use Rattle.command_replies.specs.Commands.Run.{end_reply, run_reply}
-use Rattle.stack_commands.specs.Prepared.{stored_by, reply_by}
-use Rattle.cli_stack.specs.Answer.{Answer, answer_with, answer_on, answer_to}
-use Rattle.cli_stack.specs.FilesAndSizes.{IsReadable}
-use Rattle.cli_stack.specs.OneResult.{TellsAlso, GoAlike, LargerStacksTellTheSame}
-use Rattle.cli_stack.specs.Tells.{IsBuilt, TellsReport}
-use Rattle.stack_build.proofs.MeantLaws.{first_once}
-use Rattle.cli_stack.proofs.GoLaws.{early_done, build_done, go_done}
-use Rattle.cli_stack.proofs.RoomLaws.{needs}
-use Rattle.stack_build.proofs.SlotLaws.{image_takes}
-use Rattle.cli_stack.proofs.TellsLaws.{is_there, go_tells}
+use Rattle.command_line.{specs.declared.early_end.EarlyEnd.EarlyEnd, specs.declared.role.Role.TheVariants.{Source, Values}}
+use Rattle.command_line.{specs.declared.status.Status.TheVariants.Done, specs.Roles.limit_of, specs.Gathered.text_or_end, specs.CommandFiles.inputs_of}
+use Rattle.command_line.{specs.CommandFiles.output_of, proofs.FileLaws.was_short}
+use Rattle.command_replies.{specs.Replies.status_of, specs.Commands.Run.{end_reply, run_reply}}
+use Rattle.stack_commands.{specs.Commands.Build.build_reply, specs.Prepared.{stored_by, reply_by}}
+use Rattle.cli_stack.{specs.Answer.{Answer, answer_with, answer_on, answer_to}, specs.FilesAndSizes.IsReadable, specs.OneResult.{TellsAlso, GoAlike}}
+use Rattle.cli_stack.{specs.OneResult.LargerStacksTellTheSame, specs.Tells.{IsBuilt, TellsReport}, proofs.GoLaws.{early_done, build_done, go_done}}
+use Rattle.cli_stack.{proofs.RoomLaws.needs, proofs.TellsLaws.{is_there, go_tells}}
 
 -- 1. A report says nothing of the sizes.
 

@@ -1,23 +1,14 @@
 -- What a store that failed leaves of a command, and why a command ended early.
 use Rattle.std.proofs.Common.{◌≡◌, inl, inr, ⊎_elim, ℕ, suc, ◌++◌, List, Option, Some, None, IfSome, Result, Ok, Err, refl, arith, ◌∙◌, ap, subst}
-use Rattle.std.specs.Prelude.{Contains}
-use Rattle.std.specs.Option.{option_to_list}
-use Rattle.stack_shelf.specs.Files.{Files}
+use Rattle.std.{specs.Prelude.Contains, specs.Option.option_to_list}
+use Rattle.stack_shelf.{specs.Files.Files, specs.Causes.{Counts, NoneFell}, specs.Shelf.PartlyStored}
 use Rattle.level_debuggers.specs.Tallies.{Watching}
-use Rattle.stack_shelf.specs.Causes.{Counts, NoneFell}
-use Rattle.stack_shelf.specs.Shelf.{PartlyStored}
-use Rattle.command_line.specs.declared.command.Command.{Command}
-use Rattle.command_line.specs.declared.early_end.EarlyEnd.{EarlyEnd}
-use Rattle.command_line.specs.declared.early_end.EarlyEnd.TheVariants.{Missing, TooLong, ShelfFault, OutOfMemory}
-use Rattle.command_line.specs.declared.role.Role.{Role}
-use Rattle.command_line.specs.Gathered.{Texts, gathered}
-use Rattle.command_line.specs.CommandFiles.{names_of, inputs_of, output_of, file_names}
-use Rattle.command_line.specs.Devices.{EndsAtOne, IsFaultAt, LeavesPart}
-use Rattle.command_line.proofs.GatherLaws.{rose_from}
+use Rattle.command_line.{specs.declared.command.Command.Command, specs.declared.early_end.EarlyEnd.EarlyEnd}
+use Rattle.command_line.{specs.declared.early_end.EarlyEnd.TheVariants.{Missing, TooLong, ShelfFault, OutOfMemory}, specs.declared.role.Role.Role}
+use Rattle.command_line.{specs.Gathered.{Texts, gathered}, specs.CommandFiles.{names_of, inputs_of, output_of, file_names}, specs.Devices.EndsAtOne}
+use Rattle.command_line.{specs.Devices.{IsFaultAt, LeavesPart}, proofs.GatherLaws.rose_from}
 use Rattle.stack_commands.specs.Prepared.{stored_by}
-use Rattle.cli_stack.specs.Answer.{Answer, answer_to, answer_on, set_file}
-use Rattle.cli_stack.specs.World.{ShelfOf, shelf_of}
-use Rattle.cli_stack.specs.Driver.{HasReason, LeavesAs, Leaves}
+use Rattle.cli_stack.{specs.Answer.{Answer, answer_to, answer_on, set_file}, specs.World.{ShelfOf, shelf_of}, specs.Driver.{HasReason, LeavesAs, Leaves}}
 
 -- the file that it writes is one of its files
 own : (command : Command) (output : Role × List ℕ) → output_of command ≡ Some output → Contains (file_names (Some command)) output.1

@@ -1,68 +1,38 @@
 -- What `pit` stores carries the meaning of its source, and `pbuild` of it makes what `build` does.
 use Rattle.std.proofs.Common.{◌≡◌, ◌≤◌, ◌∷◌, [], ℕ, List, Bool, true, false, if◌then◌else◌, Option, Some, None, Result, Ok, Err, length, map, refl, sym, ap}
-use Rattle.std.proofs.Common.{◌∙◌, subst, arith}
-use Rattle.std.specs.Prelude.{nat_lt}
+use Rattle.std.{proofs.Common.{◌∙◌, subst, arith}, specs.Prelude.nat_lt}
 use Rattle.fm_words.specs.WindowLimit.{most_window}
-use Rattle.stack_text.specs.Breaches.{least}
-use Rattle.stack_text.specs.declared.breach.Breach.{Breach}
-use Rattle.stack_text.specs.Results.{◌>>=◌, unless_fault}
-use Rattle.stack_shelf.specs.Files.{Files, file_at, put_file}
-use Rattle.stack_shelf.specs.Shelf.{fetched}
+use Rattle.stack_text.{specs.Breaches.least, specs.declared.breach.Breach.Breach, specs.Results.{◌>>=◌, unless_fault}}
+use Rattle.stack_shelf.{specs.Files.{Files, file_at, put_file}, specs.Shelf.fetched}
 use Rattle.level_debuggers.specs.Tallies.{Watching}
 use Rattle.fm_image.specs.Spelling.{spelling}
-use Rattle.piton_syntax.specs.Printed.{piton_text}
-use Rattle.piton_syntax.specs.Systems.{SystemOf}
-use Rattle.piton_syntax.proofs.PrintingLaws.{piton_text_reads}
-use Rattle.piton_check.specs.Instruction.{SystemView, system_view}
-use Rattle.piton_check.specs.Places.{PlacesChangeNothing}
-use Rattle.piton_check.specs.PitonChecking.{CheckedOf}
-use Rattle.piton_check.specs.Resolved.{resolved}
+use Rattle.piton_syntax.{specs.Printed.piton_text, specs.Systems.SystemOf, proofs.PrintingLaws.piton_text_reads}
+use Rattle.piton_check.{specs.Instruction.{SystemView, system_view}, specs.Places.PlacesChangeNothing, specs.PitonChecking.CheckedOf, specs.Resolved.resolved}
 use Rattle.piton_check.specs.Violations.{violations}
-use Rattle.piton_semantics.specs.Fits.{system_in}
-use Rattle.piton_semantics.specs.Placed.{placed}
-use Rattle.piton_semantics.specs.StateView.{started}
-use Rattle.gypsy_syntax.specs.Resolved.{program_of}
-use Rattle.gypsy_syntax.specs.Sources.{SourceOf}
+use Rattle.piton_semantics.{specs.Fits.system_in, specs.Placed.placed, specs.StateView.started}
+use Rattle.gypsy_syntax.{specs.Resolved.program_of, specs.Sources.SourceOf}
 use Rattle.gypsy_check.specs.Accepted.{IsAccepted}
 use Rattle.gypsy_space.specs.Needs.{StackSizes, stack_sizes}
 use Rattle.gypsy_semantics.specs.Calls.{main_start}
-use Rattle.gypsy_codegen.specs.Acceptable.{LimitsFit, GeneratedIsAcceptable, SourceRuns}
-use Rattle.gypsy_codegen.specs.Generated.{generated_view}
-use Rattle.gypsy_codegen.specs.Generation.{size_fault, generation, SystemImplements}
-use Rattle.gypsy_codegen.specs.Moments.{EachMomentIsReached, HasMoment, moment_from}
-use Rattle.gypsy_codegen.specs.Text.{generated}
-use Rattle.gypsy_codegen.specs.Whole.{RunsTo}
-use Rattle.gypsy_codegen.specs.WordsOf.{words_of_values}
-use Rattle.gypsy_codegen.specs.declared.fault.GenFault.{GenFault}
-use Rattle.gypsy_codegen.proofs.AnswerLaws.{limits_fit}
-use Rattle.stack_build.specs.declared.fault.BuildFault.{BuildFault}
+use Rattle.gypsy_codegen.{specs.Acceptable.{LimitsFit, GeneratedIsAcceptable, SourceRuns}, specs.Generated.generated_view, specs.Generation.size_fault}
+use Rattle.gypsy_codegen.{specs.Generation.{generation, SystemImplements}, specs.Moments.{EachMomentIsReached, HasMoment, moment_from}, specs.Text.generated}
+use Rattle.gypsy_codegen.{specs.Whole.RunsTo, specs.WordsOf.words_of_values, specs.declared.fault.GenFault.GenFault, proofs.AnswerLaws.limits_fit}
+use Rattle.stack_build.{specs.declared.fault.BuildFault.BuildFault, specs.Build.{BuiltOf, accepted_source, generated_by, generating_fault, built_with}}
+use Rattle.stack_build.{specs.Build.{linked_of, source_built, compiled, built}, specs.Image.{linked_image, image_of}, proofs.KnownLaws.source_is_accepted}
 use Rattle.stack_build.specs.declared.fault.BuildFault.TheVariants as fault
-use Rattle.stack_build.specs.Build.{BuiltOf, accepted_source, generated_by, generating_fault, built_with, linked_of, source_built, compiled, built}
-use Rattle.stack_build.specs.Image.{linked_image, image_of}
-use Rattle.stack_build.proofs.KnownLaws.{source_is_accepted}
 use Rattle.command_line.specs.declared.command.Command.TheVariants as command
-use Rattle.command_line.specs.declared.early_end.EarlyEnd.{EarlyEnd}
-use Rattle.command_line.specs.declared.role.Role.TheVariants.{Source, Piton, Image}
-use Rattle.command_line.specs.declared.status.Status.TheVariants.{Done}
-use Rattle.command_line.specs.Roles.{limit_of}
-use Rattle.command_line.specs.Gathered.{text_or_end}
-use Rattle.command_line.specs.CommandFiles.{inputs_of, output_of}
-use Rattle.command_line.proofs.FileLaws.{was_short}
+use Rattle.command_line.{specs.declared.early_end.EarlyEnd.EarlyEnd, specs.declared.role.Role.TheVariants.{Source, Piton, Image}}
+use Rattle.command_line.{specs.declared.status.Status.TheVariants.Done, specs.Roles.limit_of, specs.Gathered.text_or_end, specs.CommandFiles.inputs_of}
+use Rattle.command_line.{specs.CommandFiles.output_of, proofs.FileLaws.was_short}
 use Rattle.command_replies.specs.declared.reply.SizeOf.TheVariants as size
-use Rattle.command_replies.specs.declared.reply.Verdict.{Verdict}
+use Rattle.command_replies.{specs.declared.reply.Verdict.Verdict, specs.Replies.{verdict_alone, built_reply}, specs.Commands.PitonText.checked_unless}
+use Rattle.command_replies.specs.Commands.PitonText.{checked_by, checked_in}
 use Rattle.command_replies.specs.declared.reply.Verdict.TheVariants as verdict
-use Rattle.command_replies.specs.Replies.{verdict_alone, built_reply}
-use Rattle.stack_commands.specs.Commands.Build.{image_stored, build_reply}
-use Rattle.stack_commands.specs.Commands.Pbuild.{linked_stored, linked_reply, checked_stored, checked_reply}
-use Rattle.stack_commands.specs.Commands.Pit.{pit_stored, pit_reply}
-use Rattle.command_replies.specs.Commands.PitonText.{checked_unless, checked_by, checked_in}
-use Rattle.stack_commands.specs.Prepared.{stored_by, reply_by}
-use Rattle.cli_stack.specs.Answer.{Answer, set_file, answer_with, answer_on, files_after}
-use Rattle.cli_stack.specs.InARow.{EndsAlike}
-use Rattle.cli_stack.specs.PitAndPbuild.{HoldsSystem, PitCarriesMeanings, StoresUntold, IsBuildInTwo, BuildIsPitAndPbuild}
-use Rattle.cli_stack.proofs.PutLaws.{put_there}
-use Rattle.cli_stack.proofs.RoleLaws.{set_bytes}
-use Rattle.cli_stack.proofs.TellsLaws.{is_there}
+use Rattle.stack_commands.{specs.Commands.Build.{image_stored, build_reply}, specs.Commands.Pbuild.{linked_stored, linked_reply, checked_stored, checked_reply}}
+use Rattle.stack_commands.{specs.Commands.Pit.{pit_stored, pit_reply}, specs.Prepared.{stored_by, reply_by}}
+use Rattle.cli_stack.{specs.Answer.{Answer, set_file, answer_with, answer_on, files_after}, specs.InARow.EndsAlike, specs.PitAndPbuild.HoldsSystem}
+use Rattle.cli_stack.{specs.PitAndPbuild.{PitCarriesMeanings, StoresUntold, IsBuildInTwo, BuildIsPitAndPbuild}, proofs.PutLaws.put_there}
+use Rattle.cli_stack.{proofs.RoleLaws.set_bytes, proofs.TellsLaws.is_there}
 
 abbrev Fetched : Type 0
 Fetched = Result (List ℕ) EarlyEnd

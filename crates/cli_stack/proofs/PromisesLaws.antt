@@ -1,41 +1,22 @@
 -- The promises of the program, from what its two halves say: how the command was performed, and how it was concluded.
 use Rattle.std.proofs.Common.{◌≡◌, ◌⊎◌, inl, inr, ⊎_elim, ℕ, List, Bool, true, false, Option, Some, None, IfSome, IfErr, IfOk, Result, Ok, Err, refl, sym, ap}
-use Rattle.std.proofs.Common.{◌∙◌, subst}
-use Rattle.std.specs.Prelude.{◌≢◌}
-use Rattle.std.specs.Option.{option_map}
+use Rattle.std.{proofs.Common.{◌∙◌, subst}, specs.Prelude.◌≢◌, specs.Option.option_map}
 use Rattle.fm_machine.specs.State.{Fm, MachineOf}
-use Rattle.stack_shelf.specs.Files.{Files}
+use Rattle.stack_shelf.{specs.Files.Files, specs.Causes.Rose, specs.Shelf.{appended, PrefixAppended}}
 use Rattle.level_debuggers.specs.Tallies.{Watching}
-use Rattle.stack_shelf.specs.Causes.{Rose}
-use Rattle.stack_shelf.specs.Shelf.{appended, PrefixAppended}
-use Rattle.command_line.specs.declared.command.Command.{Command}
-use Rattle.command_line.specs.declared.early_end.EarlyEnd.{EarlyEnd}
+use Rattle.command_line.{specs.declared.command.Command.Command, specs.declared.early_end.EarlyEnd.EarlyEnd, specs.declared.status.Status.Status}
+use Rattle.command_line.{specs.declared.status.Status.TheVariants.{Missing, ShelfFault, SinkFault, Size, OutOfMemory, NoWords}, specs.Ends.end_status}
+use Rattle.command_line.{specs.Ends.end_line, specs.CommandFiles.{input_names, file_names}, proofs.PrintLaws.nothing_printed}
 use Rattle.command_line.specs.declared.early_end.EarlyEnd.TheVariants as early
-use Rattle.command_line.specs.declared.status.Status.{Status}
-use Rattle.command_line.specs.declared.status.Status.TheVariants.{Missing, ShelfFault, SinkFault, Size, OutOfMemory, NoWords}
-use Rattle.command_line.specs.Ends.{end_status, end_line}
-use Rattle.command_line.specs.CommandFiles.{input_names, file_names}
-use Rattle.command_line.proofs.PrintLaws.{nothing_printed}
-use Rattle.cli_stack.specs.declared.driver.conclude.Conclusion.{Conclusion}
-use Rattle.stack_commands.specs.declared.work.Ending.{Ending}
-use Rattle.command_replies.specs.declared.reply.Reply.{Reply}
-use Rattle.command_replies.specs.declared.reply.Verdict.{Verdict}
-use Rattle.command_replies.specs.declared.reply.Verdict.TheVariants as verdict
-use Rattle.stack_commands.specs.Works.{ending_reply}
-use Rattle.command_replies.specs.Replies.{ReplyOf, status_of, reply_of}
-use Rattle.cli_stack.specs.Answer.{Answer, early_answer, files_after, answer_by, answer_to}
-use Rattle.cli_stack.specs.World.{World}
-use Rattle.cli_stack.specs.Promises.{KeepsWithFiles, IsTooLong, KeepsPromises}
-use Rattle.cli_stack.specs.Kept.{RunsImage, IsRunEnd}
-use Rattle.cli_stack.specs.Remains.{HoldsPart, LeavesFiles, PrintsPrefix}
-use Rattle.cli_stack.specs.Causes.{RoseAt}
-use Rattle.cli_stack.specs.Agrees.{HoldsMachine, Agrees}
-use Rattle.cli_stack.specs.Tells.{TellsMeanings}
-use Rattle.cli_stack.specs.RepliesTo.{Devices, IsReplyTo, Replies, TookLines}
-use Rattle.cli_stack.specs.Driver.{HasReason, LeavesAs, Leaves, machine_kept, conclusion_of, replied, Stopped, NotBegun, Concludes}
-use Rattle.cli_stack.proofs.CompletesLaws.{completes}
-use Rattle.cli_stack.proofs.MachineLaws.{RepliesToSome, only_runs}
+use Rattle.cli_stack.{specs.declared.driver.conclude.Conclusion.Conclusion, specs.Answer.{Answer, early_answer, files_after, answer_by, answer_to}}
+use Rattle.cli_stack.{specs.World.World, specs.Promises.{KeepsWithFiles, IsTooLong, KeepsPromises}, specs.Kept.{RunsImage, IsRunEnd}, specs.Remains.HoldsPart}
+use Rattle.cli_stack.{specs.Remains.{LeavesFiles, PrintsPrefix}, specs.Causes.RoseAt, specs.Agrees.{HoldsMachine, Agrees}, specs.Tells.TellsMeanings}
+use Rattle.cli_stack.{specs.RepliesTo.{Devices, IsReplyTo, Replies, TookLines}, specs.Driver.{HasReason, LeavesAs, Leaves, machine_kept, conclusion_of}}
+use Rattle.cli_stack.{specs.Driver.{replied, Stopped, NotBegun, Concludes}, proofs.CompletesLaws.completes, proofs.MachineLaws.{RepliesToSome, only_runs}}
 use Rattle.cli_stack.proofs.SizeLaws.{has_sizes}
+use Rattle.stack_commands.{specs.declared.work.Ending.Ending, specs.Works.ending_reply}
+use Rattle.command_replies.{specs.declared.reply.Reply.Reply, specs.declared.reply.Verdict.Verdict, specs.Replies.{ReplyOf, status_of, reply_of}}
+use Rattle.command_replies.specs.declared.reply.Verdict.TheVariants as verdict
 
 -- 1. Statuses.
 

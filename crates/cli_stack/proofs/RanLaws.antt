@@ -1,43 +1,27 @@
 -- What the logs of a run tell.
 use Rattle.std.proofs.Common.{◌≡◌, ◌⊎◌, inl, inr, ⊎_elim, ◌∷◌, [], ◌++◌, take, ℕ, zero, suc, ◌+◌, ◌==◌, Bool, true, false, if◌then◌else◌, List, Option, Some}
 use Rattle.std.proofs.Common.{None, IfSome, Result, Ok, Err, length, IfOk, ◌≤◌, refl, sym, ap, subst, ◌∙◌, arith, append-nil, append_assoc, length-append}
-use Rattle.std.specs.Prelude.{◌≢◌}
-use Rattle.std.proofs.lemmas.List.Elements.{All-head}
+use Rattle.std.{specs.Prelude.◌≢◌, proofs.lemmas.List.Elements.All-head}
 use Rattle.stack_shelf.specs.Files.{Files}
 use Rattle.level_debuggers.specs.Tallies.{Watching}
 use Rattle.device_logs.specs.Logged.{LoggedShelfOf, LoggedSinkOf, logged_gave, logged_got, logged_took, log_limit}
 use Rattle.gypsy_space.specs.Needs.{StackSizes, stack_sizes}
 use Rattle.stack_text.specs.Values.{ValueOf}
 use Rattle.fm_loader.specs.Values.{values_in}
-use Rattle.stack_build.specs.declared.fault.BuildFault.{BuildFault}
-use Rattle.stack_build.specs.Build.{BuiltOf, BuildsText, built}
-use Rattle.stack_build.specs.Implements.{FitsFormals}
-use Rattle.stack_build.specs.Joined.{BuiltImplements, BuiltTakesValues}
-use Rattle.stack_build.specs.Meant.{KeptMeansOnly}
-use Rattle.command_line.specs.declared.command.Command.{Command}
+use Rattle.stack_build.{specs.declared.fault.BuildFault.BuildFault, specs.Build.{BuiltOf, BuildsText, built}, specs.Implements.FitsFormals}
+use Rattle.stack_build.{specs.Joined.{BuiltImplements, BuiltTakesValues}, specs.Meant.KeptMeansOnly}
+use Rattle.command_line.{specs.declared.command.Command.Command, specs.declared.role.Role.Role, specs.declared.role.Role.TheVariants.{Source, Values, Image}}
+use Rattle.command_line.{specs.declared.role.Role.TheVariants.Piton, specs.declared.status.Status.Status, specs.declared.status.Status.TheVariants.Done}
+use Rattle.command_line.{specs.declared.status.Status.TheVariants.{Unfinished, Missing, ShelfFault, SinkFault, Size, OutOfMemory}, specs.CommandFiles.inputs_of}
+use Rattle.command_line.{specs.CommandFiles.output_of, specs.Devices.{gave_each, took_each, lines_of, onto_first}, specs.Gathered.{Texts, AreShort, roles_of}}
+use Rattle.command_line.{specs.Gathered.text_of, specs.Roles.limit_of}
 use Rattle.command_line.specs.declared.command.Command.TheVariants as command
-use Rattle.command_line.specs.declared.role.Role.{Role}
-use Rattle.command_line.specs.declared.role.Role.TheVariants.{Source, Values, Image, Piton}
-use Rattle.command_line.specs.declared.status.Status.{Status}
-use Rattle.command_line.specs.declared.status.Status.TheVariants.{Done, Unfinished, Missing, ShelfFault, SinkFault, Size, OutOfMemory}
-use Rattle.command_line.specs.CommandFiles.{inputs_of, output_of}
-use Rattle.command_line.specs.Devices.{gave_each, took_each, lines_of, onto_first}
-use Rattle.command_line.specs.Gathered.{Texts, AreShort, roles_of, text_of}
-use Rattle.command_line.specs.Roles.{limit_of}
-use Rattle.command_replies.specs.Commands.Run.{run_reply, values_reply}
-use Rattle.command_replies.specs.Replies.{ReplyOf, reply_text, status_of}
-use Rattle.stack_commands.specs.Prepared.{reply_by, stored_by}
-use Rattle.stack_commands.specs.Commands.Build.{image_stored}
-use Rattle.stack_commands.specs.Commands.Go.{go_reply}
-use Rattle.cli_stack.specs.Answer.{Answer, answer_with, set_file}
-use Rattle.cli_stack.specs.Decides.{Decided, IsDone, IsNotDone}
-use Rattle.cli_stack.specs.AnswerMeans.{CommandMeans}
-use Rattle.cli_stack.specs.Promises.{KeepsPromises, IsTooLong}
-use Rattle.cli_stack.specs.RepliesTo.{Devices, devices_of, got_file, Replies}
-use Rattle.cli_stack.specs.World.{World}
-use Rattle.cli_stack.specs.Ran.{Logs, WasPrinted, logs_of, files_with, file_list, RepliedTo, ToldUsage, Replied, Went, WentBy, RunDid, UnreadIsRefused}
-use Rattle.cli_stack.proofs.DecidesLaws.{reply_decided}
-use Rattle.cli_stack.proofs.GoLaws.{build_done}
+use Rattle.command_replies.{specs.Commands.Run.{run_reply, values_reply}, specs.Replies.{ReplyOf, reply_text, status_of}}
+use Rattle.stack_commands.{specs.Prepared.{reply_by, stored_by}, specs.Commands.Build.image_stored, specs.Commands.Go.go_reply}
+use Rattle.cli_stack.{specs.Answer.{Answer, answer_with, set_file}, specs.Decides.{Decided, IsDone, IsNotDone}, specs.AnswerMeans.CommandMeans}
+use Rattle.cli_stack.{specs.Promises.{KeepsPromises, IsTooLong}, specs.RepliesTo.{Devices, devices_of, got_file, Replies}, specs.World.World, specs.Ran.Logs}
+use Rattle.cli_stack.specs.Ran.{WasPrinted, logs_of, files_with, file_list, RepliedTo, ToldUsage, Replied, Went, WentBy, RunDid, UnreadIsRefused}
+use Rattle.cli_stack.{proofs.DecidesLaws.reply_decided, proofs.GoLaws.build_done}
 
 -- 1. What is in a log after calls.
 

@@ -1,8 +1,6 @@
 -- The files of a command, by their roles.
-use Rattle.std.proofs.Common.{◌≡◌, ℕ, zero, suc, List, [], ◌∷◌, Option, Some, None, ap, arith}
-use Rattle.std.specs.Prelude.{Contains}
-use Rattle.command_line.specs.declared.role.Role.{Role}
-use Rattle.command_line.specs.declared.role.Role.TheVariants.{Source}
+use Rattle.std.{proofs.Common.{◌≡◌, ℕ, zero, suc, List, [], ◌∷◌, Option, Some, None, ap, arith}, specs.Prelude.Contains}
+use Rattle.command_line.{specs.declared.role.Role.Role, specs.declared.role.Role.TheVariants.Source}
 
 -- the bytes of a file that is set
 abbrev pub set_bytes : Option (List ℕ × List ℕ) → List ℕ

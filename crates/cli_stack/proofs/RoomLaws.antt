@@ -1,73 +1,39 @@
 -- Where a certificate is enough, no run of the source sets spaceerror.
 use Rattle.std.proofs.Common.{◌≡◌, ◌≤◌, ◌∷◌, [], ◌++◌, ℕ, suc, List, Bool, true, false, Option, Some, Result, Ok, Err, length, get_or, refl, sym, ap, ◌∙◌}
-use Rattle.std.proofs.Common.{subst, arith, append-nil}
-use Rattle.std.specs.Prelude.{◌^◌, codes}
-use Rattle.std.specs.Result.{MatchResult}
-use Rattle.stack_text.specs.Lines.{line}
-use Rattle.stack_text.specs.Results.{◌>>=◌}
-use Rattle.stack_text.specs.Values.{ValueOf}
-use Rattle.stack_shelf.specs.Files.{Files}
-use Rattle.stack_shelf.specs.Shelf.{fetched}
-use Rattle.fm_machine.specs.State.{Fm}
-use Rattle.fm_machine.specs.Run.{IsFirst}
-use Rattle.fm_machine.specs.Outcome.{RunOutcome, IsOutcome, outcome}
-use Rattle.fm_machine.specs.declared.processor.Run.{Run}
-use Rattle.fm_machine.specs.declared.processor.Run.TheVariants as run
+use Rattle.std.{proofs.Common.{subst, arith, append-nil}, specs.Prelude.{◌^◌, codes}, specs.Result.MatchResult}
+use Rattle.stack_text.{specs.Lines.line, specs.Results.◌>>=◌, specs.Values.ValueOf}
+use Rattle.stack_shelf.{specs.Files.Files, specs.Shelf.fetched}
+use Rattle.fm_machine.{specs.State.Fm, specs.Run.IsFirst, specs.Outcome.{RunOutcome, IsOutcome, outcome}, specs.declared.processor.Run.Run}
 use Rattle.fm_machine.proofs.RunLaws.{outcome_is}
+use Rattle.fm_machine.specs.declared.processor.Run.TheVariants as run
 use Rattle.fm_image.specs.Image.{ImageOf}
 use Rattle.fm_loader.specs.Loaded.{loaded}
-use Rattle.display_maps.specs.Reading.{ReadingOf, reading}
-use Rattle.display_maps.specs.Report.{report_text}
+use Rattle.display_maps.{specs.Reading.{ReadingOf, reading}, specs.Report.report_text}
 use Rattle.level_debuggers.specs.Tallies.{Watching}
-use Rattle.gypsy_syntax.specs.ProgramFits.{ProgramFits}
-use Rattle.gypsy_syntax.specs.Resolved.{procedure_names, program_of}
-use Rattle.gypsy_syntax.specs.Sources.{SourceOf}
+use Rattle.gypsy_syntax.{specs.ProgramFits.ProgramFits, specs.Resolved.{procedure_names, program_of}, specs.Sources.SourceOf}
 use Rattle.gypsy_space.specs.Needs.{StackSizes, stack_sizes}
-use Rattle.gypsy_semantics.specs.Calls.{CurrentCondition}
-use Rattle.gypsy_semantics.specs.Machine.{At, Move, Next, Ended, Over, start}
-use Rattle.gypsy_codegen.specs.Moments.{moment_from}
-use Rattle.gypsy_codegen.proofs.MomentLaws.{moment_over, counts_grow}
-use Rattle.space_cert.specs.Accepting.{is_covered}
-use Rattle.space_cert.specs.Certified.{certified}
-use Rattle.space_cert.specs.CertText.{bounds_in}
-use Rattle.space_cert.specs.Covers.{Bounds, sizes_for, Covers}
-use Rattle.space_cert.specs.Least.{AreLeastBounds, IsFirstRecursive}
-use Rattle.space_cert.specs.Never.{NeverSpaceError}
-use Rattle.space_cert.proofs.AcceptLaws.{covered_is}
-use Rattle.space_cert.proofs.CertifiedLaws.{certified_is}
-use Rattle.space_cert.proofs.LeastLaws.{covers_main}
-use Rattle.space_cert.proofs.NeverLaws.{never}
-use Rattle.stack_build.specs.declared.fault.BuildFault.{BuildFault}
-use Rattle.stack_build.specs.declared.fault.BuildFault.TheVariants as fault
-use Rattle.stack_build.specs.Build.{accepted_source}
-use Rattle.stack_build.specs.Implements.{FitsFormals, meaning_shown}
-use Rattle.stack_build.specs.Joined.{BuiltImplements, BuiltTakesValues}
-use Rattle.stack_build.specs.Moments.{ArrivesAt, KeepsMoments}
-use Rattle.stack_build.proofs.KnownLaws.{source_is_accepted}
-use Rattle.command_line.specs.declared.command.Command.{Command}
-use Rattle.command_line.specs.declared.command.Command.TheVariants as command
-use Rattle.command_line.specs.declared.early_end.EarlyEnd.{EarlyEnd}
-use Rattle.command_line.specs.declared.early_end.EarlyEnd.TheVariants as early
-use Rattle.command_line.specs.declared.role.Role.TheVariants.{Source, Values, Certificate}
-use Rattle.command_line.specs.declared.status.Status.TheVariants.{Done, Recursive}
-use Rattle.command_line.specs.Roles.{limit_of}
-use Rattle.command_line.specs.CommandFiles.{inputs_of, output_of}
-use Rattle.command_line.specs.Ends.{end_status, end_line}
-use Rattle.command_line.specs.Gathered.{text_or_end}
-use Rattle.command_line.proofs.FileLaws.{was_short}
-use Rattle.command_replies.specs.declared.reply.Verdict.TheVariants as verdict
-use Rattle.command_replies.specs.Replies.{status_of, verdict_line, reply_text}
-use Rattle.command_replies.specs.Commands.Run.{end_reply, run_reply}
-use Rattle.stack_commands.specs.Commands.SourceText.{build_verdict, unless_refused, accepted_in}
-use Rattle.stack_commands.specs.Commands.Need.{bounds_stored, bounds_reply, certified_stored, certified_reply, need_stored_by, need_reply_by}
-use Rattle.stack_commands.specs.Commands.Cert.{yes_or_no, judged_reply, certificate_reply, cert_reply_by}
-use Rattle.stack_commands.specs.Prepared.{stored_by, reply_by}
-use Rattle.cli_stack.specs.Answer.{Answer, set_file, answer_with, answer_on, answer_to}
-use Rattle.cli_stack.specs.FilesAndSizes.{IsReadable}
-use Rattle.cli_stack.specs.Needs.{TellsOther, GoesOther, HasRoom, TellsNeed, Needs}
+use Rattle.gypsy_semantics.{specs.Calls.CurrentCondition, specs.Machine.{At, Move, Next, Ended, Over, start}}
+use Rattle.gypsy_codegen.{specs.Moments.moment_from, proofs.MomentLaws.{moment_over, counts_grow}}
+use Rattle.space_cert.{specs.Accepting.is_covered, specs.Certified.certified, specs.CertText.bounds_in, specs.Covers.{Bounds, sizes_for, Covers}}
+use Rattle.space_cert.{specs.Least.{AreLeastBounds, IsFirstRecursive}, specs.Never.NeverSpaceError, proofs.AcceptLaws.covered_is}
+use Rattle.space_cert.{proofs.CertifiedLaws.certified_is, proofs.LeastLaws.covers_main, proofs.NeverLaws.never}
+use Rattle.stack_build.{specs.declared.fault.BuildFault.BuildFault, specs.Build.accepted_source, specs.Implements.{FitsFormals, meaning_shown}}
+use Rattle.stack_build.{specs.Joined.{BuiltImplements, BuiltTakesValues}, specs.Moments.{ArrivesAt, KeepsMoments}, proofs.KnownLaws.source_is_accepted}
 use Rattle.stack_build.proofs.MeantLaws.{first_once}
-use Rattle.cli_stack.proofs.GoLaws.{early_done, build_done, go_done}
-use Rattle.cli_stack.proofs.TellsLaws.{is_there}
+use Rattle.stack_build.specs.declared.fault.BuildFault.TheVariants as fault
+use Rattle.command_line.{specs.declared.command.Command.Command, specs.declared.early_end.EarlyEnd.EarlyEnd, specs.declared.role.Role.TheVariants.Source}
+use Rattle.command_line.{specs.declared.role.Role.TheVariants.{Values, Certificate}, specs.declared.status.Status.TheVariants.{Done, Recursive}}
+use Rattle.command_line.{specs.Roles.limit_of, specs.CommandFiles.{inputs_of, output_of}, specs.Ends.{end_status, end_line}, specs.Gathered.text_or_end}
+use Rattle.command_line.proofs.FileLaws.{was_short}
+use Rattle.command_line.specs.declared.command.Command.TheVariants as command
+use Rattle.command_line.specs.declared.early_end.EarlyEnd.TheVariants as early
+use Rattle.command_replies.specs.declared.reply.Verdict.TheVariants as verdict
+use Rattle.command_replies.{specs.Replies.{status_of, verdict_line, reply_text}, specs.Commands.Run.{end_reply, run_reply}}
+use Rattle.stack_commands.{specs.Commands.SourceText.{build_verdict, unless_refused, accepted_in}, specs.Commands.Need.{bounds_stored, bounds_reply}}
+use Rattle.stack_commands.{specs.Commands.Need.{certified_stored, certified_reply, need_stored_by, need_reply_by}, specs.Commands.Cert.yes_or_no}
+use Rattle.stack_commands.{specs.Commands.Cert.{judged_reply, certificate_reply, cert_reply_by}, specs.Prepared.{stored_by, reply_by}}
+use Rattle.cli_stack.{specs.Answer.{Answer, set_file, answer_with, answer_on, answer_to}, specs.FilesAndSizes.IsReadable, specs.Needs.{TellsOther, GoesOther}}
+use Rattle.cli_stack.{specs.Needs.{HasRoom, TellsNeed, Needs}, proofs.GoLaws.{early_done, build_done, go_done}, proofs.TellsLaws.is_there}
 
 -- 1. A run that ended.
 

@@ -1,47 +1,25 @@
 -- Where the step machine has come to a state, a session says it.
 use Rattle.std.proofs.Common.{◌≡◌, ◌≢◌, ℕ, Bool, false, cond, List, [], ◌∷◌, length, Some, Result, Ok, Err, refl, sym, ap, subst, ◌∙◌, arith}
-use Rattle.std.specs.Prelude.{◌==◌, if◌then◌else◌}
-use Rattle.std.proofs.lemmas.Bool.{ne_eqb}
+use Rattle.std.{specs.Prelude.{◌==◌, if◌then◌else◌}, proofs.lemmas.Bool.ne_eqb}
 use Rattle.fm_machine.specs.State as machine
-use Rattle.fm_machine.specs.Run.{pc_of}
-use Rattle.fm_machine.specs.Step.{fm_step}
-use Rattle.fm_machine.specs.declared.fault.Outside.{Outside}
+use Rattle.fm_machine.{specs.Run.pc_of, specs.Step.fm_step, specs.declared.fault.Outside.Outside}
 use Rattle.fm_image.specs.Image.{ImageOf}
 use Rattle.fm_loader.specs.Loaded.{loaded}
-use Rattle.display_maps.specs.Reading.{reading}
-use Rattle.display_maps.specs.ReadingAt.{ReadingAtOf, reading_at, read_from}
-use Rattle.display_maps.specs.Report.{lines_of_reading}
+use Rattle.display_maps.{specs.Reading.reading, specs.ReadingAt.{ReadingAtOf, reading_at, read_from}, specs.Report.lines_of_reading}
 use Rattle.piton_check.specs.Instruction.{SystemView}
-use Rattle.piton_semantics.specs.declared.error_kind.ErrorKind.{ErrorKind}
-use Rattle.piton_semantics.specs.Fits.{system_in}
-use Rattle.piton_semantics.specs.Law.{Steps, advanced}
-use Rattle.piton_semantics.specs.StateView.{Seen, opening, seen_step, started}
+use Rattle.piton_semantics.{specs.declared.error_kind.ErrorKind.ErrorKind, specs.Fits.system_in, specs.Law.{Steps, advanced}, specs.StateView.{Seen, opening}}
+use Rattle.piton_semantics.specs.StateView.{seen_step, started}
 use Rattle.piton_semantics.specs.State as piton
-use Rattle.gypsy_syntax.specs.Programs.{Program}
-use Rattle.gypsy_syntax.specs.Resolved.{program_of}
-use Rattle.gypsy_semantics.specs.Machine.{At, Move}
-use Rattle.gypsy_semantics.specs.Views.RunView.{spent_at}
-use Rattle.gypsy_codegen.specs.Acceptable.{GeneratedIsAcceptable}
-use Rattle.gypsy_codegen.specs.Generated.{generated_view}
-use Rattle.gypsy_codegen.specs.Moments.{ComesToMark, EachMomentIsReached, HasMoment}
-use Rattle.gypsy_codegen.specs.Whole.{opened}
-use Rattle.gypsy_codegen.proofs.MomentLaws.{moment_fits}
-use Rattle.stack_build.specs.Image.{image_of}
-use Rattle.stack_build.proofs.MomentLaws.{going}
-use Rattle.stack_build.specs.Moments.{ArrivesAt, ArrivesAtMark, KeepsMoments}
-use Rattle.stack_build.specs.SourceMoments.{MomentsAreRead, ShownMomentsAreRead, moment_shown}
-use Rattle.stack_build.specs.Starts.{main_words}
-use Rattle.stack_build.proofs.StartLaws.{made}
-use Rattle.level_debuggers.specs.FmLevels.{FmLevelOf, fm_after}
-use Rattle.level_debuggers.specs.Levels.{LevelOf, Piton, Fm, lifted, next_of, up_text}
-use Rattle.level_debuggers.specs.PitonLevels.{PitonLevelOf, piton_after, piton_from}
-use Rattle.level_debuggers.specs.PitonReadings.{piton_at, piton_end, piton_up}
-use Rattle.level_debuggers.specs.RunWalks.{MachinesWalk, SystemsWalk, WalksTo}
-use Rattle.level_debuggers.specs.ScriptSteps.{SaysAfter}
+use Rattle.gypsy_syntax.{specs.Programs.Program, specs.Resolved.program_of}
+use Rattle.gypsy_semantics.{specs.Machine.{At, Move}, specs.Views.RunView.spent_at}
+use Rattle.gypsy_codegen.{specs.Acceptable.GeneratedIsAcceptable, specs.Generated.generated_view, specs.Moments.{ComesToMark, EachMomentIsReached, HasMoment}}
+use Rattle.gypsy_codegen.{specs.Whole.opened, proofs.MomentLaws.moment_fits}
+use Rattle.stack_build.{specs.Image.image_of, proofs.MomentLaws.going, specs.Moments.{ArrivesAt, ArrivesAtMark, KeepsMoments}}
+use Rattle.stack_build.{specs.SourceMoments.{MomentsAreRead, ShownMomentsAreRead, moment_shown}, specs.Starts.main_words, proofs.StartLaws.made}
+use Rattle.level_debuggers.{specs.FmLevels.{FmLevelOf, fm_after}, specs.Levels.{LevelOf, Piton, Fm, lifted, next_of, up_text}, specs.PitonLevels.PitonLevelOf}
+use Rattle.level_debuggers.{specs.PitonLevels.{piton_after, piton_from}, specs.PitonReadings.{piton_at, piton_end, piton_up}, specs.RunWalks.MachinesWalk}
+use Rattle.level_debuggers.{specs.RunWalks.{SystemsWalk, WalksTo}, specs.ScriptSteps.SaysAfter, specs.Steps.is_over, specs.Texts.mark_text, specs.Walks.walk}
 use Rattle.level_debuggers.specs.Steps as step
-use Rattle.level_debuggers.specs.Steps.{is_over}
-use Rattle.level_debuggers.specs.Texts.{mark_text}
-use Rattle.level_debuggers.specs.Walks.{walk}
 use Rattle.cli_stack.specs.SessionMoments.{BuiltSaysMoments, MachineSaysMoments, SystemSaysMoments, image_run, steps_at, system_run, state_text}
 use Rattle.cli_stack.proofs.StandingLaws.{state_shows}
 

@@ -1,66 +1,39 @@
 -- Refused sizes are those of commands that take sizes.
 use Rattle.std.proofs.Common.{◌≡◌, inl, inr, ℕ, List, Bool, true, false, Option, Some, None, Result, Ok, Err, IfErr, refl, sym, ap, ◌∙◌}
 use Rattle.std.specs.Prelude.{if◌then◌else◌, IsSomeAnd}
-use Rattle.fm_machine.specs.Outcome.{RunOutcome, outcome}
-use Rattle.fm_machine.specs.State.{Fm}
-use Rattle.fm_machine.specs.declared.processor.Run.{Run}
+use Rattle.fm_machine.{specs.Outcome.{RunOutcome, outcome}, specs.State.Fm, specs.declared.processor.Run.Run}
 use Rattle.fm_machine.specs.declared.processor.Run.TheVariants as run
-use Rattle.fm_image.specs.Image.{ImageOf}
-use Rattle.fm_image.specs.Reading.{read_of}
-use Rattle.fm_asm.specs.Assembling.{assembly_of}
-use Rattle.fm_asm.specs.Printing.{is_plain}
-use Rattle.space_cert.specs.Certified.{certified}
-use Rattle.space_cert.specs.CertText.{bounds_in}
-use Rattle.space_cert.specs.Covers.{Bounds}
-use Rattle.fm_loader.specs.Loaded.{loaded}
-use Rattle.fm_loader.specs.Values.{values_in}
-use Rattle.stack_text.specs.Values.{ValueOf}
-use Rattle.stack_text.specs.declared.breach.Breach.{Breach}
-use Rattle.stack_text.specs.Breaches.{least}
-use Rattle.piton_syntax.specs.declared.fault.PitonFault.{PitonFault}
+use Rattle.fm_image.{specs.Image.ImageOf, specs.Reading.read_of}
+use Rattle.fm_asm.{specs.Assembling.assembly_of, specs.Printing.is_plain}
+use Rattle.space_cert.{specs.Certified.certified, specs.CertText.bounds_in, specs.Covers.Bounds}
+use Rattle.fm_loader.{specs.Loaded.loaded, specs.Values.values_in}
+use Rattle.stack_text.{specs.Values.ValueOf, specs.declared.breach.Breach.Breach, specs.Breaches.least}
+use Rattle.piton_syntax.{specs.declared.fault.PitonFault.PitonFault, specs.PitonReading.piton_in, specs.Systems.SystemOf}
 use Rattle.piton_syntax.specs.declared.fault.PitonFault.TheVariants as fault
-use Rattle.piton_syntax.specs.PitonReading.{piton_in}
-use Rattle.piton_syntax.specs.Systems.{SystemOf}
-use Rattle.piton_check.specs.Violations.{violations}
-use Rattle.piton_check.specs.PitonChecking.{CheckedOf}
-use Rattle.gypsy_syntax.specs.declared.fault.GypsyFault.{GypsyFault}
-use Rattle.gypsy_syntax.specs.declared.fault.GypsyFault.TheVariants as gypsy
-use Rattle.gypsy_syntax.specs.GypsyReading.{gypsy_in}
-use Rattle.gypsy_syntax.specs.Resolved.{procedure_names, program_of}
+use Rattle.piton_check.{specs.Violations.violations, specs.PitonChecking.CheckedOf}
+use Rattle.gypsy_syntax.{specs.declared.fault.GypsyFault.GypsyFault, specs.GypsyReading.gypsy_in, specs.Resolved.{procedure_names, program_of}}
 use Rattle.gypsy_syntax.specs.Sources.{SourceOf}
+use Rattle.gypsy_syntax.specs.declared.fault.GypsyFault.TheVariants as gypsy
 use Rattle.gypsy_check.specs.Rules.{violations as gypsy_violations}
-use Rattle.piton_semantics.specs.declared.stepped.PitonRun.{PitonRun}
+use Rattle.piton_semantics.{specs.declared.stepped.PitonRun.PitonRun, specs.Fits.system_in, specs.StateView.{Ran, state_run, opening, Seen as PitonSeen}}
 use Rattle.piton_semantics.specs.declared.stepped.PitonRun.TheVariants as piton_run
-use Rattle.piton_semantics.specs.Fits.{system_in}
-use Rattle.piton_semantics.specs.StateView.{Ran, state_run, opening}
-use Rattle.piton_semantics.specs.StateView.{Seen as PitonSeen}
 use Rattle.gypsy_space.specs.Needs.{StackSizes as StackWords, stack_sizes}
 use Rattle.level_debuggers.specs.Tallies.{Watching}
 use Rattle.stack_build.specs.Build.{accepted_source, reading_fault, accepted_unless, accepted_by}
-use Rattle.command_line.specs.declared.command.Command.{Command}
+use Rattle.command_line.{specs.declared.command.Command.Command, specs.declared.status.Status.TheVariants.{Size, Usage}, specs.Gathered.{Texts, text_of}}
+use Rattle.command_line.specs.CommandFiles.{output_of}
 use Rattle.command_line.specs.declared.command.Command.TheVariants as command
 use Rattle.command_line.specs.declared.role.Role.TheVariants as role
-use Rattle.command_line.specs.declared.status.Status.TheVariants.{Size, Usage}
-use Rattle.command_line.specs.Gathered.{Texts, text_of}
-use Rattle.command_line.specs.CommandFiles.{output_of}
-use Rattle.command_replies.specs.declared.reply.Reply.{Reply}
-use Rattle.command_replies.specs.declared.reply.Verdict.{Verdict}
+use Rattle.command_replies.{specs.declared.reply.Reply.Reply, specs.declared.reply.Verdict.Verdict, specs.Replies.{ReplyOf, reply_of, status_of, verdict_alone}}
+use Rattle.command_replies.{specs.Replies.{judgement_reply, written_reply}, specs.Commands.Run.{end_reply, run_reply, values_reply, image_reply}}
+use Rattle.command_replies.{specs.Commands.Show.listing_reply, specs.Commands.Migrate.migrated_reply, specs.Commands.Asm.assembled_reply}
+use Rattle.command_replies.{specs.Commands.Mini.{lowering_of, lowered_reply}, specs.Commands.Unasm.printed_reply, specs.Commands.Prun.run_end_reply}
+use Rattle.command_replies.{specs.Commands.Prun.{checked_run_reply, system_run_reply}, specs.Commands.PitonText.{piton_verdict, checked_unless, checked_by}}
+use Rattle.command_replies.specs.Commands.PitonText.{checked_in}
 use Rattle.command_replies.specs.declared.reply.Verdict.TheVariants as verdict
-use Rattle.command_replies.specs.Replies.{ReplyOf, reply_of, status_of, verdict_alone, judgement_reply, written_reply}
-use Rattle.stack_commands.specs.Prepared.{reply_by}
-use Rattle.command_replies.specs.Commands.Run.{end_reply, run_reply, values_reply, image_reply}
-use Rattle.command_replies.specs.Commands.Show.{listing_reply}
-use Rattle.command_replies.specs.Commands.Migrate.{migrated_reply}
-use Rattle.command_replies.specs.Commands.Asm.{assembled_reply}
-use Rattle.command_replies.specs.Commands.Mini.{lowering_of, lowered_reply}
-use Rattle.command_replies.specs.Commands.Unasm.{printed_reply}
-use Rattle.stack_commands.specs.Commands.Need.{bounds_reply, certified_reply, need_reply_by}
-use Rattle.stack_commands.specs.Commands.Cert.{judged_reply, certificate_reply, cert_reply_by}
-use Rattle.command_replies.specs.Commands.Prun.{run_end_reply, checked_run_reply, system_run_reply}
-use Rattle.stack_commands.specs.Commands.SourceText.{build_verdict, unless_refused, accepted_in}
-use Rattle.command_replies.specs.Commands.PitonText.{piton_verdict, checked_unless, checked_by, checked_in}
-use Rattle.cli_stack.specs.Causes.{HasSizes}
-use Rattle.cli_stack.proofs.MachineLaws.{RepliesToSome}
+use Rattle.stack_commands.{specs.Prepared.reply_by, specs.Commands.Need.{bounds_reply, certified_reply, need_reply_by}, specs.Commands.Cert.judged_reply}
+use Rattle.stack_commands.{specs.Commands.Cert.{certificate_reply, cert_reply_by}, specs.Commands.SourceText.{build_verdict, unless_refused, accepted_in}}
+use Rattle.cli_stack.{specs.Causes.HasSizes, proofs.MachineLaws.RepliesToSome}
 
 abbrev is_size : Verdict → Bool
 is_size (verdict.Size of need) = true

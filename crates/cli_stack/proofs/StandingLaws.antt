@@ -1,38 +1,21 @@
 -- A state of the generated system that reads as an activation shows it where it stands.
 use Rattle.std.proofs.Common.{◌≡◌, ◌+◌, ◌-◌, ◌<◌, ℕ, ℤ, Bool, true, false, List, [], ◌∷◌, length, map, reverse, Some, None, refl, sym, ap, ◌∙◌, arith}
-use Rattle.std.proofs.Common.{append-nil}
-use Rattle.std.specs.List.{flat_map}
-use Rattle.std.specs.Prelude.{slice_get, nat_lt, if◌then◌else◌}
-use Rattle.std.proofs.lemmas.Bool.{le-ltb, ltb-true}
-use Rattle.std.proofs.lemmas.List.{get_or-reverse, length-reverse}
-use Rattle.std.proofs.lemmas.Option.{get_or_from_slice_get, slice_get-get_or, same_Some}
-use Rattle.stack_text.specs.Values.{ValueOf}
-use Rattle.stack_text.proofs.SharedLaws.{get_map}
+use Rattle.std.{proofs.Common.append-nil, specs.List.flat_map, specs.Prelude.{slice_get, nat_lt, if◌then◌else◌}, proofs.lemmas.Bool.{le-ltb, ltb-true}}
+use Rattle.std.{proofs.lemmas.List.{get_or-reverse, length-reverse}, proofs.lemmas.Option.{get_or_from_slice_get, slice_get-get_or, same_Some}}
+use Rattle.stack_text.{specs.Values.ValueOf, proofs.SharedLaws.get_map}
 use Rattle.fm_words.specs.Word.{word_of_int}
 use Rattle.fm_machine.specs.State.{word_at}
-use Rattle.piton_words.specs.declared.word.Word.{Word}
-use Rattle.piton_words.specs.declared.word.Word.TheVariants.{Nat}
+use Rattle.piton_words.{specs.declared.word.Word.Word, specs.declared.word.Word.TheVariants.Nat}
 use Rattle.piton_check.specs.Instruction.{SystemView}
-use Rattle.piton_semantics.specs.Addresses.{Addresses, numbers, word_number}
-use Rattle.piton_semantics.specs.Placed.{address_of_place, addresses_of, areas_start}
+use Rattle.piton_semantics.{specs.Addresses.{Addresses, numbers, word_number}, specs.Placed.{address_of_place, addresses_of, areas_start}}
 use Rattle.piton_semantics.specs.State.{PitonState, element, locals_of}
-use Rattle.gypsy_syntax.specs.Effects.{value_at}
-use Rattle.gypsy_syntax.specs.ValuesFit.{ValueFits, VarsFit}
-use Rattle.gypsy_syntax.specs.Programs.{Program, proc_at, shapes_of}
-use Rattle.gypsy_syntax.specs.Resolved.{program_of}
+use Rattle.gypsy_syntax.{specs.Effects.value_at, specs.ValuesFit.{ValueFits, VarsFit}, specs.Programs.{Program, proc_at, shapes_of}, specs.Resolved.program_of}
 use Rattle.gypsy_syntax.specs.Sources.{SourceOf}
 use Rattle.gypsy_space.specs.Needs.{StackSizes}
-use Rattle.gypsy_semantics.specs.Machine.{Frame, Item}
-use Rattle.gypsy_semantics.specs.Views.RunView.{top_way}
-use Rattle.gypsy_semantics.proofs.EffectLaws.{value_fits}
+use Rattle.gypsy_semantics.{specs.Machine.{Frame, Item}, specs.Views.RunView.top_way, proofs.EffectLaws.value_fits}
 use Rattle.gypsy_predef.specs.Runs.{word_of_item, words_of_value}
-use Rattle.gypsy_codegen.specs.Generated.{offset, generated_view}
-use Rattle.gypsy_codegen.specs.Moments.{ReadsAs, VariableStands}
-use Rattle.gypsy_codegen.specs.Showing.{mark_of}
-use Rattle.gypsy_codegen.specs.WordsOf.{number_of_way}
-use Rattle.stack_build.specs.Image.{image_of}
-use Rattle.stack_build.specs.SourceMoments.{ShowsMoment, ShowsVariable}
-use Rattle.stack_build.proofs.Numbers.{values_numbers}
+use Rattle.gypsy_codegen.{specs.Generated.{offset, generated_view}, specs.Moments.{ReadsAs, VariableStands}, specs.Showing.mark_of, specs.WordsOf.number_of_way}
+use Rattle.stack_build.{specs.Image.image_of, specs.SourceMoments.{ShowsMoment, ShowsVariable}, proofs.Numbers.values_numbers}
 use Rattle.level_debuggers.specs.PitonReadings.{area_number, piton_at}
 
 -- the element at a position, from the bottom

@@ -1,16 +1,13 @@
 -- The words of `turns` name one to eight tasks.
-use Rattle.std.proofs.Common.{◌≤◌, ℕ, zero, suc, List, [], ◌∷◌, Bool, true, false, Option, Some, None, IfSome, length, arith}
-use Rattle.std.specs.Prelude.{if◌then◌else◌}
+use Rattle.std.{proofs.Common.{◌≤◌, ℕ, zero, suc, List, [], ◌∷◌, Bool, true, false, Option, Some, None, IfSome, length, arith}, specs.Prelude.if◌then◌else◌}
 use Rattle.std.specs.Str.{bytes_eq}
 use Rattle.stack_text.specs.Options.{◌>>=◌}
-use Rattle.command_line.specs.declared.command.Command.{Command}
-use Rattle.command_line.specs.declared.command.Command.TheVariants as command
-use Rattle.command_line.specs.declared.command.TaskFiles.{TaskFiles}
-use Rattle.command_line.specs.CommandRows.{command_of, row_of, row_with, rows, whole_of, at_end, read_on, check_row, mean_row, pit_row, build_row}
-use Rattle.command_line.specs.CommandRows.{pcheck_row, prun_row, pbuild_row, run_row, go_row, show_row, migrate_row, asm_row, unasm_row, need_row}
-use Rattle.command_line.specs.CommandRows.{cert_row, debug_row, turns_row, big_row, mini_row}
+use Rattle.command_line.{specs.declared.command.Command.Command, specs.declared.command.TaskFiles.TaskFiles, specs.CommandRows.{command_of, row_of, row_with}}
+use Rattle.command_line.specs.CommandRows.{rows, whole_of, at_end, read_on, check_row, mean_row, pit_row, build_row, pcheck_row, prun_row, pbuild_row, run_row}
+use Rattle.command_line.specs.CommandRows.{go_row, show_row, migrate_row, asm_row, unasm_row, need_row, cert_row, debug_row, turns_row, big_row, mini_row}
 use Rattle.command_line.specs.CommandWords.{CommandWords, Reader, task, tasks, tasks_within, unless_ended, file, size, limit, seed, procedures, debug_level}
 use Rattle.command_line.specs.CommandWords.{turn_length, end}
+use Rattle.command_line.specs.declared.command.Command.TheVariants as command
 
 -- there are one to eight tasks where there are any
 abbrev pub HasFew : Command → Type 0

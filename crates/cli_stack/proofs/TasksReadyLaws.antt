@@ -1,39 +1,25 @@
 -- Where `turns` ends as runs do, all its tasks were ready.
 use Rattle.std.proofs.Common.{◌≡◌, ◌≤◌, ◌+◌, ◌*◌, ◌++◌, ℕ, List, [], ◌∷◌, Bool, true, false, Result, Ok, Err, length, map, refl, sym, ap, ◌∙◌, subst, arith}
-use Rattle.std.proofs.Common.{append_assoc, length-append, if◌then◌else◌}
-use Rattle.std.specs.Prelude.{◌^◌, nat_lt, slice_index_or, ◌==◌, ◌||◌}
+use Rattle.std.{proofs.Common.{append_assoc, length-append, if◌then◌else◌}, specs.Prelude.{◌^◌, nat_lt, slice_index_or, ◌==◌, ◌||◌}}
 use Rattle.std.proofs.lemmas.Bool.{ltb-false}
-use Rattle.stack_text.specs.Results.{◌>>=◌}
-use Rattle.stack_text.specs.SharedLimits.{most_tasks}
-use Rattle.stack_text.specs.Values.{ValueOf}
+use Rattle.stack_text.{specs.Results.◌>>=◌, specs.SharedLimits.most_tasks, specs.Values.ValueOf}
 use Rattle.stack_shelf.specs.Files.{Files}
 use Rattle.fm_words.specs.WindowLimit.{most_window}
-use Rattle.fm_image.specs.Image.{ImageOf}
-use Rattle.fm_image.proofs.LimitLaws.{sized}
+use Rattle.fm_image.{specs.Image.ImageOf, proofs.LimitLaws.sized}
 use Rattle.fm_loader.specs.Values.{values_in}
 use Rattle.fm_turns.specs.Starting.{NewTask, new_task}
 use Rattle.level_debuggers.specs.Tallies.{Watching}
 use Rattle.gypsy_space.specs.Needs.{StackSizes, stack_sizes}
-use Rattle.stack_build.specs.declared.fault.BuildFault.{BuildFault}
-use Rattle.stack_build.specs.Build.{BuiltOf, BuildsText, built}
-use Rattle.stack_build.specs.Joined.{BuiltImplements}
+use Rattle.stack_build.{specs.declared.fault.BuildFault.BuildFault, specs.Build.{BuiltOf, BuildsText, built}, specs.Joined.BuiltImplements}
 use Rattle.command_line.specs.declared.command.Command.TheVariants as command
-use Rattle.command_line.specs.declared.command.TaskFiles.{TaskFiles}
-use Rattle.command_line.specs.declared.early_end.EarlyEnd.{EarlyEnd}
-use Rattle.command_line.specs.declared.role.Role.TheVariants.{TaskSource, TaskValues}
-use Rattle.command_line.specs.CommandFiles.{task_inputs, inputs_of}
-use Rattle.command_line.specs.Gathered.{AreRead, Texts, texts_of, gathered}
-use Rattle.command_line.proofs.TaskLaws.{sources_read, values_read}
-use Rattle.stack_commands.specs.declared.turns.tasks.TasksFault.{TasksFault}
-use Rattle.stack_commands.specs.declared.turns.tasks.TasksFault.TheVariants.{Count, Large, Memory}
+use Rattle.command_line.{specs.declared.command.TaskFiles.TaskFiles, specs.declared.early_end.EarlyEnd.EarlyEnd}
+use Rattle.command_line.{specs.declared.role.Role.TheVariants.{TaskSource, TaskValues}, specs.CommandFiles.{task_inputs, inputs_of}, specs.Gathered.AreRead}
+use Rattle.command_line.{specs.Gathered.{Texts, texts_of, gathered}, proofs.TaskLaws.{sources_read, values_read}}
+use Rattle.stack_commands.{specs.declared.turns.tasks.TasksFault.TasksFault, specs.declared.turns.tasks.TasksFault.TheVariants.{Count, Large, Memory}}
+use Rattle.stack_commands.{specs.Prepared.reply_by, specs.Commands.Turns.{image_or_fault, images_from, word_count, small_enough, values_or_fault, tasks_from}}
+use Rattle.stack_commands.specs.Commands.Turns.{tasks_of, fault_reply, turns_by, turns_reply}
 use Rattle.command_replies.specs.Replies.{status_of}
-use Rattle.stack_commands.specs.Prepared.{reply_by}
-use Rattle.stack_commands.specs.Commands.Turns.{image_or_fault, images_from, word_count, small_enough, values_or_fault, tasks_from, tasks_of, fault_reply}
-use Rattle.stack_commands.specs.Commands.Turns.{turns_by, turns_reply}
-use Rattle.cli_stack.specs.Answer.{answer_on, answer_to}
-use Rattle.cli_stack.specs.FilesAndSizes.{IsReadable}
-use Rattle.cli_stack.specs.Kept.{IsRunEnd}
-use Rattle.cli_stack.specs.Turns.{TaskOf, AreTasks, HasTasks}
+use Rattle.cli_stack.{specs.Answer.{answer_on, answer_to}, specs.FilesAndSizes.IsReadable, specs.Kept.IsRunEnd, specs.Turns.{TaskOf, AreTasks, HasTasks}}
 use Rattle.cli_stack.proofs.DecidesLaws.{build_no_run, early_no_run}
 
 -- 1. No fault of tasks is the end of a run.

@@ -1,46 +1,28 @@
 -- What a command prints is what its source means.
 use Rattle.std.proofs.Common.{◌≡◌, ◌≤◌, inl, inr, ℕ, zero, suc, List, [], ◌∷◌, ◌++◌, append-nil, false, Option, Some, None, Result, Ok, length, refl, sym, ap}
-use Rattle.std.proofs.Common.{◌∙◌, subst, arith}
-use Rattle.std.specs.Prelude.{◌^◌, Contains, nat_lt}
-use Rattle.std.proofs.lemmas.Bool.{le-ltb}
-use Rattle.stack_shelf.specs.Files.{Files}
-use Rattle.stack_shelf.specs.Shelf.{fetched, within}
-use Rattle.fm_machine.specs.Outcome.{RunOutcome, outcome}
-use Rattle.fm_machine.specs.declared.processor.Run.TheVariants.{Ended}
-use Rattle.fm_machine.proofs.RunLaws.{outcome_only}
-use Rattle.fm_image.specs.Image.{ImageOf}
-use Rattle.fm_image.proofs.ImageLaws.{spelled_reads}
-use Rattle.fm_loader.specs.Loaded.{loaded}
-use Rattle.fm_loader.specs.Values.{values_in}
+use Rattle.std.{proofs.Common.{◌∙◌, subst, arith}, specs.Prelude.{◌^◌, Contains, nat_lt}, proofs.lemmas.Bool.le-ltb}
+use Rattle.stack_shelf.{specs.Files.Files, specs.Shelf.{fetched, within}}
+use Rattle.fm_machine.{specs.Outcome.{RunOutcome, outcome}, specs.declared.processor.Run.TheVariants.Ended, proofs.RunLaws.outcome_only}
+use Rattle.fm_image.{specs.Image.ImageOf, proofs.ImageLaws.spelled_reads}
+use Rattle.fm_loader.{specs.Loaded.loaded, specs.Values.values_in}
 use Rattle.stack_text.specs.Values.{ValueOf}
 use Rattle.display_maps.specs.Report.{report_text}
 use Rattle.level_debuggers.specs.Tallies.{Watching}
 use Rattle.gypsy_syntax.specs.Sources.{SourceOf}
 use Rattle.gypsy_space.specs.Needs.{StackSizes, stack_sizes}
 use Rattle.gypsy_semantics.specs.Calls.{CurrentCondition}
-use Rattle.stack_build.specs.Build.{built, BuildsText}
-use Rattle.stack_build.specs.Implements.{meaning_shown, FitsFormals, Finishes, Implements}
-use Rattle.stack_build.specs.Joined.{BuiltImplements, BuiltTakesValues}
-use Rattle.command_line.specs.declared.command.Command.{Command}
-use Rattle.command_line.specs.declared.command.Command.TheVariants as command
-use Rattle.command_line.specs.declared.early_end.EarlyEnd.{EarlyEnd}
-use Rattle.command_line.specs.declared.role.Role.{Role}
+use Rattle.stack_build.{specs.Build.{built, BuildsText}, specs.Implements.{meaning_shown, FitsFormals, Finishes, Implements}, specs.Joined.BuiltImplements}
+use Rattle.stack_build.specs.Joined.{BuiltTakesValues}
+use Rattle.command_line.{specs.declared.command.Command.Command, specs.declared.early_end.EarlyEnd.EarlyEnd, specs.declared.role.Role.Role}
 use Rattle.command_line.specs.declared.role.Role.TheVariants.{Source, Piton, Image, Values, Script, Assembly, Certificate, Infix, TaskSource, TaskValues}
-use Rattle.command_line.specs.declared.command.TaskFiles.{TaskFiles}
-use Rattle.command_line.specs.declared.words.reader.Level.{Level}
-use Rattle.command_line.specs.Roles.{limit_of}
-use Rattle.command_line.specs.Gathered.{Texts, text_or_end, gathered}
-use Rattle.command_line.specs.CommandFiles.{task_inputs, inputs_of, output_of}
-use Rattle.command_replies.specs.declared.reply.Verdict.{Verdict}
-use Rattle.command_replies.specs.declared.reply.Verdict.TheVariants.{Done}
-use Rattle.command_replies.specs.Replies.{ReplyOf, status_of, verdict_line}
-use Rattle.stack_commands.specs.Commands.Go.{go_reply}
-use Rattle.command_replies.specs.Commands.Run.{outcome_reply, run_reply, image_file_reply}
-use Rattle.stack_commands.specs.Prepared.{reply_by}
-use Rattle.cli_stack.specs.Answer.{answer_with, answer_on, answer_to}
-use Rattle.cli_stack.specs.Tells.{IsBuilt, IsRead, TellsReport, HasImage, TellsMeanings}
-use Rattle.cli_stack.specs.FilesAndSizes.{IsReadable}
-use Rattle.cli_stack.proofs.RoleLaws.{only_role, both_roles}
+use Rattle.command_line.{specs.declared.command.TaskFiles.TaskFiles, specs.declared.words.reader.Level.Level, specs.Roles.limit_of, specs.Gathered.Texts}
+use Rattle.command_line.{specs.Gathered.{text_or_end, gathered}, specs.CommandFiles.{task_inputs, inputs_of, output_of}}
+use Rattle.command_line.specs.declared.command.Command.TheVariants as command
+use Rattle.command_replies.{specs.declared.reply.Verdict.Verdict, specs.declared.reply.Verdict.TheVariants.Done, specs.Replies.{ReplyOf, status_of}}
+use Rattle.command_replies.{specs.Replies.verdict_line, specs.Commands.Run.{outcome_reply, run_reply, image_file_reply}}
+use Rattle.stack_commands.{specs.Commands.Go.go_reply, specs.Prepared.reply_by}
+use Rattle.cli_stack.{specs.Answer.{answer_with, answer_on, answer_to}, specs.Tells.{IsBuilt, IsRead, TellsReport, HasImage, TellsMeanings}}
+use Rattle.cli_stack.{specs.FilesAndSizes.IsReadable, proofs.RoleLaws.{only_role, both_roles}}
 
 -- 1. A run that is long enough tells the meaning.
 

@@ -8,8 +8,7 @@ use Rattle.space_cert.specs.Covers.{IsAtMost}
 use Rattle.command_line.specs.declared.command.Command.TheVariants.{Check, Build, Run, Migrate, Asm, Unasm, Need, Cert}
 use Rattle.command_line.specs.declared.status.Status.TheVariants.{Done, Refused}
 use Rattle.stack_commands.specs.Commands.Need.{sizes_text}
-use Rattle.cli_stack.specs.Answer.{Answer, answer_to}
-use Rattle.cli_stack.specs.InARow.{answer_after}
+use Rattle.cli_stack.specs.{Answer.{Answer, answer_to}, InARow.{answer_after}}
 
 -- what is in the file are bytes
 abbrev pub HasBytes : Files → List ℕ → Type 0

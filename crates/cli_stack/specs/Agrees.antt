@@ -1,11 +1,9 @@
 -- That the status, the files, what was printed and the machine are those of the answer.
 use Rattle.std.specs.Prelude.{◌≡◌, Option, Some, None, IsSomeAnd}
 use Rattle.fm_machine.specs.State.{Fm, MachineOf}
-use Rattle.stack_shelf.specs.Files.{Files}
-use Rattle.stack_shelf.specs.Shelf.{appended}
+use Rattle.stack_shelf.specs.{Files.{Files}, Shelf.{appended}}
 use Rattle.command_line.specs.declared.status.Status.{Status}
-use Rattle.cli_stack.specs.Answer.{Answer, files_after}
-use Rattle.cli_stack.specs.World.{World}
+use Rattle.cli_stack.specs.{Answer.{Answer, files_after}, World.{World}}
 
 -- the place holds a machine in this state, or is as before where none was run
 abbrev pub HoldsMachine : Option MachineOf → Option MachineOf → Option Fm → Type 0

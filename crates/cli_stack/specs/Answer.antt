@@ -3,16 +3,10 @@ use Rattle.std.specs.Prelude.{ℕ, List, Option, Some, None, Result, Ok, Err}
 use Rattle.fm_machine.specs.State.{Fm}
 use Rattle.stack_shelf.specs.Files.{Files, put_file}
 use Rattle.level_debuggers.specs.Tallies.{Watching}
-use Rattle.command_line.specs.declared.command.Command.{Command}
-use Rattle.command_line.specs.declared.early_end.EarlyEnd.{EarlyEnd}
-use Rattle.command_line.specs.declared.role.Role.{Role}
-use Rattle.command_line.specs.declared.status.Status.{Status}
-use Rattle.command_line.specs.CommandRows.{command_of}
-use Rattle.command_line.specs.CommandFiles.{inputs_of, output_of}
-use Rattle.command_line.specs.Gathered.{Texts, gathered}
-use Rattle.command_line.specs.Ends.{end_status, end_line}
-use Rattle.command_replies.specs.declared.reply.Verdict.TheVariants.{Usage}
-use Rattle.command_replies.specs.Replies.{ReplyOf, verdict_alone, reply_text, status_of}
+use Rattle.command_line.specs.{declared.command.Command.{Command}, declared.early_end.EarlyEnd.{EarlyEnd}, declared.role.Role.{Role}}
+use Rattle.command_line.specs.{declared.status.Status.{Status}, CommandRows.{command_of}, CommandFiles.{inputs_of, output_of}}
+use Rattle.command_line.specs.{Gathered.{Texts, gathered}, Ends.{end_status, end_line}}
+use Rattle.command_replies.specs.{declared.reply.Verdict.TheVariants.{Usage}, Replies.{ReplyOf, verdict_alone, reply_text, status_of}}
 use Rattle.stack_commands.specs.Prepared.{stored_by, reply_by}
 
 -- how the program ends: its status, what it prints, the file that it sets, and the state of the machine that was run

@@ -2,21 +2,11 @@
 use Rattle.std.specs.Prelude.{List, ℕ, IfSome}
 use Rattle.stack_shelf.specs.Files.{Files}
 use Rattle.level_debuggers.specs.Tallies.{Watching}
-use Rattle.command_line.specs.declared.command.Command.{Command}
-use Rattle.command_line.specs.CommandRows.{command_of}
-use Rattle.command_line.specs.Gathered.{Texts}
-use Rattle.cli_stack.specs.Answer.{Answer, answer_to}
-use Rattle.cli_stack.specs.Implements.{StoresImplementation, StoresImplementationOf, StoresMoments, StoresMomentsOf}
-use Rattle.cli_stack.specs.RepliesTo.{AreTexts}
-use Rattle.cli_stack.specs.Tells.{TellsMeanings}
-use Rattle.cli_stack.specs.Decides.{Decides}
-use Rattle.cli_stack.specs.Means.{FollowsMeanings}
-use Rattle.cli_stack.specs.Links.{StoresLinked}
-use Rattle.cli_stack.specs.Assembles.{Assembles}
-use Rattle.cli_stack.specs.Needs.{Needs}
-use Rattle.cli_stack.specs.Lowers.{LowersPrograms}
-use Rattle.cli_stack.specs.Explains.{Explains}
-use Rattle.cli_stack.specs.Turns.{TellsEach}
+use Rattle.command_line.specs.{declared.command.Command.{Command}, CommandRows.{command_of}, Gathered.{Texts}}
+use Rattle.cli_stack.specs.{Answer.{Answer, answer_to}, Implements.{StoresImplementation, StoresImplementationOf, StoresMoments}}
+use Rattle.cli_stack.specs.{Implements.{StoresMomentsOf}, RepliesTo.{AreTexts}, Tells.{TellsMeanings}, Decides.{Decides}}
+use Rattle.cli_stack.specs.{Means.{FollowsMeanings}, Links.{StoresLinked}, Assembles.{Assembles}, Needs.{Needs}, Lowers.{LowersPrograms}}
+use Rattle.cli_stack.specs.{Explains.{Explains}, Turns.{TellsEach}}
 
 pub record AnswerMeans (command : Command) (watches : List Watching) (files : Files) (answer : Answer) : Type 0 where
   -- the image that is stored for a source implements it

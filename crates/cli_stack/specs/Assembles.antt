@@ -2,14 +2,9 @@
 -- spells it.
 use Rattle.std.specs.Prelude.{◌≡◌, ◌≤◌, ◌<◌, ℕ, List, length, Option, Some, Ok, All, IsTrue}
 use Rattle.stack_shelf.specs.Files.{Files, file_at}
-use Rattle.fm_image.specs.Image.{ImageOf}
-use Rattle.fm_image.specs.Reading.{read_of}
-use Rattle.fm_image.specs.Spelling.{Spelled}
-use Rattle.fm_asm.specs.Assembly.{IsAssembly}
-use Rattle.fm_asm.specs.Printing.{is_plain}
-use Rattle.command_line.specs.declared.command.Command.{Command}
-use Rattle.command_line.specs.declared.role.Role.TheVariants.{Assembly, Image}
-use Rattle.command_line.specs.Roles.{limit_of}
+use Rattle.fm_image.specs.{Image.{ImageOf}, Reading.{read_of}, Spelling.{Spelled}}
+use Rattle.fm_asm.specs.{Assembly.{IsAssembly}, Printing.{is_plain}}
+use Rattle.command_line.specs.{declared.command.Command.{Command}, declared.role.Role.TheVariants.{Assembly, Image}, Roles.{limit_of}}
 use Rattle.cli_stack.specs.FilesAndSizes.{ReadsFile, StoresFile}
 
 -- the bytes are an image file that can be read again, and spell the image that the assembly text in a file spells

@@ -1,10 +1,8 @@
 -- Why a device's failure is the status: a count that rose.
 use Rattle.std.specs.Prelude.{◌⊎◌, ℕ, List, Contains, IsSome}
 use Rattle.stack_shelf.specs.Causes.{Counts, Rose}
-use Rattle.command_line.specs.declared.command.Command.{Command}
-use Rattle.command_line.specs.declared.role.Role.TheVariants.{Image}
-use Rattle.cli_stack.specs.World.{ShelfOf}
-use Rattle.cli_stack.specs.FilesAndSizes.{StoresFile, sizes_of}
+use Rattle.command_line.specs.{declared.command.Command.{Command}, declared.role.Role.TheVariants.{Image}}
+use Rattle.cli_stack.specs.{World.{ShelfOf}, FilesAndSizes.{StoresFile, sizes_of}}
 
 -- a count of the shelf rose at one of these names, of which this holds
 abbrev pub RoseAt : (Counts → List ℕ → ℕ) → List (List ℕ) → ShelfOf → ShelfOf → (List ℕ → Type 0) → Type 0

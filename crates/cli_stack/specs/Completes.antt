@@ -5,25 +5,16 @@ use Rattle.stack_text.specs.Values.{ValueOf}
 use Rattle.fm_image.specs.Spelling.{spelling}
 use Rattle.fm_loader.specs.Values.{values_in}
 use Rattle.display_maps.specs.Report.{report_text}
-use Rattle.stack_shelf.specs.Files.{Files, put_file}
-use Rattle.stack_shelf.specs.Causes.{Rose}
-use Rattle.stack_shelf.specs.Shelf.{appended}
-use Rattle.gypsy_syntax.specs.Sources.{SourceOf}
-use Rattle.gypsy_syntax.specs.Resolved.{program_of}
+use Rattle.stack_shelf.specs.{Files.{Files, put_file}, Causes.{Rose}, Shelf.{appended}}
+use Rattle.gypsy_syntax.specs.{Sources.{SourceOf}, Resolved.{program_of}}
 use Rattle.gypsy_space.specs.Needs.{StackSizes}
 use Rattle.gypsy_semantics.specs.Calls.{CurrentCondition}
 use Rattle.gypsy_codegen.specs.Acceptable.{LimitsFit}
-use Rattle.stack_build.specs.Build.{accepted_source, placed_size}
-use Rattle.stack_build.specs.Image.{formal_slots, image_of}
-use Rattle.stack_build.specs.Implements.{meaning_shown, Finishes}
-use Rattle.command_line.specs.declared.command.Command.{Command}
-use Rattle.command_line.specs.declared.role.Role.TheVariants.{Source, Values, Image}
-use Rattle.command_line.specs.declared.status.Status.{Status}
-use Rattle.command_line.specs.declared.status.Status.TheVariants.{Done}
-use Rattle.command_line.specs.CommandFiles.{inputs_of, file_names}
-use Rattle.cli_stack.specs.World.{World}
-use Rattle.cli_stack.specs.Tells.{planned_run}
-use Rattle.cli_stack.specs.FilesAndSizes.{IsReadable, StoresFile, sizes_of}
+use Rattle.stack_build.specs.{Build.{accepted_source, placed_size}, Image.{formal_slots, image_of}, Implements.{meaning_shown, Finishes}}
+use Rattle.command_line.specs.{declared.command.Command.{Command}, declared.role.Role.TheVariants.{Source, Values, Image}}
+use Rattle.command_line.specs.{declared.status.Status.{Status}, declared.status.Status.TheVariants.{Done}, CommandFiles.{inputs_of}}
+use Rattle.command_line.specs.CommandFiles.{file_names}
+use Rattle.cli_stack.specs.{World.{World}, Tells.{planned_run}, FilesAndSizes.{IsReadable, StoresFile, sizes_of}}
 
 -- no count of faults rose: of the shelf for one of these names, or of the sink
 pub record NoFault (names : List (List ℕ)) (before after : World) : Type 0 where

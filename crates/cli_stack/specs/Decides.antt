@@ -4,23 +4,15 @@ use Rattle.stack_text.specs.Values.{ValueOf}
 use Rattle.fm_image.specs.Image.{ImageOf}
 use Rattle.fm_loader.specs.Values.{values_in}
 use Rattle.stack_shelf.specs.Files.{Files}
-use Rattle.gypsy_syntax.specs.Resolved.{program_of}
-use Rattle.gypsy_syntax.specs.Sources.{SourceOf}
+use Rattle.gypsy_syntax.specs.{Resolved.{program_of}, Sources.{SourceOf}}
 use Rattle.gypsy_space.specs.Needs.{StackSizes, stack_sizes}
-use Rattle.gypsy_semantics.specs.Calls.{CurrentCondition}
-use Rattle.gypsy_semantics.specs.Meaning.{Unfinished as MeaningUnfinished, meaning}
-use Rattle.stack_build.specs.Implements.{Finishes}
-use Rattle.stack_build.specs.Moments.{KeepsMoments}
-use Rattle.command_line.specs.declared.command.Command.{Command}
-use Rattle.command_line.specs.declared.command.Command.TheVariants.{Run, Go}
-use Rattle.command_line.specs.declared.role.Role.TheVariants.{Values}
-use Rattle.command_line.specs.declared.status.Status.TheVariants.{Unfinished}
+use Rattle.gypsy_semantics.specs.{Calls.{CurrentCondition}, Meaning.{Unfinished as MeaningUnfinished, meaning}}
+use Rattle.stack_build.specs.{Implements.{Finishes}, Moments.{KeepsMoments}}
+use Rattle.command_line.specs.{declared.command.Command.{Command}, declared.command.Command.TheVariants.{Run, Go}}
+use Rattle.command_line.specs.{declared.role.Role.TheVariants.{Values}, declared.status.Status.TheVariants.{Unfinished}}
 use Rattle.command_replies.specs.declared.reply.Verdict.TheVariants as verdict
 use Rattle.command_replies.specs.Replies.{verdict_line}
-use Rattle.cli_stack.specs.Answer.{Answer}
-use Rattle.cli_stack.specs.FilesAndSizes.{IsReadable}
-use Rattle.cli_stack.specs.Kept.{IsRunEnd}
-use Rattle.cli_stack.specs.Tells.{IsBuilt, IsRead, TellsReport}
+use Rattle.cli_stack.specs.{Answer.{Answer}, FilesAndSizes.{IsReadable}, Kept.{IsRunEnd}, Tells.{IsBuilt, IsRead, TellsReport}}
 
 -- 1. What is decided of a run of an image.
 

@@ -1,27 +1,17 @@
 -- What the functions of the driver say to one another.
 use Rattle.std.specs.Prelude.{◌≡◌, ◌⊎◌, ℕ, ◌++◌, List, Option, Some, None, Result, Ok, Err, IsSomeAnd}
 use Rattle.fm_machine.specs.State.{MachineOf}
-use Rattle.stack_shelf.specs.Files.{Files}
+use Rattle.stack_shelf.specs.{Files.{Files}, Causes.{Counts, Rose}, Shelf.{appended, PrefixAppended}}
 use Rattle.level_debuggers.specs.Tallies.{Watching}
-use Rattle.stack_shelf.specs.Causes.{Counts, Rose}
-use Rattle.stack_shelf.specs.Shelf.{appended, PrefixAppended}
-use Rattle.command_line.specs.declared.command.Command.{Command}
-use Rattle.command_line.specs.declared.early_end.EarlyEnd.{EarlyEnd}
+use Rattle.command_line.specs.{declared.command.Command.{Command}, declared.early_end.EarlyEnd.{EarlyEnd}}
 use Rattle.command_line.specs.declared.early_end.EarlyEnd.TheVariants.{Missing, TooLong, ShelfFault, OutOfMemory}
-use Rattle.command_line.specs.declared.status.Status.{Status}
-use Rattle.command_line.specs.declared.status.Status.TheVariants as exit
-use Rattle.command_line.specs.Devices.{EndsAtOne}
-use Rattle.command_line.specs.Ends.{end_status, end_line}
+use Rattle.command_line.specs.{declared.status.Status.{Status}, Devices.{EndsAtOne}, Ends.{end_status, end_line}}
 use Rattle.command_line.specs.CommandFiles.{input_names, file_names}
-use Rattle.cli_stack.specs.declared.driver.conclude.Conclusion.{Conclusion}
-use Rattle.stack_commands.specs.declared.work.Ending.{Ending}
-use Rattle.command_replies.specs.declared.reply.Reply.{Reply}
-use Rattle.stack_commands.specs.Works.{ending_reply}
-use Rattle.command_replies.specs.Replies.{status_of, verdict_line, reply_of}
-use Rattle.cli_stack.specs.Answer.{Answer, answer_with, early_answer, answer_by, files_after}
-use Rattle.cli_stack.specs.World.{ShelfOf, OutOf}
-use Rattle.cli_stack.specs.Remains.{HoldsPart}
-use Rattle.cli_stack.specs.Causes.{RoseAt}
+use Rattle.command_line.specs.declared.status.Status.TheVariants as exit
+use Rattle.cli_stack.specs.{declared.driver.conclude.Conclusion.{Conclusion}, Answer.{Answer, answer_with, early_answer, answer_by}}
+use Rattle.cli_stack.specs.{Answer.{files_after}, World.{ShelfOf, OutOf}, Remains.{HoldsPart}, Causes.{RoseAt}}
+use Rattle.stack_commands.specs.{declared.work.Ending.{Ending}, Works.{ending_reply}}
+use Rattle.command_replies.specs.{declared.reply.Reply.{Reply}, Replies.{status_of, verdict_line, reply_of}}
 
 -- 1. Performing a command.
 

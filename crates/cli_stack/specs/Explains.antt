@@ -3,42 +3,25 @@ use Rattle.std.specs.Prelude.{◌≡◌, ◌≤◌, ◌⊎◌, ℕ, List, ◌∷
 use Rattle.stack_text.specs.Values.{ValueOf}
 use Rattle.stack_shelf.specs.Files.{Files}
 use Rattle.fm_loader.specs.Loaded.{loaded}
-use Rattle.fm_machine.specs.Run.{Avoids, IsFirst, fm_run, pc_of}
-use Rattle.fm_machine.specs.State.{Fm}
+use Rattle.fm_machine.specs.{Run.{Avoids, IsFirst, fm_run, pc_of}, State.{Fm}}
 use Rattle.display_maps.specs.Report.{lines_of_reading}
 use Rattle.gypsy_syntax.specs.Resolved.{program_of}
-use Rattle.gypsy_space.specs.Costs.{Tally}
-use Rattle.gypsy_space.specs.Needs.{StackSizes, stack_sizes}
-use Rattle.gypsy_semantics.specs.Calls.{CurrentCondition}
-use Rattle.gypsy_semantics.specs.Machine.{State, Next, Ended}
-use Rattle.gypsy_semantics.specs.Views.Moments.{moment_from}
+use Rattle.gypsy_space.specs.{Costs.{Tally}, Needs.{StackSizes, stack_sizes}}
+use Rattle.gypsy_semantics.specs.{Calls.{CurrentCondition}, Machine.{State, Next, Ended}, Views.Moments.{moment_from}}
 use Rattle.gypsy_semantics.specs.Views.RunView.{spent_at}
 use Rattle.stack_build.specs.Implements.{meaning_shown}
-use Rattle.debug_script.specs.declared.command.Place.{Place}
-use Rattle.debug_script.specs.declared.command.Place.TheVariants.{Number}
-use Rattle.debug_script.specs.declared.reading.Line.{Line}
+use Rattle.debug_script.specs.{declared.command.Place.{Place}, declared.command.Place.TheVariants.{Number}, declared.reading.Line.{Line}}
 use Rattle.debug_script.specs.Scripts.{script_of}
-use Rattle.level_debuggers.specs.declared.arrival.Arrival.TheVariants.{There}
-use Rattle.level_debuggers.specs.Arrivals.{IsFirstArrival}
-use Rattle.level_debuggers.specs.FmLevels.{word_lines}
-use Rattle.level_debuggers.specs.GypsyLevels.{gypsy_up}
-use Rattle.level_debuggers.specs.Levels.{LevelOf, has_places}
-use Rattle.level_debuggers.specs.ScriptSteps.{AskForSteps, all_asked, steps_of_lines, stepped_lines}
-use Rattle.level_debuggers.specs.ScriptSteps.{until_line, up_line, line_of_words}
-use Rattle.level_debuggers.specs.Tallies.{Watching}
-use Rattle.level_debuggers.specs.Transcripts.{arrival_text}
-use Rattle.level_debuggers.specs.Walks.{walk}
-use Rattle.cli_stack.specs.SessionMoments.{state_text, steps_at}
-use Rattle.command_line.specs.declared.command.Command.{Command}
-use Rattle.command_line.specs.declared.command.Command.TheVariants.{Debug}
-use Rattle.command_line.specs.declared.role.Role.TheVariants.{Script}
-use Rattle.command_line.specs.declared.words.reader.Level.{Level}
+use Rattle.level_debuggers.specs.{declared.arrival.Arrival.TheVariants.{There}, Arrivals.{IsFirstArrival}, FmLevels.{word_lines}}
+use Rattle.level_debuggers.specs.{GypsyLevels.{gypsy_up}, Levels.{LevelOf, has_places}, ScriptSteps.{AskForSteps, all_asked}}
+use Rattle.level_debuggers.specs.{ScriptSteps.{steps_of_lines, stepped_lines, until_line, up_line, line_of_words}, Tallies.{Watching}}
+use Rattle.level_debuggers.specs.{Transcripts.{arrival_text}, Walks.{walk}}
+use Rattle.cli_stack.specs.{SessionMoments.{state_text, steps_at}, Answer.{Answer}, Decides.{IsReadyToRun}, FilesAndSizes.{IsReadable}}
+use Rattle.command_line.specs.{declared.command.Command.{Command}, declared.command.Command.TheVariants.{Debug}}
+use Rattle.command_line.specs.{declared.role.Role.TheVariants.{Script}, declared.words.reader.Level.{Level}}
 use Rattle.command_line.specs.declared.words.reader.Level.TheVariants.{Gypsy, Piton, Fm9001}
 use Rattle.command_replies.specs.declared.reply.Verdict.TheVariants.{Done}
 use Rattle.stack_commands.specs.Commands.Debug.{lines_reply, run_in}
-use Rattle.cli_stack.specs.Answer.{Answer}
-use Rattle.cli_stack.specs.Decides.{IsReadyToRun}
-use Rattle.cli_stack.specs.FilesAndSizes.{IsReadable}
 
 -- 1. Sessions and scripts.
 

@@ -2,10 +2,8 @@
 use Rattle.std.specs.Prelude.{◌≡◌, ◌≤◌, ℕ, List, length, Option, Some, None, Contains}
 use Rattle.stack_shelf.specs.Files.{Files, file_at}
 use Rattle.gypsy_space.specs.Needs.{StackSizes, stack_sizes}
-use Rattle.command_line.specs.declared.command.Command.{Command}
-use Rattle.command_line.specs.declared.command.Command.TheVariants.{Mean, Pit, Build, Go, Debug, Turns, Big}
-use Rattle.command_line.specs.declared.role.Role.{Role}
-use Rattle.command_line.specs.Roles.{limit_of}
+use Rattle.command_line.specs.{declared.command.Command.{Command}, declared.command.Command.TheVariants.{Mean, Pit, Build, Go, Debug}}
+use Rattle.command_line.specs.{declared.command.Command.TheVariants.{Turns, Big}, declared.role.Role.{Role}, Roles.{limit_of}}
 use Rattle.command_line.specs.CommandFiles.{inputs_of, output_of}
 
 -- the command reads the file of this name in this role

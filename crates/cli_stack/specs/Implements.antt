@@ -1,17 +1,11 @@
 -- That what a command stores does as its source means.
 use Rattle.std.specs.Prelude.{◌≡◌, ◌≤◌, ℕ, List, length, Option, Some, Ok, IsSomeAnd}
-use Rattle.fm_image.specs.Image.{ImageOf}
-use Rattle.fm_image.specs.Spelling.{Spelled}
+use Rattle.fm_image.specs.{Image.{ImageOf}, Spelling.{Spelled}}
 use Rattle.stack_shelf.specs.Files.{Files, file_at}
 use Rattle.gypsy_syntax.specs.Sources.{SourceOf}
 use Rattle.gypsy_space.specs.Needs.{StackSizes}
-use Rattle.stack_build.specs.Build.{accepted_source}
-use Rattle.stack_build.specs.Implements.{Implements}
-use Rattle.stack_build.specs.Moments.{KeepsMoments}
-use Rattle.stack_build.specs.StaysUnfinished.{StaysUnfinished}
-use Rattle.command_line.specs.declared.command.Command.{Command}
-use Rattle.command_line.specs.declared.role.Role.TheVariants.{Source, Image}
-use Rattle.command_line.specs.Roles.{limit_of}
+use Rattle.stack_build.specs.{Build.{accepted_source}, Implements.{Implements}, Moments.{KeepsMoments}, StaysUnfinished.{StaysUnfinished}}
+use Rattle.command_line.specs.{declared.command.Command.{Command}, declared.role.Role.TheVariants.{Source, Image}, Roles.{limit_of}}
 use Rattle.command_line.specs.Gathered.{Texts, text_of}
 use Rattle.stack_commands.specs.Prepared.{stored_by}
 use Rattle.cli_stack.specs.FilesAndSizes.{ReadsFile, StoresFile, sizes_of}

@@ -2,13 +2,10 @@
 use Rattle.std.specs.Prelude.{◌≡◌, ◌≢◌, ◌≤◌, ℕ, List}
 use Rattle.stack_shelf.specs.Files.{Files}
 use Rattle.level_debuggers.specs.Tallies.{Watching}
-use Rattle.command_line.specs.declared.command.Command.{Command}
-use Rattle.command_line.specs.declared.command.Command.TheVariants.{Mean, Build, Prun, Run, Go, Turns}
-use Rattle.command_line.specs.declared.command.TaskFiles.{TaskFiles}
-use Rattle.command_line.specs.declared.role.Role.TheVariants.{Values}
+use Rattle.command_line.specs.{declared.command.Command.{Command}, declared.command.Command.TheVariants.{Mean, Build, Prun, Run, Go, Turns}}
+use Rattle.command_line.specs.{declared.command.TaskFiles.{TaskFiles}, declared.role.Role.TheVariants.{Values}}
 use Rattle.command_line.specs.declared.status.Status.TheVariants.{Done, Unfinished}
-use Rattle.cli_stack.specs.Answer.{Answer, answer_to, files_after}
-use Rattle.cli_stack.specs.FilesAndSizes.{IsReadable}
+use Rattle.cli_stack.specs.{Answer.{Answer, answer_to, files_after}, FilesAndSizes.{IsReadable}}
 
 -- the answer to the second command, over the files that the first one leaves
 abbrev pub answer_after : Command → Command → List Watching → Files → Answer

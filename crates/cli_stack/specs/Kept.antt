@@ -1,9 +1,7 @@
 -- Which commands run an image, and with which statuses a run ends.
 use Rattle.std.specs.Prelude.{Option, Some}
-use Rattle.command_line.specs.declared.command.Command.{Command}
-use Rattle.command_line.specs.declared.command.Command.TheVariants.{Run, Go, Big}
-use Rattle.command_line.specs.declared.status.Status.{Status}
-use Rattle.command_line.specs.declared.status.Status.TheVariants.{Done, Unfinished, Outside}
+use Rattle.command_line.specs.{declared.command.Command.{Command}, declared.command.Command.TheVariants.{Run, Go, Big}}
+use Rattle.command_line.specs.{declared.status.Status.{Status}, declared.status.Status.TheVariants.{Done, Unfinished, Outside}}
 
 -- a command that runs an image
 abbrev pub RunsImage : Option Command → Type 0

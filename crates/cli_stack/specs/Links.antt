@@ -1,28 +1,18 @@
 -- That the image which is stored of a Piton text does on the processor what the system does on Piton's machine.
-use Rattle.std.specs.Prelude.{◌≡◌, ◌≤◌, ℕ, List, [], length, Option, Some, Ok, codes, ◌++◌}
-use Rattle.std.specs.Fmt.{decimal}
+use Rattle.std.specs.{Prelude.{◌≡◌, ◌≤◌, ℕ, List, [], length, Option, Some, Ok, codes, ◌++◌}, Fmt.{decimal}}
 use Rattle.stack_shelf.specs.Files.{Files, file_at}
-use Rattle.fm_image.specs.Image.{ImageOf}
-use Rattle.fm_image.specs.Spelling.{Spelled}
-use Rattle.fm_loader.specs.Loaded.{loaded}
-use Rattle.fm_loader.specs.Values.{values_in}
-use Rattle.piton_check.specs.PitonChecking.{CheckedOf}
-use Rattle.piton_check.specs.Instruction.{SystemView}
-use Rattle.piton_semantics.specs.Fits.{system_in}
-use Rattle.piton_semantics.specs.StateView.{started}
-use Rattle.piton_semantics.specs.State.{PitonState}
-use Rattle.piton_semantics.specs.Step.{piton_run, run_cost}
+use Rattle.fm_image.specs.{Image.{ImageOf}, Spelling.{Spelled}}
+use Rattle.fm_loader.specs.{Loaded.{loaded}, Values.{values_in}}
+use Rattle.piton_check.specs.{PitonChecking.{CheckedOf}, Instruction.{SystemView}}
+use Rattle.piton_semantics.specs.{Fits.{system_in}, StateView.{started}, State.{PitonState}, Step.{piton_run, run_cost}}
 use Rattle.piton_linker.specs.Theorem.{ComesToStand}
 use Rattle.level_debuggers.specs.Tallies.{Watching}
-use Rattle.command_line.specs.declared.command.Command.{Command}
-use Rattle.command_line.specs.declared.command.Command.TheVariants.{Run}
-use Rattle.command_line.specs.declared.role.Role.TheVariants.{Piton, Image, Values}
-use Rattle.command_line.specs.declared.status.Status.TheVariants.{Done}
+use Rattle.command_line.specs.{declared.command.Command.{Command}, declared.command.Command.TheVariants.{Run}}
+use Rattle.command_line.specs.{declared.role.Role.TheVariants.{Piton, Image, Values}, declared.status.Status.TheVariants.{Done}}
 use Rattle.command_line.specs.Roles.{limit_of}
 use Rattle.stack_text.specs.Lines.{line}
 use Rattle.command_replies.specs.Commands.PitonText.{checked_in}
-use Rattle.cli_stack.specs.Answer.{Answer, answer_to}
-use Rattle.cli_stack.specs.FilesAndSizes.{ReadsFile, StoresFile, IsReadable}
+use Rattle.cli_stack.specs.{Answer.{Answer, answer_to}, FilesAndSizes.{ReadsFile, StoresFile, IsReadable}}
 
 -- the system reaches this state in so many steps from its opening state, none of which is an error
 abbrev pub ReachesState : SystemView → ℕ → PitonState → Type 0

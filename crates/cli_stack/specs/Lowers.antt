@@ -1,39 +1,23 @@
 -- That the source which is stored of an infix program means what the program does, so that the images which are built of it carry the
 -- program's runs to memory, and `go` tells them.
 use Rattle.std.specs.Prelude.{◌≡◌, ◌≤◌, ◌<◌, ℕ, ◌+◌, ◌*◌, List, length, map, Option, Some, None, Ok}
-use Rattle.stack_text.specs.declared.shape.Shape.{Shape}
-use Rattle.stack_text.specs.Values.{ValueOf}
+use Rattle.stack_text.specs.{declared.shape.Shape.{Shape}, Values.{ValueOf}}
 use Rattle.stack_shelf.specs.Files.{Files, file_at}
-use Rattle.fm_image.specs.Image.{ImageOf}
-use Rattle.fm_image.specs.Spelling.{Spelled}
-use Rattle.gypsy_syntax.specs.declared.literal.Decl.{Decl}
-use Rattle.gypsy_syntax.specs.Resolved.{program_of, shape_of}
-use Rattle.gypsy_syntax.specs.Sources.{SourceOf}
-use Rattle.gypsy_semantics.specs.Calls.{CurrentCondition}
+use Rattle.fm_image.specs.{Image.{ImageOf}, Spelling.{Spelled}}
+use Rattle.gypsy_syntax.specs.{declared.literal.Decl.{Decl}, Resolved.{program_of, shape_of}, Sources.{SourceOf}}
+use Rattle.gypsy_semantics.specs.{Calls.{CurrentCondition}, Meaning.{Done as RunDone, Unfinished as RunUnfinished}}
 use Rattle.gypsy_space.specs.Needs.{StackSizes, stack_sizes}
-use Rattle.gypsy_semantics.specs.Meaning.{Done as RunDone, Unfinished as RunUnfinished}
-use Rattle.stack_build.specs.Build.{accepted_source}
-use Rattle.stack_build.specs.Formals.{shown_formals}
-use Rattle.stack_build.specs.Implements.{meaning_shown, FitsFormals, Finishes}
+use Rattle.stack_build.specs.{Build.{accepted_source}, Formals.{shown_formals}, Implements.{meaning_shown, FitsFormals, Finishes}}
 use Rattle.stack_build.specs.ComesTo.{ComesTo}
-use Rattle.mini_syntax.specs.MiniReading.{IsFault, IsFaultless}
-use Rattle.mini_syntax.specs.Breaches.{body_of, declared_of}
-use Rattle.mini_syntax.specs.declared.program.Declared.{Declared}
+use Rattle.mini_syntax.specs.{MiniReading.{IsFault, IsFaultless}, Breaches.{body_of, declared_of}, declared.program.Declared.{Declared}}
 use Rattle.mini_syntax.specs.Grammar.{InfixProgram}
-use Rattle.mini_gypsy.specs.Lowered.{kind_of}
-use Rattle.mini_gypsy.specs.Meant.{program_run}
-use Rattle.mini_gypsy.specs.Stored.{MeansAlways}
-use Rattle.command_line.specs.declared.command.Command.{Command}
-use Rattle.command_line.specs.declared.command.Command.TheVariants.{Go, Mini}
-use Rattle.command_line.specs.declared.role.Role.TheVariants.{Infix, Source, Image}
-use Rattle.command_line.specs.declared.status.Status.TheVariants.{Done, Refused}
-use Rattle.command_replies.specs.declared.reply.RuleLetter.TheVariants.{Y}
+use Rattle.mini_gypsy.specs.{Lowered.{kind_of}, Meant.{program_run}, Stored.{MeansAlways}}
+use Rattle.command_line.specs.{declared.command.Command.{Command}, declared.command.Command.TheVariants.{Go, Mini}}
+use Rattle.command_line.specs.{declared.role.Role.TheVariants.{Infix, Source, Image}, declared.status.Status.TheVariants.{Done, Refused}}
+use Rattle.command_replies.specs.{declared.reply.RuleLetter.TheVariants.{Y}, Replies.{verdict_line}}
 use Rattle.command_replies.specs.declared.reply.Verdict.TheVariants as verdict
-use Rattle.command_replies.specs.Replies.{verdict_line}
-use Rattle.cli_stack.specs.Answer.{Answer}
-use Rattle.cli_stack.specs.Tells.{TellsReport}
-use Rattle.cli_stack.specs.Decides.{IsReadyToRun, TellsUnfinished}
-use Rattle.cli_stack.specs.FilesAndSizes.{ReadsFile, StoresFile, IsReadable}
+use Rattle.cli_stack.specs.{Answer.{Answer}, Tells.{TellsReport}, Decides.{IsReadyToRun, TellsUnfinished}, FilesAndSizes.{ReadsFile}}
+use Rattle.cli_stack.specs.FilesAndSizes.{StoresFile, IsReadable}
 
 -- 1. What is stored of a program.
 

@@ -3,25 +3,17 @@ use Rattle.std.specs.Prelude.{◌≡◌, ◌≤◌, ℕ, suc, List, [], ◌∷�
 use Rattle.stack_text.specs.Values.{ValueOf}
 use Rattle.stack_shelf.specs.Files.{Files}
 use Rattle.fm_loader.specs.Values.{values_in}
-use Rattle.gypsy_syntax.specs.Sources.{SourceOf}
-use Rattle.gypsy_syntax.specs.Resolved.{program_of}
+use Rattle.gypsy_syntax.specs.{Sources.{SourceOf}, Resolved.{program_of}}
 use Rattle.gypsy_space.specs.Needs.{StackSizes, stack_sizes}
-use Rattle.gypsy_semantics.specs.Room.{Suffices}
-use Rattle.gypsy_semantics.specs.Calls.{CurrentCondition}
-use Rattle.gypsy_semantics.specs.Counted.{instruction_count}
-use Rattle.gypsy_semantics.specs.Meaning.{Done as MeaningDone, meaning}
-use Rattle.gypsy_semantics.specs.Views.RunView.{Stage, Finished, IsEnd, opening, meaning_run, values_at}
+use Rattle.gypsy_semantics.specs.{Room.{Suffices}, Calls.{CurrentCondition}, Counted.{instruction_count}, Meaning.{Done as MeaningDone}}
+use Rattle.gypsy_semantics.specs.{Meaning.{meaning}, Views.RunView.{Stage, Finished, IsEnd, opening, meaning_run, values_at}}
 use Rattle.gypsy_semantics.specs.Views.Shown.{condition_at, names_at}
 use Rattle.piton_semantics.specs.StateView.{saturated}
-use Rattle.stack_build.specs.Build.{accepted_source}
-use Rattle.stack_build.specs.Image.{formal_slots}
-use Rattle.command_line.specs.declared.command.Command.{Command}
-use Rattle.command_line.specs.declared.command.Command.TheVariants.{Mean}
-use Rattle.command_line.specs.declared.role.Role.TheVariants.{Source, Values}
-use Rattle.command_line.specs.declared.status.Status.TheVariants.{Done}
+use Rattle.stack_build.specs.{Build.{accepted_source}, Image.{formal_slots}}
+use Rattle.command_line.specs.{declared.command.Command.{Command}, declared.command.Command.TheVariants.{Mean}}
+use Rattle.command_line.specs.{declared.role.Role.TheVariants.{Source, Values}, declared.status.Status.TheVariants.{Done}}
 use Rattle.command_line.specs.CommandFiles.{inputs_of, output_of}
-use Rattle.cli_stack.specs.Answer.{Answer}
-use Rattle.cli_stack.specs.FilesAndSizes.{IsReadable}
+use Rattle.cli_stack.specs.{Answer.{Answer}, FilesAndSizes.{IsReadable}}
 use Rattle.stack_commands.specs.Commands.Mean.{said_text}
 
 -- a run of a source's steps: the files of the source and of its values, the sizes of the stacks, and the most steps

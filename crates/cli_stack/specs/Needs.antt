@@ -1,30 +1,21 @@
 -- That calls have room at the sizes that `need` tells, and at those at which `cert` says yes: no run of the source sets spaceerror.
 use Rattle.std.specs.Prelude.{◌≡◌, ◌≢◌, ℕ, List, [], get_or, Some, None, Ok, codes}
-use Rattle.stack_text.specs.Lines.{line}
-use Rattle.stack_text.specs.Values.{ValueOf}
+use Rattle.stack_text.specs.{Lines.{line}, Values.{ValueOf}}
 use Rattle.stack_shelf.specs.Files.{Files}
 use Rattle.fm_image.specs.Image.{ImageOf}
 use Rattle.level_debuggers.specs.Tallies.{Watching}
-use Rattle.gypsy_syntax.specs.Programs.{Space}
-use Rattle.gypsy_syntax.specs.Resolved.{procedure_names, program_of}
-use Rattle.gypsy_syntax.specs.Sources.{SourceOf}
+use Rattle.gypsy_syntax.specs.{Programs.{Space}, Resolved.{procedure_names, program_of}, Sources.{SourceOf}}
 use Rattle.gypsy_space.specs.Needs.{StackSizes, stack_sizes}
 use Rattle.gypsy_semantics.specs.Calls.{CurrentCondition}
-use Rattle.space_cert.specs.CertText.{certificate_text}
-use Rattle.space_cert.specs.Covers.{Bounds, sizes_for}
-use Rattle.space_cert.specs.Least.{AreLeastBounds, IsFirstRecursive}
+use Rattle.space_cert.specs.{CertText.{certificate_text}, Covers.{Bounds, sizes_for}, Least.{AreLeastBounds, IsFirstRecursive}}
 use Rattle.space_cert.specs.Never.{NeverSpaceError}
 use Rattle.stack_build.specs.Build.{accepted_source}
-use Rattle.command_line.specs.declared.command.Command.{Command}
-use Rattle.command_line.specs.declared.command.Command.TheVariants.{Go, Need, Cert}
-use Rattle.command_line.specs.declared.role.Role.TheVariants.{Source}
-use Rattle.command_line.specs.declared.status.Status.TheVariants.{Done, Recursive}
+use Rattle.command_line.specs.{declared.command.Command.{Command}, declared.command.Command.TheVariants.{Go, Need, Cert}}
+use Rattle.command_line.specs.{declared.role.Role.TheVariants.{Source}, declared.status.Status.TheVariants.{Done, Recursive}}
 use Rattle.command_replies.specs.declared.reply.Verdict.TheVariants as verdict
 use Rattle.command_replies.specs.Replies.{verdict_line}
 use Rattle.stack_commands.specs.Commands.Need.{sizes_text}
-use Rattle.cli_stack.specs.Answer.{Answer, answer_to}
-use Rattle.cli_stack.specs.Tells.{TellsReport}
-use Rattle.cli_stack.specs.FilesAndSizes.{IsReadable}
+use Rattle.cli_stack.specs.{Answer.{Answer, answer_to}, Tells.{TellsReport}, FilesAndSizes.{IsReadable}}
 
 -- the answer is the report of a run that ended, and not with spaceerror
 pub record TellsOther (source : SourceOf) (answer : Answer) : Type 0 where

@@ -4,8 +4,7 @@ use Rattle.stack_shelf.specs.Files.{Files}
 use Rattle.level_debuggers.specs.Tallies.{Watching}
 use Rattle.gypsy_space.specs.Needs.{StackSizes}
 use Rattle.space_cert.specs.Covers.{IsAtMost}
-use Rattle.command_line.specs.declared.command.Command.TheVariants.{Build, Go, Need}
-use Rattle.command_line.specs.declared.status.Status.TheVariants.{Done}
+use Rattle.command_line.specs.{declared.command.Command.TheVariants.{Build, Go, Need}, declared.status.Status.TheVariants.{Done}}
 use Rattle.stack_commands.specs.Commands.Need.{sizes_text}
 use Rattle.cli_stack.specs.Answer.{Answer, answer_to}
 

@@ -2,21 +2,16 @@
 use Rattle.std.specs.Prelude.{◌≡◌, ◌≢◌, ◌≤◌, ℕ, List, length, Some, Ok}
 use Rattle.stack_shelf.specs.Files.{Files, file_at}
 use Rattle.level_debuggers.specs.Tallies.{Watching}
-use Rattle.fm_image.specs.Bare.{bare_image}
-use Rattle.fm_image.specs.Image.{ImageOf}
-use Rattle.fm_image.specs.Spelling.{spelling}
+use Rattle.fm_image.specs.{Bare.{bare_image}, Image.{ImageOf}, Spelling.{spelling}}
 use Rattle.piton_check.specs.PitonChecking.{CheckedOf}
 use Rattle.gypsy_codegen.specs.Generation.{SystemImplements}
 use Rattle.gypsy_space.specs.Needs.{StackSizes, stack_sizes}
 use Rattle.gypsy_syntax.specs.Sources.{SourceOf}
 use Rattle.stack_build.specs.Build.{accepted_source}
-use Rattle.command_line.specs.declared.command.Command.TheVariants.{Pit, Build, Pbuild}
-use Rattle.command_line.specs.declared.role.Role.TheVariants.{Piton}
-use Rattle.command_line.specs.declared.status.Status.TheVariants.{Done}
-use Rattle.command_line.specs.Roles.{limit_of}
+use Rattle.command_line.specs.{declared.command.Command.TheVariants.{Pit, Build, Pbuild}, declared.role.Role.TheVariants.{Piton}}
+use Rattle.command_line.specs.{declared.status.Status.TheVariants.{Done}, Roles.{limit_of}}
 use Rattle.command_replies.specs.Commands.PitonText.{checked_in}
-use Rattle.cli_stack.specs.Answer.{Answer, answer_to}
-use Rattle.cli_stack.specs.InARow.{EndsAlike, answer_after}
+use Rattle.cli_stack.specs.{Answer.{Answer, answer_to}, InARow.{EndsAlike, answer_after}}
 
 -- 1. The meaning.
 

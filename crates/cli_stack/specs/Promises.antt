@@ -1,25 +1,13 @@
 -- What the program does with its devices.
 use Rattle.std.specs.Prelude.{◌≡◌, ◌≢◌, ◌⊎◌, ℕ, List, Option, Some, IfSome}
-use Rattle.stack_shelf.specs.Files.{Files}
+use Rattle.stack_shelf.specs.{Files.{Files}, Causes.{Rose}, Shelf.{appended}}
 use Rattle.level_debuggers.specs.Tallies.{Watching}
-use Rattle.stack_shelf.specs.Causes.{Rose}
-use Rattle.stack_shelf.specs.Shelf.{appended}
-use Rattle.command_line.specs.declared.command.Command.{Command}
-use Rattle.command_line.specs.declared.early_end.EarlyEnd.TheVariants as end
-use Rattle.command_line.specs.declared.status.Status.{Status}
+use Rattle.command_line.specs.{declared.command.Command.{Command}, declared.status.Status.{Status}}
 use Rattle.command_line.specs.declared.status.Status.TheVariants.{Missing, ShelfFault, SinkFault, Size, OutOfMemory, NoWords}
-use Rattle.command_line.specs.Status.{status_code}
-use Rattle.command_line.specs.CommandRows.{command_of}
-use Rattle.command_line.specs.Ends.{end_line}
-use Rattle.command_line.specs.CommandFiles.{input_names, file_names}
-use Rattle.cli_stack.specs.Answer.{Answer, answer_by}
-use Rattle.cli_stack.specs.World.{World}
-use Rattle.cli_stack.specs.Completes.{CompletesCommand}
-use Rattle.cli_stack.specs.Agrees.{Agrees}
-use Rattle.cli_stack.specs.Causes.{RoseAt}
-use Rattle.cli_stack.specs.Remains.{HoldsPart, LeavesFiles, PrintsPrefix}
-use Rattle.cli_stack.specs.RepliesTo.{Devices, Replies}
-use Rattle.cli_stack.specs.Kept.{RunsImage, IsRunEnd}
+use Rattle.command_line.specs.{Status.{status_code}, CommandRows.{command_of}, Ends.{end_line}, CommandFiles.{input_names, file_names}}
+use Rattle.command_line.specs.declared.early_end.EarlyEnd.TheVariants as end
+use Rattle.cli_stack.specs.{Answer.{Answer, answer_by}, World.{World}, Completes.{CompletesCommand}, Agrees.{Agrees}, Causes.{RoseAt}}
+use Rattle.cli_stack.specs.{Remains.{HoldsPart, LeavesFiles, PrintsPrefix}, RepliesTo.{Devices, Replies}, Kept.{RunsImage, IsRunEnd}}
 
 -- over a shelf whose files are known
 pub record KeepsWithFiles (command : Option Command) (answer : Answer) (files : Files) (before after : World) (status : Status) :

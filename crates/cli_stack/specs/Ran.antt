@@ -9,21 +9,13 @@ use Rattle.display_maps.specs.Report.{report_text}
 use Rattle.gypsy_space.specs.Needs.{StackSizes, stack_sizes}
 use Rattle.gypsy_semantics.specs.Calls.{CurrentCondition}
 use Rattle.stack_build.specs.Implements.{Finishes, meaning_shown}
-use Rattle.command_line.specs.declared.command.Command.{Command}
-use Rattle.command_line.specs.declared.command.Command.TheVariants.{Check, Go}
-use Rattle.command_line.specs.declared.role.Role.{Role}
-use Rattle.command_line.specs.declared.status.Status.{Status}
-use Rattle.command_line.specs.declared.status.Status.TheVariants.{Done, Missing, ShelfFault, SinkFault, Size, OutOfMemory}
-use Rattle.command_line.specs.Status.{status_code}
-use Rattle.command_line.specs.CommandFiles.{inputs_of, output_of, input_names}
-use Rattle.command_line.specs.Gathered.{Texts}
-use Rattle.command_replies.specs.declared.reply.Verdict.TheVariants.{Usage}
-use Rattle.command_replies.specs.Replies.{reply_text, status_of, verdict_alone}
+use Rattle.command_line.specs.{declared.command.Command.{Command}, declared.command.Command.TheVariants.{Check, Go}}
+use Rattle.command_line.specs.{declared.role.Role.{Role}, declared.status.Status.{Status}, declared.status.Status.TheVariants.{Done}}
+use Rattle.command_line.specs.{declared.status.Status.TheVariants.{Missing, ShelfFault, SinkFault, Size, OutOfMemory}, Status.{status_code}}
+use Rattle.command_line.specs.{CommandFiles.{inputs_of, output_of, input_names}, Gathered.{Texts}}
+use Rattle.command_replies.specs.{declared.reply.Verdict.TheVariants.{Usage}, Replies.{reply_text, status_of, verdict_alone}}
 use Rattle.stack_commands.specs.Prepared.{reply_by, stored_by}
-use Rattle.cli_stack.specs.Answer.{set_file}
-use Rattle.cli_stack.specs.Causes.{RoseAt}
-use Rattle.cli_stack.specs.Implements.{IsImplementation, StoresImplementationOf}
-use Rattle.cli_stack.specs.RepliesTo.{AreTexts}
+use Rattle.cli_stack.specs.{Answer.{set_file}, Causes.{RoseAt}, Implements.{IsImplementation, StoresImplementationOf}, RepliesTo.{AreTexts}}
 use Rattle.cli_stack.specs.World.{ShelfOf}
 
 -- the logs of a shelf and of a sink

@@ -1,12 +1,9 @@
 -- What a failure leaves of files and of printed text.
 use Rattle.std.specs.Prelude.{◌≡◌, ◌⊎◌, ℕ, List, Option, Some, None}
-use Rattle.stack_shelf.specs.Files.{Files}
-use Rattle.stack_shelf.specs.Shelf.{PartlyStored, PrefixAppended}
+use Rattle.stack_shelf.specs.{Files.{Files}, Shelf.{PartlyStored, PrefixAppended}}
 use Rattle.command_line.specs.declared.early_end.EarlyEnd.TheVariants as end
 use Rattle.command_line.specs.Ends.{end_line}
-use Rattle.cli_stack.specs.Answer.{files_after}
-use Rattle.cli_stack.specs.Causes.{RoseAt}
-use Rattle.cli_stack.specs.World.{World}
+use Rattle.cli_stack.specs.{Answer.{files_after}, Causes.{RoseAt}, World.{World}}
 
 -- the file that is set holds part of its bytes
 abbrev pub HoldsPart : Option Files → Option Files → Option (List ℕ × List ℕ) → Type 0

@@ -2,19 +2,12 @@
 use Rattle.std.specs.Prelude.{◌≡◌, ℕ, List, Option, Some, None, IsSomeAnd}
 use Rattle.stack_shelf.specs.Shelf.{appended}
 use Rattle.level_debuggers.specs.Tallies.{Watching}
-use Rattle.command_line.specs.declared.command.Command.{Command}
-use Rattle.command_line.specs.declared.status.Status.{Status}
-use Rattle.command_line.specs.declared.status.Status.TheVariants.{Size}
-use Rattle.command_line.specs.CommandFiles.{inputs_of, output_of}
-use Rattle.command_line.specs.Devices.{gave_each, lines_of, took_each}
-use Rattle.command_line.specs.Gathered.{Texts, AreShort, roles_of}
-use Rattle.command_replies.specs.declared.reply.Verdict.TheVariants.{Usage}
+use Rattle.command_line.specs.{declared.command.Command.{Command}, declared.status.Status.{Status}}
+use Rattle.command_line.specs.{declared.status.Status.TheVariants.{Size}, CommandFiles.{inputs_of, output_of}, Devices.{gave_each}}
+use Rattle.command_line.specs.{Devices.{lines_of, took_each}, Gathered.{Texts, AreShort, roles_of}}
+use Rattle.command_replies.specs.{declared.reply.Verdict.TheVariants.{Usage}, Replies.{ReplyOf, reply_text, status_of, verdict_alone}}
 use Rattle.stack_commands.specs.Prepared.{reply_by, stored_by}
-use Rattle.command_replies.specs.Replies.{ReplyOf, reply_text, status_of, verdict_alone}
-use Rattle.cli_stack.specs.Answer.{set_file}
-use Rattle.cli_stack.specs.Agrees.{HoldsMachine}
-use Rattle.cli_stack.specs.Causes.{HasSizes}
-use Rattle.cli_stack.specs.World.{World}
+use Rattle.cli_stack.specs.{Answer.{set_file}, Agrees.{HoldsMachine}, Causes.{HasSizes}, World.{World}}
 
 -- 1. Devices.
 

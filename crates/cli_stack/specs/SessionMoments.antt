@@ -3,31 +3,17 @@ use Rattle.std.specs.Prelude.{◌≡◌, ◌≤◌, ℕ, List, IsTrue, Ok}
 use Rattle.stack_text.specs.Values.{ValueOf}
 use Rattle.fm_image.specs.Image.{ImageOf}
 use Rattle.fm_loader.specs.Loaded.{loaded}
-use Rattle.display_maps.specs.ReadingAt.{reading_at_text}
-use Rattle.display_maps.specs.Report.{lines_of_reading}
+use Rattle.display_maps.specs.{ReadingAt.{reading_at_text}, Report.{lines_of_reading}}
 use Rattle.piton_check.specs.PitonChecking.{CheckedOf}
-use Rattle.piton_semantics.specs.Fits.{system_in}
-use Rattle.piton_semantics.specs.StateView.{opening}
-use Rattle.gypsy_syntax.specs.Resolved.{program_of}
-use Rattle.gypsy_syntax.specs.Sources.{SourceOf}
+use Rattle.piton_semantics.specs.{Fits.{system_in}, StateView.{opening}}
+use Rattle.gypsy_syntax.specs.{Resolved.{program_of}, Sources.{SourceOf}}
 use Rattle.gypsy_check.specs.Accepted.{IsAccepted}
-use Rattle.gypsy_space.specs.Needs.{StackSizes}
-use Rattle.gypsy_space.specs.Costs.{Tally}
-use Rattle.gypsy_semantics.specs.Calls.{CurrentCondition}
-use Rattle.gypsy_semantics.specs.Machine.{State, At, Next, Ended}
-use Rattle.gypsy_semantics.specs.Views.RunView.{spent_at}
-use Rattle.gypsy_codegen.specs.Generated.{generated_view}
-use Rattle.gypsy_codegen.specs.Moments.{moment_from}
-use Rattle.gypsy_codegen.specs.Whole.{SizesFit}
-use Rattle.stack_build.specs.Build.{BuiltOf, source_built}
-use Rattle.stack_build.specs.Image.{image_of, places_fit}
-use Rattle.stack_build.specs.Implements.{FitsFormals, meaning_shown}
-use Rattle.stack_build.specs.Moments.{KeepsMoments}
-use Rattle.stack_build.specs.SourceMoments.{moment_shown}
-use Rattle.stack_build.specs.Starts.{main_words}
-use Rattle.level_debuggers.specs.Levels.{LevelOf, Piton, Fm, up_text}
-use Rattle.level_debuggers.specs.ScriptSteps.{SaysAfter}
-use Rattle.level_debuggers.specs.Walks.{walk}
+use Rattle.gypsy_space.specs.{Needs.{StackSizes}, Costs.{Tally}}
+use Rattle.gypsy_semantics.specs.{Calls.{CurrentCondition}, Machine.{State, At, Next, Ended}, Views.RunView.{spent_at}}
+use Rattle.gypsy_codegen.specs.{Generated.{generated_view}, Moments.{moment_from}, Whole.{SizesFit}}
+use Rattle.stack_build.specs.{Build.{BuiltOf, source_built}, Image.{image_of, places_fit}, Implements.{FitsFormals, meaning_shown}}
+use Rattle.stack_build.specs.{Moments.{KeepsMoments}, SourceMoments.{moment_shown}, Starts.{main_words}}
+use Rattle.level_debuggers.specs.{Levels.{LevelOf, Piton, Fm, up_text}, ScriptSteps.{SaysAfter}, Walks.{walk}}
 
 -- the steps of Piton to a state; those of the processor are `spent_at`
 abbrev pub steps_at : State → ℕ

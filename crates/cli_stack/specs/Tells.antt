@@ -1,22 +1,17 @@
 -- That what a command prints is what its source means.
 use Rattle.std.specs.Prelude.{◌≡◌, ◌≤◌, ◌⊎◌, ℕ, List, Option, Some, None, Ok, IsSomeAnd}
 use Rattle.stack_text.specs.Values.{ValueOf}
-use Rattle.fm_image.specs.Image.{ImageOf}
-use Rattle.fm_image.specs.Spelling.{Spelled}
+use Rattle.fm_image.specs.{Image.{ImageOf}, Spelling.{Spelled}}
 use Rattle.fm_loader.specs.Values.{values_in}
 use Rattle.display_maps.specs.Report.{report_text}
 use Rattle.stack_shelf.specs.Files.{Files}
 use Rattle.gypsy_syntax.specs.Sources.{SourceOf}
 use Rattle.gypsy_space.specs.Needs.{StackSizes, stack_sizes}
 use Rattle.gypsy_semantics.specs.Calls.{CurrentCondition}
-use Rattle.stack_build.specs.Build.{BuiltOf, built, accepted_source}
-use Rattle.stack_build.specs.Implements.{meaning_shown, FitsFormals, Finishes, Implements}
-use Rattle.command_line.specs.declared.command.Command.{Command}
-use Rattle.command_line.specs.declared.command.Command.TheVariants.{Run, Go}
-use Rattle.command_line.specs.declared.role.Role.TheVariants.{Source, Image, Values}
-use Rattle.command_line.specs.declared.status.Status.TheVariants.{Done}
-use Rattle.cli_stack.specs.Answer.{Answer}
-use Rattle.cli_stack.specs.FilesAndSizes.{ReadsFile, StoresFile, IsReadable}
+use Rattle.stack_build.specs.{Build.{BuiltOf, built, accepted_source}, Implements.{meaning_shown, FitsFormals, Finishes, Implements}}
+use Rattle.command_line.specs.{declared.command.Command.{Command}, declared.command.Command.TheVariants.{Run, Go}}
+use Rattle.command_line.specs.{declared.role.Role.TheVariants.{Source, Image, Values}, declared.status.Status.TheVariants.{Done}}
+use Rattle.cli_stack.specs.{Answer.{Answer}, FilesAndSizes.{ReadsFile, StoresFile, IsReadable}}
 
 -- an image that is built from the source in a file, with these sizes of the stacks, or one that is read
 pub data RunnableProgram : Type 0 where

@@ -1,6 +1,5 @@
 -- That what is told of sources whose images take turns is, of each of them, what its meaning is, or that this isn't done within the budget.
-use Rattle.std.specs.Prelude.{◌≡◌, ◌≤◌, ◌⊎◌, ℕ, ◌+◌, List, [], ◌∷◌, ◌++◌, Ok, All, map}
-use Rattle.std.specs.Int.{div_ceil}
+use Rattle.std.specs.{Prelude.{◌≡◌, ◌≤◌, ◌⊎◌, ℕ, ◌+◌, List, [], ◌∷◌, ◌++◌, Ok, All, map}, Int.{div_ceil}}
 use Rattle.fm_words.specs.WindowLimit.{most_window}
 use Rattle.stack_text.specs.Values.{ValueOf}
 use Rattle.stack_shelf.specs.Files.{Files}
@@ -9,17 +8,11 @@ use Rattle.fm_loader.specs.Values.{values_in}
 use Rattle.gypsy_syntax.specs.Sources.{SourceOf}
 use Rattle.gypsy_space.specs.Needs.{StackSizes, stack_sizes}
 use Rattle.gypsy_semantics.specs.Calls.{CurrentCondition}
-use Rattle.stack_build.specs.Build.{BuiltOf, built, accepted_source}
-use Rattle.stack_build.specs.Implements.{Finishes}
-use Rattle.command_line.specs.declared.command.Command.{Command}
-use Rattle.command_line.specs.declared.command.Command.TheVariants.{Turns}
-use Rattle.command_line.specs.declared.command.TaskFiles.{TaskFiles}
-use Rattle.command_line.specs.declared.role.Role.TheVariants.{TaskSource, TaskValues}
+use Rattle.stack_build.specs.{Build.{BuiltOf, built, accepted_source}, Implements.{Finishes}}
+use Rattle.command_line.specs.{declared.command.Command.{Command}, declared.command.Command.TheVariants.{Turns}}
+use Rattle.command_line.specs.{declared.command.TaskFiles.{TaskFiles}, declared.role.Role.TheVariants.{TaskSource, TaskValues}}
 use Rattle.command_line.specs.declared.status.Status.TheVariants.{Done, Unfinished}
-use Rattle.cli_stack.specs.Answer.{Answer}
-use Rattle.cli_stack.specs.Decides.{IsDone, IsNotDone}
-use Rattle.cli_stack.specs.FilesAndSizes.{IsReadable}
-use Rattle.cli_stack.specs.Kept.{IsRunEnd}
+use Rattle.cli_stack.specs.{Answer.{Answer}, Decides.{IsDone, IsNotDone}, FilesAndSizes.{IsReadable}, Kept.{IsRunEnd}}
 use Rattle.stack_commands.specs.Commands.Turns.{word_count, round_line}
 
 -- 1. The tasks.

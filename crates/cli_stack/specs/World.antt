@@ -1,8 +1,7 @@
 -- What is known of the devices and of the place for the machine, before a call or after it.
 use Rattle.std.specs.Prelude.{ℕ, List, Option}
 use Rattle.fm_machine.specs.State.{MachineOf}
-use Rattle.stack_shelf.specs.Files.{Files}
-use Rattle.stack_shelf.specs.Causes.{Counts}
+use Rattle.stack_shelf.specs.{Files.{Files}, Causes.{Counts}}
 
 -- a shelf: its files, where they are known, and its counts
 pub record ShelfOf : Type 0 where

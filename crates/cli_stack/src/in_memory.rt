@@ -1,13 +1,8 @@
 //! The program over devices in memory.
 ghost use Rattle.std.specs.Prelude.{◌≡◌, Some, map};
 ghost use Rattle.stack_shelf.specs.InMemory.{counts_of};
-ghost use Rattle.command_line.specs.CommandRows.{command_of};
-ghost use Rattle.command_line.specs.CommandWords.{spelled};
-ghost use Rattle.command_line.specs.Status.{status_code};
-ghost use Rattle.command_line.specs.declared.status.Status.{Status};
-ghost use Rattle.cli_stack.specs.Answer.{answer};
-ghost use Rattle.cli_stack.specs.Promises.{KeepsWithFiles};
-ghost use Rattle.cli_stack.specs.World.{world};
+ghost use Rattle.command_line.specs.{CommandRows.{command_of}, CommandWords.{spelled}, Status.{status_code}, declared.status.Status.{Status}};
+ghost use Rattle.cli_stack.specs.{Answer.{answer}, Promises.{KeepsWithFiles}, World.{world}};
 
 use crate::program::cli;
 use fm_machine::Machine;

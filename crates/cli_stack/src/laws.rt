@@ -1,12 +1,9 @@
 //! Laws of commands in a row, and one answer of `go` that is computed. The functions do nothing: their clauses hold of all files.
 
-ghost use Rattle.cli_stack.specs.Again.{AssembledIsTheSame, CheckIsOfBuild, MigratedRunsTheSame, NeedIsCertified};
+ghost use Rattle.cli_stack.specs.{Again.{AssembledIsTheSame, CheckIsOfBuild, MigratedRunsTheSame, NeedIsCertified}, First.{FirstGoes}, InARow.{BudgetsSettle}};
+ghost use Rattle.cli_stack.specs.{InARow.{GoIsBuildAndRun}, OneResult.{LargerStacksTellTheSame}, PitAndPbuild.{BuildIsPitAndPbuild, PitCarriesMeanings}};
 ghost use Rattle.std.specs.Prelude.{List};
 ghost use Rattle.level_debuggers.specs.Tallies.{Watching};
-ghost use Rattle.cli_stack.specs.First.{FirstGoes};
-ghost use Rattle.cli_stack.specs.InARow.{BudgetsSettle, GoIsBuildAndRun};
-ghost use Rattle.cli_stack.specs.OneResult.{LargerStacksTellTheSame};
-ghost use Rattle.cli_stack.specs.PitAndPbuild.{BuildIsPitAndPbuild, PitCarriesMeanings};
 
 use gypsy_codegen::{generated_is_acceptable, moments_are_reached, source_runs};
 use piton_check::places_change_nothing;

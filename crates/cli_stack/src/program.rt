@@ -1,10 +1,7 @@
 //! The whole program over a shelf and a sink.
 ghost use Rattle.std.specs.Prelude.{◌⊎◌, map};
 ghost use Rattle.command_line.specs.CommandWords.{spelled};
-ghost use Rattle.cli_stack.specs.AnswerMeans.{AnswersMean};
-ghost use Rattle.cli_stack.specs.World.{world};
-ghost use Rattle.cli_stack.specs.Promises.{Promises};
-ghost use Rattle.cli_stack.specs.RepliesTo.{devices_of};
+ghost use Rattle.cli_stack.specs.{AnswerMeans.{AnswersMean}, World.{world}, Promises.{Promises}, RepliesTo.{devices_of}};
 
 use crate::driver::{conclude, run_words};
 use crate::moments::moments_are_said;

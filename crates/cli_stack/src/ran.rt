@@ -1,12 +1,8 @@
 //! The program over devices that keep a log, as `main` runs it.
 ghost use Rattle.std.specs.Prelude.{◌⊎◌, map};
-ghost use Rattle.command_line.specs.CommandWords.{spelled};
-ghost use Rattle.command_line.specs.CommandRows.{command_of};
+ghost use Rattle.command_line.specs.{CommandWords.{spelled}, CommandRows.{command_of}};
 ghost use Rattle.device_logs.specs.Logged.{logged_gave, logged_got, logged_took, may_refuse_logged};
-ghost use Rattle.cli_stack.specs.World.{shelf_of, world};
-ghost use Rattle.cli_stack.specs.Promises.{Promises};
-ghost use Rattle.cli_stack.specs.RepliesTo.{devices_of};
-ghost use Rattle.cli_stack.specs.Ran.{HasRun, UnreadIsRefused, logs_of};
+ghost use Rattle.cli_stack.specs.{World.{shelf_of, world}, Promises.{Promises}, RepliesTo.{devices_of}, Ran.{HasRun, UnreadIsRefused, logs_of}};
 
 use crate::program::cli;
 use device_logs::{LoggedShelf, LoggedSink};

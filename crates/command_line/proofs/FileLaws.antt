@@ -1,12 +1,8 @@
 -- Files that were fetched.
-use Rattle.std.proofs.Common.{◌≡◌, ◌≤◌, ℕ, List, Bool, true, false, Option, Some, None, Ok, Err, length, refl, ap, subst}
-use Rattle.std.specs.Prelude.{nat_lt, if◌then◌else◌}
-use Rattle.std.proofs.lemmas.Bool.{ltb-false}
-use Rattle.stack_shelf.specs.Files.{Files, file_at}
-use Rattle.stack_shelf.specs.Shelf.{TooLong, fetched, within}
-use Rattle.command_line.specs.declared.role.Role.{Role}
-use Rattle.command_line.specs.Roles.{limit_of}
-use Rattle.command_line.specs.Gathered.{text_or_end}
+use Rattle.std.{proofs.Common.{◌≡◌, ◌≤◌, ℕ, List, Bool, true, false, Option, Some, None, Ok, Err, length, refl, ap, subst}, specs.Prelude.nat_lt}
+use Rattle.std.{specs.Prelude.if◌then◌else◌, proofs.lemmas.Bool.ltb-false}
+use Rattle.stack_shelf.{specs.Files.{Files, file_at}, specs.Shelf.{TooLong, fetched, within}}
+use Rattle.command_line.{specs.declared.role.Role.Role, specs.Roles.limit_of, specs.Gathered.text_or_end}
 
 -- a file that was fetched is there, and within its limit
 pub was_short : (files : Files) (input : Role × List ℕ) (text : List ℕ) → text_or_end input (fetched files input.1 (limit_of input.0)) ≡ Ok text

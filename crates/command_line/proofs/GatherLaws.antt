@@ -1,15 +1,10 @@
 -- Why a command ended early, over several files.
-use Rattle.std.proofs.Common.{◌≡◌, ◌≤◌, ◌<◌, ◌++◌, ℕ, List, [], length, get_or, map, drop, arith, ◌∙◌, ap, sym, append-nil}
-use Rattle.std.specs.Prelude.{Contains}
+use Rattle.std.{proofs.Common.{◌≡◌, ◌≤◌, ◌<◌, ◌++◌, ℕ, List, [], length, get_or, map, drop, arith, ◌∙◌, ap, sym, append-nil}, specs.Prelude.Contains}
 use Rattle.std.proofs.lemmas.List.{length-map, get_or-map, drop_all}
 use Rattle.stack_shelf.specs.Causes.{Counts, Rose, NoneFell}
-use Rattle.command_line.specs.declared.early_end.EarlyEnd.{EarlyEnd}
-use Rattle.command_line.specs.declared.early_end.EarlyEnd.TheVariants.{Missing, TooLong, ShelfFault, OutOfMemory}
-use Rattle.command_line.specs.declared.role.Role.{Role}
-use Rattle.command_line.specs.declared.role.RoleFile.{RoleFile}
-use Rattle.command_line.specs.CommandFiles.{names_of}
-use Rattle.command_line.specs.Devices.{EndsAt, EndsAtOne, gave_each}
-use Rattle.command_line.specs.Gathered.{Texts}
+use Rattle.command_line.{specs.declared.early_end.EarlyEnd.EarlyEnd, specs.declared.early_end.EarlyEnd.TheVariants.{Missing, TooLong, ShelfFault, OutOfMemory}}
+use Rattle.command_line.{specs.declared.role.Role.Role, specs.declared.role.RoleFile.RoleFile, specs.CommandFiles.names_of, specs.Devices.{EndsAt, EndsAtOne}}
+use Rattle.command_line.{specs.Devices.gave_each, specs.Gathered.Texts}
 
 pub rose_from : (before mid after : ℕ) → before ≤ mid → Rose mid after → Rose before after
 rose_from before mid after le rose = omega arith

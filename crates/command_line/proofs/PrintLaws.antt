@@ -1,11 +1,7 @@
 -- Texts that are printed one after the other.
-use Rattle.std.proofs.Common.{◌≡◌, ◌++◌, ◌∙◌, ◌⊎◌, ℕ, List, Option, Some, None, Bool, true, false, length, take, drop, refl, ap, sym, subst}
-use Rattle.std.proofs.Common.{inl, inr, arith, append_assoc, append-nil}
-use Rattle.std.proofs.lemmas.Bool.{ne_eqb}
-use Rattle.std.proofs.lemmas.List.Elements.{All-head, All-tail}
-use Rattle.std.proofs.Math.Seq.{take-append_seam}
-use Rattle.std.proofs.lemmas.List.{take-append-drop}
-use Rattle.std.specs.Prelude.{◌∷◌, [], ◌<◌, ◌≢◌, ◌==◌, All, if◌then◌else◌}
+use Rattle.std.proofs.Common.{◌≡◌, ◌++◌, ◌∙◌, ◌⊎◌, ℕ, List, Option, Some, None, Bool, true, false, length, take, drop, refl, ap, sym, subst, inl, inr, arith}
+use Rattle.std.{proofs.Common.{append_assoc, append-nil}, proofs.lemmas.Bool.ne_eqb, proofs.lemmas.List.Elements.{All-head, All-tail}}
+use Rattle.std.{proofs.Math.Seq.take-append_seam, proofs.lemmas.List.take-append-drop, specs.Prelude.{◌∷◌, [], ◌<◌, ◌≢◌, ◌==◌, All, if◌then◌else◌}}
 use Rattle.stack_shelf.specs.Shelf.{appended, PrefixAppended}
 use Rattle.command_line.specs.Devices.{IsFirstLine, onto_first, lines_of, took_each}
 

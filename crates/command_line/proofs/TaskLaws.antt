@@ -1,17 +1,11 @@
 -- The texts of a role are those of the files of that role, in order; so each task has a source and values.
-use Rattle.std.proofs.Common.{◌≡◌, ◌≤◌, ◌∷◌, [], ℕ, List, Bool, true, false, Result, Ok, Err, length, map, refl, ap, subst}
-use Rattle.std.specs.Prelude.{if◌then◌else◌}
+use Rattle.std.{proofs.Common.{◌≡◌, ◌≤◌, ◌∷◌, [], ℕ, List, Bool, true, false, Result, Ok, Err, length, map, refl, ap, subst}, specs.Prelude.if◌then◌else◌}
 use Rattle.stack_text.specs.Results.{◌>>=◌}
-use Rattle.stack_shelf.specs.Files.{Files}
-use Rattle.stack_shelf.specs.Shelf.{fetched}
-use Rattle.command_line.specs.declared.command.TaskFiles.{TaskFiles}
-use Rattle.command_line.specs.declared.early_end.EarlyEnd.{EarlyEnd}
-use Rattle.command_line.specs.declared.role.Role.{Role}
+use Rattle.stack_shelf.{specs.Files.Files, specs.Shelf.fetched}
+use Rattle.command_line.{specs.declared.command.TaskFiles.TaskFiles, specs.declared.early_end.EarlyEnd.EarlyEnd, specs.declared.role.Role.Role}
 use Rattle.command_line.specs.declared.role.Role.TheVariants.{Source, Piton, Image, Values, Script, Assembly, Certificate, Infix, TaskSource, TaskValues}
-use Rattle.command_line.specs.Roles.{limit_of, is_role}
-use Rattle.command_line.specs.Gathered.{Texts, texts_of, AreRead, text_or_end, gathered}
-use Rattle.command_line.specs.CommandFiles.{task_inputs, names_in}
-use Rattle.command_line.proofs.FileLaws.{was_short}
+use Rattle.command_line.{specs.Roles.{limit_of, is_role}, specs.Gathered.{Texts, texts_of, AreRead, text_or_end, gathered}, specs.CommandFiles.task_inputs}
+use Rattle.command_line.{specs.CommandFiles.names_in, proofs.FileLaws.was_short}
 
 pub same_role : (a b : Role) → is_role a b ≡ true → a ≡ b
 same_role Source Source h = refl

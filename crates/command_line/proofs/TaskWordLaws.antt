@@ -1,14 +1,10 @@
 -- Tasks that are read one after the other.
 use Rattle.std.proofs.Common.{◌≡◌, ◌≤◌, ◌<◌, ◌+◌, ◌-◌, ◌++◌, ◌∷◌, [], ◌∙◌, ◌==◌, ℕ, suc, List, true, false, Option, Some, None, Err, length, refl, sym, ap}
-use Rattle.std.proofs.Common.{subst, arith, append_assoc}
-use Rattle.std.specs.Prelude.{String}
-use Rattle.std.specs.Global.{Global}
-use Rattle.std.proofs.lemmas.Bool.{eqb-true}
+use Rattle.std.{proofs.Common.{subst, arith, append_assoc}, specs.Prelude.String, specs.Global.Global, proofs.lemmas.Bool.eqb-true}
 use Rattle.stack_text.specs.Options.{◌>>=◌}
-use Rattle.command_line.specs.declared.command.TaskFiles.{TaskFiles}
-use Rattle.command_line.specs.declared.words.reader.WordsFault.{WordsFault}
-use Rattle.command_line.specs.declared.words.reader.WordsFault.TheVariants.{Usage, Memory}
-use Rattle.command_line.specs.CommandWords.{CommandWords, ReadsWordsUnless, spelled, task, unless_ended, tasks_within}
+use Rattle.command_line.{specs.declared.command.TaskFiles.TaskFiles, specs.declared.words.reader.WordsFault.WordsFault}
+use Rattle.command_line.{specs.declared.words.reader.WordsFault.TheVariants.{Usage, Memory}, specs.CommandWords.{CommandWords, ReadsWordsUnless, spelled, task}}
+use Rattle.command_line.specs.CommandWords.{unless_ended, tasks_within}
 
 -- with these tasks before the others
 abbrev pub with_tasks : List TaskFiles → Option (List TaskFiles) → Option (List TaskFiles)

@@ -1,7 +1,6 @@
 -- Texts that are gathered one after the other.
 use Rattle.std.proofs.Common.{◌++◌, Result, Ok, Err}
-use Rattle.command_line.specs.declared.early_end.EarlyEnd.{EarlyEnd}
-use Rattle.command_line.specs.Gathered.{Texts}
+use Rattle.command_line.{specs.declared.early_end.EarlyEnd.EarlyEnd, specs.Gathered.Texts}
 
 -- with these texts before the others
 abbrev pub with_texts : Texts → Result Texts EarlyEnd → Result Texts EarlyEnd

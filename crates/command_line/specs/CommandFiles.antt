@@ -1,13 +1,10 @@
 -- The files that a command reads, in order, and the one that it writes: each with its role and its name.
-use Rattle.std.specs.Prelude.{ℕ, List, [], ◌∷◌, ◌++◌, Option, Some, None, map, if◌then◌else◌}
-use Rattle.std.specs.Option.{option_to_list}
-use Rattle.command_line.specs.declared.command.Command.{Command}
-use Rattle.command_line.specs.declared.command.Command.TheVariants.{Check, Mean, Pit, Build, Pcheck, Prun, Pbuild}
-use Rattle.command_line.specs.declared.command.Command.TheVariants.{Run, Go, Show, Migrate, Asm, Unasm, Need, Cert, Debug, Turns, Big, Mini}
-use Rattle.command_line.specs.declared.command.TaskFiles.{TaskFiles}
-use Rattle.command_line.specs.declared.role.Role.{Role}
+use Rattle.std.specs.{Prelude.{ℕ, List, [], ◌∷◌, ◌++◌, Option, Some, None, map, if◌then◌else◌}, Option.{option_to_list}}
+use Rattle.command_line.specs.{declared.command.Command.{Command}, declared.command.Command.TheVariants.{Check, Mean, Pit, Build, Pcheck}}
+use Rattle.command_line.specs.declared.command.Command.TheVariants.{Prun, Pbuild, Run, Go, Show, Migrate, Asm, Unasm, Need, Cert, Debug}
+use Rattle.command_line.specs.{declared.command.Command.TheVariants.{Turns, Big, Mini}, declared.command.TaskFiles.{TaskFiles}}
+use Rattle.command_line.specs.{declared.role.Role.{Role}, Roles.{is_role}}
 use Rattle.command_line.specs.declared.role.Role.TheVariants as role
-use Rattle.command_line.specs.Roles.{is_role}
 
 -- the files that tasks read, task by task
 abbrev pub task_inputs : List TaskFiles → List (Role × List ℕ)

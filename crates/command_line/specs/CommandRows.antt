@@ -1,10 +1,9 @@
 -- The words of each command.
-use Rattle.std.specs.Prelude.{ℕ, List, [], ◌∷◌, Option, Some, None, codes, if◌then◌else◌}
-use Rattle.std.specs.Str.{bytes_eq}
-use Rattle.command_line.specs.declared.command.Command.{Command}
-use Rattle.command_line.specs.declared.command.Command.TheVariants.{Check, Mean, Pit, Build, Pcheck, Prun, Pbuild}
-use Rattle.command_line.specs.declared.command.Command.TheVariants.{Run, Go, Show, Migrate, Asm, Unasm, Need, Cert, Debug, Turns, Big, Mini}
-use Rattle.command_line.specs.CommandWords.{CommandWords, Reader, file, size, limit, seed, procedures, debug_level, turn_length, tasks, end}
+use Rattle.std.specs.{Prelude.{ℕ, List, [], ◌∷◌, Option, Some, None, codes, if◌then◌else◌}, Str.{bytes_eq}}
+use Rattle.command_line.specs.{declared.command.Command.{Command}, declared.command.Command.TheVariants.{Check, Mean, Pit, Build, Pcheck}}
+use Rattle.command_line.specs.declared.command.Command.TheVariants.{Prun, Pbuild, Run, Go, Show, Migrate, Asm, Unasm, Need, Cert, Debug}
+use Rattle.command_line.specs.{declared.command.Command.TheVariants.{Turns, Big, Mini}, CommandWords.{CommandWords, Reader, file, size}}
+use Rattle.command_line.specs.CommandWords.{limit, seed, procedures, debug_level, turn_length, tasks, end}
 
 -- what is read goes on to what reads the words after it
 abbrev pub read_on : {A B : Type 0} → Option (A × CommandWords) → (A → CommandWords → Option B) → Option B

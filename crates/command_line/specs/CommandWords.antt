@@ -1,15 +1,9 @@
 -- The words of a command line, read one after the other.
-use Rattle.std.specs.Prelude.{◌≡◌, ℕ, zero, suc, ℤ, pos, negsuc, ◌-◌, ◌^◌, List, [], ◌∷◌, length, map, String, string_bytes}
-use Rattle.std.specs.Prelude.{◌&&◌, nat_le, Option, Some, None, Result, Ok, Err, codes, if◌then◌else◌}
-use Rattle.std.specs.Global.{Global}
-use Rattle.std.specs.Str.{bytes_eq}
-use Rattle.stack_text.specs.SharedLimits.{most_stack, most_steps}
-use Rattle.stack_text.specs.Numerals.{is_digits, numeral_of}
-use Rattle.stack_text.specs.Options.{◌>>=◌}
-use Rattle.command_line.specs.declared.command.TaskFiles.{TaskFiles}
-use Rattle.command_line.specs.declared.words.reader.WordsFault.{WordsFault}
-use Rattle.command_line.specs.declared.words.reader.WordsFault.TheVariants.{Usage, Memory}
-use Rattle.command_line.specs.declared.words.reader.Level.{Level}
+use Rattle.std.specs.Prelude.{◌≡◌, ℕ, zero, suc, ℤ, pos, negsuc, ◌-◌, ◌^◌, List, [], ◌∷◌, length, map, String, string_bytes, ◌&&◌, nat_le}
+use Rattle.std.specs.{Prelude.{Option, Some, None, Result, Ok, Err, codes, if◌then◌else◌}, Global.{Global}, Str.{bytes_eq}}
+use Rattle.stack_text.specs.{SharedLimits.{most_stack, most_steps}, Numerals.{is_digits, numeral_of}, Options.{◌>>=◌}}
+use Rattle.command_line.specs.{declared.command.TaskFiles.{TaskFiles}, declared.words.reader.WordsFault.{WordsFault}}
+use Rattle.command_line.specs.{declared.words.reader.WordsFault.TheVariants.{Usage, Memory}, declared.words.reader.Level.{Level}}
 use Rattle.command_line.specs.declared.words.reader.Level.TheVariants.{Gypsy, Piton, Fm9001}
 
 abbrev pub CommandWords : Type 0

@@ -1,11 +1,8 @@
 -- What fetching, storing and printing say.
 use Rattle.std.specs.Prelude.{◌≡◌, ◌≢◌, ◌⊎◌, ◌==◌, ℕ, ◌∷◌, [], ◌++◌, List, Option, Result, Ok, Err, Contains, All, if◌then◌else◌}
-use Rattle.stack_shelf.specs.Files.{Files}
-use Rattle.stack_shelf.specs.Causes.{Counts, Rose}
-use Rattle.stack_shelf.specs.Shelf.{PartlyStored}
-use Rattle.command_line.specs.declared.early_end.EarlyEnd.{EarlyEnd}
-use Rattle.command_line.specs.declared.early_end.EarlyEnd.TheVariants.{Missing, TooLong, ShelfFault, OutOfMemory}
-use Rattle.command_line.specs.declared.role.Role.{Role}
+use Rattle.stack_shelf.specs.{Files.{Files}, Causes.{Counts, Rose}, Shelf.{PartlyStored}}
+use Rattle.command_line.specs.{declared.early_end.EarlyEnd.{EarlyEnd}, declared.early_end.EarlyEnd.TheVariants.{Missing, TooLong}}
+use Rattle.command_line.specs.{declared.early_end.EarlyEnd.TheVariants.{ShelfFault, OutOfMemory}, declared.role.Role.{Role}}
 use Rattle.command_line.specs.Gathered.{Texts}
 
 -- what a call returned, seen by view, is what the definition gives, unless the shelf failed or memory ran out

@@ -1,10 +1,8 @@
 -- Ends of a command before there is a reply, with their exit statuses and their lines.
-use Rattle.std.specs.Prelude.{ℕ, List, [], ◌++◌, codes}
-use Rattle.std.specs.Fmt.{decimal}
+use Rattle.std.specs.{Prelude.{ℕ, List, [], ◌++◌, codes}, Fmt.{decimal}}
 use Rattle.stack_text.specs.Lines.{line}
-use Rattle.command_line.specs.declared.early_end.EarlyEnd.{EarlyEnd}
-use Rattle.command_line.specs.declared.early_end.EarlyEnd.TheVariants.{Missing, TooLong, ShelfFault, OutOfMemory}
-use Rattle.command_line.specs.declared.status.Status.{Status}
+use Rattle.command_line.specs.{declared.early_end.EarlyEnd.{EarlyEnd}, declared.early_end.EarlyEnd.TheVariants.{Missing, TooLong}}
+use Rattle.command_line.specs.{declared.early_end.EarlyEnd.TheVariants.{ShelfFault, OutOfMemory}, declared.status.Status.{Status}}
 use Rattle.command_line.specs.declared.status.Status.TheVariants as status
 
 abbrev pub end_status : EarlyEnd → Status

@@ -1,12 +1,9 @@
 -- The texts that a command reads, where all files are known and no device fails.
 use Rattle.std.specs.Prelude.{◌≡◌, ◌≤◌, ℕ, List, [], ◌∷◌, length, map, All, Some, Result, Ok, Err, if◌then◌else◌}
 use Rattle.stack_text.specs.Results.{◌>>=◌}
-use Rattle.stack_shelf.specs.Files.{Files, file_at}
-use Rattle.stack_shelf.specs.Shelf.{Refusal, Missing, TooLong, fetched}
-use Rattle.command_line.specs.declared.early_end.EarlyEnd.{EarlyEnd}
+use Rattle.stack_shelf.specs.{Files.{Files, file_at}, Shelf.{Refusal, Missing, TooLong, fetched}}
+use Rattle.command_line.specs.{declared.early_end.EarlyEnd.{EarlyEnd}, declared.role.Role.{Role}, Roles.{limit_of, is_role}}
 use Rattle.command_line.specs.declared.early_end.EarlyEnd.TheVariants as end
-use Rattle.command_line.specs.declared.role.Role.{Role}
-use Rattle.command_line.specs.Roles.{limit_of, is_role}
 
 abbrev pub Texts : Type 0
 Texts = List (Role × List ℕ)

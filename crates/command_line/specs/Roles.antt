@@ -1,9 +1,8 @@
 -- The roles in which commands read files.
 use Rattle.std.specs.Prelude.{ℕ, Bool, true, false}
 use Rattle.stack_text.specs.SharedLimits.{most_text, most_image_file}
-use Rattle.command_line.specs.declared.role.Role.{Role}
-use Rattle.command_line.specs.declared.role.Role.TheVariants.{Source, Piton, Image, Values, Script}
-use Rattle.command_line.specs.declared.role.Role.TheVariants.{Assembly, Certificate, Infix, TaskSource, TaskValues}
+use Rattle.command_line.specs.{declared.role.Role.{Role}, declared.role.Role.TheVariants.{Source, Piton, Image, Values, Script, Assembly}}
+use Rattle.command_line.specs.declared.role.Role.TheVariants.{Certificate, Infix, TaskSource, TaskValues}
 
 -- the bytes of a text of Piton
 abbrev pub most_piton_text : ℕ

@@ -1,13 +1,10 @@
 -- Exit statuses and their numbers.
-use Rattle.std.specs.Prelude.{ℕ, Result, Ok, Err}
-use Rattle.std.specs.IoError.{error_kind}
-use Rattle.std.specs.declared.io.Error.{Error as IoError}
+use Rattle.std.specs.{Prelude.{ℕ, Result, Ok, Err}, IoError.{error_kind}, declared.io.Error.{Error as IoError}}
 use Rattle.std.specs.declared.io.ErrorKind.{ErrorKind}
 use Rattle.std.specs.declared.io.ErrorKind.TheVariants as kind
-use Rattle.command_line.specs.declared.status.Status.{Status}
-use Rattle.command_line.specs.declared.status.Status.TheVariants.{Done, Usage, Refused, Values, Image, Unfinished, Outside, Error}
-use Rattle.command_line.specs.declared.status.Status.TheVariants.{Missing, ShelfFault, SinkFault, Size, Script, OutOfMemory}
-use Rattle.command_line.specs.declared.status.Status.TheVariants.{NotPlain, Recursive, Certificate, NoWords}
+use Rattle.command_line.specs.{declared.status.Status.{Status}, declared.status.Status.TheVariants.{Done, Usage, Refused, Values, Image}}
+use Rattle.command_line.specs.declared.status.Status.TheVariants.{Unfinished, Outside, Error, Missing, ShelfFault, SinkFault, Size, Script}
+use Rattle.command_line.specs.declared.status.Status.TheVariants.{OutOfMemory, NotPlain, Recursive, Certificate, NoWords}
 
 abbrev pub status_code : Status → ℕ
 status_code Done = 0

@@ -173,8 +173,7 @@ pub struct TaskFiles {
 }
 
 impl Command {
-    ghost use Rattle.std.specs.Prelude.{◌≡◌, map};
-    ghost use Rattle.std.specs.Option.{option_map};
+    ghost use Rattle.std.specs.{Prelude.{◌≡◌, map}, Option.{option_map}};
     ghost use Rattle.stack_heap.specs.Heaps.{IfOkUnless};
     ghost use Rattle.command_line.specs.CommandFiles.{inputs_of, output_of};
 

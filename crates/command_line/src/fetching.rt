@@ -1,10 +1,7 @@
 //! Fetches the files that a command reads.
 ghost use Rattle.std.specs.Prelude.{◌≡◌, ◌≤◌, ◌⊎◌, IfErr, IfOk, IfSome, length, map};
-ghost use Rattle.stack_shelf.specs.Causes.{NoneFell};
-ghost use Rattle.stack_shelf.specs.Shelf.{fetched};
-ghost use Rattle.command_line.specs.Roles.{limit_of};
-ghost use Rattle.command_line.specs.Gathered.{AreShort, roles_of, text_or_end, gathered};
-ghost use Rattle.command_line.specs.CommandFiles.{names_of};
+ghost use Rattle.stack_shelf.specs.{Causes.{NoneFell}, Shelf.{fetched}};
+ghost use Rattle.command_line.specs.{Roles.{limit_of}, Gathered.{AreShort, roles_of, text_or_end, gathered}, CommandFiles.{names_of}};
 ghost use Rattle.command_line.specs.Devices.{GivesOrEndsEarly, EndsAt, EndsAtOne, gave_each};
 
 use crate::early_end::EarlyEnd;

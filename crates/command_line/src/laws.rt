@@ -2,11 +2,9 @@
 
 ghost use Rattle.std.specs.Prelude.{◌≡◌, ℕ, List, Ok, map};
 ghost use Rattle.stack_shelf.specs.Files.{Files};
-ghost use Rattle.command_line.specs.declared.command.TaskFiles.{TaskFiles};
-ghost use Rattle.command_line.specs.declared.role.Role.{Role};
-ghost use Rattle.command_line.specs.declared.role.Role.TheVariants.{TaskSource, TaskValues};
-ghost use Rattle.command_line.specs.CommandFiles.{names_in, task_inputs};
-ghost use Rattle.command_line.specs.Gathered.{AreRead, Texts, gathered, texts_of};
+ghost use Rattle.command_line.specs.{declared.command.TaskFiles.{TaskFiles}, declared.role.Role.{Role}, declared.role.Role.TheVariants.{TaskSource}};
+ghost use Rattle.command_line.specs.{declared.role.Role.TheVariants.{TaskValues}, CommandFiles.{names_in, task_inputs}, Gathered.{AreRead, Texts, gathered}};
+ghost use Rattle.command_line.specs.Gathered.{texts_of};
 
 /// The texts of a role are those of the files of that role, in order. So where the files of tasks are fetched, each task has the
 /// text of its source and that of its values.

@@ -1,7 +1,6 @@
 //! Prints texts, a line at a time.
 ghost use Rattle.std.specs.Prelude.{◌≡◌, ◌≤◌, ◌<◌, ◌++◌, length, OnOk, OnErr, IsErrOf};
-ghost use Rattle.stack_shelf.specs.Causes.{Rose};
-ghost use Rattle.stack_shelf.specs.Shelf.{appended, PrefixAppended};
+ghost use Rattle.stack_shelf.specs.{Causes.{Rose}, Shelf.{appended, PrefixAppended}};
 ghost use Rattle.command_line.specs.Devices.{IsFirstLine, lines_of, took_each};
 
 use stack_shelf::{PutFault, Sink};

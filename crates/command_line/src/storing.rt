@@ -1,7 +1,6 @@
 //! Stores the file that a command writes.
 ghost use Rattle.std.specs.Prelude.{◌≡◌, ◌⊎◌, IfErr, OnOk};
-ghost use Rattle.stack_shelf.specs.Causes.{NoneFell};
-ghost use Rattle.stack_shelf.specs.Shelf.{stored};
+ghost use Rattle.stack_shelf.specs.{Causes.{NoneFell}, Shelf.{stored}};
 ghost use Rattle.command_line.specs.Devices.{LeavesPart, IsFaultAt};
 
 use crate::early_end::EarlyEnd;

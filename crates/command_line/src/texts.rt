@@ -50,8 +50,7 @@ pub struct Texts {
 
 impl Model for Texts {
     ghost use Rattle.std.specs.Prelude.{List, ℕ, ◌≤◌, All, length};
-    ghost use Rattle.command_line.specs.declared.role.Role.{Role};
-    ghost use Rattle.command_line.specs.Roles.{limit_of};
+    ghost use Rattle.command_line.specs.{declared.role.Role.{Role}, Roles.{limit_of}};
 
     ghost Value = { List (Role × List ℕ) };
 
@@ -63,8 +62,7 @@ impl Model for Texts {
 impl Texts {
     ghost use Rattle.std.specs.Prelude.{◌≡◌, ◌≤◌, ◌^◌, ◌++◌, ◌∷◌, [], length, map, All, IfOk, OnErr};
     ghost use Rattle.stack_heap.specs.Heaps.{IfOkUnless, OnOkUnless};
-    ghost use Rattle.command_line.specs.Gathered.{text_of, texts_of};
-    ghost use Rattle.command_line.specs.Roles.{limit_of};
+    ghost use Rattle.command_line.specs.{Gathered.{text_of, texts_of}, Roles.{limit_of}};
 
     /// No texts. It takes no memory.
     pub fn new(alloc: Global) -> Texts

@@ -1,15 +1,12 @@
 -- What `mini` makes of a text that the lowering has answered.
 use Rattle.std.proofs.Common.{◌≡◌, ℕ, List, Some, None, ap}
-use Rattle.gypsy_syntax.specs.Printed.{gypsy_text}
-use Rattle.gypsy_syntax.specs.Sources.{SourceOf}
-use Rattle.mini_syntax.specs.MiniReading.{IsFault}
+use Rattle.gypsy_syntax.{specs.Printed.gypsy_text, specs.Sources.SourceOf}
+use Rattle.mini_syntax.{specs.MiniReading.IsFault, proofs.AnswerLaws.read}
 use Rattle.mini_gypsy.specs.Promises as gypsy
-use Rattle.mini_syntax.proofs.AnswerLaws.{read}
 use Rattle.mini_gypsy.proofs.LowerLaws.{fault_read, source_read}
-use Rattle.command_replies.specs.declared.reply.RuleLetter.TheVariants.{Y}
+use Rattle.command_replies.{specs.declared.reply.RuleLetter.TheVariants.Y, specs.Replies.{verdict_alone, written_reply}, specs.Commands.Mini.lowering_of}
+use Rattle.command_replies.specs.Commands.Mini.{lowered_stored, lowered_reply, mini_stored, mini_reply}
 use Rattle.command_replies.specs.declared.reply.Verdict.TheVariants as verdict
-use Rattle.command_replies.specs.Replies.{verdict_alone, written_reply}
-use Rattle.command_replies.specs.Commands.Mini.{lowering_of, lowered_stored, lowered_reply, mini_stored, mini_reply}
 
 pub lowered_file : (text : List ℕ) (s : SourceOf) → gypsy.Lowers text s → mini_stored text ≡ Some (gypsy_text s)
 unfolding lowering_of

@@ -1,12 +1,8 @@
 -- A system that was checked: it is the one that was given, and keeps the limits.
-use Rattle.std.proofs.Common.{◌≡◌, ◌≤◌, ℕ, List, [], Ok, length, sym, ap, ◌∙◌, subst}
-use Rattle.std.proofs.lemmas.List.{length-map}
-use Rattle.stack_text.specs.declared.breach.Breach.{Breach}
-use Rattle.stack_text.specs.Breaches.{least}
+use Rattle.std.{proofs.Common.{◌≡◌, ◌≤◌, ℕ, List, [], Ok, length, sym, ap, ◌∙◌, subst}, proofs.lemmas.List.length-map}
+use Rattle.stack_text.{specs.declared.breach.Breach.Breach, specs.Breaches.least}
 use Rattle.piton_syntax.specs.Systems.{SystemOf}
-use Rattle.piton_check.specs.PitonChecking.{CheckedOf, IsChecked}
-use Rattle.piton_check.specs.Resolved.{ResolvedOf, resolved, resolved_area}
-use Rattle.piton_check.specs.Violations.{violations}
+use Rattle.piton_check.{specs.PitonChecking.{CheckedOf, IsChecked}, specs.Resolved.{ResolvedOf, resolved, resolved_area}, specs.Violations.violations}
 use Rattle.command_replies.specs.Commands.PitonText.{checked_unless}
 
 pub is_checked : (system : SystemOf) (c : CheckedOf) → IsChecked c → c.system ≡ system → Ok c ≡ checked_unless system (least (violations system))

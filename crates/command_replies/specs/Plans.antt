@@ -1,8 +1,6 @@
 -- What is left to do once the file is stored, as the reply that it leads to.
-use Rattle.command_replies.specs.declared.plan.Pending.{Pending}
+use Rattle.command_replies.specs.{declared.plan.Pending.{Pending}, Replies.{ReplyOf, reply_of}, Commands.Run.{run_reply}}
 use Rattle.command_replies.specs.declared.plan.Pending.TheVariants as pending
-use Rattle.command_replies.specs.Replies.{ReplyOf, reply_of}
-use Rattle.command_replies.specs.Commands.Run.{run_reply}
 
 abbrev pub pending_reply : Pending → ReplyOf
 pending_reply (pending.Reply reply) = reply_of reply

@@ -1,25 +1,18 @@
 -- The ends of a command, with their exit statuses and their lines.
-use Rattle.std.specs.Prelude.{ℕ, List, [], ◌++◌, Option, None, Result, Ok, Err, codes}
-use Rattle.std.specs.Option.{option_map}
-use Rattle.std.specs.Fmt.{decimal}
+use Rattle.std.specs.{Prelude.{ℕ, List, [], ◌++◌, Option, None, Result, Ok, Err, codes}, Option.{option_map}, Fmt.{decimal}}
 use Rattle.fm_machine.specs.State.{Fm, MachineOf}
 use Rattle.fm_show.specs.Digits.{hex_digits}
 use Rattle.piton_semantics.specs.declared.error_kind.ErrorKind.{ErrorKind}
 use Rattle.piton_semantics.specs.declared.error_kind.ErrorKind.TheVariants as kind
-use Rattle.stack_text.specs.declared.text_fault.TextRule.{TextRule}
+use Rattle.stack_text.specs.{declared.text_fault.TextRule.{TextRule}, Lines.{line}}
 use Rattle.stack_text.specs.declared.text_fault.TextRule.TheVariants as text
 use Rattle.command_line.specs.declared.status.Status.{Status}
 use Rattle.command_line.specs.declared.status.Status.TheVariants as status
-use Rattle.stack_text.specs.Lines.{line}
-use Rattle.command_replies.specs.declared.reply.RuleLetter.{RuleLetter}
-use Rattle.command_replies.specs.declared.reply.RuleLetter.TheVariants.{G, M, S, P, Q, A, Y}
-use Rattle.command_replies.specs.declared.reply.SizeOf.{SizeOf}
-use Rattle.command_replies.specs.declared.reply.SizeOf.TheVariants.{Control, Temporary, Words}
-use Rattle.command_replies.specs.declared.reply.Verdict.{Verdict}
-use Rattle.command_replies.specs.declared.reply.Verdict.TheVariants.{Done, Usage, Refused, Values, Image, Unfinished}
-use Rattle.command_replies.specs.declared.reply.Verdict.TheVariants.{Outside, Error, Script, NotPlain}
-use Rattle.command_replies.specs.declared.reply.Verdict.TheVariants.{Recursive, Certificate, Size, SomeUnfinished}
-use Rattle.command_replies.specs.declared.reply.Reply.{Reply}
+use Rattle.command_replies.specs.{declared.reply.RuleLetter.{RuleLetter}, declared.reply.RuleLetter.TheVariants.{G, M, S, P, Q, A, Y}}
+use Rattle.command_replies.specs.{declared.reply.SizeOf.{SizeOf}, declared.reply.SizeOf.TheVariants.{Control, Temporary, Words}}
+use Rattle.command_replies.specs.{declared.reply.Verdict.{Verdict}, declared.reply.Verdict.TheVariants.{Done, Usage, Refused, Values}}
+use Rattle.command_replies.specs.declared.reply.Verdict.TheVariants.{Image, Unfinished, Outside, Error, Script, NotPlain, Recursive}
+use Rattle.command_replies.specs.{declared.reply.Verdict.TheVariants.{Certificate, Size, SomeUnfinished}, declared.reply.Reply.{Reply}}
 
 -- the letter of a rule
 abbrev pub letter_text : RuleLetter → List ℕ

@@ -1,8 +1,7 @@
 //! The command `asm`.
 ghost use Rattle.std.specs.Prelude.{◌≡◌, ◌≤◌, ◌^◌, IfOk, length};
 ghost use Rattle.stack_heap.specs.Heaps.{IfOkUnless};
-ghost use Rattle.command_replies.specs.Commands.Asm.{asm_stored, asm_reply};
-ghost use Rattle.command_replies.specs.Plans.{pending_reply};
+ghost use Rattle.command_replies.specs.{Commands.Asm.{asm_stored, asm_reply}, Plans.{pending_reply}};
 
 use crate::plan::Plan;
 use crate::reply::{RuleLetter, Verdict};

@@ -3,8 +3,7 @@
 
 ghost use Rattle.std.specs.Prelude.{◌≡◌};
 ghost use Rattle.stack_heap.specs.Heaps.{IfOkUnless};
-ghost use Rattle.command_replies.specs.Plans.{pending_reply};
-ghost use Rattle.command_replies.specs.Replies.{reply_of};
+ghost use Rattle.command_replies.specs.{Plans.{pending_reply}, Replies.{reply_of}};
 
 pub mod asm;
 mod image_run;

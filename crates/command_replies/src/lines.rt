@@ -1,7 +1,6 @@
 //! Lines of pieces.
 
-ghost use Rattle.std.specs.Prelude.{◌≡◌};
-ghost use Rattle.std.specs.List.{flat_map};
+ghost use Rattle.std.specs.{Prelude.{◌≡◌}, List.{flat_map}};
 ghost use Rattle.stack_heap.specs.Heaps.{IfOkUnless};
 ghost use Rattle.stack_text.specs.Lines.{line};
 

@@ -1,11 +1,8 @@
 //! The command `migrate`.
 ghost use Rattle.std.specs.Prelude.{◌≡◌, Some, IfOk};
 ghost use Rattle.stack_heap.specs.Heaps.{IfOkUnless};
-ghost use Rattle.fm_image.specs.Limits.{in_version_2};
-ghost use Rattle.fm_image.specs.Spelling.{spelling};
-ghost use Rattle.command_replies.specs.Commands.Migrate.{migrate_stored, migrate_reply};
-ghost use Rattle.command_replies.specs.Replies.{written_reply};
-ghost use Rattle.command_replies.specs.Plans.{pending_reply};
+ghost use Rattle.fm_image.specs.{Limits.{in_version_2}, Spelling.{spelling}};
+ghost use Rattle.command_replies.specs.{Commands.Migrate.{migrate_stored, migrate_reply}, Replies.{written_reply}, Plans.{pending_reply}};
 
 use crate::plan::Plan;
 use crate::reply::Verdict;

@@ -1,11 +1,8 @@
 //! The command `mini`.
 ghost use Rattle.std.specs.Prelude.{◌≡◌, ◌≤◌, ◌^◌, Some, IfOk, length};
 ghost use Rattle.stack_heap.specs.Heaps.{IfOkUnless};
-ghost use Rattle.gypsy_syntax.specs.Printed.{gypsy_text};
-ghost use Rattle.gypsy_syntax.specs.Views.SourceView.{source_of};
-ghost use Rattle.command_replies.specs.Commands.Mini.{mini_stored, mini_reply};
-ghost use Rattle.command_replies.specs.Replies.{written_reply};
-ghost use Rattle.command_replies.specs.Plans.{pending_reply};
+ghost use Rattle.gypsy_syntax.specs.{Printed.{gypsy_text}, Views.SourceView.{source_of}};
+ghost use Rattle.command_replies.specs.{Commands.Mini.{mini_stored, mini_reply}, Replies.{written_reply}, Plans.{pending_reply}};
 
 use crate::plan::Plan;
 use crate::reply::{RuleLetter, Verdict};

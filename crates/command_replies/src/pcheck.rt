@@ -1,8 +1,7 @@
 //! The command `pcheck`.
 ghost use Rattle.std.specs.Prelude.{◌≡◌, ◌≤◌, ◌^◌, None, IfOk, length};
 ghost use Rattle.stack_heap.specs.Heaps.{IfOkUnless};
-ghost use Rattle.command_replies.specs.Commands.Pcheck.{pcheck_reply};
-ghost use Rattle.command_replies.specs.Plans.{pending_reply};
+ghost use Rattle.command_replies.specs.{Commands.Pcheck.{pcheck_reply}, Plans.{pending_reply}};
 
 use crate::piton_text::read_checked;
 use crate::plan::Plan;

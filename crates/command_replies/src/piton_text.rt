@@ -4,8 +4,7 @@ ghost use Rattle.stack_heap.specs.Heaps.{IfOkUnless};
 ghost use Rattle.stack_text.specs.Breaches.{least};
 ghost use Rattle.piton_syntax.specs.PitonReading.{KeepsForm, fault_of};
 ghost use Rattle.piton_syntax.specs.declared.fault.PitonFault.TheVariants as faults;
-ghost use Rattle.piton_check.specs.PitonChecking.{IsChecked};
-ghost use Rattle.piton_check.specs.Violations.{violations};
+ghost use Rattle.piton_check.specs.{PitonChecking.{IsChecked}, Violations.{violations}};
 ghost use Rattle.command_replies.specs.Commands.PitonText.{piton_verdict, checked_unless, checked_in};
 
 use crate::reply::{RuleLetter, Verdict, text_rule_number};

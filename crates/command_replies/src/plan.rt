@@ -33,8 +33,7 @@ impl Plan {
     ghost use Rattle.stack_heap.specs.Heaps.{IfOkUnless};
     ghost use Rattle.stack_text.specs.Lines.{line};
     ghost use Rattle.fm_image.specs.Spelling.{spelling};
-    ghost use Rattle.command_replies.specs.Replies.{built_reply, written_reply, verdict_alone, all_said};
-    ghost use Rattle.command_replies.specs.Plans.{pending_reply};
+    ghost use Rattle.command_replies.specs.{Replies.{built_reply, written_reply, verdict_alone, all_said}, Plans.{pending_reply}};
 
     /// Stores nothing, and replies a verdict alone. It takes no memory.
     pub fn verdict_alone(handle: Global, verdict: Verdict) -> Plan

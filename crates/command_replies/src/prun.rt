@@ -1,9 +1,7 @@
 //! The command `prun`.
-ghost use Rattle.std.specs.Prelude.{◌≡◌, ◌≤◌, ◌^◌, ◌++◌, None, IfOk, length};
+ghost use Rattle.std.specs.{Prelude.{◌≡◌, ◌≤◌, ◌^◌, ◌++◌, None, IfOk, length}, List.{flat_map, enumerate_from}};
 ghost use Rattle.stack_heap.specs.Heaps.{IfOkUnless, OnOkUnless};
-ghost use Rattle.std.specs.List.{flat_map, enumerate_from};
-ghost use Rattle.command_replies.specs.Commands.Prun.{area_line, halted_text, run_end_reply, system_run_reply, prun_reply};
-ghost use Rattle.command_replies.specs.Plans.{pending_reply};
+ghost use Rattle.command_replies.specs.{Commands.Prun.{area_line, halted_text, run_end_reply, system_run_reply, prun_reply}, Plans.{pending_reply}};
 
 use crate::lines::line_of;
 use crate::piton_text::read_checked;

@@ -1,7 +1,6 @@
 //! What a command replies.
-ghost use Rattle.std.specs.Prelude.{◌≡◌, ◌++◌, codes};
+ghost use Rattle.std.specs.{Prelude.{◌≡◌, ◌++◌, codes}, Fmt.{decimal}};
 ghost use Rattle.stack_heap.specs.Heaps.{IfOkUnless};
-ghost use Rattle.std.specs.Fmt.{decimal};
 ghost use Rattle.stack_text.specs.Lines.{line};
 ghost use Rattle.command_replies.specs.Replies.{letter_text, text_rule_number, size_of_text, kind_text, verdict_line};
 

@@ -2,9 +2,7 @@
 ghost use Rattle.std.specs.Prelude.{◌≡◌, ◌≤◌, ◌^◌, None, IfOk, length};
 ghost use Rattle.stack_heap.specs.Heaps.{IfOkUnless};
 ghost use Rattle.fm_loader.specs.Values.{values_in};
-ghost use Rattle.command_replies.specs.Replies.{reply_of};
-ghost use Rattle.command_replies.specs.Commands.Run.{end_reply, run_reply, values_reply, image_file_reply};
-ghost use Rattle.command_replies.specs.Plans.{pending_reply};
+ghost use Rattle.command_replies.specs.{Replies.{reply_of}, Commands.Run.{end_reply, run_reply, values_reply, image_file_reply}, Plans.{pending_reply}};
 
 use crate::image_run::ImageRun;
 use crate::plan::{Pending, Plan};

@@ -1,8 +1,7 @@
 //! The command `show`.
 ghost use Rattle.std.specs.Prelude.{◌≡◌, None, IfOk};
 ghost use Rattle.stack_heap.specs.Heaps.{IfOkUnless};
-ghost use Rattle.command_replies.specs.Commands.Show.{show_reply};
-ghost use Rattle.command_replies.specs.Plans.{pending_reply};
+ghost use Rattle.command_replies.specs.{Commands.Show.{show_reply}, Plans.{pending_reply}};
 
 use crate::plan::Plan;
 use crate::reply::Verdict;

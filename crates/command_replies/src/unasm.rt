@@ -1,8 +1,7 @@
 //! The command `unasm`.
 ghost use Rattle.std.specs.Prelude.{◌≡◌, IfOk};
 ghost use Rattle.stack_heap.specs.Heaps.{IfOkUnless};
-ghost use Rattle.command_replies.specs.Commands.Unasm.{plain_stored, plain_reply, unasm_stored, unasm_reply};
-ghost use Rattle.command_replies.specs.Plans.{pending_reply};
+ghost use Rattle.command_replies.specs.{Commands.Unasm.{plain_stored, plain_reply, unasm_stored, unasm_reply}, Plans.{pending_reply}};
 
 use crate::plan::Plan;
 use crate::reply::Verdict;

@@ -1,12 +1,8 @@
 -- Lines that are read one after the other.
-use Rattle.std.proofs.Common.{◌≡◌, ◌+◌, ℕ, List, [], ◌∷◌, ◌++◌, Option, Some, None, Result, Ok, Err, refl, sym, ap, ◌∙◌}
-use Rattle.std.specs.Prelude.{option_to_list}
+use Rattle.std.{proofs.Common.{◌≡◌, ◌+◌, ℕ, List, [], ◌∷◌, ◌++◌, Option, Some, None, Result, Ok, Err, refl, sym, ap, ◌∙◌}, specs.Prelude.option_to_list}
 use Rattle.stack_text.specs.Gives as common
-use Rattle.stack_text.specs.Results.{◌>>=◌}
-use Rattle.stack_text.proofs.ResultLoops.{with_front, with_front-with_front, with_front-none}
-use Rattle.debug_script.specs.declared.fault.ScriptFault.{ScriptFault}
-use Rattle.debug_script.specs.declared.reading.Line.{Line}
-use Rattle.debug_script.specs.Scripts.{line_read, lines_read}
+use Rattle.stack_text.{specs.Results.◌>>=◌, proofs.ResultLoops.{with_front, with_front-with_front, with_front-none}}
+use Rattle.debug_script.{specs.declared.fault.ScriptFault.ScriptFault, specs.declared.reading.Line.Line, specs.Scripts.{line_read, lines_read}}
 
 -- what a line gives and the lines behind it
 abbrev behind : ℕ → List (List ℕ) → Option Line → Result (List Line) ScriptFault

@@ -1,24 +1,15 @@
 -- Commands, by their words.
-use Rattle.std.specs.Prelude.{ℕ, ℤ, pos, negsuc, ◌^◌, ◌-◌, ◌==◌, List, [], ◌∷◌, Option, Some}
-use Rattle.std.specs.Prelude.{None, Result, Ok, Err, nat_le, if◌then◌else◌, codes}
-use Rattle.std.specs.List.{slice_split}
-use Rattle.std.specs.Str.{bytes_eq}
-use Rattle.stack_text.specs.SharedLimits.{most_steps}
-use Rattle.stack_text.specs.Names.{name_of}
-use Rattle.stack_text.specs.Numerals.{is_digits, numeral_value}
+use Rattle.std.specs.Prelude.{ℕ, ℤ, pos, negsuc, ◌^◌, ◌-◌, ◌==◌, List, [], ◌∷◌, Option, Some, None, Result, Ok, Err, nat_le, if◌then◌else◌}
+use Rattle.std.specs.{Prelude.{codes}, List.{slice_split}, Str.{bytes_eq}}
+use Rattle.stack_text.specs.{SharedLimits.{most_steps}, Names.{name_of}, Numerals.{is_digits, numeral_value}, Results.{◌>>=◌}}
 use Rattle.stack_text.specs.Gives as common
-use Rattle.stack_text.specs.Results.{◌>>=◌}
-use Rattle.debug_script.specs.declared.fault.LineFault.{LineFault}
+use Rattle.debug_script.specs.{declared.fault.LineFault.{LineFault}, declared.command.Place.{Place}, declared.fault.ScriptRule.{ScriptRule}}
+use Rattle.debug_script.specs.{declared.command.Command.{Command}, declared.command.Verb.{Verb}, declared.command.WatchWord.{WatchWord}}
 use Rattle.debug_script.specs.declared.fault.LineFault.TheVariants as fault
-use Rattle.debug_script.specs.declared.command.Place.{Place}
 use Rattle.debug_script.specs.declared.command.Place.TheVariants as place
-use Rattle.debug_script.specs.declared.fault.ScriptRule.{ScriptRule}
 use Rattle.debug_script.specs.declared.fault.ScriptRule.TheVariants as rules
-use Rattle.debug_script.specs.declared.command.Command.{Command}
 use Rattle.debug_script.specs.declared.command.Command.TheVariants as command
-use Rattle.debug_script.specs.declared.command.Verb.{Verb}
 use Rattle.debug_script.specs.declared.command.Verb.TheVariants as verb
-use Rattle.debug_script.specs.declared.command.WatchWord.{WatchWord}
 use Rattle.debug_script.specs.declared.command.WatchWord.TheVariants as watch
 
 -- the words of a line: each space ends one, so that a word may be empty

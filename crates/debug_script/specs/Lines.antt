@@ -1,10 +1,8 @@
 -- Lines.
 use Rattle.std.specs.Prelude.{ℕ, List, Result, Err, if◌then◌else◌}
 use Rattle.stack_text.specs.Lines.{is_plain_line}
-use Rattle.debug_script.specs.declared.fault.ScriptRule.{ScriptRule}
+use Rattle.debug_script.specs.{declared.fault.ScriptRule.{ScriptRule}, declared.command.Command.{Command}, Commands.{words_of, command_of}}
 use Rattle.debug_script.specs.declared.fault.ScriptRule.TheVariants as rules
-use Rattle.debug_script.specs.declared.command.Command.{Command}
-use Rattle.debug_script.specs.Commands.{words_of, command_of}
 
 -- the command of a line, or the rule that the line breaks
 unfoldable pub command_in : List ℕ → Result Command ScriptRule

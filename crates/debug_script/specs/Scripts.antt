@@ -3,13 +3,9 @@ use Rattle.std.specs.Prelude.{ℕ, ◌+◌, List, [], ◌∷◌, ◌++◌, map, 
 use Rattle.bstr.specs.Text.{lines_of, without_terminator}
 use Rattle.stack_text.specs.Results.{◌>>=◌}
 use Rattle.stack_text.specs.Gives as common
-use Rattle.debug_script.specs.declared.command.Command.{Command}
-use Rattle.debug_script.specs.declared.fault.ScriptRule.{ScriptRule}
-use Rattle.debug_script.specs.declared.fault.ScriptFault.{ScriptFault}
-use Rattle.debug_script.specs.declared.fault.ScriptFault.TheVariants.{Refused, Memory}
-use Rattle.debug_script.specs.declared.reading.Line.{Line}
-use Rattle.debug_script.specs.Rules.{rule_number}
-use Rattle.debug_script.specs.Lines.{command_in}
+use Rattle.debug_script.specs.{declared.command.Command.{Command}, declared.fault.ScriptRule.{ScriptRule}}
+use Rattle.debug_script.specs.{declared.fault.ScriptFault.{ScriptFault}, declared.fault.ScriptFault.TheVariants.{Refused, Memory}}
+use Rattle.debug_script.specs.{declared.reading.Line.{Line}, Rules.{rule_number}, Lines.{command_in}}
 
 -- the fault of a text that an error is; there is none where memory ran out
 abbrev pub fault_of : ScriptFault → Option ScriptFault

@@ -1,8 +1,8 @@
 //! Commands.
 
 ghost use Rattle.std.specs.Prelude.{◌≡◌, ◌∷◌, map};
-ghost use Rattle.debug_script.specs.Commands.{GivesCommandUnless, GivesPlaceUnless, command_by, command_of, count_of, number_of, place_of, until_instruction, until_number};
-ghost use Rattle.debug_script.specs.Commands.{verb_of, watch_of, words_command};
+ghost use Rattle.debug_script.specs.Commands.{GivesCommandUnless, GivesPlaceUnless, command_by, command_of, count_of, number_of, place_of, until_instruction};
+ghost use Rattle.debug_script.specs.Commands.{until_number, verb_of, watch_of, words_command};
 ghost use Rattle.debug_script.specs.declared.command.Verb.TheVariants as verb;
 
 use crate::fault::{LineFault, ScriptRule};

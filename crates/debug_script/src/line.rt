@@ -1,11 +1,8 @@
 //! One line.
 
-ghost use Rattle.std.specs.Prelude.{◌≡◌, ◌==◌, ◌<◌, ◌∷◌, IfSome, length, map};
-ghost use Rattle.std.specs.List.{position};
-ghost use Rattle.std.specs.Option.{option_copied};
+ghost use Rattle.std.specs.{Prelude.{◌≡◌, ◌==◌, ◌<◌, ◌∷◌, IfSome, length, map}, List.{position}, Option.{option_copied}};
 ghost use Rattle.stack_heap.specs.Heaps.{IfOkUnless};
-ghost use Rattle.debug_script.specs.Commands.{GivesCommandUnless, words_left, words_of};
-ghost use Rattle.debug_script.specs.Lines.{command_in};
+ghost use Rattle.debug_script.specs.{Commands.{GivesCommandUnless, words_left, words_of}, Lines.{command_in}};
 
 use crate::command::{Command, command_of};
 use crate::fault::{LineFault, ScriptRule};

@@ -1,22 +1,14 @@
 -- Items of variables.
 use Rattle.std.proofs.Common.{◌≡◌, ◌<◌, ◌+◌, ◌-◌, ◌⊎◌, ◌||◌, ◌∙◌, ℕ, suc, pos, negsuc, Bool, true, false, eqb, List, [], ◌∷◌, length, map, refl, sym, ap, subst}
-use Rattle.std.proofs.Common.{inl, inr, true≢false, Vec, Global, find, bytes_eq, option_map, Option, arith}
-use Rattle.std.specs.Prelude.{ℤ}
-use Rattle.std.specs.List.{list_all}
+use Rattle.std.{proofs.Common.{inl, inr, true≢false, Vec, Global, find, bytes_eq, option_map, Option, arith}, specs.Prelude.ℤ, specs.List.list_all}
 use Rattle.std.proofs.lemmas.Bool.{eqb-true, and_parts}
-use Rattle.stack_text.specs.declared.shape.Kind.{Kind}
-use Rattle.stack_text.specs.declared.shape.Kind.TheVariants.{Integer, Boolean, Character}
-use Rattle.stack_text.specs.declared.shape.Shape.{Shape}
-use Rattle.stack_text.specs.Values.{ValueOf, item_count, is_item, is_value}
-use Rattle.stack_text.proofs.SharedLaws.{find_map}
-use Rattle.fm_words.specs.Word.{is_int, word_of_int}
-use Rattle.fm_words.proofs.WordLaws.{signed_of-word_of_int}
+use Rattle.stack_text.{specs.declared.shape.Kind.Kind, specs.declared.shape.Kind.TheVariants.{Integer, Boolean, Character}, specs.declared.shape.Shape.Shape}
+use Rattle.stack_text.{specs.Values.{ValueOf, item_count, is_item, is_value}, proofs.SharedLaws.find_map}
+use Rattle.fm_words.{specs.Word.{is_int, word_of_int}, proofs.WordLaws.signed_of-word_of_int}
 use Rattle.fm_machine.specs.State.{Fm}
 use Rattle.fm_image.specs.declared.slot.Slot.{Slot}
-use Rattle.display_maps.specs.declared.shown.Shown.{Shown}
-use Rattle.display_maps.specs.declared.shown.Shown.TheVariants.{Number}
-use Rattle.display_maps.specs.Reading.{word_or_zero, item_of, items_named, words_down, variable_of}
-use Rattle.display_maps.specs.ValueReading.{item_shown, value_shown}
+use Rattle.display_maps.{specs.declared.shown.Shown.Shown, specs.declared.shown.Shown.TheVariants.Number, specs.Reading.{word_or_zero, item_of, items_named}}
+use Rattle.display_maps.{specs.Reading.{words_down, variable_of}, specs.ValueReading.{item_shown, value_shown}}
 
 -- one of them, and those below it
 pub items_next : (s : Fm) (kind : Kind) (address n count : ℕ) → count < n

@@ -1,15 +1,9 @@
 -- A binary search finds the mark at an address.
 use Rattle.std.proofs.Common.{◌≡◌, ◌≢◌, ℕ, zero, suc, ◌-◌, ◌<◌, ◌≤◌, List, [], ◌∷◌, length, Some, None, Result, Ok, Err, IfOk, IfErr, cond, refl, sym, ap, ◌∙◌}
-use Rattle.std.proofs.Common.{arith}
-use Rattle.std.specs.Prelude.{slice_get}
-use Rattle.std.specs.List.Sorted.{IsSearchInRange, IsBinarySearchResult, IsNonDecreasingBy}
-use Rattle.std.specs.Ordering.{nat_cmp, ordering_index}
-use Rattle.std.proofs.lemmas.Bool.{eq-eqb, ne_eqb}
-use Rattle.std.proofs.lemmas.Bool.Decides.{nat_tests}
-use Rattle.std.proofs.lemmas.Cmp.{ranked}
+use Rattle.std.{proofs.Common.arith, specs.Prelude.slice_get, specs.List.Sorted.{IsSearchInRange, IsBinarySearchResult, IsNonDecreasingBy}}
+use Rattle.std.{specs.Ordering.{nat_cmp, ordering_index}, proofs.lemmas.Bool.{eq-eqb, ne_eqb}, proofs.lemmas.Bool.Decides.nat_tests, proofs.lemmas.Cmp.ranked}
 use Rattle.std.proofs.lemmas.List.Sorted.{IsNonDecreasingBy-from_default}
-use Rattle.fm_image.specs.declared.procedure.Mark.{Mark}
-use Rattle.fm_image.proofs.MarkLaws.{no_mark, address_at, Ascending}
+use Rattle.fm_image.{specs.declared.procedure.Mark.Mark, proofs.MarkLaws.{no_mark, address_at, Ascending}}
 use Rattle.display_maps.specs.ReadingAt.{mark_there}
 
 -- no mark before the place has the address, and the one there has it

@@ -2,8 +2,7 @@
 use Rattle.std.proofs.Common.{◌≡◌, ◌+◌, ◌++◌, ◌∙◌, ℕ, suc, List, [], ◌∷◌, map, Option, Some, None, option_map, refl, sym, ap, append_assoc}
 use Rattle.stack_text.specs.Options.{◌>>=◌}
 use Rattle.fm_image.specs.declared.procedure.VarInfo.{VarInfo}
-use Rattle.display_maps.specs.declared.shown.Shown.{Shown}
-use Rattle.display_maps.specs.ReadingAt.{StandingOf, ItemsOf, words_below, items_at, variables_at}
+use Rattle.display_maps.{specs.declared.shown.Shown.Shown, specs.ReadingAt.{StandingOf, ItemsOf, words_below, items_at, variables_at}}
 
 -- what is read, and what is still to come behind it
 abbrev pub joined : {A : Type 0} → List A → Option (List A) → Option (List A)

@@ -1,17 +1,11 @@
 -- How a run of an image on values ends.
 use Rattle.std.specs.Prelude.{ℕ, List, Result, Ok}
-use Rattle.stack_text.specs.Results.{◌>>=◌}
-use Rattle.stack_text.specs.Values.{ValueOf}
-use Rattle.fm_machine.specs.State.{Fm}
-use Rattle.fm_machine.specs.Outcome.{RunOutcome, outcome}
-use Rattle.fm_machine.specs.declared.processor.Run.{Run}
+use Rattle.stack_text.specs.{Results.{◌>>=◌}, Values.{ValueOf}}
+use Rattle.fm_machine.specs.{State.{Fm}, Outcome.{RunOutcome, outcome}, declared.processor.Run.{Run}}
 use Rattle.fm_machine.specs.declared.processor.Run.TheVariants.{Ended, Spent, Outside as NeedsOutside}
 use Rattle.fm_image.specs.Image.{ImageOf}
-use Rattle.fm_loader.specs.Loaded.{loaded}
-use Rattle.fm_loader.specs.Rules.{Fault}
-use Rattle.fm_loader.specs.Values.{values_in}
-use Rattle.display_maps.specs.declared.ending.Ending.{Ending}
-use Rattle.display_maps.specs.declared.ending.Ending.TheVariants.{Finished, Unfinished, Outside}
+use Rattle.fm_loader.specs.{Loaded.{loaded}, Rules.{Fault}, Values.{values_in}}
+use Rattle.display_maps.specs.{declared.ending.Ending.{Ending}, declared.ending.Ending.TheVariants.{Finished, Unfinished, Outside}}
 use Rattle.display_maps.specs.Reading.{reading}
 
 -- at its end memory is read

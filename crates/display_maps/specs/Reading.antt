@@ -1,18 +1,12 @@
 -- Memory read as a condition and variables.
-use Rattle.std.specs.Prelude.{ℕ, zero, suc, ◌-◌, List, [], ◌∷◌, map, Option, Some, None}
-use Rattle.std.specs.Prelude.{true, false, ◌==◌, nat_le, if◌then◌else◌, slice_get, unwrap_or, codes}
-use Rattle.std.specs.List.{find}
-use Rattle.std.specs.Option.{option_map}
-use Rattle.std.specs.Str.{bytes_eq}
-use Rattle.stack_text.specs.declared.shape.Kind.{Kind}
-use Rattle.stack_text.specs.declared.shape.Kind.TheVariants.{Integer, Boolean, Character}
-use Rattle.stack_text.specs.Values.{item_count}
+use Rattle.std.specs.Prelude.{ℕ, zero, suc, ◌-◌, List, [], ◌∷◌, map, Option, Some, None, true, false, ◌==◌, nat_le, if◌then◌else◌}
+use Rattle.std.specs.{Prelude.{slice_get, unwrap_or, codes}, List.{find}, Option.{option_map}, Str.{bytes_eq}}
+use Rattle.stack_text.specs.{declared.shape.Kind.{Kind}, declared.shape.Kind.TheVariants.{Integer, Boolean, Character}, Values.{item_count}}
 use Rattle.fm_words.specs.Word.{signed_of}
 use Rattle.fm_machine.specs.State.{Fm, word_at}
-use Rattle.fm_image.specs.declared.slot.Slot.{Slot}
-use Rattle.fm_image.specs.Image.{ImageOf}
-use Rattle.display_maps.specs.declared.shown.Shown.{Shown}
-use Rattle.display_maps.specs.declared.shown.Shown.TheVariants.{Normal, Routine, Leave, Named, Number, Truth, Code, Odd}
+use Rattle.fm_image.specs.{declared.slot.Slot.{Slot}, Image.{ImageOf}}
+use Rattle.display_maps.specs.{declared.shown.Shown.{Shown}, declared.shown.Shown.TheVariants.{Normal, Routine, Leave, Named, Number}}
+use Rattle.display_maps.specs.declared.shown.Shown.TheVariants.{Truth, Code, Odd}
 
 -- what clauses see of a `Reading`: the condition where there is one, and each variable's name and items
 pub record ReadingOf : Type 0 where

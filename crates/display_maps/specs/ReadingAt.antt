@@ -1,21 +1,10 @@
 -- Memory read at a mark: the variables and the condition of the procedure that is active there.
-use Rattle.std.specs.Prelude.{ℕ, zero, suc, ◌+◌, ◌-◌, ◌^◌, ◌==◌, List, [], ◌∷◌, ◌++◌, map, Option, Some, None}
-use Rattle.std.specs.Prelude.{nat_lt, if◌then◌else◌, slice_get, slice_index, codes}
-use Rattle.std.specs.Fmt.{decimal}
-use Rattle.std.specs.Option.{option_map}
-use Rattle.stack_text.specs.declared.shape.Shape.{Shape}
-use Rattle.stack_text.specs.Lines.{line}
-use Rattle.stack_text.specs.Options.{◌>>=◌}
-use Rattle.stack_text.specs.Values.{item_count}
-use Rattle.fm_machine.specs.State.{Fm}
-use Rattle.fm_machine.specs.Run.{pc_of}
-use Rattle.fm_image.specs.declared.procedure.Mark.{Mark}
-use Rattle.fm_image.specs.declared.procedure.VarInfo.{VarInfo}
-use Rattle.fm_image.specs.Image.{ImageOf}
-use Rattle.fm_image.specs.Procedure.{ProcedureOf}
-use Rattle.display_maps.specs.declared.shown.Shown.{Shown}
-use Rattle.display_maps.specs.Reading.{word_in, condition_of, item_of}
-use Rattle.display_maps.specs.Report.{VariableOf, reading_lines}
+use Rattle.std.specs.Prelude.{ℕ, zero, suc, ◌+◌, ◌-◌, ◌^◌, ◌==◌, List, [], ◌∷◌, ◌++◌, map, Option, Some, None, nat_lt, if◌then◌else◌}
+use Rattle.std.specs.{Prelude.{slice_get, slice_index, codes}, Fmt.{decimal}, Option.{option_map}}
+use Rattle.stack_text.specs.{declared.shape.Shape.{Shape}, Lines.{line}, Options.{◌>>=◌}, Values.{item_count}}
+use Rattle.fm_machine.specs.{State.{Fm}, Run.{pc_of}}
+use Rattle.fm_image.specs.{declared.procedure.Mark.{Mark}, declared.procedure.VarInfo.{VarInfo}, Image.{ImageOf}, Procedure.{ProcedureOf}}
+use Rattle.display_maps.specs.{declared.shown.Shown.{Shown}, Reading.{word_in, condition_of, item_of}, Report.{VariableOf, reading_lines}}
 
 -- 1. Where a run stands: the address of what comes next; the word at an address; the word of the newest frame, so far from its
 -- beginning; and the word so far below the last one of memory. Each word where it is there.

@@ -1,14 +1,10 @@
 -- A reading as text.
-use Rattle.std.specs.Prelude.{ℕ, List, [], ◌∷◌, ◌++◌, Option, Some, None, true, false, ◌==◌, if◌then◌else◌, codes}
-use Rattle.std.specs.Fmt.{decimal, signed_decimal}
-use Rattle.std.specs.List.{flat_map}
-use Rattle.stack_text.specs.declared.shape.Shape.{Shape}
-use Rattle.stack_text.specs.Lines.{line}
-use Rattle.fm_image.specs.declared.slot.Slot.{Slot}
-use Rattle.fm_image.specs.Image.{ImageOf}
-use Rattle.display_maps.specs.declared.shown.Shown.{Shown}
-use Rattle.display_maps.specs.declared.shown.Shown.TheVariants.{Normal, Routine, Leave, Named, Number, Truth, Code, Odd}
-use Rattle.display_maps.specs.Reading.{ReadingOf}
+use Rattle.std.specs.{Prelude.{ℕ, List, [], ◌∷◌, ◌++◌, Option, Some, None, true, false, ◌==◌, if◌then◌else◌, codes}, Fmt.{decimal}}
+use Rattle.std.specs.{Fmt.{signed_decimal}, List.{flat_map}}
+use Rattle.stack_text.specs.{declared.shape.Shape.{Shape}, Lines.{line}}
+use Rattle.fm_image.specs.{declared.slot.Slot.{Slot}, Image.{ImageOf}}
+use Rattle.display_maps.specs.{declared.shown.Shown.{Shown}, declared.shown.Shown.TheVariants.{Normal, Routine, Leave, Named, Number}}
+use Rattle.display_maps.specs.{declared.shown.Shown.TheVariants.{Truth, Code, Odd}, Reading.{ReadingOf}}
 
 -- a condition's word or name; `-7`, `true`, `#65`; `?9` for a word that is none of these
 unfoldable pub shown_text : Shown → List ℕ

@@ -1,14 +1,12 @@
 -- Conditions and variables of a run of a source as lines.
-use Rattle.std.specs.Prelude.{ℕ, List, [], ◌∷◌, ◌++◌, map, Some}
-use Rattle.std.specs.List.{flat_map}
+use Rattle.std.specs.{Prelude.{ℕ, List, [], ◌∷◌, ◌++◌, map, Some}, List.{flat_map}}
 use Rattle.stack_text.specs.Values.{ValueOf}
 use Rattle.fm_words.specs.Word.{word_of_int}
 use Rattle.gypsy_semantics.specs.declared.conditions.Current.{Current}
 use Rattle.gypsy_semantics.specs.declared.conditions.Current.TheVariants as current
-use Rattle.display_maps.specs.declared.shown.Shown.{Shown}
+use Rattle.display_maps.specs.{declared.shown.Shown.{Shown}, Reading.{item_of, space_name}, Report.{VariableOf, condition_line}}
+use Rattle.display_maps.specs.Report.{variable_line}
 use Rattle.display_maps.specs.declared.shown.Shown.TheVariants as shown
-use Rattle.display_maps.specs.Reading.{item_of, space_name}
-use Rattle.display_maps.specs.Report.{VariableOf, condition_line, variable_line}
 
 -- a condition, and the items of a value, as memory that has them is read
 abbrev pub condition_shown : Current → Shown

@@ -1,11 +1,8 @@
 -- Values of variables as memory that holds them is read.
 use Rattle.std.specs.Prelude.{ℤ, pos, List, map, unsigned_abs}
-use Rattle.stack_text.specs.declared.shape.Kind.{Kind}
-use Rattle.stack_text.specs.declared.shape.Kind.TheVariants.{Integer, Boolean, Character}
-use Rattle.stack_text.specs.Values.{ValueOf}
+use Rattle.stack_text.specs.{declared.shape.Kind.{Kind}, declared.shape.Kind.TheVariants.{Integer, Boolean, Character}, Values.{ValueOf}}
 use Rattle.fm_words.specs.Word.{are_same_ints}
-use Rattle.display_maps.specs.declared.shown.Shown.{Shown}
-use Rattle.display_maps.specs.declared.shown.Shown.TheVariants.{Number, Truth, Code}
+use Rattle.display_maps.specs.{declared.shown.Shown.{Shown}, declared.shown.Shown.TheVariants.{Number, Truth, Code}}
 
 -- an integer; a Boolean, where 1 is true; a character, by its code
 abbrev pub item_shown : Kind → ℤ → Shown

@@ -1,6 +1,5 @@
 -- The variables of a reading, as they are handed to be printed.
-use Rattle.display_maps.specs.declared.printing.Variable.{Variable}
-use Rattle.display_maps.specs.Report.{VariableOf}
+use Rattle.display_maps.specs.{declared.printing.Variable.{Variable}, Report.{VariableOf}}
 
 -- what clauses see of a `Variable`
 abbrev pub variable_of_line : Variable → VariableOf

@@ -1,10 +1,9 @@
 //! The report of a run.
 
-ghost use Rattle.std.specs.Prelude.{◌≡◌, ◌++◌, map};
+ghost use Rattle.std.specs.{Prelude.{◌≡◌, ◌++◌, map}, Option.{option_copied}};
 ghost use Rattle.stack_heap.specs.Heaps.{IfOkUnless, OnOkUnless};
-ghost use Rattle.std.specs.Option.{option_copied};
-ghost use Rattle.display_maps.specs.Report.{spaced, items_text, value_text, variable_line, condition_line, reading_lines, shaped, lines_of_reading, report_text};
-ghost use Rattle.display_maps.specs.Variable.{variable_of_line};
+ghost use Rattle.display_maps.specs.Report.{spaced, items_text, value_text, variable_line, condition_line, reading_lines, shaped, lines_of_reading};
+ghost use Rattle.display_maps.specs.{Report.{report_text}, Variable.{variable_of_line}};
 
 use crate::reading::Reading;
 use crate::shown::{Shown, push};

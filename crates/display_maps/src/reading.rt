@@ -1,10 +1,7 @@
 //! Memory read as a condition and variables.
 
-ghost use Rattle.std.specs.Prelude.{◌≡◌, map};
+ghost use Rattle.std.specs.{Prelude.{◌≡◌, map}, List.{find}, Option.{option_map}, Str.{bytes_eq}};
 ghost use Rattle.stack_heap.specs.Heaps.{IfOkUnless};
-ghost use Rattle.std.specs.List.{find};
-ghost use Rattle.std.specs.Option.{option_map};
-ghost use Rattle.std.specs.Str.{bytes_eq};
 ghost use Rattle.stack_text.specs.Values.{item_count};
 ghost use Rattle.display_maps.specs.Reading.{word_or_zero, condition_of, item_of, words_down, variable_of, reading};
 
@@ -36,8 +33,7 @@ impl Model for Reading {
 }
 
 impl Reading {
-    ghost use Rattle.std.specs.Prelude.{◌≡◌};
-    ghost use Rattle.std.specs.Option.{option_map};
+    ghost use Rattle.std.specs.{Prelude.{◌≡◌}, Option.{option_map}};
     ghost use Rattle.display_maps.specs.Reading.{items_named};
 
     /// The items of the variable of a name, where there is one: a single item, or as many as an array has.

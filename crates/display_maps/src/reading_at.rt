@@ -1,10 +1,9 @@
 //! Memory read at a mark.
 
-ghost use Rattle.std.specs.Prelude.{◌≡◌, map, slice_get, None, IfOk, IfErr};
+ghost use Rattle.std.specs.{Prelude.{◌≡◌, map, slice_get, None, IfOk, IfErr}, Option.{option_map}};
 ghost use Rattle.stack_heap.specs.Heaps.{IfOkUnless};
-ghost use Rattle.std.specs.Option.{option_map};
-ghost use Rattle.display_maps.specs.ReadingAt.{items_below, items_at, variables_at, mark_there, condition_word, read_in, read_from, reading_at, read_variable, reading_at_text};
-ghost use Rattle.display_maps.specs.Variable.{variable_of_line};
+ghost use Rattle.display_maps.specs.ReadingAt.{items_below, items_at, variables_at, mark_there, condition_word, read_in, read_from, reading_at, read_variable};
+ghost use Rattle.display_maps.specs.{ReadingAt.{reading_at_text}, Variable.{variable_of_line}};
 
 use crate::printing::{Variable, push_lines};
 use crate::shown::{Shown, condition_of, item_of, push};

@@ -1,12 +1,10 @@
 //! Conditions and variables of a run of a source as lines.
 
-ghost use Rattle.std.specs.Prelude.{◌≡◌, ◌++◌, map, None};
+ghost use Rattle.std.specs.{Prelude.{◌≡◌, ◌++◌, map, None}, List.{flat_map}};
 ghost use Rattle.stack_heap.specs.Heaps.{IfOkUnless, OnOkUnless};
-ghost use Rattle.std.specs.List.{flat_map};
 ghost use Rattle.fm_words.specs.Word.{word_of_int};
-ghost use Rattle.display_maps.specs.Reading.{item_of, space_name};
-ghost use Rattle.display_maps.specs.Report.{variable_line};
-ghost use Rattle.display_maps.specs.Running.{condition_shown, variable_shown, variables_shown, run_lines};
+ghost use Rattle.display_maps.specs.{Reading.{item_of, space_name}, Report.{variable_line}, Running.{condition_shown, variable_shown, variables_shown}};
+ghost use Rattle.display_maps.specs.Running.{run_lines};
 
 use crate::printing::{Variable, push_lines};
 use crate::shown::{Shown, item_of};

@@ -2,8 +2,7 @@
 
 ghost use Rattle.std.specs.Prelude.{◌≡◌, ◌≤◌, ◌-◌, ◌++◌, slice_get};
 ghost use Rattle.stack_heap.specs.Heaps.{IfOkUnless, OnOkUnless};
-ghost use Rattle.display_maps.specs.Reading.{named_or_odd, condition_of, item_of};
-ghost use Rattle.display_maps.specs.Report.{shown_text};
+ghost use Rattle.display_maps.specs.{Reading.{named_or_odd, condition_of, item_of}, Report.{shown_text}};
 
 use fm_show::push_number;
 use fm_words::signed_of;

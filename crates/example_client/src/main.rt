@@ -3,8 +3,7 @@
 
 ghost use Rattle.std.specs.Prelude.{◌≤◌, ◌^◌, length, IfOk};
 ghost use Rattle.gypsy_space.specs.Needs.{stack_sizes};
-ghost use Rattle.stack_build.specs.SourceRuns.{TellsMeaning, source_run};
-ghost use Rattle.stack_build.specs.Starts.{GivesStart};
+ghost use Rattle.stack_build.specs.{SourceRuns.{TellsMeaning, source_run}, Starts.{GivesStart}};
 
 use display_maps::{Ending, Shown, run_on};
 use stack_build::{StartFault, build, source_runs_tell_meaning};

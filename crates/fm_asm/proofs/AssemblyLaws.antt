@@ -1,23 +1,14 @@
 -- A text that spells an image is assembled to it.
 use Rattle.std.proofs.Common.{◌≡◌, ℕ, ◌+◌, ◌-◌, ◌<◌, ◌≤◌, ◌^◌, ◌==◌, true, not, List, [], ◌∷◌, length, map, Option, Some, Result, Ok, is_some, refl, sym, ap}
-use Rattle.std.proofs.Common.{◌∙◌, arith, nat_lt, ltb-true, leb-true}
-use Rattle.std.specs.List.{flat_map, list_all, slice_split}
-use Rattle.std.proofs.lemmas.Bool.{and_parts, and_from}
+use Rattle.std.{proofs.Common.{◌∙◌, arith, nat_lt, ltb-true, leb-true}, specs.List.{flat_map, list_all, slice_split}, proofs.lemmas.Bool.{and_parts, and_from}}
 use Rattle.stack_text.specs.declared.breach.Breach.{Breach}
-use Rattle.fm_image.specs.Image.{ImageOf}
-use Rattle.fm_image.specs.Limits.{is_size, is_inside}
-use Rattle.fm_image.specs.Spelling.{are_words}
+use Rattle.fm_image.{specs.Image.ImageOf, specs.Limits.{is_size, is_inside}, specs.Spelling.are_words}
 use Rattle.fm_asm.specs.declared.due.Due.TheVariants as due
-use Rattle.fm_asm.specs.Cuts.{without_trailing}
-use Rattle.fm_asm.specs.Statements.{Statement, base, size, final, start, word, instruction}
-use Rattle.fm_asm.specs.Sources.{SourceOf, source_in}
-use Rattle.fm_asm.specs.Labels.{offset_of, number_of, is_outside, breaches, line_words, final_in, start_in, statement_words}
-use Rattle.fm_asm.specs.Printing.{plain_image}
-use Rattle.fm_asm.specs.Assembling.{image_of, assembly_of}
-use Rattle.fm_asm.specs.Assembly.{statements_of, labels_of, statement_word, IsAssembly}
-use Rattle.fm_asm.proofs.SourceLaws.{lines_are_read, header_due, dues}
-use Rattle.fm_asm.proofs.JudgingLaws.{words-lines, final_by, final-lines, start_by, start-lines, as_word-fits, words-statements, word_total, is_good}
-use Rattle.fm_asm.proofs.JudgingLaws.{good_lines, is_fresh, none_repeats}
+use Rattle.fm_asm.{specs.Cuts.without_trailing, specs.Statements.{Statement, base, size, final, start, word, instruction}, specs.Sources.{SourceOf, source_in}}
+use Rattle.fm_asm.{specs.Labels.{offset_of, number_of, is_outside, breaches, line_words, final_in, start_in, statement_words}, specs.Printing.plain_image}
+use Rattle.fm_asm.{specs.Assembling.{image_of, assembly_of}, specs.Assembly.{statements_of, labels_of, statement_word, IsAssembly}}
+use Rattle.fm_asm.{proofs.SourceLaws.{lines_are_read, header_due, dues}, proofs.JudgingLaws.{words-lines, final_by, final-lines, start_by, start-lines}}
+use Rattle.fm_asm.proofs.JudgingLaws.{as_word-fits, words-statements, word_total, is_good, good_lines, is_fresh, none_repeats}
 
 -- names are fresh where nothing stands before them
 all_fresh : (names : List (List ℕ)) → list_all (is_fresh []) names ≡ true

@@ -1,14 +1,10 @@
 -- Bytes that are cut into parts.
 use Rattle.std.proofs.Common.{◌≡◌, Bor, ◌≢◌, ℕ, zero, suc, ◌+◌, ◌-◌, ◌<◌, ◌≤◌, ◌==◌, ◌&&◌, Bool, true, false, cond, not, List, [], ◌∷◌, ◌++◌, length, take}
-use Rattle.std.proofs.Common.{drop, get_or, Option, Some, None, option_map, unwrap_or, refl, sym, ap, ◌∙◌, arith, eqb-true}
-use Rattle.std.specs.Prelude.{nat_eq}
-use Rattle.std.specs.List.{list_all}
+use Rattle.std.{proofs.Common.{drop, get_or, Option, Some, None, option_map, unwrap_or, refl, sym, ap, ◌∙◌, arith, eqb-true}, specs.Prelude.nat_eq}
+use Rattle.std.{specs.Prelude.MatchOption, specs.List.list_all, proofs.lemmas.Bool.{eq-eqb, not-true, false_from_ne_true, and_parts}}
+use Rattle.std.{specs.Option.option_copied, proofs.lemmas.List.{drop_more, drop_all, take_all, take_more, length-drop}}
 use lib.Pointwise.{pointwise}
-use Rattle.std.proofs.lemmas.Bool.{eq-eqb, not-true, false_from_ne_true, and_parts}
 use Rattle.memchr.specs.Find.{IsFirstByte, is_byte}
-use Rattle.std.specs.Option.{option_copied}
-use Rattle.std.specs.Prelude.{MatchOption}
-use Rattle.std.proofs.lemmas.List.{drop_more, drop_all, take_all, take_more, length-drop}
 use Rattle.fm_asm.specs.Cuts.{Cut, in_front, cut, parts_of, split_once, after_prefix, without_leading_spaces, unless_trailing, without_trailing}
 
 -- no byte is this one

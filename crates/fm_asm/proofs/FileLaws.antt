@@ -1,14 +1,9 @@
 -- The image that a text spells keeps the limits of images, and its numbers have 32 bits.
 use Rattle.std.proofs.Common.{◌≡◌, ℕ, ◌^◌, ◌==◌, Bool, true, false, cond, List, [], ◌∷◌, length, refl, sym, subst, arith, nat_lt, le-leb, ◌≤◌}
 use Rattle.std.proofs.lemmas.Bool.{and_parts, and_from}
-use Rattle.fm_image.specs.Image.{ImageOf}
-use Rattle.fm_image.specs.Limits.{is_size, is_inside, all_after}
-use Rattle.fm_image.specs.Spelling.{are_words, spelling, Spelled}
+use Rattle.fm_image.{specs.Image.ImageOf, specs.Limits.{is_size, is_inside, all_after}, specs.Spelling.{are_words, spelling, Spelled}}
 use Rattle.fm_image.proofs.LimitLaws.{from_limits}
-use Rattle.fm_asm.specs.Cuts.{unless_trailing, without_trailing}
-use Rattle.fm_asm.specs.Printing.{plain_image}
-use Rattle.fm_asm.specs.Assembly.{IsAssembly}
-use Rattle.fm_asm.proofs.JudgedLaws.{shorter}
+use Rattle.fm_asm.{specs.Cuts.{unless_trailing, without_trailing}, specs.Printing.plain_image, specs.Assembly.IsAssembly, proofs.JudgedLaws.shorter}
 
 -- words without the zeros at their end
 fit_unless : (w : ℕ) (ws : List ℕ) → nat_lt w (2 ^ 32) ≡ true → are_words ws ≡ true → are_words (unless_trailing 0 w ws) ≡ true

@@ -1,34 +1,19 @@
 -- The numbers of a text have 32 bits.
 use Rattle.std.proofs.Common.{◌≡◌, ℕ, ℤ, pos, negsuc, ◌+◌, ◌-◌, ◌*◌, ◌/◌, ◌%◌, ◌^◌, ◌<◌, ◌≤◌, ◌==◌, Bool, true, false, cond, List, [], ◌∷◌, ◌++◌, length}
 use Rattle.std.proofs.Common.{Option, Some, None, option_map, refl, sym, ap, subst, ◌∙◌, arith, nat_lt, nat_le, leb-true, ltb-true}
-use Rattle.std.specs.Prelude.{option_to_list}
-use Rattle.std.specs.Int.{w32, from_be_bytes}
-use Rattle.std.specs.List.{list_all}
-use Rattle.std.proofs.lemmas.Bool.{and_from}
-use Rattle.std.proofs.lemmas.Bool.Decides.{nat_tests}
-use Rattle.std.proofs.lemmas.Int.{ints}
-use Rattle.hex.specs.Hex.{IsBytes}
-use Rattle.hex.proofs.HexLemmas.{decode_of-ok, decode_sized-ok, decode_sized-twice}
+use Rattle.std.{specs.Prelude.option_to_list, specs.Int.{w32, from_be_bytes}, specs.List.list_all, proofs.lemmas.Bool.and_from}
+use Rattle.std.{proofs.lemmas.Bool.Decides.nat_tests, proofs.lemmas.Int.ints}
+use Rattle.hex.{specs.Hex.IsBytes, proofs.HexLemmas.{decode_of-ok, decode_sized-ok, decode_sized-twice}}
 use Rattle.stack_text.specs.Numerals.{numeral_value}
-use Rattle.fm_words.specs.declared.instruction.OperandA.{OperandA}
-use Rattle.fm_words.specs.declared.instruction.OperandA.TheVariants.{Immediate, Place}
-use Rattle.fm_words.specs.declared.instruction.Instr.{Instr}
-use Rattle.fm_words.specs.Encoding.{encode_of, IsOperand, IsInstr, significant}
-use Rattle.fm_words.proofs.FieldLaws.{decode_encode, encode_decode}
-use Rattle.fm_words.specs.Word.{unsigned_32}
-use Rattle.fm_asm.specs.Values.{Value, number, label}
-use Rattle.fm_asm.specs.Instructions.{in_9_bits}
-use Rattle.fm_asm.specs.Statements.{Statement, base, size, final, start, word, instruction}
-use Rattle.fm_asm.specs.Lines.{Said, Line}
-use Rattle.fm_asm.specs.Sources.{word_count}
-use Rattle.fm_asm.specs.Labels.{is_labelled, offset_of, number_of}
-use Rattle.fm_asm.specs.Assembly.{IsHexadecimal, SpellsValue, decimal as in_decimal, hexadecimal, named as in_name, SpellsOperand, immediate, place as in_place}
+use Rattle.fm_words.{specs.declared.instruction.OperandA.OperandA, specs.declared.instruction.OperandA.TheVariants.{Immediate, Place}}
+use Rattle.fm_words.{specs.declared.instruction.Instr.Instr, specs.Encoding.{encode_of, IsOperand, IsInstr, significant}, proofs.FieldLaws.decode_encode}
+use Rattle.fm_words.{proofs.FieldLaws.encode_decode, specs.Word.unsigned_32}
+use Rattle.fm_asm.{specs.Values.{Value, number, label}, specs.Instructions.in_9_bits, specs.Statements.{Statement, base, size, final, start, word, instruction}}
+use Rattle.fm_asm.{specs.Lines.{Said, Line}, specs.Sources.word_count, specs.Labels.{is_labelled, offset_of, number_of}, specs.Assembly.IsHexadecimal}
+use Rattle.fm_asm.specs.Assembly.{SpellsValue, decimal as in_decimal, hexadecimal, named as in_name, SpellsOperand, immediate, place as in_place}
 use Rattle.fm_asm.specs.Assembly.{SpellsInstruction, SpellsStatement, says_base, says_size, says_final, says_start, says_word, says_instruction, SpellsSaid}
 use Rattle.fm_asm.specs.Assembly.{nothing, statement_alone, label_alone, label_and_statement, AreLines, no_line, one_line, statements_of}
-use Rattle.fm_asm.proofs.TextLaws.{all-append}
-use Rattle.fm_asm.proofs.SourceLaws.{statements-kept}
-use Rattle.fm_asm.proofs.JudgingLaws.{word_total}
-use Rattle.fm_asm.proofs.SoundLaws.{HasOffsets}
+use Rattle.fm_asm.{proofs.TextLaws.all-append, proofs.SourceLaws.statements-kept, proofs.JudgingLaws.word_total, proofs.SoundLaws.HasOffsets}
 use Rattle.fm_asm.proofs.SpelledLaws.{by_some, tested, mapped}
 
 -- ---- written numbers have 32 bits

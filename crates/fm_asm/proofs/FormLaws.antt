@@ -1,24 +1,16 @@
 -- The fault of a text's form is the least of all breaches of rules 1 to 3.
 use Rattle.std.proofs.Common.{◌≡◌, ℕ, suc, ◌+◌, ◌<◌, ◌==◌, ◌&&◌, ◌||◌, Bool, true, false, cond, not, List, [], ◌∷◌, length, Option, Some, None, Result, Ok, Err}
-use Rattle.std.proofs.Common.{refl, sym, ap, subst, ◌∙◌, arith, nat_lt}
-use Rattle.std.specs.List.{slice_split, onto_first}
-use Rattle.std.proofs.lemmas.Bool.Decides.{nat_tests}
-use Rattle.stack_text.specs.Breaches.{when, lesser_of, least}
-use Rattle.stack_text.specs.Results.{◌>>=◌}
-use Rattle.stack_text.specs.declared.breach.Breach.{Breach}
-use Rattle.stack_text.proofs.BreachLaws.{least-append}
-use Rattle.fm_asm.specs.declared.due.Due.{Due}
-use Rattle.fm_asm.specs.declared.due.Due.TheVariants as due
-use Rattle.fm_asm.specs.Cuts.{cut, without_leading_spaces, without_trailing, trimmed}
-use Rattle.fm_image.specs.Limits.{is_size}
-use Rattle.fm_asm.specs.Values.{Value, number, label}
-use Rattle.fm_asm.specs.Statements.{Statement, base, size, final, start, word, instruction}
+use Rattle.std.{proofs.Common.{refl, sym, ap, subst, ◌∙◌, arith, nat_lt}, specs.List.{slice_split, onto_first}, proofs.lemmas.Bool.Decides.nat_tests}
+use Rattle.stack_text.{specs.Breaches.{when, lesser_of, least}, specs.Results.◌>>=◌, specs.declared.breach.Breach.Breach, proofs.BreachLaws.least-append}
 use Rattle.stack_text.specs.Lines.{is_plain_line}
-use Rattle.fm_asm.specs.Lines.{Said, Line, text_of, statement_or_none, said_by, said_in}
-use Rattle.fm_asm.specs.FormBreaches.{breach_at, said_breaches, form_breaches, due_after_read, end_breaches, lines_breaches, text_breaches, fault_in}
-use Rattle.fm_asm.specs.Sources.{if_in_range, if_encoded, size_due, final_due, due_after, due_after_line, at_place, if_of_form, said_of_line, line_read}
-use Rattle.fm_asm.specs.Sources.{word_count, kept, SourceOf, window_of, with_lines, lines_read, source_in}
+use Rattle.fm_asm.{specs.declared.due.Due.Due, specs.Cuts.{cut, without_leading_spaces, without_trailing, trimmed}, specs.Values.{Value, number, label}}
+use Rattle.fm_asm.{specs.Statements.{Statement, base, size, final, start, word, instruction}, specs.Lines.{Said, Line, text_of, statement_or_none, said_by}}
+use Rattle.fm_asm.{specs.Lines.said_in, specs.FormBreaches.{breach_at, said_breaches, form_breaches, due_after_read, end_breaches, lines_breaches}}
+use Rattle.fm_asm.{specs.FormBreaches.{text_breaches, fault_in}, specs.Sources.{if_in_range, if_encoded, size_due, final_due, due_after, due_after_line}}
+use Rattle.fm_asm.specs.Sources.{at_place, if_of_form, said_of_line, line_read, word_count, kept, SourceOf, window_of, with_lines, lines_read, source_in}
 use Rattle.fm_asm.proofs.SourceLaws.{paired}
+use Rattle.fm_asm.specs.declared.due.Due.TheVariants as due
+use Rattle.fm_image.specs.Limits.{is_size}
 
 -- ---- where a breach is
 

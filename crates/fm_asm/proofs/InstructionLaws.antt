@@ -1,31 +1,19 @@
 -- Instructions are read from what they are written as.
 use Rattle.std.proofs.Common.{◌≡◌, ℕ, ◌+◌, ◌-◌, ◌/◌, ◌%◌, ◌<◌, ◌≤◌, ◌==◌, ◌&&◌, Bool, true, false, not, List, [], ◌∷◌, ◌++◌, length, Option, Some, None}
-use Rattle.std.proofs.Common.{option_map, refl, sym, ap, ◌∙◌, arith, codes, append-nil, append_assoc, ⊎_elim, eqb-true, nat_le}
-use Rattle.std.specs.Fmt.{decimal, digits}
-use Rattle.std.specs.List.{list_all}
-use Rattle.std.specs.Char.{is_ascii_digit}
-use Rattle.std.proofs.lemmas.Bool.{and_parts, and_from, cases_lt, cond-true}
-use Rattle.std.proofs.lemmas.Bool.Decides.{nat_tests}
-use Rattle.std.proofs.lemmas.Fmt.{decimal_digit, decimal_step}
-use Rattle.stack_text.specs.Numerals.{is_digits, is_numeral}
-use Rattle.stack_text.specs.Options.{◌>>=◌}
-use Rattle.fm_words.specs.declared.operation.Op.{Op}
-use Rattle.fm_words.specs.declared.operation.Op.TheVariants.{Move, Inc, Addc, Add, Neg, Dec, Subb, Sub, Ror, Asr, Lsr, Xor, Or, And, Not, M15}
-use Rattle.fm_words.specs.declared.condition.Cc.{Cc}
-use Rattle.fm_words.specs.declared.condition.Cc.TheVariants as cc
-use Rattle.fm_words.specs.declared.condition.Flags.{Flags}
-use Rattle.fm_words.specs.declared.instruction.Mode.{Mode}
-use Rattle.fm_words.specs.declared.instruction.Mode.TheVariants.{Register, Indirect, PreDecrement, PostIncrement}
+use Rattle.std.{proofs.Common.{option_map, refl, sym, ap, ◌∙◌, arith, codes, append-nil, append_assoc, ⊎_elim, eqb-true, nat_le}, specs.Fmt.{decimal, digits}}
+use Rattle.std.{specs.List.list_all, specs.Char.is_ascii_digit, proofs.lemmas.Bool.{and_parts, and_from, cases_lt, cond-true}}
+use Rattle.std.{proofs.lemmas.Bool.Decides.nat_tests, proofs.lemmas.Fmt.{decimal_digit, decimal_step}}
+use Rattle.stack_text.{specs.Numerals.{is_digits, is_numeral}, specs.Options.◌>>=◌}
+use Rattle.fm_words.{specs.declared.operation.Op.Op, specs.declared.operation.Op.TheVariants.{Move, Inc, Addc, Add, Neg, Dec, Subb, Sub, Ror, Asr, Lsr, Xor}}
+use Rattle.fm_words.{specs.declared.operation.Op.TheVariants.{Or, And, Not, M15}, specs.declared.condition.Cc.Cc, specs.declared.condition.Flags.Flags}
+use Rattle.fm_words.{specs.declared.instruction.Mode.Mode, specs.declared.instruction.Mode.TheVariants.{Register, Indirect, PreDecrement, PostIncrement}}
 use Rattle.fm_words.specs.declared.instruction.OperandA.{OperandA}
+use Rattle.fm_words.specs.declared.condition.Cc.TheVariants as cc
 use Rattle.fm_show.specs.Disassembly.{operation_name, condition_text, flags_text, register_name, place_text}
-use Rattle.fm_asm.specs.Cuts.{cut, split_once, after_prefix}
-use Rattle.fm_asm.specs.Instructions.{operation_in, condition_named, condition_in, letter_in, flag_letters_in, flags_in, named_in, head_in, register_in}
-use Rattle.fm_asm.specs.Instructions.{closing_mode, indirect_in, decrement_in, direct_in, place_in, immediate_in, as_operand, operand_by, operand_in}
-use Rattle.fm_asm.specs.Instructions.{instruction_in}
-use Rattle.fm_asm.specs.Assembly.{SpellsOperand, immediate, place, SpellsInstruction}
-use Rattle.fm_asm.proofs.CutLaws.{lacks, lacks-append, cut-append, cut-lacks, split_once-append}
-use Rattle.fm_asm.proofs.ValueLaws.{digits_lack}
-use Rattle.fm_asm.proofs.TextLaws.{is_text_byte}
+use Rattle.fm_asm.{specs.Cuts.{cut, split_once, after_prefix}, specs.Instructions.{operation_in, condition_named, condition_in, letter_in, flag_letters_in}}
+use Rattle.fm_asm.specs.Instructions.{flags_in, named_in, head_in, register_in, closing_mode, indirect_in, decrement_in, direct_in, place_in, immediate_in}
+use Rattle.fm_asm.{specs.Instructions.{as_operand, operand_by, operand_in, instruction_in}, specs.Assembly.{SpellsOperand, immediate, place, SpellsInstruction}}
+use Rattle.fm_asm.{proofs.CutLaws.{lacks, lacks-append, cut-append, cut-lacks, split_once-append}, proofs.ValueLaws.digits_lack, proofs.TextLaws.is_text_byte}
 
 -- what stands after a byte, with it, and nothing where it isn't there
 pub tail : ℕ → Option (List ℕ) → List ℕ

@@ -1,19 +1,12 @@
 -- What judging a source gives, from what its parts give.
 use Rattle.std.proofs.Common.{◌≡◌, ℕ, suc, ◌≤◌, ◌==◌, Bool, true, false, cond, arith, List, [], ◌∷◌, ◌++◌, length, map, Option, Some, None, Result, Ok, Err}
-use Rattle.std.proofs.Common.{unwrap_or, refl, sym, ap, ◌∙◌}
-use Rattle.std.specs.List.{flat_map}
-use Rattle.stack_text.specs.Breaches.{least, Notes}
-use Rattle.stack_text.specs.declared.breach.Breach.{Breach}
-use Rattle.stack_text.proofs.BreachLaws.{notes_more, none_least}
+use Rattle.std.{proofs.Common.{unwrap_or, refl, sym, ap, ◌∙◌}, specs.List.flat_map}
+use Rattle.stack_text.{specs.Breaches.{least, Notes}, specs.declared.breach.Breach.Breach, proofs.BreachLaws.{notes_more, none_least}}
 use Rattle.fm_image.specs.Image.{ImageOf}
 use Rattle.fm_asm.specs.declared.line.Line as declared
-use Rattle.fm_asm.specs.declared.source.Source.{Source}
-use Rattle.fm_asm.specs.Cuts.{unless_trailing, without_trailing}
-use Rattle.fm_asm.specs.Lines.{Line, line_of}
-use Rattle.fm_asm.specs.Sources.{SourceOf, source_of, IsOfText}
-use Rattle.fm_asm.specs.Labels.{offset_of, repeats, line_breaches, breaches, line_words, words_of, final_word, start_word, first_value, final_in, start_in}
-use Rattle.fm_asm.specs.Printing.{plain_image}
-use Rattle.fm_asm.specs.Assembling.{image_unless}
+use Rattle.fm_asm.{specs.declared.source.Source.Source, specs.Cuts.{unless_trailing, without_trailing}, specs.Lines.{Line, line_of}, specs.Sources.SourceOf}
+use Rattle.fm_asm.{specs.Sources.{source_of, IsOfText}, specs.Labels.{offset_of, repeats, line_breaches, breaches, line_words, words_of, final_word}}
+use Rattle.fm_asm.{specs.Labels.{start_word, first_value, final_in, start_in}, specs.Printing.plain_image, specs.Assembling.image_unless}
 use Rattle.fm_asm.proofs.SoundLaws.{IsFit, source_fits}
 
 flat_map-map : {X Y Z : Type 0} (g : X → Y) (f : Y → List Z) (xs : List X) → flat_map f (map g xs) ≡ flat_map (λ x. f (g x)) xs

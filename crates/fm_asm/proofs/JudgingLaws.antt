@@ -1,17 +1,11 @@
 -- Where a text spells an image, nothing breaks a rule.
 use Rattle.std.proofs.Common.{◌≡◌, ℕ, ◌+◌, ◌%◌, ◌^◌, ◌<◌, ◌≤◌, ◌&&◌, ◌||◌, Bool, true, false, cond, not, List, [], ◌∷◌, ◌++◌, length, map, Option, Some, None}
-use Rattle.std.proofs.Common.{is_some, unwrap_or, refl, sym, ap, subst, ◌∙◌, arith, nat_lt, nat_le, ltb-true}
-use Rattle.std.specs.Prelude.{option_to_list}
-use Rattle.std.specs.List.{flat_map, list_all, list_any}
-use Rattle.std.specs.Str.{bytes_eq}
-use Rattle.std.proofs.lemmas.Bool.{and_parts, and_from, not-true}
+use Rattle.std.{proofs.Common.{is_some, unwrap_or, refl, sym, ap, subst, ◌∙◌, arith, nat_lt, nat_le, ltb-true}, specs.Prelude.option_to_list}
+use Rattle.std.{specs.List.{flat_map, list_all, list_any}, specs.Str.bytes_eq, proofs.lemmas.Bool.{and_parts, and_from, not-true}}
 use Rattle.std.proofs.lemmas.Bool.Decides.{nat_tests}
-use Rattle.stack_text.specs.Breaches.{when}
-use Rattle.stack_text.proofs.SharedLaws.{bytes_apart}
+use Rattle.stack_text.{specs.Breaches.when, proofs.SharedLaws.bytes_apart}
 use Rattle.fm_image.specs.Spelling.{are_words}
-use Rattle.fm_asm.specs.Statements.{Statement, base, size, final, start, word, instruction}
-use Rattle.fm_asm.specs.Lines.{Line}
-use Rattle.fm_asm.specs.Sources.{word_count, kept}
+use Rattle.fm_asm.{specs.Statements.{Statement, base, size, final, start, word, instruction}, specs.Lines.Line, specs.Sources.{word_count, kept}}
 use Rattle.fm_asm.specs.Labels.{is_labelled, offset_of, repeated, repeats, number_of, undefined, beyond_size, ends_outside, is_outside, statement_breaches}
 use Rattle.fm_asm.specs.Labels.{line_breaches, as_word, statement_words, line_words, final_word, final_in, start_word, start_in, first_value}
 use Rattle.fm_asm.specs.Assembly.{AreLines, no_line, one_line, statements_of, labels_of, are_distinct, statement_word}

@@ -1,20 +1,11 @@
 -- The text of an image has at most 2^25 bytes.
 use Rattle.std.proofs.Common.{ℕ, ◌+◌, ◌*◌, ◌^◌, ◌-◌, ◌<◌, ◌≤◌, Bool, true, false, cond, List, [], ◌∷◌, ◌++◌, length, arith, codes, leb-true, ltb-true}
-use Rattle.std.specs.Prelude.{IsTrue}
-use Rattle.std.specs.Fmt.{decimal}
-use Rattle.std.specs.Int.{w32, to_be_bytes}
-use Rattle.std.specs.List.{flat_map}
-use Rattle.std.proofs.lemmas.Bool.{and_parts}
-use Rattle.std.proofs.lemmas.Fmt.{length-decimal-le}
-use Rattle.std.proofs.lemmas.List.{length-append}
+use Rattle.std.{specs.Prelude.IsTrue, specs.Fmt.decimal, specs.Int.{w32, to_be_bytes}, specs.List.flat_map, proofs.lemmas.Bool.and_parts}
+use Rattle.std.{proofs.lemmas.Fmt.length-decimal-le, proofs.lemmas.List.length-append}
 use Rattle.hex.proofs.HexLemmas.{decode_sized-ok}
-use Rattle.fm_image.specs.Image.{ImageOf}
-use Rattle.fm_image.specs.Limits.{is_size, is_inside, is_image}
-use Rattle.fm_image.proofs.LimitLaws.{limits_of}
-use Rattle.fm_show.specs.Digits.{hex_digits}
-use Rattle.fm_show.specs.Disassembly.{disassembly_text}
-use Rattle.fm_asm.specs.Printing.{start_of, header_text, is_exact, word_text, word_line, assembly_text}
-use Rattle.fm_asm.proofs.PrintedLaws.{instruction_short}
+use Rattle.fm_image.{specs.Image.ImageOf, specs.Limits.{is_size, is_inside, is_image}, proofs.LimitLaws.limits_of}
+use Rattle.fm_show.{specs.Digits.hex_digits, specs.Disassembly.disassembly_text}
+use Rattle.fm_asm.{specs.Printing.{start_of, header_text, is_exact, word_text, word_line, assembly_text}, proofs.PrintedLaws.instruction_short}
 use Rattle.fm_asm.proofs.PrintLaws.{hex_decodes}
 
 word_short : (w : ℕ) → length (word_text w) ≤ 28

@@ -1,18 +1,11 @@
 -- Lines are read from what they are written as.
 use Rattle.std.proofs.Common.{◌≡◌, ℕ, ◌==◌, ◌&&◌, true, List, [], ◌∷◌, ◌++◌, length, nat_lt, Option, Some, None, Ok, option_map, refl, sym, ap, ◌∙◌, codes}
-use Rattle.std.proofs.Common.{append_assoc}
-use Rattle.std.specs.List.{list_all}
-use Rattle.std.proofs.lemmas.Bool.{and_parts, and_from, cond-true}
-use Rattle.stack_text.specs.Names.{is_name}
-use Rattle.fm_asm.specs.Cuts.{cut, without_leading_spaces}
-use Rattle.fm_asm.specs.Statements.{Statement, statement_in}
-use Rattle.stack_text.specs.Lines.{is_plain_line}
-use Rattle.fm_asm.specs.Lines.{Said, text_of, statement_or_none, is_apart, labelled, said_by, said_in}
-use Rattle.fm_asm.specs.Sources.{if_of_form, said_of_line}
-use Rattle.fm_asm.specs.Assembly.{says, is_gap, SpellsStatement, SpellsSaid, nothing, statement_alone, label_alone, label_and_statement, IsLine}
-use Rattle.fm_asm.proofs.CutLaws.{cut-append, cut-lacks}
-use Rattle.fm_asm.proofs.ValueLaws.{name_lacks}
-use Rattle.fm_asm.proofs.StatementLaws.{statement_read, IsStatementText, statement_text}
+use Rattle.std.{proofs.Common.append_assoc, specs.List.list_all, proofs.lemmas.Bool.{and_parts, and_from, cond-true}}
+use Rattle.stack_text.{specs.Names.is_name, specs.Lines.is_plain_line}
+use Rattle.fm_asm.{specs.Cuts.{cut, without_leading_spaces}, specs.Statements.{Statement, statement_in}, specs.Lines.{Said, text_of, statement_or_none}}
+use Rattle.fm_asm.{specs.Lines.{is_apart, labelled, said_by, said_in}, specs.Sources.{if_of_form, said_of_line}, specs.Assembly.{says, is_gap, SpellsStatement}}
+use Rattle.fm_asm.{specs.Assembly.{SpellsSaid, nothing, statement_alone, label_alone, label_and_statement, IsLine}, proofs.CutLaws.{cut-append, cut-lacks}}
+use Rattle.fm_asm.{proofs.ValueLaws.name_lacks, proofs.StatementLaws.{statement_read, IsStatementText, statement_text}}
 
 -- a statement that is there
 there : (text : List ℕ) (s : Statement) → SpellsStatement text s → statement_or_none text ≡ Some (Some s)

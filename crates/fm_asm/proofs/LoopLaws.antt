@@ -1,20 +1,12 @@
 -- Loops over lines, and over words.
 use Rattle.std.proofs.Common.{◌≡◌, ℕ, ◌+◌, ◌<◌, ◌≤◌, List, [], ◌∷◌, ◌++◌, length, map, get_or, take, drop, Option, Some, None, Bool, true, false, cond}
-use Rattle.std.proofs.Common.{unwrap_or, refl, sym, ap, ◌∙◌, ◌^◌, append_assoc, nat_lt, lt-ltb}
-use Rattle.std.specs.Prelude.{IsTrue}
-use Rattle.std.specs.List.{flat_map}
-use Rattle.std.proofs.lemmas.Bool.{and_from}
-use Rattle.std.proofs.lemmas.List.{append-nil, map_push, take_more, take_all, drop_more, drop_all, get_or_default}
-use Rattle.stack_text.specs.declared.breach.Breach.{Breach}
-use Rattle.stack_text.specs.Breaches.{lesser_of, least, Notes}
-use Rattle.stack_text.proofs.BreachLaws.{notes_more, notes_next}
-use Rattle.stack_text.proofs.Loops.{pieces_next}
+use Rattle.std.{proofs.Common.{unwrap_or, refl, sym, ap, ◌∙◌, ◌^◌, append_assoc, nat_lt, lt-ltb}, specs.Prelude.IsTrue, specs.List.flat_map}
+use Rattle.std.{proofs.lemmas.Bool.and_from, proofs.lemmas.List.{append-nil, map_push, take_more, take_all, drop_more, drop_all, get_or_default}}
+use Rattle.stack_text.{specs.declared.breach.Breach.Breach, specs.Breaches.{lesser_of, least, Notes}, proofs.BreachLaws.{notes_more, notes_next}}
+use Rattle.stack_text.{proofs.Loops.pieces_next, specs.Options.first_or}
 use Rattle.fm_image.specs.Spelling.{are_words}
 use Rattle.fm_asm.specs.declared.line.Line as declared
-use Rattle.fm_asm.specs.Lines.{Line, line_of}
-use Rattle.fm_asm.specs.Labels.{is_labelled, offset_of, repeated, repeats, first_value}
-use Rattle.stack_text.specs.Options.{first_or}
-use Rattle.fm_asm.proofs.TextLaws.{all-append}
+use Rattle.fm_asm.{specs.Lines.{Line, line_of}, specs.Labels.{is_labelled, offset_of, repeated, repeats, first_value}, proofs.TextLaws.all-append}
 
 -- ---- the first value
 

@@ -1,18 +1,11 @@
 -- What is assembled is plain.
 use Rattle.std.proofs.Common.{◌≡◌, ℕ, suc, ◌-◌, ◌==◌, Bool, true, false, cond, not, List, [], ◌∷◌, length, Option, Some, None, Result, Ok, Err, refl, sym, ap}
-use Rattle.std.proofs.Common.{◌∙◌, arith}
-use Rattle.std.specs.Prelude.{slice_get, IfOk, IsTrue}
-use Rattle.std.specs.Result.{result_unwrap_or}
-use Rattle.stack_text.specs.Breaches.{least}
-use Rattle.stack_text.specs.Results.{◌>>=◌}
-use Rattle.stack_text.specs.declared.breach.Breach.{Breach}
+use Rattle.std.{proofs.Common.{◌∙◌, arith}, specs.Prelude.{slice_get, IfOk, IsTrue}, specs.Result.result_unwrap_or}
+use Rattle.stack_text.{specs.Breaches.least, specs.Results.◌>>=◌, specs.declared.breach.Breach.Breach}
 use Rattle.fm_image.specs.Image.{ImageOf}
-use Rattle.fm_asm.specs.declared.fault.AsmFault.{AsmFault}
-use Rattle.fm_asm.specs.Cuts.{unless_trailing, without_trailing}
-use Rattle.fm_asm.specs.Sources.{SourceOf, source_in}
-use Rattle.fm_asm.specs.Labels.{breaches, words_of}
-use Rattle.fm_asm.specs.Printing.{is_zero, ends_in_zero, is_plain}
-use Rattle.fm_asm.specs.Assembling.{GivesAssemblyUnless, image_of, image_unless, assembly_of}
+use Rattle.fm_asm.{specs.declared.fault.AsmFault.AsmFault, specs.Cuts.{unless_trailing, without_trailing}, specs.Sources.{SourceOf, source_in}}
+use Rattle.fm_asm.{specs.Labels.{breaches, words_of}, specs.Printing.{is_zero, ends_in_zero, is_plain}, specs.Assembling.{GivesAssemblyUnless, image_of}}
+use Rattle.fm_asm.specs.Assembling.{image_unless, assembly_of}
 
 no_zero : (w : ℕ) (ws : List ℕ) → ends_in_zero ws ≡ false → ends_in_zero (unless_trailing 0 w ws) ≡ false
 no_zero w [] h = by_test (w == 0) refl

@@ -1,52 +1,25 @@
 -- The assembly text of a plain image spells that image.
 use Rattle.std.proofs.Common.{◌≡◌, ℕ, zero, suc, ◌+◌, ◌-◌, ◌^◌, ◌<◌, ◌≤◌, ◌==◌, ◌&&◌, ◌||◌, Bool, true, false, cond, not, List, [], ◌∷◌, ◌++◌, length, map}
 use Rattle.std.proofs.Common.{take, get_or, Option, Some, None, Ok, is_none, refl, sym, ap, subst, ◌∙◌, arith, codes, append_assoc, nat_lt, leb-true, lt-ltb}
-use Rattle.std.proofs.Common.{ltb-true, eqb-true}
-use Rattle.std.specs.Prelude.{pos, replicate, slice_index, slice_get, IsTrue, IsOk, Result, Err, IfOk, OnOk}
+use Rattle.std.{proofs.Common.{ltb-true, eqb-true}, specs.Prelude.{pos, replicate, slice_index, slice_get, IsTrue, IsOk, Result, Err, IfOk, OnOk}}
+use Rattle.std.{specs.Fmt.decimal, specs.Int.{w32, to_be_bytes}, specs.List.{flat_map, list_all, slice_split}, specs.Char.is_ascii_digit}
+use Rattle.std.{proofs.lemmas.Bool.{and_parts, and_from, cond-true}, proofs.lemmas.Bool.Decides.nat_tests, proofs.lemmas.Fmt.length-decimal-le}
+use Rattle.std.{proofs.lemmas.List.length-append, proofs.lemmas.List.Sums.list_all-from_AllPass, proofs.lemmas.Nat.from_be_bytes-to_be_bytes_4}
 use Rattle.stack_heap.specs.Heaps.{IfOkUnless}
-use Rattle.stack_text.specs.declared.memory.Memory.{Memory}
-use Rattle.std.specs.Fmt.{decimal}
-use Rattle.std.specs.Int.{w32, to_be_bytes}
-use Rattle.std.specs.List.{flat_map, list_all, slice_split}
-use Rattle.std.specs.Char.{is_ascii_digit}
-use Rattle.std.proofs.lemmas.Bool.{and_parts, and_from, cond-true}
-use Rattle.std.proofs.lemmas.Bool.Decides.{nat_tests}
-use Rattle.std.proofs.lemmas.Fmt.{length-decimal-le}
-use Rattle.std.proofs.lemmas.List.{length-append}
-use Rattle.std.proofs.lemmas.List.Sums.{list_all-from_AllPass}
-use Rattle.std.proofs.lemmas.Nat.{from_be_bytes-to_be_bytes_4}
-use Rattle.hex.specs.Hex.{decode_sized, is_hex_digit}
-use Rattle.hex.proofs.HexLemmas.{decode_sized-encode_lower, decode_sized-ok, IsOk-decode_sized}
-use Rattle.stack_text.specs.Numerals.{is_digits}
-use Rattle.stack_text.proofs.NumeralTextLaws.{value-signed_decimal}
-use Rattle.fm_words.specs.declared.condition.Flags.{Flags}
-use Rattle.fm_words.specs.Code.{no_flags, decode_of}
-use Rattle.fm_words.specs.Encoding.{encode_of}
-use Rattle.fm_words.specs.Word.{unsigned_32}
-use Rattle.fm_image.specs.Image.{ImageOf}
-use Rattle.fm_image.specs.Limits.{marked_version, is_size, is_inside, is_image}
-use Rattle.fm_image.proofs.LimitLaws.{limits_of}
-use Rattle.fm_show.specs.Digits.{hex_digits}
-use Rattle.fm_show.specs.Disassembly.{disassembly_text}
-use Rattle.fm_image.specs.Spelling.{are_words}
-use Rattle.fm_asm.specs.Cuts.{cut, without_leading_spaces, without_trailing, unless_trailing, trimmed}
-use Rattle.fm_asm.specs.Values.{number, decimal_value}
-use Rattle.fm_asm.specs.Statements.{Statement, base, size, final, start, word, instruction}
-use Rattle.stack_text.specs.Lines.{is_plain_line}
-use Rattle.fm_asm.specs.Lines.{Line, text_of}
-use Rattle.fm_asm.specs.Sources.{word_count}
-use Rattle.fm_asm.specs.Labels.{offset_of, number_of}
-use Rattle.fm_asm.specs.Printing.{are_clear, has_no_names, has_no_tables, are_zero_but_last, is_zero, ends_in_zero, is_plain, plain_image, start_of, is_exact}
-use Rattle.fm_asm.specs.Printing.{word_text, word_line, assembly_text}
-use Rattle.fm_asm.specs.Assembly.{says, SpellsValue, decimal as in_decimal, hexadecimal, SpellsStatement, says_base, says_size, says_final, says_start}
-use Rattle.fm_asm.specs.Assembly.{says_word, says_instruction, SpellsSaid, nothing, statement_alone, IsLine, AreLines, no_line, one_line, statements_of}
-use Rattle.fm_asm.specs.Assembly.{labels_of, are_distinct, statement_word, IsAssembly}
-use Rattle.fm_asm.specs.Assembling.{assembly_of}
-use Rattle.fm_asm.proofs.CutLaws.{lacks}
-use Rattle.fm_asm.proofs.ValueLaws.{lacks_from}
+use Rattle.stack_text.{specs.declared.memory.Memory.Memory, specs.Numerals.is_digits, proofs.NumeralTextLaws.value-signed_decimal, specs.Lines.is_plain_line}
+use Rattle.hex.{specs.Hex.{decode_sized, is_hex_digit}, proofs.HexLemmas.{decode_sized-encode_lower, decode_sized-ok, IsOk-decode_sized}}
+use Rattle.fm_words.{specs.declared.condition.Flags.Flags, specs.Code.{no_flags, decode_of}, specs.Encoding.encode_of, specs.Word.unsigned_32}
+use Rattle.fm_image.{specs.Image.ImageOf, specs.Limits.{marked_version, is_size, is_inside, is_image}, proofs.LimitLaws.limits_of, specs.Spelling.are_words}
+use Rattle.fm_show.{specs.Digits.hex_digits, specs.Disassembly.disassembly_text}
+use Rattle.fm_asm.{specs.Cuts.{cut, without_leading_spaces, without_trailing, unless_trailing, trimmed}, specs.Values.{number, decimal_value}}
+use Rattle.fm_asm.{specs.Statements.{Statement, base, size, final, start, word, instruction}, specs.Lines.{Line, text_of}, specs.Sources.word_count}
+use Rattle.fm_asm.{specs.Labels.{offset_of, number_of}, specs.Printing.{are_clear, has_no_names, has_no_tables, are_zero_but_last, is_zero, ends_in_zero}}
+use Rattle.fm_asm.{specs.Printing.{is_plain, plain_image, start_of, is_exact, word_text, word_line, assembly_text}, specs.Assembly.{says, SpellsValue}}
+use Rattle.fm_asm.specs.Assembly.{decimal as in_decimal, hexadecimal, SpellsStatement, says_base, says_size, says_final, says_start, says_word}
+use Rattle.fm_asm.specs.Assembly.{says_instruction, SpellsSaid, nothing, statement_alone, IsLine, AreLines, no_line, one_line, statements_of, labels_of}
+use Rattle.fm_asm.{specs.Assembly.{are_distinct, statement_word, IsAssembly}, specs.Assembling.assembly_of, proofs.CutLaws.lacks, proofs.ValueLaws.lacks_from}
 use Rattle.fm_asm.proofs.TextLaws.{is_text_byte, all-append, all_weaker, IsTidy, tidy_text, tidy_plain, lines_text, split-lines}
-use Rattle.fm_asm.proofs.PrintedLaws.{decimal_bytes, decimal_text, instruction_written, instruction_tidy}
-use Rattle.fm_asm.proofs.AssemblyLaws.{spelled_is_assembled}
+use Rattle.fm_asm.{proofs.PrintedLaws.{decimal_bytes, decimal_text, instruction_written, instruction_tidy}, proofs.AssemblyLaws.spelled_is_assembled}
 
 -- a line that is printed for a statement
 record Prints (text : List ℕ) (s : Statement) : Type 0 where

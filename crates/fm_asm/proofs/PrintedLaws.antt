@@ -1,34 +1,19 @@
 -- Printed instructions and words, as statements.
 use Rattle.std.proofs.Common.{◌≡◌, ℕ, suc, ◌^◌, ◌<◌, ◌≤◌, true, List, [], ◌∷◌, ◌++◌, length, Some, refl, sym, ap, subst, ◌∙◌, arith, codes, append_assoc}
-use Rattle.std.proofs.Common.{nat_le, nat_lt, leb-true}
-use Rattle.std.specs.Prelude.{ℤ, pos, negsuc}
-use Rattle.std.specs.Fmt.{decimal, signed_decimal}
-use Rattle.std.specs.List.{list_all}
-use Rattle.std.specs.Char.{is_ascii_digit}
-use Rattle.std.proofs.lemmas.Bool.{and_parts, and_from}
-use Rattle.std.proofs.lemmas.Bool.Decides.{nat_tests}
-use Rattle.std.proofs.lemmas.Int.{ints}
-use Rattle.std.proofs.lemmas.List.{length-append}
-use Rattle.std.proofs.lemmas.Fmt.{length-decimal-le}
-use Rattle.stack_text.specs.Numerals.{is_digits, numeral_value, fits_128_bits}
-use Rattle.stack_text.proofs.NumeralTextLaws.{value-signed_decimal, numeral-signed_decimal, digits-pos}
-use Rattle.fm_words.specs.declared.operation.Op.{Op}
-use Rattle.fm_words.specs.declared.condition.Cc.{Cc}
-use Rattle.fm_words.specs.declared.condition.Flags.{Flags}
-use Rattle.fm_words.specs.declared.instruction.Mode.{Mode}
+use Rattle.std.{proofs.Common.{nat_le, nat_lt, leb-true}, specs.Prelude.{ℤ, pos, negsuc}, specs.Fmt.{decimal, signed_decimal}, specs.List.list_all}
+use Rattle.std.{specs.Char.is_ascii_digit, proofs.lemmas.Bool.{and_parts, and_from}, proofs.lemmas.Bool.Decides.nat_tests, proofs.lemmas.Int.ints}
+use Rattle.std.{proofs.lemmas.List.length-append, proofs.lemmas.Fmt.length-decimal-le}
+use Rattle.stack_text.{specs.Numerals.{is_digits, numeral_value, fits_128_bits}, proofs.NumeralTextLaws.{value-signed_decimal, numeral-signed_decimal}}
+use Rattle.stack_text.proofs.NumeralTextLaws.{digits-pos}
+use Rattle.fm_words.{specs.declared.operation.Op.Op, specs.declared.condition.Cc.Cc, specs.declared.condition.Flags.Flags, specs.declared.instruction.Mode.Mode}
 use Rattle.fm_words.specs.declared.instruction.Mode.TheVariants.{Register, Indirect, PreDecrement, PostIncrement}
-use Rattle.fm_words.specs.declared.instruction.OperandA.{OperandA}
-use Rattle.fm_words.specs.declared.instruction.OperandA.TheVariants.{Immediate, Place}
-use Rattle.fm_words.specs.Code.{decode_of}
+use Rattle.fm_words.{specs.declared.instruction.OperandA.OperandA, specs.declared.instruction.OperandA.TheVariants.{Immediate, Place}, specs.Code.decode_of}
 use Rattle.fm_words.specs.Encoding.{encode_of, IsOperand}
 use Rattle.fm_show.specs.Disassembly.{operation_name, condition_text, flags_text, place_text, operand_text, instruction_text, disassembly_text}
 use Rattle.fm_show.proofs.LosslessLaws.{limits}
-use Rattle.fm_asm.specs.Instructions.{in_9_bits}
-use Rattle.fm_asm.proofs.CutLaws.{lacks}
-use Rattle.fm_asm.proofs.InstructionLaws.{operation_named, condition_bracketed, flags_braced, head_text, operands_text, regrouped, place_lacks, numeral_lacks}
-use Rattle.fm_asm.proofs.StatementLaws.{head_begins}
-use Rattle.fm_asm.proofs.TextLaws.{is_text_byte, all-append, digits_are_text, IsTidy}
-use Rattle.fm_asm.specs.Assembly.{SpellsOperand, immediate, place, SpellsInstruction}
+use Rattle.fm_asm.{specs.Instructions.in_9_bits, proofs.CutLaws.lacks, proofs.InstructionLaws.{operation_named, condition_bracketed, flags_braced, head_text}}
+use Rattle.fm_asm.{proofs.InstructionLaws.{operands_text, regrouped, place_lacks, numeral_lacks}, proofs.StatementLaws.head_begins}
+use Rattle.fm_asm.{proofs.TextLaws.{is_text_byte, all-append, digits_are_text, IsTidy}, specs.Assembly.{SpellsOperand, immediate, place, SpellsInstruction}}
 
 -- ---- the operand, as it is written
 

@@ -1,35 +1,20 @@
 -- A text spells the image that it is assembled to.
 use Rattle.std.proofs.Common.{◌≡◌, ◌↔◌, ℕ, ◌+◌, ◌-◌, ◌%◌, ◌^◌, ◌<◌, ◌≤◌, ◌==◌, ◌&&◌, Bool, true, false, cond, not, List, [], ◌∷◌, ◌++◌, map, Option, Some, None}
-use Rattle.std.proofs.Common.{Result, Ok, Err, is_some, unwrap_or, refl, sym, ap, subst, ◌∙◌, arith, nat_lt, leb-true}
-use Rattle.std.specs.Prelude.{option_to_list, IfOk}
-use Rattle.std.specs.List.{flat_map, list_all, list_any, slice_split}
-use Rattle.std.specs.Str.{bytes_eq}
-use Rattle.std.specs.Result.{result_unwrap_or}
-use Rattle.std.proofs.lemmas.Bool.{and_parts, and_from, not-true}
-use Rattle.std.proofs.lemmas.Bool.Decides.{nat_tests}
-use Rattle.stack_text.specs.Breaches.{least}
-use Rattle.stack_text.specs.Results.{◌>>=◌}
-use Rattle.stack_text.specs.declared.breach.Breach.{Breach}
-use Rattle.stack_text.proofs.BreachLaws.{none_least}
+use Rattle.std.{proofs.Common.{Result, Ok, Err, is_some, unwrap_or, refl, sym, ap, subst, ◌∙◌, arith, nat_lt, leb-true}, specs.Prelude.{option_to_list, IfOk}}
+use Rattle.std.{specs.List.{flat_map, list_all, list_any, slice_split}, specs.Str.bytes_eq, specs.Result.result_unwrap_or, proofs.lemmas.Bool.and_parts}
+use Rattle.std.{proofs.lemmas.Bool.{and_from, not-true}, proofs.lemmas.Bool.Decides.nat_tests}
+use Rattle.stack_text.{specs.Breaches.least, specs.Results.◌>>=◌, specs.declared.breach.Breach.Breach, proofs.BreachLaws.none_least}
 use Rattle.stack_text.proofs.SharedLaws.{rule_fails, append_none, bytes_apart}
-use Rattle.fm_image.specs.Image.{ImageOf}
-use Rattle.fm_image.specs.Spelling.{are_words}
-use Rattle.fm_asm.specs.declared.fault.AsmFault.{AsmFault}
+use Rattle.fm_image.{specs.Image.ImageOf, specs.Spelling.are_words}
+use Rattle.fm_asm.{specs.declared.fault.AsmFault.AsmFault, specs.Values.{Value, number, label}, specs.Statements.{Statement, base, size, final, start, word}}
+use Rattle.fm_asm.{specs.Statements.instruction, specs.Lines.Line, specs.Sources.{due_after, SourceOf, source_in, IsOfText}, specs.Labels.is_labelled}
+use Rattle.fm_asm.specs.Labels.{offset_of, repeated, repeats, number_of, line_breaches, breaches, as_word, statement_words, words_of, final_in, start_in}
+use Rattle.fm_asm.{specs.Labels.is_outside, specs.Assembling.{GivesAssemblyUnless, image_of, image_unless, assembly_of}, specs.Assembly.statements_of}
+use Rattle.fm_asm.{specs.Assembly.{labels_of, are_distinct, statement_word, IsAssembly}, proofs.SourceLaws.dues, proofs.JudgingLaws.{words-lines, final_by}}
+use Rattle.fm_asm.{proofs.JudgingLaws.{final-lines, start_by, start-lines, as_word-fits, word_total, is_good, is_fresh}, proofs.SoundLaws.{read_is, header_of}}
+use Rattle.fm_asm.{proofs.SoundLaws.{lines_good, source_fits}, proofs.AssemblyLaws.spelled_is_assembled, proofs.FitLaws.{small, number_fits, value_fits}}
+use Rattle.fm_asm.{proofs.FitLaws.{statement_fits, lines_fit, valued_fits}, proofs.SpelledLineLaws.lines_spelled}
 use Rattle.fm_asm.specs.declared.due.Due.TheVariants as due
-use Rattle.fm_asm.specs.Values.{Value, number, label}
-use Rattle.fm_asm.specs.Statements.{Statement, base, size, final, start, word, instruction}
-use Rattle.fm_asm.specs.Lines.{Line}
-use Rattle.fm_asm.specs.Sources.{due_after, SourceOf, source_in, IsOfText}
-use Rattle.fm_asm.specs.Labels.{is_labelled, offset_of, repeated, repeats, number_of, line_breaches, breaches, as_word, statement_words, words_of, final_in}
-use Rattle.fm_asm.specs.Labels.{start_in, is_outside}
-use Rattle.fm_asm.specs.Assembling.{GivesAssemblyUnless, image_of, image_unless, assembly_of}
-use Rattle.fm_asm.specs.Assembly.{statements_of, labels_of, are_distinct, statement_word, IsAssembly}
-use Rattle.fm_asm.proofs.SourceLaws.{dues}
-use Rattle.fm_asm.proofs.JudgingLaws.{words-lines, final_by, final-lines, start_by, start-lines, as_word-fits, word_total, is_good, is_fresh}
-use Rattle.fm_asm.proofs.SoundLaws.{read_is, header_of, lines_good, source_fits}
-use Rattle.fm_asm.proofs.AssemblyLaws.{spelled_is_assembled}
-use Rattle.fm_asm.proofs.FitLaws.{small, number_fits, value_fits, statement_fits, lines_fit, valued_fits}
-use Rattle.fm_asm.proofs.SpelledLineLaws.{lines_spelled}
 
 -- ---- labels differ where none repeats
 

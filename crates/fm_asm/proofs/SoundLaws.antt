@@ -1,26 +1,16 @@
 -- What holds of a source that was read, and where nothing breaks a rule.
 use Rattle.std.proofs.Common.{◌≡◌, ℕ, ◌+◌, ◌-◌, ◌^◌, ◌≤◌, ◌==◌, Bool, true, false, cond, not, List, [], ◌∷◌, ◌++◌, length, Option, Some, None, Result, Ok, Err}
-use Rattle.std.proofs.Common.{is_some, is_none, refl, sym, ap, subst, ◌∙◌, arith, nat_le, leb-true, ltb-true, leb-false}
-use Rattle.std.specs.Prelude.{option_to_list}
-use Rattle.std.specs.Result.{result_unwrap_or}
-use Rattle.std.specs.List.{flat_map, list_all, slice_split}
-use Rattle.std.proofs.lemmas.Bool.{and_parts, and_from}
-use Rattle.stack_text.specs.Results.{◌>>=◌}
-use Rattle.stack_text.specs.declared.breach.Breach.{Breach}
-use Rattle.stack_text.proofs.SharedLaws.{rule_fails, append_none}
+use Rattle.std.{proofs.Common.{is_some, is_none, refl, sym, ap, subst, ◌∙◌, arith, nat_le, leb-true, ltb-true, leb-false}, specs.Prelude.option_to_list}
+use Rattle.std.{specs.Result.result_unwrap_or, specs.List.{flat_map, list_all, slice_split}, proofs.lemmas.Bool.{and_parts, and_from}}
+use Rattle.stack_text.{specs.Results.◌>>=◌, specs.declared.breach.Breach.Breach, proofs.SharedLaws.{rule_fails, append_none}}
 use Rattle.fm_image.specs.Limits.{is_size, is_inside}
-use Rattle.fm_asm.specs.declared.due.Due.{Due}
+use Rattle.fm_asm.{specs.declared.due.Due.Due, specs.Values.{Value, number, label}, specs.Statements.{Statement, base, size, final, start, word, instruction}}
+use Rattle.fm_asm.{specs.Lines.{Said, Line}, specs.Sources.{due_after, due_after_line, at_place, said_of_line, line_read, word_count, kept, SourceOf}}
+use Rattle.fm_asm.{specs.Sources.{with_lines, lines_read, source_in, IsOfText}, specs.Labels.{offset_of, number_of, undefined, beyond_size, ends_outside}}
+use Rattle.fm_asm.specs.Labels.{is_outside, statement_breaches, line_breaches, repeats, breaches, as_word, statement_words, words_of, final_in}
+use Rattle.fm_asm.{specs.Assembly.statements_of, proofs.SourceLaws.{dues, statements-kept, paired}, proofs.JudgingLaws.{words-lines, final_by, final-lines}}
+use Rattle.fm_asm.proofs.JudgingLaws.{as_word-fits, word_total, is_good}
 use Rattle.fm_asm.specs.declared.due.Due.TheVariants as due
-use Rattle.fm_asm.specs.Values.{Value, number, label}
-use Rattle.fm_asm.specs.Statements.{Statement, base, size, final, start, word, instruction}
-use Rattle.fm_asm.specs.Lines.{Said, Line}
-use Rattle.fm_asm.specs.Sources.{due_after, due_after_line, at_place, said_of_line, line_read, word_count, kept, SourceOf, with_lines, lines_read, source_in}
-use Rattle.fm_asm.specs.Sources.{IsOfText}
-use Rattle.fm_asm.specs.Labels.{offset_of, number_of, undefined, beyond_size, ends_outside, is_outside, statement_breaches, line_breaches, repeats, breaches}
-use Rattle.fm_asm.specs.Labels.{as_word, statement_words, words_of, final_in}
-use Rattle.fm_asm.specs.Assembly.{statements_of}
-use Rattle.fm_asm.proofs.SourceLaws.{dues, statements-kept, paired}
-use Rattle.fm_asm.proofs.JudgingLaws.{words-lines, final_by, final-lines, as_word-fits, word_total, is_good}
 
 -- ---- what was read
 

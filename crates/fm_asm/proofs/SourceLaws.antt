@@ -1,18 +1,13 @@
 -- The lines of a text are read, and each statement is due.
 use Rattle.std.proofs.Common.{◌≡◌, ℕ, ◌+◌, true, List, [], ◌∷◌, ◌++◌, length, map, Option, Some, None, Result, Ok, Err, refl, sym, ap, ◌∙◌}
-use Rattle.std.specs.Prelude.{option_to_list}
-use Rattle.std.proofs.lemmas.Bool.{cond-true}
+use Rattle.std.{specs.Prelude.option_to_list, proofs.lemmas.Bool.cond-true}
 use Rattle.stack_text.specs.Results.{◌>>=◌}
 use Rattle.fm_image.specs.Limits.{is_size}
-use Rattle.fm_asm.specs.declared.due.Due.{Due}
-use Rattle.fm_asm.specs.declared.due.Due.TheVariants as due
-use Rattle.fm_asm.specs.Values.{Value, number, label}
-use Rattle.fm_asm.specs.Statements.{Statement, base, size, final, start, word, instruction}
-use Rattle.fm_asm.specs.Lines.{Said, Line}
-use Rattle.fm_asm.specs.Sources.{if_in_range, final_due, due_after, due_after_line, line_read, word_count, kept, ended, with_lines, lines_read}
-use Rattle.fm_asm.specs.Labels.{number_of}
-use Rattle.fm_asm.specs.Assembly.{IsLine, AreLines, no_line, one_line, statements_of, statement_word}
+use Rattle.fm_asm.{specs.declared.due.Due.Due, specs.Values.{Value, number, label}, specs.Statements.{Statement, base, size, final, start, word, instruction}}
+use Rattle.fm_asm.{specs.Lines.{Said, Line}, specs.Sources.{if_in_range, final_due, due_after, due_after_line, line_read, word_count, kept, ended, with_lines}}
+use Rattle.fm_asm.{specs.Sources.lines_read, specs.Labels.number_of, specs.Assembly.{IsLine, AreLines, no_line, one_line, statements_of, statement_word}}
 use Rattle.fm_asm.proofs.LineLaws.{line_said}
+use Rattle.fm_asm.specs.declared.due.Due.TheVariants as due
 
 -- what a line says, and what is due after it
 abbrev pub paired : Said → Due → Result (Said × Due) ℕ

@@ -1,16 +1,11 @@
 -- The lines of a text, one after the other.
 use Rattle.std.proofs.Common.{◌≡◌, Bor, ℕ, suc, ◌+◌, ◌-◌, ◌≤◌, ◌<◌, ◌==◌, Bool, true, false, cond, List, [], ◌∷◌, ◌++◌, length, Option, Some, None, Result, Ok}
-use Rattle.std.proofs.Common.{Err, refl, sym, ap, subst, ◌∙◌, arith, append_assoc, append-nil}
-use Rattle.std.specs.List.{slice_split, onto_first}
-use Rattle.std.specs.Option.{option_copied}
-use Rattle.std.proofs.lemmas.List.{length-append}
+use Rattle.std.{proofs.Common.{Err, refl, sym, ap, subst, ◌∙◌, arith, append_assoc, append-nil}, specs.List.{slice_split, onto_first}}
+use Rattle.std.{specs.Option.option_copied, proofs.lemmas.List.length-append}
 use Rattle.stack_text.specs.declared.breach.Breach.{Breach}
-use Rattle.fm_asm.specs.declared.due.Due.{Due}
+use Rattle.fm_asm.{specs.declared.due.Due.Due, specs.Cuts.{Cut, in_front, cut}, specs.Lines.{Said, Line}, specs.Sources.{line_read, word_count, kept, SourceOf}}
+use Rattle.fm_asm.{specs.Sources.{window_of, ended_by, ended, with_lines, lines_read, source_in}, proofs.CutLaws.{cut_whole, whole}}
 use Rattle.fm_asm.specs.declared.due.Due.TheVariants as due
-use Rattle.fm_asm.specs.Cuts.{Cut, in_front, cut}
-use Rattle.fm_asm.specs.Lines.{Said, Line}
-use Rattle.fm_asm.specs.Sources.{line_read, word_count, kept, SourceOf, window_of, ended_by, ended, with_lines, lines_read, source_in}
-use Rattle.fm_asm.proofs.CutLaws.{cut_whole, whole}
 
 -- what is left of a text of so many bytes, after so many words
 abbrev pub IsWithin : Option (Bor (List ℕ)) → ℕ → ℕ → Type 0

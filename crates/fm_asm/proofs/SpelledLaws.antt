@@ -1,37 +1,22 @@
 -- What is read is written so.
 use Rattle.std.proofs.Common.{◌≡◌, ℕ, ◌+◌, ◌-◌, ◌/◌, ◌%◌, ◌<◌, ◌≤◌, ◌==◌, ◌&&◌, ◌||◌, Bool, true, false, cond, List, [], ◌∷◌, ◌++◌, Option, Some, None, Result}
 use Rattle.std.proofs.Common.{Ok, Err, option_map, unwrap_or, refl, sym, ap, subst, ◌∙◌, arith, codes, append-nil, eqb-true, nat_le, leb-true}
-use Rattle.std.specs.Prelude.{find}
-use Rattle.std.specs.Fmt.{decimal}
-use Rattle.std.specs.List.{list_all}
-use Rattle.std.specs.Str.{bytes_eq}
-use Rattle.std.proofs.lemmas.Bool.{and_parts}
-use Rattle.std.proofs.lemmas.Fmt.{decimal_digit, decimal_step}
-use Rattle.std.specs.Int.{w32, from_be_bytes}
-use Rattle.hex.specs.Hex.{decode_sized}
-use Rattle.hex.specs.declared.error.FromHexError.{FromHexError}
-use Rattle.stack_text.specs.Names.{is_name}
-use Rattle.stack_text.specs.Numerals.{is_digits, is_numeral, numeral_value}
-use Rattle.stack_text.specs.Options.{◌>>=◌}
-use Rattle.stack_text.proofs.SharedLaws.{bytes_same}
+use Rattle.std.{specs.Prelude.find, specs.Fmt.decimal, specs.List.list_all, specs.Str.bytes_eq, proofs.lemmas.Bool.and_parts, proofs.lemmas.Fmt.decimal_digit}
+use Rattle.std.{proofs.lemmas.Fmt.decimal_step, specs.Int.{w32, from_be_bytes}}
+use Rattle.hex.{specs.Hex.decode_sized, specs.declared.error.FromHexError.FromHexError}
+use Rattle.stack_text.{specs.Names.is_name, specs.Numerals.{is_digits, is_numeral, numeral_value}, specs.Options.◌>>=◌, proofs.SharedLaws.bytes_same}
 use Rattle.stack_text.proofs.KeepsLaws.{found_tests}
-use Rattle.fm_words.specs.declared.operation.Op.{Op}
-use Rattle.fm_words.specs.declared.condition.Cc.{Cc}
-use Rattle.fm_words.specs.declared.condition.Cc.TheVariants as cc
-use Rattle.fm_words.specs.declared.condition.Flags.{Flags}
-use Rattle.fm_words.specs.declared.instruction.Mode.{Mode}
+use Rattle.fm_words.{specs.declared.operation.Op.Op, specs.declared.condition.Cc.Cc, specs.declared.condition.Flags.Flags, specs.declared.instruction.Mode.Mode}
 use Rattle.fm_words.specs.declared.instruction.Mode.TheVariants.{Register, Indirect, PreDecrement, PostIncrement}
-use Rattle.fm_words.specs.declared.instruction.OperandA.{OperandA}
-use Rattle.fm_words.specs.Code.{ops, no_flags}
-use Rattle.fm_words.specs.Encoding.{encode_of}
+use Rattle.fm_words.{specs.declared.instruction.OperandA.OperandA, specs.Code.{ops, no_flags}, specs.Encoding.encode_of}
+use Rattle.fm_words.specs.declared.condition.Cc.TheVariants as cc
 use Rattle.fm_show.specs.Disassembly.{operation_name, condition_name, condition_text, shown_if, flags_text, place_text}
-use Rattle.fm_asm.specs.Cuts.{cut, split_once, after_prefix}
-use Rattle.fm_asm.specs.Values.{Value, number, label, decimal_value, decimal_in, number_of_bytes, hex_value, hexadecimal_after, as_number, value_in}
-use Rattle.fm_asm.specs.Instructions.{operation_in, written_conditions, condition_named, closed, condition_in, letter_or, letter_in, flag_letters_in, flags_in}
-use Rattle.fm_asm.specs.Instructions.{Head, named_in, head_in, register_in, closing_mode, PlaceOf, indirect_in, decrement_in, direct_in, place_by, place_in}
-use Rattle.fm_asm.specs.Instructions.{in_9_bits, immediate_in, as_operand, operand_by, operand_in, instruction_of, instruction_in}
-use Rattle.fm_asm.specs.Assembly.{SpellsValue, decimal as in_decimal, hexadecimal, named, SpellsOperand, immediate, place, SpellsInstruction}
-use Rattle.fm_asm.proofs.CutLaws.{cut_whole, whole, split_once_found, after_prefix_found}
+use Rattle.fm_asm.{specs.Cuts.{cut, split_once, after_prefix}, specs.Values.{Value, number, label, decimal_value, decimal_in, number_of_bytes, hex_value}}
+use Rattle.fm_asm.{specs.Values.{hexadecimal_after, as_number, value_in}, specs.Instructions.{operation_in, written_conditions, condition_named, closed}}
+use Rattle.fm_asm.specs.Instructions.{condition_in, letter_or, letter_in, flag_letters_in, flags_in, Head, named_in, head_in, register_in, closing_mode}
+use Rattle.fm_asm.specs.Instructions.{PlaceOf, indirect_in, decrement_in, direct_in, place_by, place_in, in_9_bits, immediate_in, as_operand, operand_by}
+use Rattle.fm_asm.{specs.Instructions.{operand_in, instruction_of, instruction_in}, specs.Assembly.{SpellsValue, decimal as in_decimal, hexadecimal, named}}
+use Rattle.fm_asm.{specs.Assembly.{SpellsOperand, immediate, place, SpellsInstruction}, proofs.CutLaws.{cut_whole, whole, split_once_found, after_prefix_found}}
 use Rattle.fm_asm.proofs.InstructionLaws.{head_text, operands_text, regrouped}
 
 -- ---- what comes of a step that gave a value

@@ -1,32 +1,19 @@
 -- What a line says is written so, and the lines of a source that was read are the text's.
 use Rattle.std.proofs.Common.{◌≡◌, ℕ, suc, ◌+◌, arith, nat_lt, ◌==◌, ◌&&◌, Bool, true, false, cond, List, [], ◌∷◌, ◌++◌, length, append-nil, Option, Some, None}
-use Rattle.std.proofs.Common.{Result, Ok, Err, option_map, refl, sym, ap, subst, ◌∙◌, codes, append_assoc}
-use Rattle.std.specs.List.{list_all, slice_split}
-use Rattle.std.specs.Str.{bytes_eq}
-use Rattle.std.specs.Result.{result_unwrap_or}
-use Rattle.std.proofs.lemmas.Bool.{and_parts, and_from}
-use Rattle.std.proofs.lemmas.Bool.Decides.{nat_tests}
-use Rattle.stack_text.specs.Names.{is_name}
-use Rattle.stack_text.specs.Results.{◌>>=◌}
-use Rattle.stack_text.specs.declared.breach.Breach.{Breach}
-use Rattle.stack_text.proofs.SharedLaws.{bytes_same}
-use Rattle.fm_asm.specs.declared.due.Due.{Due}
-use Rattle.fm_asm.specs.declared.due.Due.TheVariants as due
-use Rattle.fm_asm.specs.declared.statement.Directive.{Directive}
-use Rattle.fm_asm.specs.declared.statement.Directive.TheVariants as directive
-use Rattle.fm_asm.specs.Cuts.{cut, split_once, without_leading_spaces, unless_trailing, without_trailing, trimmed}
-use Rattle.fm_asm.specs.Values.{decimal_in, value_in}
-use Rattle.fm_asm.specs.Instructions.{instruction_in}
+use Rattle.std.{proofs.Common.{Result, Ok, Err, option_map, refl, sym, ap, subst, ◌∙◌, codes, append_assoc}, specs.List.{list_all, slice_split}}
+use Rattle.std.{specs.Str.bytes_eq, specs.Result.result_unwrap_or, proofs.lemmas.Bool.{and_parts, and_from}, proofs.lemmas.Bool.Decides.nat_tests}
+use Rattle.stack_text.{specs.Names.is_name, specs.Results.◌>>=◌, specs.declared.breach.Breach.Breach, proofs.SharedLaws.bytes_same, specs.Lines.is_plain_line}
+use Rattle.fm_asm.{specs.declared.due.Due.Due, specs.declared.statement.Directive.Directive, specs.Cuts.{cut, split_once, without_leading_spaces}}
+use Rattle.fm_asm.{specs.Cuts.{unless_trailing, without_trailing, trimmed}, specs.Values.{decimal_in, value_in}, specs.Instructions.instruction_in}
 use Rattle.fm_asm.specs.Statements.{Statement, base, size, final, start, word, instruction, directive_named, directed, by_directive, statement_in}
-use Rattle.stack_text.specs.Lines.{is_plain_line}
-use Rattle.fm_asm.specs.Lines.{Said, text_of, statement_or_none, is_apart, labelled, said_by, said_in}
-use Rattle.fm_asm.specs.Sources.{due_after_line, at_place, if_of_form, said_of_line, line_read, word_count, kept, SourceOf, ended, with_lines, lines_read}
-use Rattle.fm_asm.specs.Sources.{source_in}
-use Rattle.fm_asm.specs.Assembly.{says, is_gap, SpellsStatement, says_base, says_size, says_final, says_start, says_word, says_instruction, SpellsSaid, nothing}
-use Rattle.fm_asm.specs.Assembly.{statement_alone, label_alone, label_and_statement, IsLine, AreLines, no_line, one_line}
-use Rattle.fm_asm.proofs.CutLaws.{split_once_found, cut_some, last-other}
-use Rattle.fm_asm.proofs.SpelledLaws.{by_some, value_spelled, decimal_spelled, mapped, tested, chosen_of, bound, instruction_spelled}
-use Rattle.fm_asm.proofs.SourceLaws.{paired}
+use Rattle.fm_asm.{specs.Lines.{Said, text_of, statement_or_none, is_apart, labelled, said_by, said_in}, specs.Sources.{due_after_line, at_place, if_of_form}}
+use Rattle.fm_asm.{specs.Sources.{said_of_line, line_read, word_count, kept, SourceOf, ended, with_lines, lines_read, source_in}, specs.Assembly.{says, is_gap}}
+use Rattle.fm_asm.specs.Assembly.{SpellsStatement, says_base, says_size, says_final, says_start, says_word, says_instruction, SpellsSaid, nothing}
+use Rattle.fm_asm.{specs.Assembly.{statement_alone, label_alone, label_and_statement, IsLine, AreLines, no_line, one_line}, proofs.CutLaws.split_once_found}
+use Rattle.fm_asm.{proofs.CutLaws.{cut_some, last-other}, proofs.SpelledLaws.{by_some, value_spelled, decimal_spelled, mapped, tested, chosen_of, bound}}
+use Rattle.fm_asm.{proofs.SpelledLaws.instruction_spelled, proofs.SourceLaws.paired}
+use Rattle.fm_asm.specs.declared.due.Due.TheVariants as due
+use Rattle.fm_asm.specs.declared.statement.Directive.TheVariants as directive
 
 -- ---- statements
 

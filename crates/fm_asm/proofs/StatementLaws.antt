@@ -1,17 +1,13 @@
 -- Statements are read from what they are written as.
-use Rattle.std.proofs.Common.{◌≡◌, ℕ, ◌==◌, true, false, List, ◌∷◌, ◌++◌, Option, Some, None, option_map, refl, ap, ◌∙◌, codes}
-use Rattle.std.proofs.lemmas.Bool.{and_from}
-use Rattle.fm_words.specs.declared.operation.Op.{Op}
-use Rattle.fm_words.specs.declared.operation.Op.TheVariants.{Move, Inc, Addc, Add, Neg, Dec, Subb, Sub, Ror, Asr, Lsr, Xor, Or, And, Not, M15}
-use Rattle.fm_words.specs.declared.condition.Cc.{Cc}
-use Rattle.fm_words.specs.declared.condition.Flags.{Flags}
+use Rattle.std.{proofs.Common.{◌≡◌, ℕ, ◌==◌, true, false, List, ◌∷◌, ◌++◌, Option, Some, None, option_map, refl, ap, ◌∙◌, codes}, proofs.lemmas.Bool.and_from}
+use Rattle.fm_words.{specs.declared.operation.Op.Op, specs.declared.operation.Op.TheVariants.{Move, Inc, Addc, Add, Neg, Dec, Subb, Sub, Ror, Asr, Lsr, Xor}}
+use Rattle.fm_words.{specs.declared.operation.Op.TheVariants.{Or, And, Not, M15}, specs.declared.condition.Cc.Cc, specs.declared.condition.Flags.Flags}
 use Rattle.fm_show.specs.Disassembly.{place_text}
-use Rattle.fm_asm.specs.Cuts.{cut, split_once}
-use Rattle.fm_asm.specs.Statements.{Statement, base, size, final, start, word, instruction, directive_named, directed, by_directive, statement_in}
-use Rattle.fm_asm.specs.Assembly.{SpellsInstruction, SpellsStatement, says_base, says_size, says_final, says_start, says_word, says_instruction}
-use Rattle.fm_asm.proofs.CutLaws.{lacks, lacks-append, split_once-append}
-use Rattle.fm_asm.proofs.ValueLaws.{decimal_written, value_written, value_colonless, digits_lack}
-use Rattle.fm_asm.proofs.InstructionLaws.{head_text, operands_text, regrouped, instruction_read, head_spaceless, head_colonless, place_lacks, operand_colonless}
+use Rattle.fm_asm.{specs.Cuts.{cut, split_once}, specs.Statements.{Statement, base, size, final, start, word, instruction, directive_named, directed}}
+use Rattle.fm_asm.{specs.Statements.{by_directive, statement_in}, specs.Assembly.{SpellsInstruction, SpellsStatement, says_base, says_size, says_final}}
+use Rattle.fm_asm.{specs.Assembly.{says_start, says_word, says_instruction}, proofs.CutLaws.{lacks, lacks-append, split_once-append}}
+use Rattle.fm_asm.{proofs.ValueLaws.{decimal_written, value_written, value_colonless, digits_lack}, proofs.InstructionLaws.{head_text, operands_text}}
+use Rattle.fm_asm.proofs.InstructionLaws.{regrouped, instruction_read, head_spaceless, head_colonless, place_lacks, operand_colonless}
 
 -- no instruction begins as a directive does
 no_directive : (op : Op) (k : Cc) (f : Flags) → directive_named (head_text op k f) ≡ None

@@ -1,14 +1,10 @@
 -- Printed lines: their bytes, and that they are cut and trimmed to themselves.
 use Rattle.std.proofs.Common.{◌≡◌, ℕ, ◌≤◌, ◌==◌, ◌&&◌, Bool, true, false, not, List, [], ◌∷◌, ◌++◌, length, None, refl, sym, ap, ◌∙◌, arith, le-leb}
-use Rattle.std.specs.List.{list_all, slice_split, onto_first}
-use Rattle.std.specs.Char.{is_ascii_digit}
-use Rattle.std.proofs.lemmas.Bool.{and_parts, and_from, not-true, cond-false}
+use Rattle.std.{specs.List.{list_all, slice_split, onto_first}, specs.Char.is_ascii_digit, proofs.lemmas.Bool.{and_parts, and_from, not-true, cond-false}}
 use Rattle.std.proofs.lemmas.Bool.Decides.{nat_tests}
-use Rattle.fm_asm.specs.Cuts.{cut, without_leading_spaces, unless_trailing, without_trailing, trimmed}
-use Rattle.stack_text.specs.Lines.{is_plain_byte, is_plain_line}
-use Rattle.fm_asm.specs.Lines.{text_of}
-use Rattle.fm_asm.proofs.CutLaws.{lacks, cut-lacks}
+use Rattle.fm_asm.{specs.Cuts.{cut, without_leading_spaces, unless_trailing, without_trailing, trimmed}, specs.Lines.text_of, proofs.CutLaws.{lacks, cut-lacks}}
 use Rattle.fm_asm.proofs.ValueLaws.{lacks_from}
+use Rattle.stack_text.specs.Lines.{is_plain_byte, is_plain_line}
 
 -- a plain byte that begins no comment
 abbrev pub is_text_byte : ℕ → Bool

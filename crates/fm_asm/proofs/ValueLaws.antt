@@ -1,21 +1,13 @@
 -- Values, and the bytes that they have.
 use Rattle.std.proofs.Common.{◌≡◌, ℕ, ◌==◌, ◌&&◌, Bool, true, false, cond, not, List, [], ◌∷◌, length, Some, option_map, refl, sym, ap, subst, ◌∙◌, arith}
-use Rattle.std.proofs.Common.{codes, eqb-true, nat_lt}
-use Rattle.std.specs.List.{list_all}
-use Rattle.std.specs.Char.{is_ascii_digit, is_ascii_alphabetic}
-use Rattle.std.proofs.lemmas.Bool.{and_parts, and_from, cond-true, cond-false}
-use Rattle.std.proofs.lemmas.Bool.Decides.{nat_tests}
-use Rattle.std.specs.Prelude.{IsOk}
+use Rattle.std.{proofs.Common.{codes, eqb-true, nat_lt}, specs.List.list_all, specs.Char.{is_ascii_digit, is_ascii_alphabetic}, proofs.lemmas.Bool.and_parts}
+use Rattle.std.{proofs.lemmas.Bool.{and_from, cond-true, cond-false}, proofs.lemmas.Bool.Decides.nat_tests, specs.Prelude.IsOk}
 use Rattle.std.proofs.lemmas.List.Sums.{list_all-from_AllPass}
-use Rattle.hex.specs.Hex.{decode_sized, is_hex_digit}
-use Rattle.hex.proofs.HexLemmas.{IsOk-decode_sized}
-use Rattle.stack_text.specs.Names.{is_name, is_name_byte, begins_with_letter}
-use Rattle.stack_text.specs.Numerals.{is_digits}
-use Rattle.stack_text.proofs.SharedLaws.{and_false}
-use Rattle.fm_asm.specs.Cuts.{after_prefix}
-use Rattle.fm_asm.specs.Values.{Value, number, label, decimal_value, decimal_in, number_of_bytes, hex_value, hexadecimal_after, as_number, value_in}
-use Rattle.fm_asm.specs.Assembly.{IsHexadecimal, SpellsValue, decimal, hexadecimal, named}
-use Rattle.fm_asm.proofs.CutLaws.{lacks, after_prefix-append}
+use Rattle.hex.{specs.Hex.{decode_sized, is_hex_digit}, proofs.HexLemmas.IsOk-decode_sized}
+use Rattle.stack_text.{specs.Names.{is_name, is_name_byte, begins_with_letter}, specs.Numerals.is_digits, proofs.SharedLaws.and_false}
+use Rattle.fm_asm.{specs.Cuts.after_prefix, specs.Values.{Value, number, label, decimal_value, decimal_in, number_of_bytes, hex_value, hexadecimal_after}}
+use Rattle.fm_asm.{specs.Values.{as_number, value_in}, specs.Assembly.{IsHexadecimal, SpellsValue, decimal, hexadecimal, named}, proofs.CutLaws.lacks}
+use Rattle.fm_asm.proofs.CutLaws.{after_prefix-append}
 
 -- where each byte passes, and this one doesn't, it is lacking
 pub lacks_from : (p : ℕ → Bool) (byte : ℕ) (bytes : List ℕ) → p byte ≡ false → list_all p bytes ≡ true → lacks byte bytes ≡ true

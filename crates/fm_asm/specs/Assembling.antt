@@ -1,16 +1,10 @@
 -- What a text is assembled to.
 use Rattle.std.specs.Prelude.{ℕ, Option, Some, None, Result, Ok, Err, List}
-use Rattle.stack_text.specs.Breaches.{least}
+use Rattle.stack_text.specs.{Breaches.{least}, Results.{◌>>=◌}, declared.breach.Breach.{Breach}}
 use Rattle.stack_text.specs.Gives as common
-use Rattle.stack_text.specs.Results.{◌>>=◌}
-use Rattle.stack_text.specs.declared.breach.Breach.{Breach}
 use Rattle.fm_image.specs.Image.{ImageOf}
-use Rattle.fm_asm.specs.declared.fault.AsmFault.{AsmFault}
-use Rattle.fm_asm.specs.declared.fault.AsmFault.TheVariants.{Refused, Memory}
-use Rattle.fm_asm.specs.Cuts.{without_trailing}
-use Rattle.fm_asm.specs.Sources.{SourceOf, source_in}
-use Rattle.fm_asm.specs.Labels.{offset_of, breaches, words_of, final_in, start_in}
-use Rattle.fm_asm.specs.Printing.{plain_image}
+use Rattle.fm_asm.specs.{declared.fault.AsmFault.{AsmFault}, declared.fault.AsmFault.TheVariants.{Refused, Memory}, Cuts.{without_trailing}}
+use Rattle.fm_asm.specs.{Sources.{SourceOf, source_in}, Labels.{offset_of, breaches, words_of, final_in, start_in}, Printing.{plain_image}}
 
 -- the fault of a text that an error is; there is none where memory ran out
 abbrev pub fault_of : AsmFault → Option Breach

@@ -1,33 +1,18 @@
 -- When an assembly text spells an image: the grammar. It shares with the definitions that read texts only how a line is cut
 -- (`text_of`), which numbers are in their range, and where labels are.
-use Rattle.std.specs.Prelude.{◌≡◌, ℕ, ◌+◌, ◌≤◌, ◌<◌, List, [], ◌∷◌, ◌++◌, length, map, Option, Some, None, Ok}
-use Rattle.std.specs.Prelude.{Bool, true, not, ◌&&◌, ◌==◌, nat_lt, IsTrue, codes, option_map, option_to_list}
-use Rattle.std.specs.Int.{w32, from_be_bytes}
-use Rattle.std.specs.List.{flat_map, list_all, list_any, slice_split}
-use Rattle.std.specs.Str.{bytes_eq}
+use Rattle.std.specs.Prelude.{◌≡◌, ℕ, ◌+◌, ◌≤◌, ◌<◌, List, [], ◌∷◌, ◌++◌, length, map, Option, Some, None, Ok, Bool, true, not, ◌&&◌, ◌==◌}
+use Rattle.std.specs.{Prelude.{nat_lt, IsTrue, codes, option_map, option_to_list}, Int.{w32, from_be_bytes}, List.{flat_map, list_all}}
+use Rattle.std.specs.{List.{list_any, slice_split}, Str.{bytes_eq}}
 use Rattle.hex.specs.Hex.{decode_sized}
-use Rattle.stack_text.specs.Names.{is_name}
-use Rattle.stack_text.specs.Numerals.{is_digits, is_numeral, numeral_value}
-use Rattle.fm_words.specs.declared.operation.Op.{Op}
-use Rattle.fm_words.specs.declared.condition.Cc.{Cc}
-use Rattle.fm_words.specs.declared.condition.Flags.{Flags}
-use Rattle.fm_words.specs.declared.instruction.Mode.{Mode}
-use Rattle.fm_words.specs.declared.instruction.OperandA.{OperandA}
-use Rattle.fm_words.specs.declared.instruction.OperandA.TheVariants.{Place}
-use Rattle.fm_words.specs.Encoding.{encode_of}
+use Rattle.stack_text.specs.{Names.{is_name}, Numerals.{is_digits, is_numeral, numeral_value}, Lines.{is_plain_line}}
+use Rattle.fm_words.specs.{declared.operation.Op.{Op}, declared.condition.Cc.{Cc}, declared.condition.Flags.{Flags}}
+use Rattle.fm_words.specs.{declared.instruction.Mode.{Mode}, declared.instruction.OperandA.{OperandA}}
+use Rattle.fm_words.specs.{declared.instruction.OperandA.TheVariants.{Place}, Encoding.{encode_of}}
 use Rattle.fm_show.specs.Disassembly.{operation_name, condition_text, flags_text, place_text}
-use Rattle.fm_image.specs.Image.{ImageOf}
-use Rattle.fm_image.specs.Limits.{is_size, is_inside}
-use Rattle.fm_image.specs.Spelling.{are_words}
-use Rattle.fm_asm.specs.Cuts.{without_trailing}
-use Rattle.fm_asm.specs.Values.{Value, number, label, decimal_value}
-use Rattle.fm_asm.specs.Instructions.{in_9_bits}
-use Rattle.fm_asm.specs.Statements.{Statement, base, size, final, start, word, instruction}
-use Rattle.stack_text.specs.Lines.{is_plain_line}
-use Rattle.fm_asm.specs.Lines.{Said, Line, text_of}
-use Rattle.fm_asm.specs.Sources.{kept, word_count}
-use Rattle.fm_asm.specs.Labels.{offset_of, number_of}
-use Rattle.fm_asm.specs.Printing.{plain_image}
+use Rattle.fm_image.specs.{Image.{ImageOf}, Limits.{is_size, is_inside}, Spelling.{are_words}}
+use Rattle.fm_asm.specs.{Cuts.{without_trailing}, Values.{Value, number, label, decimal_value}, Instructions.{in_9_bits}}
+use Rattle.fm_asm.specs.{Statements.{Statement, base, size, final, start, word, instruction}, Lines.{Said, Line, text_of}, Sources.{kept}}
+use Rattle.fm_asm.specs.{Sources.{word_count}, Labels.{offset_of, number_of}, Printing.{plain_image}}
 
 -- ---- statements
 

@@ -1,13 +1,8 @@
 -- All breaches of rules 1 to 3 that a text has. A line that breaks one counts for nothing: what was due before it is still due.
-use Rattle.std.specs.Prelude.{ℕ, ◌+◌, ◌==◌, List, [], ◌∷◌, ◌++◌, length, Option, Some, None, not, Result, Ok, Err}
-use Rattle.std.specs.List.{slice_split}
-use Rattle.stack_text.specs.Breaches.{when}
-use Rattle.stack_text.specs.declared.breach.Breach.{Breach}
-use Rattle.fm_asm.specs.declared.due.Due.{Due}
+use Rattle.std.specs.{Prelude.{ℕ, ◌+◌, ◌==◌, List, [], ◌∷◌, ◌++◌, length, Option, Some, None, not, Result, Ok, Err}, List.{slice_split}}
+use Rattle.stack_text.specs.{Breaches.{when}, declared.breach.Breach.{Breach}, Lines.{is_plain_line}}
+use Rattle.fm_asm.specs.{declared.due.Due.{Due}, Lines.{Said, text_of, said_in}, Sources.{due_after_line, line_read, SourceOf, window_of}}
 use Rattle.fm_asm.specs.declared.due.Due.TheVariants as due
-use Rattle.stack_text.specs.Lines.{is_plain_line}
-use Rattle.fm_asm.specs.Lines.{Said, text_of, said_in}
-use Rattle.fm_asm.specs.Sources.{due_after_line, line_read, SourceOf, window_of}
 
 abbrev pub breach_at : ℕ → Result Due ℕ → List Breach
 breach_at place (Ok d) = []

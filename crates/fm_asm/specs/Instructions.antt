@@ -1,20 +1,13 @@
 -- Instructions, read from the text that the disassembler writes.
-use Rattle.std.specs.Prelude.{ℕ, ◌-◌, ℤ, pos, negsuc, List, [], ◌∷◌, Option, Some, None, Bool, true, false}
-use Rattle.std.specs.Prelude.{◌==◌, ◌&&◌, ◌||◌, nat_le, if◌then◌else◌, codes, find, option_map}
-use Rattle.std.specs.Str.{bytes_eq}
-use Rattle.stack_text.specs.Numerals.{is_numeral, numeral_value}
-use Rattle.stack_text.specs.Options.{◌>>=◌}
-use Rattle.fm_words.specs.declared.operation.Op.{Op}
-use Rattle.fm_words.specs.declared.condition.Cc.{Cc}
+use Rattle.std.specs.Prelude.{ℕ, ◌-◌, ℤ, pos, negsuc, List, [], ◌∷◌, Option, Some, None, Bool, true, false, ◌==◌, ◌&&◌, ◌||◌, nat_le}
+use Rattle.std.specs.{Prelude.{if◌then◌else◌, codes, find, option_map}, Str.{bytes_eq}}
+use Rattle.stack_text.specs.{Numerals.{is_numeral, numeral_value}, Options.{◌>>=◌}}
+use Rattle.fm_words.specs.{declared.operation.Op.{Op}, declared.condition.Cc.{Cc}, declared.condition.Flags.{Flags}}
+use Rattle.fm_words.specs.{declared.instruction.Mode.{Mode}, declared.instruction.Mode.TheVariants.{Register, Indirect, PreDecrement}}
+use Rattle.fm_words.specs.{declared.instruction.Mode.TheVariants.{PostIncrement}, declared.instruction.OperandA.{OperandA}}
+use Rattle.fm_words.specs.{declared.instruction.OperandA.TheVariants.{Immediate, Place}, declared.instruction.Instr.{Instr}, Code.{ops}}
+use Rattle.fm_words.specs.{Code.{no_flags}, Encoding.{encode_of}}
 use Rattle.fm_words.specs.declared.condition.Cc.TheVariants as cc
-use Rattle.fm_words.specs.declared.condition.Flags.{Flags}
-use Rattle.fm_words.specs.declared.instruction.Mode.{Mode}
-use Rattle.fm_words.specs.declared.instruction.Mode.TheVariants.{Register, Indirect, PreDecrement, PostIncrement}
-use Rattle.fm_words.specs.declared.instruction.OperandA.{OperandA}
-use Rattle.fm_words.specs.declared.instruction.OperandA.TheVariants.{Immediate, Place}
-use Rattle.fm_words.specs.declared.instruction.Instr.{Instr}
-use Rattle.fm_words.specs.Code.{ops, no_flags}
-use Rattle.fm_words.specs.Encoding.{encode_of}
 use Rattle.fm_show.specs.Disassembly.{operation_name, condition_name}
 use Rattle.fm_asm.specs.Cuts.{cut, split_once, after_prefix}
 

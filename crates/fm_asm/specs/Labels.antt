@@ -1,15 +1,10 @@
 -- Labels, words, and what breaks a rule where each line is of a form.
-use Rattle.std.specs.Prelude.{◌≡◌, ℕ, ◌+◌, ◌%◌, ◌^◌, List, [], ◌∷◌, ◌++◌, Option, Some, None, Bool, false}
-use Rattle.std.specs.Prelude.{is_some, is_none, not, nat_le, if◌then◌else◌, option_map, unwrap_or}
-use Rattle.std.specs.List.{flat_map}
-use Rattle.std.specs.Str.{bytes_eq}
+use Rattle.std.specs.Prelude.{◌≡◌, ℕ, ◌+◌, ◌%◌, ◌^◌, List, [], ◌∷◌, ◌++◌, Option, Some, None, Bool, false, is_some, is_none, not, nat_le}
+use Rattle.std.specs.{Prelude.{if◌then◌else◌, option_map, unwrap_or}, List.{flat_map}, Str.{bytes_eq}}
 use Rattle.name_tables.specs.Entries.{Entries, look_up}
-use Rattle.stack_text.specs.declared.breach.Breach.{Breach}
-use Rattle.stack_text.specs.Breaches.{when}
+use Rattle.stack_text.specs.{declared.breach.Breach.{Breach}, Breaches.{when}}
 use Rattle.fm_image.specs.Limits.{is_inside}
-use Rattle.fm_asm.specs.Values.{Value, number, label}
-use Rattle.fm_asm.specs.Statements.{Statement, final, start, word, instruction}
-use Rattle.fm_asm.specs.Lines.{Line}
+use Rattle.fm_asm.specs.{Values.{Value, number, label}, Statements.{Statement, final, start, word, instruction}, Lines.{Line}}
 use Rattle.fm_asm.specs.Sources.{SourceOf}
 
 -- ---- where labels are

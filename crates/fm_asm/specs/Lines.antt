@@ -1,11 +1,9 @@
 -- Lines.
-use Rattle.std.specs.Prelude.{ℕ, List, [], ◌∷◌, Option, Some, None, Bool, true}
-use Rattle.std.specs.Prelude.{◌&&◌, ◌||◌, is_some, ◌==◌, if◌then◌else◌, option_map}
+use Rattle.std.specs.Prelude.{ℕ, List, [], ◌∷◌, Option, Some, None, Bool, true, ◌&&◌, ◌||◌, is_some, ◌==◌, if◌then◌else◌, option_map}
 use Rattle.stack_text.specs.Names.{is_name}
 use Rattle.fm_asm.specs.declared.line.Said as declared_said
 use Rattle.fm_asm.specs.declared.line.Line as declared
-use Rattle.fm_asm.specs.Cuts.{cut, without_leading_spaces, trimmed}
-use Rattle.fm_asm.specs.Statements.{Statement, statement_of, statement_in}
+use Rattle.fm_asm.specs.{Cuts.{cut, without_leading_spaces, trimmed}, Statements.{Statement, statement_of, statement_in}}
 
 -- what a line says: a label and a statement, each of which may be missing
 pub record Said : Type 0 where

@@ -1,16 +1,9 @@
 -- Plain images, and their assembly text.
-use Rattle.std.specs.Prelude.{ℕ, ◌-◌, List, [], ◌∷◌, ◌++◌, length, take, replicate, slice_get, slice_index, Option, Some, None}
-use Rattle.std.specs.Prelude.{Bool, false, not, is_none, ◌&&◌, ◌||◌, ◌==◌, if◌then◌else◌, codes}
-use Rattle.std.specs.Fmt.{decimal}
-use Rattle.std.specs.List.{flat_map, list_all}
-use Rattle.fm_words.specs.declared.condition.Flags.{Flags}
-use Rattle.fm_words.specs.Code.{decode_of}
-use Rattle.fm_words.specs.Encoding.{encode_of}
-use Rattle.fm_image.specs.Image.{ImageOf}
-use Rattle.fm_image.specs.Limits.{marked_version}
-use Rattle.fm_image.specs.Bare.{bare_image}
-use Rattle.fm_show.specs.Digits.{hex_digits}
-use Rattle.fm_show.specs.Disassembly.{disassembly_text}
+use Rattle.std.specs.Prelude.{ℕ, ◌-◌, List, [], ◌∷◌, ◌++◌, length, take, replicate, slice_get, slice_index, Option, Some, None, Bool, false}
+use Rattle.std.specs.{Prelude.{not, is_none, ◌&&◌, ◌||◌, ◌==◌, if◌then◌else◌, codes}, Fmt.{decimal}, List.{flat_map, list_all}}
+use Rattle.fm_words.specs.{declared.condition.Flags.{Flags}, Code.{decode_of}, Encoding.{encode_of}}
+use Rattle.fm_image.specs.{Image.{ImageOf}, Limits.{marked_version}, Bare.{bare_image}}
+use Rattle.fm_show.specs.{Digits.{hex_digits}, Disassembly.{disassembly_text}}
 
 -- ---- plain images
 

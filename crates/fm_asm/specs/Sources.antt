@@ -2,16 +2,12 @@
 -- about its form and what is due, rule 3 about the ranges of numbers. In `Due`, b is the base of the window and n its size.
 use Rattle.std.specs.Prelude.{◌≡◌, ℕ, ◌+◌, List, [], ◌∷◌, ◌++◌, length, Option, Some, None, Bool, ◌==◌, if◌then◌else◌, Result, Ok, Err, map}
 use Rattle.std.specs.List.{slice_split}
-use Rattle.stack_text.specs.Results.{◌>>=◌}
-use Rattle.stack_text.specs.declared.breach.Breach.{Breach}
+use Rattle.stack_text.specs.{Results.{◌>>=◌}, declared.breach.Breach.{Breach}, Lines.{is_plain_line}}
 use Rattle.fm_image.specs.Limits.{is_size}
-use Rattle.fm_asm.specs.declared.due.Due.{Due}
+use Rattle.fm_asm.specs.{declared.due.Due.{Due}, Values.{Value, number, label}, Statements.{Statement, base, size, final, start, word}}
+use Rattle.fm_asm.specs.{Statements.{instruction}, Lines.{Said, Line, says_something, line_of, text_of, said_in}}
 use Rattle.fm_asm.specs.declared.due.Due.TheVariants as due
 use Rattle.fm_asm.specs.declared.source.Source as declared
-use Rattle.fm_asm.specs.Values.{Value, number, label}
-use Rattle.fm_asm.specs.Statements.{Statement, base, size, final, start, word, instruction}
-use Rattle.stack_text.specs.Lines.{is_plain_line}
-use Rattle.fm_asm.specs.Lines.{Said, Line, says_something, line_of, text_of, said_in}
 
 -- what is due next, if the value is in its range; else rule 3 is broken
 abbrev pub if_in_range : Value → Due → Result Due ℕ

@@ -1,14 +1,11 @@
 -- Statements.
-use Rattle.std.specs.Prelude.{ℕ, List, Option, Some, None, if◌then◌else◌, codes, option_map}
-use Rattle.std.specs.Str.{bytes_eq}
+use Rattle.std.specs.{Prelude.{ℕ, List, Option, Some, None, if◌then◌else◌, codes, option_map}, Str.{bytes_eq}}
 use Rattle.stack_text.specs.Options.{◌>>=◌}
 use Rattle.fm_asm.specs.declared.statement.Statement as declared
 use Rattle.fm_asm.specs.declared.statement.Statement.TheVariants as variants
-use Rattle.fm_asm.specs.declared.statement.Directive.{Directive}
-use Rattle.fm_asm.specs.declared.statement.Directive.TheVariants as directive
-use Rattle.fm_asm.specs.Cuts.{split_once}
-use Rattle.fm_asm.specs.Values.{Value, value_of, decimal_in, value_in}
+use Rattle.fm_asm.specs.{declared.statement.Directive.{Directive}, Cuts.{split_once}, Values.{Value, value_of, decimal_in, value_in}}
 use Rattle.fm_asm.specs.Instructions.{instruction_in}
+use Rattle.fm_asm.specs.declared.statement.Directive.TheVariants as directive
 
 -- a statement; an instruction is its word, and what is out of its range is `None`: a number, or an instruction by its immediate
 pub data Statement : Type 0 where

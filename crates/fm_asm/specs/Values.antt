@@ -1,11 +1,7 @@
 -- Values: a number, or a label that stands for one.
-use Rattle.std.specs.Prelude.{ℕ, List, Option, Some, None, Result, Ok, Err}
-use Rattle.std.specs.Prelude.{if◌then◌else◌, codes, option_map}
-use Rattle.std.specs.Int.{w32, from_be_bytes}
-use Rattle.hex.specs.Hex.{decode_sized}
-use Rattle.hex.specs.declared.error.FromHexError.{FromHexError}
-use Rattle.stack_text.specs.Names.{is_name}
-use Rattle.stack_text.specs.Numerals.{is_digits, numeral_value}
+use Rattle.std.specs.{Prelude.{ℕ, List, Option, Some, None, Result, Ok, Err, if◌then◌else◌, codes, option_map}, Int.{w32, from_be_bytes}}
+use Rattle.hex.specs.{Hex.{decode_sized}, declared.error.FromHexError.{FromHexError}}
+use Rattle.stack_text.specs.{Names.{is_name}, Numerals.{is_digits, numeral_value}}
 use Rattle.fm_words.specs.Word.{unsigned_32}
 use Rattle.fm_asm.specs.declared.value.Value as declared
 use Rattle.fm_asm.specs.declared.value.Value.TheVariants as variants

@@ -1,20 +1,13 @@
 //! Assembling a text.
 
-ghost use Rattle.std.specs.Prelude.{◌≡◌, ◌≤◌, ◌<◌, ◌^◌, ◌++◌, IsTrue, length, take, option_map, IfOk};
-ghost use Rattle.std.specs.List.{flat_map};
+ghost use Rattle.std.specs.{Prelude.{◌≡◌, ◌≤◌, ◌<◌, ◌^◌, ◌++◌, IsTrue, length, take, option_map, IfOk}, List.{flat_map}};
 ghost use Rattle.stack_heap.specs.Heaps.{IfOkUnless, OnOkUnless};
 ghost use Rattle.stack_text.specs.Breaches.{least};
 ghost use Rattle.name_tables.specs.Entries.{look_up};
-ghost use Rattle.fm_image.specs.Image.{ImageOf};
-ghost use Rattle.fm_image.specs.Limits.{is_size, is_inside};
-ghost use Rattle.fm_asm.specs.Cuts.{without_trailing};
-ghost use Rattle.fm_asm.specs.Statements.{statement_of};
-ghost use Rattle.fm_asm.specs.Lines.{line_of};
-ghost use Rattle.fm_asm.specs.Sources.{source_of, IsOfText};
-ghost use Rattle.fm_asm.specs.Labels.{breaches, as_word, statement_words, line_words, final_word, start_word, first_value};
-ghost use Rattle.fm_asm.specs.Printing.{is_plain, plain_image};
-ghost use Rattle.fm_asm.specs.Assembly.{IsAssembly};
-ghost use Rattle.fm_asm.specs.Assembling.{GivesAssemblyUnless, image_unless, assembly_of};
+ghost use Rattle.fm_image.specs.{Image.{ImageOf}, Limits.{is_size, is_inside}};
+ghost use Rattle.fm_asm.specs.{Cuts.{without_trailing}, Statements.{statement_of}, Lines.{line_of}, Sources.{source_of, IsOfText}, Labels.{breaches, as_word}};
+ghost use Rattle.fm_asm.specs.{Labels.{statement_words, line_words, final_word, start_word, first_value}, Printing.{is_plain, plain_image}};
+ghost use Rattle.fm_asm.specs.{Assembly.{IsAssembly}, Assembling.{GivesAssemblyUnless, image_unless, assembly_of}};
 
 use crate::fault::AsmFault;
 use crate::judging::{judge, number_of};

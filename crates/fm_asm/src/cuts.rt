@@ -1,7 +1,6 @@
 //! Cutting bytes into parts.
 
-ghost use Rattle.std.specs.Prelude.{◌≡◌, ◌≤◌, length, take, drop, option_map};
-ghost use Rattle.std.specs.Option.{option_copied};
+ghost use Rattle.std.specs.{Prelude.{◌≡◌, ◌≤◌, length, take, drop, option_map}, Option.{option_copied}};
 ghost use Rattle.fm_asm.specs.Cuts.{cut, split_once, after_prefix, without_leading_spaces, without_trailing, trimmed};
 
 use bstr::ByteSlice;

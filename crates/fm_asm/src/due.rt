@@ -1,9 +1,8 @@
 //! Which statement is due, and what breaks rule 2 or 3 of `docs/languages/asm.md`. A rule is its number, as in `Breach`.
 
 ghost use Rattle.std.specs.Prelude.{◌≡◌, option_map};
-ghost use Rattle.fm_asm.specs.Values.{value_of};
-ghost use Rattle.fm_asm.specs.Statements.{statement_of};
-ghost use Rattle.fm_asm.specs.Sources.{if_in_range, if_encoded, size_due, final_due, due_after, due_after_line, window_of};
+ghost use Rattle.fm_asm.specs.{Values.{value_of}, Statements.{statement_of}, Sources.{if_in_range, if_encoded, size_due, final_due, due_after, due_after_line}};
+ghost use Rattle.fm_asm.specs.Sources.{window_of};
 
 use crate::statement::Statement;
 use crate::value::Value;

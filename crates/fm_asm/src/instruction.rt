@@ -1,9 +1,9 @@
 //! Instructions, read from the text that the disassembler writes.
 
-ghost use Rattle.std.specs.Prelude.{◌≡◌, ◌<◌, IfSome, option_map};
-ghost use Rattle.std.specs.Option.{option_copied};
+ghost use Rattle.std.specs.{Prelude.{◌≡◌, ◌<◌, IfSome, option_map}, Option.{option_copied}};
 ghost use Rattle.fm_words.specs.Encoding.{encode_of, IsOperand};
-ghost use Rattle.fm_asm.specs.Instructions.{operation_in, condition_named, condition_in, letter_in, flag_letters_in, flags_in, named_in, head_in, instruction_of, instruction_in};
+ghost use Rattle.fm_asm.specs.Instructions.{operation_in, condition_named, condition_in, letter_in, flag_letters_in, flags_in, named_in, head_in};
+ghost use Rattle.fm_asm.specs.Instructions.{instruction_of, instruction_in};
 
 use crate::cuts::{after_prefix, cut, split_once};
 use crate::operand::{closed, operand_in, place_in};

@@ -1,14 +1,11 @@
 //! What breaks a rule where each line is of a form.
 
-ghost use Rattle.std.specs.Prelude.{◌≡◌, ◌<◌, option_map};
-ghost use Rattle.std.specs.List.{flat_map};
+ghost use Rattle.std.specs.{Prelude.{◌≡◌, ◌<◌, option_map}, List.{flat_map}};
 ghost use Rattle.stack_text.specs.Breaches.{Notes};
 ghost use Rattle.name_tables.specs.Entries.{look_up};
 ghost use Rattle.fm_image.specs.Limits.{is_inside};
-ghost use Rattle.fm_asm.specs.Values.{value_of};
-ghost use Rattle.fm_asm.specs.Statements.{statement_of};
-ghost use Rattle.fm_asm.specs.Lines.{line_of};
-ghost use Rattle.fm_asm.specs.Labels.{number_of, is_outside, statement_breaches, line_breaches};
+ghost use Rattle.fm_asm.specs.{Values.{value_of}, Statements.{statement_of}, Lines.{line_of}, Labels.{number_of, is_outside, statement_breaches}};
+ghost use Rattle.fm_asm.specs.Labels.{line_breaches};
 
 use crate::line::Line;
 use crate::statement::Statement;

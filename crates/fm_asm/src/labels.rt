@@ -1,13 +1,10 @@
 //! The table of labels: how many words stand before the line of each.
 
-ghost use Rattle.std.specs.Prelude.{◌≡◌, ℕ, List, [], map, option_map, is_some, OnOk};
-ghost use Rattle.std.specs.Str.{bytes_eq};
+ghost use Rattle.std.specs.{Prelude.{◌≡◌, ℕ, List, [], map, option_map, is_some, OnOk}, Str.{bytes_eq}};
 ghost use Rattle.stack_heap.specs.Heaps.{IfOkUnless, OnOkUnless};
-ghost use Rattle.stack_text.specs.Breaches.{when, Notes};
+ghost use Rattle.stack_text.specs.{Breaches.{when, Notes}, Options.{first_or}};
 ghost use Rattle.name_tables.specs.Entries.{look_up};
-ghost use Rattle.fm_asm.specs.Lines.{line_of};
-ghost use Rattle.fm_asm.specs.Labels.{is_labelled, repeated, repeats, Knows};
-ghost use Rattle.stack_text.specs.Options.{first_or};
+ghost use Rattle.fm_asm.specs.{Lines.{line_of}, Labels.{is_labelled, repeated, repeats, Knows}};
 
 use crate::line::Line;
 use name_tables::{NameKeys, NameTable};

@@ -1,16 +1,10 @@
 //! Laws of assembly texts: a text is assembled to the image that it spells, and what is printed is assembled to the same image.
 
 ghost use Rattle.std.specs.Prelude.{◌≡◌, ◌↔◌, ℕ, ◌<◌, ◌≤◌, ◌^◌, List, length, IsTrue, Ok, Err};
-ghost use Rattle.stack_text.specs.Breaches.{least};
-ghost use Rattle.stack_text.specs.declared.breach.Breach.{Breach};
-ghost use Rattle.fm_image.specs.Image.{ImageOf};
-ghost use Rattle.fm_image.specs.Limits.{is_image};
-ghost use Rattle.fm_image.specs.Spelling.{are_words, spelling, Spelled};
-ghost use Rattle.fm_asm.specs.Sources.{source_in};
-ghost use Rattle.fm_asm.specs.FormBreaches.{text_breaches, fault_in};
-ghost use Rattle.fm_asm.specs.Printing.{is_plain, start_of, assembly_text};
-ghost use Rattle.fm_asm.specs.Assembly.{IsAssembly};
-ghost use Rattle.fm_asm.specs.Assembling.{assembly_of};
+ghost use Rattle.stack_text.specs.{Breaches.{least}, declared.breach.Breach.{Breach}};
+ghost use Rattle.fm_image.specs.{Image.{ImageOf}, Limits.{is_image}, Spelling.{are_words, spelling, Spelled}};
+ghost use Rattle.fm_asm.specs.{Sources.{source_in}, FormBreaches.{text_breaches, fault_in}, Printing.{is_plain, start_of, assembly_text}};
+ghost use Rattle.fm_asm.specs.{Assembly.{IsAssembly}, Assembling.{assembly_of}};
 
 /// The grammar and the assembler agree. This function does nothing: its clauses hold of all texts and all images.
 pub fn assembled_as_spelled()

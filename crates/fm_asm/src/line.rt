@@ -1,8 +1,7 @@
 //! Lines.
 
 ghost use Rattle.std.specs.Prelude.{◌≡◌, option_map};
-ghost use Rattle.fm_asm.specs.Statements.{statement_of};
-ghost use Rattle.fm_asm.specs.Lines.{said_of, text_of, statement_or_none, is_apart, labelled, said_by, said_in};
+ghost use Rattle.fm_asm.specs.{Statements.{statement_of}, Lines.{said_of, text_of, statement_or_none, is_apart, labelled, said_by, said_in}};
 
 use crate::cuts::{cut, trimmed, without_leading_spaces};
 use crate::statement::{Statement, statement_in};

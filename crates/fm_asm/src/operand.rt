@@ -1,7 +1,6 @@
 //! The operands of instructions.
 
-ghost use Rattle.std.specs.Prelude.{◌≡◌, ◌<◌, IfSome};
-ghost use Rattle.std.specs.Option.{option_copied};
+ghost use Rattle.std.specs.{Prelude.{◌≡◌, ◌<◌, IfSome}, Option.{option_copied}};
 ghost use Rattle.fm_words.specs.Encoding.{IsOperand};
 ghost use Rattle.fm_asm.specs.Instructions.{closed, register_in, closing_mode, indirect_in, decrement_in, direct_in, place_in, immediate_in, operand_in};
 

@@ -1,12 +1,10 @@
 //! Plain images, and their assembly text.
 
-ghost use Rattle.std.specs.Prelude.{◌≡◌, ◌<◌, ◌^◌, ◌++◌, IfOk, IsTrue, OnOk, slice_index};
+ghost use Rattle.std.specs.{Prelude.{◌≡◌, ◌<◌, ◌^◌, ◌++◌, IfOk, IsTrue, OnOk, slice_index}, List.{flat_map}};
 ghost use Rattle.stack_heap.specs.Heaps.{IfOkUnless, OnOkUnless};
-ghost use Rattle.std.specs.List.{flat_map};
-ghost use Rattle.fm_image.specs.Limits.{is_image};
-ghost use Rattle.fm_image.specs.Spelling.{are_words};
-ghost use Rattle.fm_asm.specs.Printing.{are_clear, has_no_names, has_no_tables, are_zero_but_last, ends_in_zero, is_plain, start_of, header_text, is_exact, word_line, assembly_text};
-ghost use Rattle.fm_asm.specs.Assembly.{IsAssembly};
+ghost use Rattle.fm_image.specs.{Limits.{is_image}, Spelling.{are_words}};
+ghost use Rattle.fm_asm.specs.Printing.{are_clear, has_no_names, has_no_tables, are_zero_but_last, ends_in_zero, is_plain, start_of, header_text, is_exact};
+ghost use Rattle.fm_asm.specs.{Printing.{word_line, assembly_text}, Assembly.{IsAssembly}};
 
 use fm_image::{Image, MARKED_VERSION};
 use fm_show::{disassemble, hex_digits, push_number};

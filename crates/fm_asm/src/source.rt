@@ -3,10 +3,8 @@
 ghost use Rattle.std.specs.Prelude.{◌≡◌, ◌<◌, ◌^◌, ◌++◌, length, map, option_map};
 ghost use Rattle.stack_heap.specs.Heaps.{OnOkUnless};
 ghost use Rattle.stack_text.specs.Gives as common;
-ghost use Rattle.fm_asm.specs.Statements.{statement_of};
-ghost use Rattle.fm_asm.specs.Lines.{said_of, line_of, says_something};
-ghost use Rattle.fm_asm.specs.Sources.{said_of_line, line_read, word_count, kept, source_of, source_in};
-ghost use Rattle.fm_asm.specs.Assembling.{GivesAssemblyUnless};
+ghost use Rattle.fm_asm.specs.{Statements.{statement_of}, Lines.{said_of, line_of, says_something}, Sources.{said_of_line, line_read, word_count, kept}};
+ghost use Rattle.fm_asm.specs.{Sources.{source_of, source_in}, Assembling.{GivesAssemblyUnless}};
 
 use crate::cuts::cut;
 use crate::due::{Due, due_after_line, window_of};

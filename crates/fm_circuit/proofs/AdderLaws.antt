@@ -1,11 +1,8 @@
 -- What the adder gives, as whole-number arithmetic.
 use Rattle.std.proofs.Common.{◌≡◌, ℕ, ◌+◌, ◌-◌, ◌/◌, ◌%◌, ◌^◌, ◌<◌, ◌==◌, Bool, true, false, not, ◌&&◌, arith, refl, ap, ◌∙◌}
-use Rattle.std.proofs.lemmas.Bool.Decides.{nat_tests}
-use Rattle.std.proofs.lemmas.Int.{ints}
-use Rattle.std.specs.Prelude.{nat_le, nat_lt, pos, ◌+ℤ◌, ◌-ℤ◌, bit_and, bit_xor}
+use Rattle.std.{proofs.lemmas.Bool.Decides.nat_tests, proofs.lemmas.Int.ints, specs.Prelude.{nat_le, nat_lt, pos, ◌+ℤ◌, ◌-ℤ◌, bit_and, bit_xor}}
 use Rattle.std.specs.Int.{from_bool as bit_of}
-use Rattle.fm_words.specs.Word.{signed_of, is_int}
-use Rattle.fm_words.specs.Alu.{are_same}
+use Rattle.fm_words.{specs.Word.{signed_of, is_int}, specs.Alu.are_same}
 
 -- bits as truth values
 pub not_bit : (p : Bool) → 1 - bit_of p ≡ bit_of (not p)

@@ -1,26 +1,14 @@
 -- What the cycle does in which an instruction is carried out.
 use Rattle.std.proofs.Common.{◌≡◌, ℕ, ◌-◌, ◌/◌, ◌%◌, ◌^◌, ◌<◌, ◌==◌, Bool, true, false, not, ◌&&◌, ◌||◌, List, [], ◌∷◌, refl, ap, ◌∙◌, if◌then◌else◌, add-zero}
-use Rattle.std.specs.Prelude.{is_some, unwrap_or, slice_index, slice_set, nat_le, bit_or, bit_xor}
-use Rattle.std.specs.Int.{from_bool as bit_of}
-use Rattle.fm_words.specs.declared.condition.Cc.{Cc}
+use Rattle.std.{specs.Prelude.{is_some, unwrap_or, slice_index, slice_set, nat_le, bit_or, bit_xor}, specs.Int.from_bool as bit_of}
+use Rattle.fm_words.{specs.declared.condition.Cc.Cc, specs.declared.condition.Flags.Flags, specs.declared.operation.Op.Op, specs.declared.instruction.Mode.Mode}
+use Rattle.fm_words.{specs.declared.instruction.Mode.TheVariants.{Register, Indirect, PreDecrement, PostIncrement}, specs.Alu.{alu_of, does_hold, are_same}}
+use Rattle.fm_words.{specs.Code.flags_of, specs.Encoding.{op_number, cc_number, mode_number}}
 use Rattle.fm_words.specs.declared.condition.Cc.TheVariants as cc
-use Rattle.fm_words.specs.declared.condition.Flags.{Flags}
-use Rattle.fm_words.specs.declared.operation.Op.{Op}
-use Rattle.fm_words.specs.declared.instruction.Mode.{Mode}
-use Rattle.fm_words.specs.declared.instruction.Mode.TheVariants.{Register, Indirect, PreDecrement, PostIncrement}
-use Rattle.fm_words.specs.Alu.{alu_of, does_hold, are_same}
-use Rattle.fm_words.specs.Code.{flags_of}
-use Rattle.fm_words.specs.Encoding.{op_number, cc_number, mode_number}
-use Rattle.fm_machine.specs.State.{word_at, with_word}
-use Rattle.fm_machine.specs.Step.{registers_after, flags_set}
+use Rattle.fm_machine.{specs.State.{word_at, with_word}, specs.Step.{registers_after, flags_set}}
 use Rattle.fm_circuit.specs.declared.wire.Wire.TheVariants as w
-use Rattle.fm_circuit.specs.Circuit.{settled}
-use Rattle.fm_circuit.specs.Processor.{driver_of}
-use Rattle.fm_circuit.specs.Phases.{fetch, execute, stored}
-use Rattle.fm_circuit.specs.Board.{cycle, on_board, board_of}
-use Rattle.fm_circuit.proofs.AdderLaws.{not_bit, xor_bits, and_bits, bit_31}
-use Rattle.fm_circuit.proofs.ResultLaws.{result, result_below}
-use Rattle.fm_circuit.proofs.PhaseLaws.{place}
+use Rattle.fm_circuit.{specs.Circuit.settled, specs.Processor.driver_of, specs.Phases.{fetch, execute, stored}, specs.Board.{cycle, on_board, board_of}}
+use Rattle.fm_circuit.{proofs.AdderLaws.{not_bit, xor_bits, and_bits, bit_31}, proofs.ResultLaws.{result, result_below}, proofs.PhaseLaws.place}
 use Rattle.fm_circuit.proofs.WordFields.{set_c, set_v, set_n, set_z}
 
 or_bits : (p q : Bool) → bit_or (bit_of p) (bit_of q) ≡ bit_of (p || q)

@@ -1,40 +1,22 @@
 -- The board makes the step of its machine.
 use Rattle.std.proofs.Common.{◌≡◌, ◌≢◌, ℕ, zero, suc, ◌+◌, ◌-◌, ◌/◌, ◌%◌, ◌^◌, ◌<◌, ◌≤◌, ◌==◌, Bool, true, false, not, List, Option, Some, None, Result, Ok}
-use Rattle.std.proofs.Common.{Err, refl, ap, sym, subst, ◌∙◌, arith, if◌then◌else◌}
-use Rattle.std.proofs.lemmas.Bool.{eqb-true}
-use Rattle.std.proofs.lemmas.Bool.Decides.{nat_tests}
-use Rattle.std.proofs.lemmas.Int.{ints}
-use Rattle.std.specs.Prelude.{is_some, unwrap_or, slice_index, slice_set}
-use Rattle.std.specs.Int.{from_bool as bit_of}
-use Rattle.fm_words.specs.declared.operation.Op.{Op}
-use Rattle.fm_words.specs.declared.operation.AluOut.{AluOut}
-use Rattle.fm_words.specs.declared.condition.Cc.{Cc}
-use Rattle.fm_words.specs.declared.condition.Flags.{Flags}
-use Rattle.fm_words.specs.declared.instruction.Mode.{Mode}
-use Rattle.fm_words.specs.declared.instruction.Mode.TheVariants.{Register, Indirect, PreDecrement, PostIncrement}
-use Rattle.fm_words.specs.declared.instruction.OperandA.{OperandA}
-use Rattle.fm_words.specs.declared.instruction.OperandA.TheVariants.{Immediate, Place}
-use Rattle.fm_words.specs.Word.{word_of_int}
-use Rattle.fm_words.specs.Alu.{alu_of, does_hold}
-use Rattle.fm_words.specs.Code.{mode_of, imm_of, flags_of, operand_of, decode_of}
-use Rattle.fm_words.specs.Encoding.{op_number, cc_number, mode_number}
+use Rattle.std.{proofs.Common.{Err, refl, ap, sym, subst, ◌∙◌, arith, if◌then◌else◌}, proofs.lemmas.Bool.eqb-true, proofs.lemmas.Bool.Decides.nat_tests}
+use Rattle.std.{proofs.lemmas.Int.ints, specs.Prelude.{is_some, unwrap_or, slice_index, slice_set}, specs.Int.from_bool as bit_of}
+use Rattle.fm_words.{specs.declared.operation.Op.Op, specs.declared.operation.AluOut.AluOut, specs.declared.condition.Cc.Cc}
+use Rattle.fm_words.{specs.declared.condition.Flags.Flags, specs.declared.instruction.Mode.Mode, specs.declared.instruction.Mode.TheVariants.Register}
+use Rattle.fm_words.{specs.declared.instruction.Mode.TheVariants.{Indirect, PreDecrement, PostIncrement}, specs.declared.instruction.OperandA.OperandA}
+use Rattle.fm_words.{specs.declared.instruction.OperandA.TheVariants.{Immediate, Place}, specs.Word.word_of_int, specs.Alu.{alu_of, does_hold}}
+use Rattle.fm_words.{specs.Code.{mode_of, imm_of, flags_of, operand_of, decode_of}, specs.Encoding.{op_number, cc_number, mode_number}}
 use Rattle.fm_words.proofs.FieldLaws.{op_number_back, cc_number_back, mode_number_back}
-use Rattle.fm_machine.specs.State.{Fm, word_at, with_word}
-use Rattle.fm_machine.specs.Step.{then_on, found_word, read_word, with_increment, address_of, registers_after, registers_after_a, value_at, value_a, value_b}
-use Rattle.fm_machine.specs.Step.{reads_b, flags_set, store_at_if, store_result, effect_of, effect_of_rest, effect_of_values, fm_step}
-use Rattle.fm_machine.specs.declared.fault.Outside.{Outside}
-use Rattle.fm_machine.proofs.StepLaws.{unread, ending, found_there}
-use Rattle.fm_circuit.specs.Phases.{fetch, fetched, read_a, read_b, execute, stored, fault}
-use Rattle.fm_circuit.specs.Board.{Board, cycle, cycles, board_of}
+use Rattle.fm_machine.{specs.State.{Fm, word_at, with_word}, specs.Step.{then_on, found_word, read_word, with_increment, address_of, registers_after}}
+use Rattle.fm_machine.specs.Step.{registers_after_a, value_at, value_a, value_b, reads_b, flags_set, store_at_if, store_result, effect_of, effect_of_rest}
+use Rattle.fm_machine.{specs.Step.{effect_of_values, fm_step}, specs.declared.fault.Outside.Outside, proofs.StepLaws.{unread, ending, found_there}}
+use Rattle.fm_circuit.{specs.Phases.{fetch, fetched, read_a, read_b, execute, stored, fault}, specs.Board.{Board, cycle, cycles, board_of}}
 use Rattle.fm_circuit.specs.Following.{AreWords, HasWords, StandsFor, HasStopped, phase_of, place_cycles, cycles_of_a, cycles_of, cycles_with, step_cycles}
-use Rattle.fm_circuit.specs.Laws.{Steps, Faults}
-use Rattle.fm_circuit.proofs.PassLaws.{Passes, one, after, same_start}
-use Rattle.fm_circuit.proofs.PhaseLaws.{asked, place, at_fetch, at_fetched, at_fetched_outside, at_second, at_stored, at_stored_outside, at_fault}
-use Rattle.fm_circuit.proofs.ExecuteLaws.{at_execute}
-use Rattle.fm_circuit.proofs.ResultLaws.{result_below}
-use Rattle.fm_circuit.proofs.WordFields.{reads_bit}
-use Rattle.fm_circuit.proofs.WordsLaws.{words_set, words_after, words_increment, word_found, words_with}
-use Rattle.fm_circuit.proofs.StageLaws.{Reaches, Halts, Comes, answered, IsA, stage_a, place_b}
+use Rattle.fm_circuit.{specs.Laws.{Steps, Faults}, proofs.PassLaws.{Passes, one, after, same_start}, proofs.PhaseLaws.{asked, place, at_fetch, at_fetched}}
+use Rattle.fm_circuit.{proofs.PhaseLaws.{at_fetched_outside, at_second, at_stored, at_stored_outside, at_fault}, proofs.ExecuteLaws.at_execute}
+use Rattle.fm_circuit.{proofs.ResultLaws.result_below, proofs.WordFields.reads_bit, proofs.WordsLaws.{words_set, words_after, words_increment, word_found}}
+use Rattle.fm_circuit.{proofs.WordsLaws.words_with, proofs.StageLaws.{Reaches, Halts, Comes, answered, IsA, stage_a, place_b}}
 
 -- after k cycles the board stands for a machine
 record Lands (now : Board) (k : ℕ) (u : Fm) : Type 0 where

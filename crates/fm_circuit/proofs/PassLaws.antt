@@ -1,9 +1,6 @@
 -- Cycles of a board that does not fetch.
-use Rattle.std.proofs.Common.{◌≡◌, ◌≢◌, ℕ, zero, suc, ◌+◌, ◌-◌, ◌<◌, ◌≤◌, sym, ap, subst, ◌∙◌, arith, ⊎_elim}
-use Rattle.std.proofs.lemmas.Bool.{cases_lt}
-use Rattle.fm_circuit.specs.Phases.{fetch}
-use Rattle.fm_circuit.specs.Board.{Board, cycle, cycles}
-use Rattle.fm_circuit.specs.Following.{phase_of}
+use Rattle.std.{proofs.Common.{◌≡◌, ◌≢◌, ℕ, zero, suc, ◌+◌, ◌-◌, ◌<◌, ◌≤◌, sym, ap, subst, ◌∙◌, arith, ⊎_elim}, proofs.lemmas.Bool.cases_lt}
+use Rattle.fm_circuit.{specs.Phases.fetch, specs.Board.{Board, cycle, cycles}, specs.Following.phase_of}
 
 -- k cycles lead from b to c, and at none of them is the board about to fetch
 pub record Passes (b : Board) (k : ℕ) (c : Board) : Type 0 where

@@ -1,16 +1,10 @@
 -- What a cycle does in each phase but the one in which the instruction is carried out.
-use Rattle.std.proofs.Common.{◌≡◌, ℕ, ◌+◌, ◌*◌, ◌/◌, ◌%◌, ◌^◌, Bool, true, false, not, List, [], ◌∷◌, refl, add-zero}
-use Rattle.std.specs.Prelude.{is_some, unwrap_or, slice_index}
-use Rattle.std.specs.Int.{from_bool as bit_of}
-use Rattle.fm_words.specs.declared.condition.Flags.{Flags}
-use Rattle.fm_words.specs.declared.instruction.Mode.{Mode}
-use Rattle.fm_words.specs.declared.instruction.Mode.TheVariants.{Register, Indirect, PreDecrement, PostIncrement}
-use Rattle.fm_words.specs.Encoding.{mode_number}
-use Rattle.fm_machine.specs.State.{word_at}
-use Rattle.fm_machine.specs.Step.{with_increment, registers_after, address_of}
-use Rattle.fm_circuit.specs.Circuit.{settled}
-use Rattle.fm_circuit.specs.Processor.{driver_of}
-use Rattle.fm_circuit.specs.Phases.{fetch, fetched, read_a, got_a, read_b, got_b, execute, stored, fault}
+use Rattle.std.{proofs.Common.{◌≡◌, ℕ, ◌+◌, ◌*◌, ◌/◌, ◌%◌, ◌^◌, Bool, true, false, not, List, [], ◌∷◌, refl, add-zero}, specs.Prelude.{is_some, unwrap_or}}
+use Rattle.std.{specs.Prelude.slice_index, specs.Int.from_bool as bit_of}
+use Rattle.fm_words.{specs.declared.condition.Flags.Flags, specs.declared.instruction.Mode.Mode, specs.declared.instruction.Mode.TheVariants.Register}
+use Rattle.fm_words.{specs.declared.instruction.Mode.TheVariants.{Indirect, PreDecrement, PostIncrement}, specs.Encoding.mode_number}
+use Rattle.fm_machine.{specs.State.word_at, specs.Step.{with_increment, registers_after, address_of}}
+use Rattle.fm_circuit.{specs.Circuit.settled, specs.Processor.driver_of, specs.Phases.{fetch, fetched, read_a, got_a, read_b, got_b, execute, stored, fault}}
 use Rattle.fm_circuit.specs.Board.{Board, cycle, board_of}
 
 -- a board that has asked its memory for the word at an address

@@ -1,19 +1,12 @@
 -- The result of an operation, its carry and its overflow, as the circuit has them.
-use Rattle.std.proofs.Common.{◌≡◌, ℕ, ◌+◌, ◌-◌, ◌/◌, ◌%◌, ◌^◌, ◌<◌, Bool, not, List, arith, refl, ap, ◌∙◌}
-use Rattle.std.proofs.lemmas.Nat.{and_le_l, or_of_32, xor_of_32}
+use Rattle.std.{proofs.Common.{◌≡◌, ℕ, ◌+◌, ◌-◌, ◌/◌, ◌%◌, ◌^◌, ◌<◌, Bool, not, List, arith, refl, ap, ◌∙◌}, proofs.lemmas.Nat.{and_le_l, or_of_32, xor_of_32}}
 use Rattle.std.specs.Int.{from_bool as bit_of}
-use Rattle.fm_words.specs.declared.condition.Flags.{Flags}
-use Rattle.fm_words.specs.declared.operation.Op.{Op}
-use Rattle.fm_words.specs.declared.operation.Op.TheVariants.{Move, Inc, Addc, Add, Neg, Dec, Subb, Sub, Ror, Asr, Lsr, Xor, Or, And, Not, M15}
-use Rattle.fm_words.specs.Alu.{alu_of}
-use Rattle.fm_words.specs.Encoding.{op_number}
-use Rattle.fm_words.proofs.FlagsLaws.{bit_small}
+use Rattle.fm_words.{specs.declared.condition.Flags.Flags, specs.declared.operation.Op.Op, specs.declared.operation.Op.TheVariants.{Move, Inc, Addc, Add, Neg}}
+use Rattle.fm_words.{specs.declared.operation.Op.TheVariants.{Dec, Subb, Sub, Ror, Asr, Lsr, Xor, Or, And, Not, M15}, specs.Alu.alu_of}
+use Rattle.fm_words.{specs.Encoding.op_number, proofs.FlagsLaws.bit_small}
 use Rattle.fm_circuit.specs.declared.wire.Wire.TheVariants as w
-use Rattle.fm_circuit.specs.Circuit.{settled}
-use Rattle.fm_circuit.specs.Processor.{driver_of}
-use Rattle.fm_circuit.specs.Phases.{execute}
-use Rattle.fm_circuit.specs.Board.{on_board, board_of}
-use Rattle.fm_circuit.proofs.AdderLaws.{not_bit, overflow_bit, turned_addc, turned_add, turned_inc, turned_neg, turned_dec, turned_subb, turned_sub, carry_bit}
+use Rattle.fm_circuit.{specs.Circuit.settled, specs.Processor.driver_of, specs.Phases.execute, specs.Board.{on_board, board_of}, proofs.AdderLaws.not_bit}
+use Rattle.fm_circuit.proofs.AdderLaws.{overflow_bit, turned_addc, turned_add, turned_inc, turned_neg, turned_dec, turned_subb, turned_sub, carry_bit}
 use Rattle.fm_circuit.proofs.AdderLaws.{borrow_bit, carries_inc, carries_add, borrows_neg, borrows_dec, borrows_subb, borrows_sub, word_subb, lowest}
 
 -- a result has 32 bits

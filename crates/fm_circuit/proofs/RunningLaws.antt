@@ -1,19 +1,11 @@
 -- The board follows a run of its machine.
 use Rattle.std.proofs.Common.{◌≡◌, ℕ, zero, suc, ◌+◌, ◌-◌, ◌*◌, ◌<◌, ◌≤◌, Result, Ok, Err, refl, ap, sym, subst, ◌∙◌, arith, ⊎_elim}
-use Rattle.std.proofs.lemmas.Bool.{cases_lt}
-use Rattle.std.specs.Prelude.{slice_index}
-use Rattle.fm_machine.specs.State.{Fm}
-use Rattle.fm_machine.specs.Step.{then_on, fm_step}
-use Rattle.fm_machine.specs.Run.{fm_run, pc_of, Avoids}
-use Rattle.fm_machine.proofs.RunLaws.{run_on, run_none}
+use Rattle.std.{proofs.lemmas.Bool.cases_lt, specs.Prelude.slice_index}
+use Rattle.fm_machine.{specs.State.Fm, specs.Step.{then_on, fm_step}, specs.Run.{fm_run, pc_of, Avoids}, proofs.RunLaws.{run_on, run_none}}
 use Rattle.fm_machine.specs.declared.fault.Outside.{Outside}
-use Rattle.fm_circuit.specs.Processor.{driver_of}
-use Rattle.fm_circuit.specs.Phases.{fetch}
-use Rattle.fm_circuit.specs.Board.{Board, cycles, reset_cycle}
-use Rattle.fm_circuit.specs.Following.{HasWords, StandsFor, IsAt, phase_of, if_ok, step_cycles, run_cycles}
-use Rattle.fm_circuit.specs.Laws.{Makes, Made, Runs, Ends, Begins, Ceases}
-use Rattle.fm_circuit.proofs.PassLaws.{cycles_add}
-use Rattle.fm_circuit.proofs.FollowLaws.{steps, faults}
+use Rattle.fm_circuit.{specs.Processor.driver_of, specs.Phases.fetch, specs.Board.{Board, cycles, reset_cycle}, specs.Following.{HasWords, StandsFor, IsAt}}
+use Rattle.fm_circuit.{specs.Following.{phase_of, if_ok, step_cycles, run_cycles}, specs.Laws.{Makes, Made, Runs, Ends, Begins, Ceases}}
+use Rattle.fm_circuit.{proofs.PassLaws.cycles_add, proofs.FollowLaws.{steps, faults}}
 
 pub runs : Runs
 unfolding fm_run run_cycles cycles

@@ -1,11 +1,7 @@
 -- Nine levels of logic are enough, from whatever the wires were, and so the wires have one solution.
 use Rattle.std.proofs.Common.{◌≡◌, ℕ, zero, suc, List, refl, sym, ap, ◌∙◌}
-use Rattle.fm_circuit.specs.declared.wire.Wire.{Wire}
+use Rattle.fm_circuit.{specs.declared.wire.Wire.Wire, specs.Circuit.{Kept, driven, settled}, specs.Processor.driver_of, specs.Board.levels, specs.Laws.Settles}
 use Rattle.fm_circuit.specs.declared.wire.Wire.TheVariants as w
-use Rattle.fm_circuit.specs.Circuit.{Kept, driven, settled}
-use Rattle.fm_circuit.specs.Processor.{driver_of}
-use Rattle.fm_circuit.specs.Board.{levels}
-use Rattle.fm_circuit.specs.Laws.{Settles}
 
 -- the values after so many levels, from these on
 settled_from : (Wire → ℕ) → ℕ → Kept → List ℕ → Wire → ℕ

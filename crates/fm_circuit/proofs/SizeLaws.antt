@@ -1,27 +1,17 @@
 -- Each value fits its wire.
 use Rattle.std.proofs.Common.{◌≡◌, ℕ, zero, suc, ◌+◌, ◌-◌, ◌*◌, ◌%◌, ◌^◌, ◌<◌, ◌==◌, ◌&&◌, Bool, true, false, List, [], ◌∷◌, length, Option, Some, None, refl}
-use Rattle.std.proofs.Common.{sym, subst, arith, if◌then◌else◌}
-use Rattle.std.proofs.lemmas.Bool.{eqb-true, ltb-true, and_parts}
-use Rattle.std.proofs.lemmas.Nat.{pow_pos, pow-add, and_le_l, or_lt, xor_lt}
-use Rattle.std.proofs.Math.Nat.{mod-lt}
-use Rattle.std.specs.Prelude.{map, not, is_some, unwrap_or, slice_set, nat_lt, nat_le, slice_index}
-use Rattle.std.specs.List.{list_all}
-use Rattle.std.specs.Int.{from_bool as bit_of}
+use Rattle.std.{proofs.Common.{sym, subst, arith, if◌then◌else◌}, proofs.lemmas.Bool.{eqb-true, ltb-true, and_parts}, proofs.lemmas.Nat.{pow_pos, pow-add}}
+use Rattle.std.{proofs.lemmas.Nat.{and_le_l, or_lt, xor_lt}, proofs.Math.Nat.mod-lt, specs.Prelude.{map, not, is_some, unwrap_or, slice_set, nat_lt, nat_le}}
+use Rattle.std.{specs.Prelude.slice_index, specs.List.list_all, specs.Int.from_bool as bit_of}
 use Rattle.fm_words.proofs.FlagsLaws.{bit_small}
-use Rattle.fm_circuit.specs.declared.wire.Wire.{Wire}
+use Rattle.fm_circuit.{specs.declared.wire.Wire.Wire, specs.declared.circuit.Pin.Pin, specs.declared.circuit.Pin.TheVariants.{Whole, Bits, Constant}}
+use Rattle.fm_circuit.{specs.declared.circuit.Driver.Driver, specs.declared.circuit.Driver.TheVariants.{Register, Input, FileRead, Not, And, Or, Xor, Join}}
+use Rattle.fm_circuit.{specs.declared.circuit.Driver.TheVariants.{Add, Equal, Two, Four, Eight, Sixteen}, specs.Widths.width_of, specs.Circuit.{Kept, pin_of}}
+use Rattle.fm_circuit.{specs.Circuit.{pin_width, chosen, driven, settled, taken, reset_of, above}, specs.Board.{Board, cycle, reset_cycle, on_board, registers}}
+use Rattle.fm_circuit.{specs.Board.levels, specs.Processor.driver_of, specs.Following.AreWords, specs.Sizes.{register_widths, input_widths, has_width}}
+use Rattle.fm_circuit.{specs.Sizes.{is_choice, is_sized, FitWidths, FitsBoard, Fitting}, proofs.WordsLaws.{words_set, words_with, word_found}}
 use Rattle.fm_circuit.specs.declared.wire.Wire.TheVariants as w
-use Rattle.fm_circuit.specs.declared.circuit.Pin.{Pin}
-use Rattle.fm_circuit.specs.declared.circuit.Pin.TheVariants.{Whole, Bits, Constant}
-use Rattle.fm_circuit.specs.declared.circuit.Driver.{Driver}
-use Rattle.fm_circuit.specs.declared.circuit.Driver.TheVariants.{Register, Input, FileRead, Not, And, Or, Xor, Join, Add, Equal, Two, Four, Eight, Sixteen}
-use Rattle.fm_circuit.specs.Widths.{width_of}
 use Rattle.fm_machine.specs.State.{word_at, with_word}
-use Rattle.fm_circuit.specs.Circuit.{Kept, pin_of, pin_width, chosen, driven, settled, taken, reset_of, above}
-use Rattle.fm_circuit.specs.Board.{Board, cycle, reset_cycle, on_board, registers, levels}
-use Rattle.fm_circuit.specs.Processor.{driver_of}
-use Rattle.fm_circuit.specs.Following.{AreWords}
-use Rattle.fm_circuit.specs.Sizes.{register_widths, input_widths, has_width, is_choice, is_sized, FitWidths, FitsBoard, Fitting}
-use Rattle.fm_circuit.proofs.WordsLaws.{words_set, words_with, word_found}
 
 product : (x y m n : ℕ) → x < m → y < n → x * n + y < m * n
 product x y m n g h = grind arith

@@ -1,25 +1,14 @@
 -- The operands of an instruction, in the cycles that they take.
-use Rattle.std.proofs.Common.{◌≡◌, ◌≢◌, ℕ, ◌/◌, ◌%◌, ◌^◌, ◌≤◌, true, not, List, [], ◌∷◌, Option, Some, None, Result, Ok, Err, refl, ap, sym, subst}
-use Rattle.std.proofs.Common.{◌∙◌, arith}
-use Rattle.std.specs.Prelude.{is_some, unwrap_or, slice_index}
-use Rattle.std.specs.Int.{from_bool as bit_of}
-use Rattle.fm_words.specs.declared.condition.Flags.{Flags}
-use Rattle.fm_words.specs.declared.instruction.Mode.{Mode}
-use Rattle.fm_words.specs.declared.instruction.Mode.TheVariants.{Register, Indirect, PreDecrement, PostIncrement}
-use Rattle.fm_words.specs.declared.instruction.OperandA.{OperandA}
-use Rattle.fm_words.specs.declared.instruction.OperandA.TheVariants.{Immediate, Place}
-use Rattle.fm_words.specs.Word.{word_of_int}
-use Rattle.fm_words.specs.Code.{imm_of}
-use Rattle.fm_words.specs.Encoding.{mode_number}
-use Rattle.fm_machine.specs.State.{Fm, word_at}
-use Rattle.fm_machine.specs.Step.{found_word, value_at, value_a, address_of, registers_after, registers_after_a}
+use Rattle.std.proofs.Common.{◌≡◌, ◌≢◌, ℕ, ◌/◌, ◌%◌, ◌^◌, ◌≤◌, true, not, List, [], ◌∷◌, Option, Some, None, Result, Ok, Err, refl, ap, sym, subst, ◌∙◌, arith}
+use Rattle.std.{specs.Prelude.{is_some, unwrap_or, slice_index}, specs.Int.from_bool as bit_of}
+use Rattle.fm_words.{specs.declared.condition.Flags.Flags, specs.declared.instruction.Mode.Mode, specs.declared.instruction.Mode.TheVariants.Register}
+use Rattle.fm_words.{specs.declared.instruction.Mode.TheVariants.{Indirect, PreDecrement, PostIncrement}, specs.declared.instruction.OperandA.OperandA}
+use Rattle.fm_words.{specs.declared.instruction.OperandA.TheVariants.{Immediate, Place}, specs.Word.word_of_int, specs.Code.imm_of, specs.Encoding.mode_number}
+use Rattle.fm_machine.{specs.State.{Fm, word_at}, specs.Step.{found_word, value_at, value_a, address_of, registers_after, registers_after_a}}
 use Rattle.fm_machine.specs.declared.fault.Outside.{Outside}
-use Rattle.fm_circuit.specs.Phases.{fetch, read_a, got_a, read_b, got_b, execute, fault}
-use Rattle.fm_circuit.specs.Board.{Board, cycle, board_of}
-use Rattle.fm_circuit.specs.Following.{phase_of, place_cycles, cycles_of_a}
-use Rattle.fm_circuit.proofs.PassLaws.{Passes, one, after}
-use Rattle.fm_circuit.proofs.PhaseLaws.{asked, at_immediate, at_place, at_got_a, at_got_a_outside, at_second, at_got_b, at_got_b_outside}
-use Rattle.fm_circuit.proofs.WordFields.{immediate_word}
+use Rattle.fm_circuit.{specs.Phases.{fetch, read_a, got_a, read_b, got_b, execute, fault}, specs.Board.{Board, cycle, board_of}, specs.Following.phase_of}
+use Rattle.fm_circuit.{specs.Following.{place_cycles, cycles_of_a}, proofs.PassLaws.{Passes, one, after}, proofs.PhaseLaws.{asked, at_immediate, at_place}}
+use Rattle.fm_circuit.{proofs.PhaseLaws.{at_got_a, at_got_a_outside, at_second, at_got_b, at_got_b_outside}, proofs.WordFields.immediate_word}
 
 -- after k cycles the board is in a phase, with this instruction, these operands, flags, registers and window
 pub record Reaches (now : Board) (k phase ir a b : ℕ) (f : Flags) (rs : List ℕ) (base : ℕ) (m : List ℕ) : Type 0 where

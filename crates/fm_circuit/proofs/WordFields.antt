@@ -1,14 +1,7 @@
 -- The fields of an instruction's word, as the circuit reads them.
-use Rattle.std.proofs.Common.{◌≡◌, ℕ, ◌+◌, ◌*◌, ◌/◌, ◌%◌, ◌^◌, ◌<◌, ◌≤◌, [], ◌∷◌, arith, refl, ap, ◌∙◌, ⊎_elim}
-use Rattle.std.proofs.lemmas.Bool.{cases_eq}
-use Rattle.std.proofs.lemmas.Bool.Decides.{nat_tests}
-use Rattle.std.proofs.lemmas.Int.{ints}
-use Rattle.std.specs.Prelude.{slice_index}
-use Rattle.std.specs.Int.{from_bool as bit_of}
-use Rattle.fm_words.specs.declared.operation.Op.{Op}
-use Rattle.fm_words.specs.declared.operation.Op.TheVariants.{Move}
-use Rattle.fm_words.specs.Word.{word_of_int}
-use Rattle.fm_words.specs.Code.{imm_of, flags_of}
+use Rattle.std.{proofs.Common.{◌≡◌, ℕ, ◌+◌, ◌*◌, ◌/◌, ◌%◌, ◌^◌, ◌<◌, ◌≤◌, [], ◌∷◌, arith, refl, ap, ◌∙◌, ⊎_elim}, proofs.lemmas.Bool.cases_eq}
+use Rattle.std.{proofs.lemmas.Bool.Decides.nat_tests, proofs.lemmas.Int.ints, specs.Prelude.slice_index, specs.Int.from_bool as bit_of}
+use Rattle.fm_words.{specs.declared.operation.Op.Op, specs.declared.operation.Op.TheVariants.Move, specs.Word.word_of_int, specs.Code.{imm_of, flags_of}}
 use Rattle.fm_words.specs.Encoding.{op_number}
 use Rattle.fm_machine.specs.Step.{reads_b}
 

@@ -1,11 +1,8 @@
 -- A machine's words have 32 bits.
 use Rattle.std.proofs.Common.{◌≡◌, ℕ, zero, suc, ◌-◌, ◌^◌, ◌<◌, Bool, true, false, List, [], ◌∷◌, Some, None, subst, arith}
-use Rattle.std.proofs.lemmas.Option.{get_or_from_slice_get}
-use Rattle.std.specs.Prelude.{slice_set, nat_lt, slice_get, if◌then◌else◌}
-use Rattle.fm_words.specs.declared.instruction.Mode.{Mode}
-use Rattle.fm_words.specs.declared.instruction.Mode.TheVariants.{Register, Indirect, PreDecrement, PostIncrement}
-use Rattle.fm_machine.specs.State.{word_at, with_word}
-use Rattle.fm_machine.specs.Step.{registers_after, with_increment}
+use Rattle.std.{proofs.lemmas.Option.get_or_from_slice_get, specs.Prelude.{slice_set, nat_lt, slice_get, if◌then◌else◌}}
+use Rattle.fm_words.{specs.declared.instruction.Mode.Mode, specs.declared.instruction.Mode.TheVariants.{Register, Indirect, PreDecrement, PostIncrement}}
+use Rattle.fm_machine.{specs.State.{word_at, with_word}, specs.Step.{registers_after, with_increment}}
 use Rattle.fm_circuit.specs.Following.{AreWords}
 
 pub words_set : (xs : List ℕ) (r x : ℕ) → AreWords xs → x < 2 ^ 32 → AreWords (slice_set xs r x)

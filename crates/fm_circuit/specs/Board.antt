@@ -1,13 +1,10 @@
 -- The processor on a board: beside it a memory with one port, whose word comes one cycle after its address.
-use Rattle.std.specs.Prelude.{ℕ, zero, suc, ◌==◌, ◌&&◌, Bool, true, false, not, List, [], ◌∷◌, map, Option, is_some, unwrap_or}
-use Rattle.std.specs.Prelude.{slice_set, if◌then◌else◌}
-use Rattle.std.specs.Int.{from_bool as bit_of}
+use Rattle.std.specs.Prelude.{ℕ, zero, suc, ◌==◌, ◌&&◌, Bool, true, false, not, List, [], ◌∷◌, map, Option, is_some, unwrap_or, slice_set}
+use Rattle.std.specs.{Prelude.{if◌then◌else◌}, Int.{from_bool as bit_of}}
 use Rattle.fm_words.specs.declared.condition.Flags.{Flags}
 use Rattle.fm_machine.specs.State.{word_at, with_word}
-use Rattle.fm_circuit.specs.declared.wire.Wire.{Wire}
+use Rattle.fm_circuit.specs.{declared.wire.Wire.{Wire}, Circuit.{Kept, settled, taken, reset_of}, Processor.{driver_of}}
 use Rattle.fm_circuit.specs.declared.wire.Wire.TheVariants as w
-use Rattle.fm_circuit.specs.Circuit.{Kept, settled, taken, reset_of}
-use Rattle.fm_circuit.specs.Processor.{driver_of}
 
 -- What the circuit keeps, what memory gives for the last address (its word, and whether it was outside), and the
 -- window of memory.

@@ -1,14 +1,10 @@
 -- A small language of circuits of words, and what a circuit does in a cycle. A word is a number, and a bit is 0 or 1.
 use Rattle.std.specs.Prelude.{ℕ, zero, suc, ◌+◌, ◌-◌, ◌*◌, ◌/◌, ◌%◌, ◌^◌, ◌==◌, List, map, slice_index, bit_and, bit_or, bit_xor}
 use Rattle.std.specs.Int.{from_bool as bit_of}
-use Rattle.fm_circuit.specs.declared.wire.Wire.{Wire}
-use Rattle.fm_circuit.specs.declared.circuit.Pin.{Pin}
-use Rattle.fm_circuit.specs.declared.circuit.Pin.TheVariants.{Whole, Bits, Constant}
-use Rattle.fm_circuit.specs.declared.circuit.Driver.{Driver}
-use Rattle.fm_circuit.specs.declared.circuit.Driver.TheVariants.{Register, Input, FileRead, Not, And, Or, Xor, Join, Add, Equal}
-use Rattle.fm_circuit.specs.declared.circuit.Driver.TheVariants.{Two, Four, Eight, Sixteen}
-use Rattle.fm_circuit.specs.Widths.{width_of}
-use Rattle.fm_circuit.specs.Processor.{driver_of}
+use Rattle.fm_circuit.specs.{declared.wire.Wire.{Wire}, declared.circuit.Pin.{Pin}, declared.circuit.Pin.TheVariants.{Whole, Bits}}
+use Rattle.fm_circuit.specs.{declared.circuit.Pin.TheVariants.{Constant}, declared.circuit.Driver.{Driver}}
+use Rattle.fm_circuit.specs.declared.circuit.Driver.TheVariants.{Register, Input, FileRead, Not, And, Or, Xor, Join, Add, Equal, Two, Four}
+use Rattle.fm_circuit.specs.{declared.circuit.Driver.TheVariants.{Eight, Sixteen}, Widths.{width_of}, Processor.{driver_of}}
 
 -- what a circuit keeps from cycle to cycle: its registers in the order of their numbers, and its register file
 pub record Kept : Type 0 where

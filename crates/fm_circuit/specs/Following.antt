@@ -1,19 +1,11 @@
 -- How a board stands for a machine, and how many cycles an instruction takes.
 use Rattle.std.specs.Prelude.{◌≡◌, ◌≢◌, ℕ, zero, suc, ◌+◌, ◌<◌, ◌^◌, List, Result, Ok, Err, slice_index, if◌then◌else◌}
-use Rattle.fm_words.specs.declared.condition.Flags.{Flags}
-use Rattle.fm_words.specs.declared.instruction.Mode.{Mode}
-use Rattle.fm_words.specs.declared.instruction.Mode.TheVariants.{Register}
-use Rattle.fm_words.specs.declared.instruction.OperandA.{OperandA}
-use Rattle.fm_words.specs.declared.instruction.OperandA.TheVariants.{Immediate, Place}
-use Rattle.fm_words.specs.declared.instruction.Instr.{Instr}
-use Rattle.fm_words.specs.Alu.{does_hold}
-use Rattle.fm_words.specs.Code.{decode_of}
-use Rattle.fm_machine.specs.State.{Fm}
-use Rattle.fm_machine.specs.Step.{read_word, reads_b, fm_step}
-use Rattle.fm_machine.specs.Run.{pc_of}
-use Rattle.fm_machine.specs.declared.fault.Outside.{Outside}
-use Rattle.fm_circuit.specs.Phases.{fetch, fault}
-use Rattle.fm_circuit.specs.Board.{Board, board_of, cycles}
+use Rattle.fm_words.specs.{declared.condition.Flags.{Flags}, declared.instruction.Mode.{Mode}}
+use Rattle.fm_words.specs.{declared.instruction.Mode.TheVariants.{Register}, declared.instruction.OperandA.{OperandA}}
+use Rattle.fm_words.specs.{declared.instruction.OperandA.TheVariants.{Immediate, Place}, declared.instruction.Instr.{Instr}}
+use Rattle.fm_words.specs.{Alu.{does_hold}, Code.{decode_of}}
+use Rattle.fm_machine.specs.{State.{Fm}, Step.{read_word, reads_b, fm_step}, Run.{pc_of}, declared.fault.Outside.{Outside}}
+use Rattle.fm_circuit.specs.{Phases.{fetch, fault}, Board.{Board, board_of, cycles}}
 
 -- each word of a list has 32 bits
 abbrev pub AreWords : List ℕ → Type 0

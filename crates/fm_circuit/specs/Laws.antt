@@ -1,15 +1,10 @@
 -- The laws of the processor.
 use Rattle.std.specs.Prelude.{◌≡◌, ℕ, ◌*◌, ◌<◌, ◌≤◌, List, Ok, Err}
 use Rattle.fm_words.specs.Code.{no_flags}
-use Rattle.fm_machine.specs.State.{Fm}
-use Rattle.fm_machine.specs.Step.{fm_step}
-use Rattle.fm_machine.specs.Run.{fm_run, IsFirst}
-use Rattle.fm_machine.specs.declared.fault.Outside.{Outside}
-use Rattle.fm_circuit.specs.declared.wire.Wire.{Wire}
-use Rattle.fm_circuit.specs.Circuit.{Kept, driven, settled}
-use Rattle.fm_circuit.specs.Processor.{driver_of}
-use Rattle.fm_circuit.specs.Board.{Board, cycles, reset_cycle, levels}
-use Rattle.fm_circuit.specs.Following.{HasWords, StandsFor, HasStopped, IsBusy, IsAt, step_cycles, run_cycles}
+use Rattle.fm_machine.specs.{State.{Fm}, Step.{fm_step}, Run.{fm_run, IsFirst}, declared.fault.Outside.{Outside}}
+use Rattle.fm_circuit.specs.{declared.wire.Wire.{Wire}, Circuit.{Kept, driven, settled}, Processor.{driver_of}, Board.{Board, cycles}}
+use Rattle.fm_circuit.specs.{Board.{reset_cycle, levels}, Following.{HasWords, StandsFor, HasStopped, IsBusy, IsAt, step_cycles}}
+use Rattle.fm_circuit.specs.Following.{run_cycles}
 
 -- Nine levels of logic are enough: each wire is then what its driver gives. And no other values are so, whatever they come from: the wires
 -- have one solution.

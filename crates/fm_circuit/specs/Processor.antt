@@ -1,13 +1,11 @@
 -- The processor: what drives each of its wires. In a choice the rows stand by their names, over what is so in all others.
 use Rattle.std.specs.Prelude.{[], ◌∷◌}
-use Rattle.fm_circuit.specs.declared.wire.Wire.{Wire}
+use Rattle.fm_circuit.specs.{declared.wire.Wire.{Wire}, declared.circuit.Driver.{Driver}, declared.circuit.Driver.TheVariants.{Register}}
+use Rattle.fm_circuit.specs.declared.circuit.Driver.TheVariants.{Input, FileRead, Not, And, Or, Xor, Join, Add, Equal, Two}
+use Rattle.fm_circuit.specs.{declared.circuit.Pin.TheVariants.{Whole, Bits, Constant}, Phases.{fetch, fetched, read_a, got_a, read_b}}
+use Rattle.fm_circuit.specs.{Phases.{got_b, execute, stored, fault}, Rows.{by_phase, in_each_phase, by_mode, by_operation}}
+use Rattle.fm_circuit.specs.Rows.{for_each_operation, for_each_sum, by_sum, in_each_sum, by_condition, by_mask}
 use Rattle.fm_circuit.specs.declared.wire.Wire.TheVariants as w
-use Rattle.fm_circuit.specs.declared.circuit.Driver.{Driver}
-use Rattle.fm_circuit.specs.declared.circuit.Driver.TheVariants.{Register, Input, FileRead, Not, And, Or, Xor, Join, Add, Equal, Two}
-use Rattle.fm_circuit.specs.declared.circuit.Pin.TheVariants.{Whole, Bits, Constant}
-use Rattle.fm_circuit.specs.Phases.{fetch, fetched, read_a, got_a, read_b, got_b, execute, stored, fault}
-use Rattle.fm_circuit.specs.Rows.{by_phase, in_each_phase, by_mode, by_operation, for_each_operation, for_each_sum}
-use Rattle.fm_circuit.specs.Rows.{by_sum, in_each_sum, by_condition, by_mask}
 
 -- what drives a wire
 unfoldable pub driver_of : Wire → Driver

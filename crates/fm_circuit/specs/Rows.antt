@@ -1,16 +1,10 @@
 -- Choices whose rows stand by their names.
 use Rattle.std.specs.Prelude.{[], ◌∷◌}
 use Rattle.fm_circuit.specs.declared.wire.Wire.TheVariants as w
-use Rattle.fm_circuit.specs.declared.circuit.Pin.{Pin}
-use Rattle.fm_circuit.specs.declared.circuit.Pin.TheVariants.{Whole, Bits}
-use Rattle.fm_circuit.specs.declared.circuit.Driver.{Driver}
-use Rattle.fm_circuit.specs.declared.circuit.Driver.TheVariants.{Two, Four, Eight, Sixteen}
-use Rattle.fm_circuit.specs.declared.rows.ByPhase.{ByPhase}
-use Rattle.fm_circuit.specs.declared.rows.ByMode.{ByMode}
-use Rattle.fm_circuit.specs.declared.rows.ByOperation.{ByOperation}
-use Rattle.fm_circuit.specs.declared.rows.BySum.{BySum}
-use Rattle.fm_circuit.specs.declared.rows.ByCondition.{ByCondition}
-use Rattle.fm_circuit.specs.declared.rows.ByMask.{ByMask}
+use Rattle.fm_circuit.specs.{declared.circuit.Pin.{Pin}, declared.circuit.Pin.TheVariants.{Whole, Bits}, declared.circuit.Driver.{Driver}}
+use Rattle.fm_circuit.specs.{declared.circuit.Driver.TheVariants.{Two, Four, Eight, Sixteen}, declared.rows.ByPhase.{ByPhase}}
+use Rattle.fm_circuit.specs.{declared.rows.ByMode.{ByMode}, declared.rows.ByOperation.{ByOperation}, declared.rows.BySum.{BySum}}
+use Rattle.fm_circuit.specs.{declared.rows.ByCondition.{ByCondition}, declared.rows.ByMask.{ByMask}}
 
 -- by the phase; seven numbers are no phase
 abbrev pub by_phase : ByPhase → Driver

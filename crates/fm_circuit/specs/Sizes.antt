@@ -1,18 +1,11 @@
 -- The widths of a circuit go together, and each value fits its wire.
-use Rattle.std.specs.Prelude.{◌≡◌, ℕ, ◌+◌, ◌-◌, ◌<◌, ◌^◌, ◌==◌, ◌&&◌, Bool, true, List, [], ◌∷◌, length, map}
-use Rattle.std.specs.Prelude.{nat_lt, nat_le, slice_index}
+use Rattle.std.specs.Prelude.{◌≡◌, ℕ, ◌+◌, ◌-◌, ◌<◌, ◌^◌, ◌==◌, ◌&&◌, Bool, true, List, [], ◌∷◌, length, map, nat_lt, nat_le, slice_index}
 use Rattle.std.specs.List.{list_all}
-use Rattle.fm_circuit.specs.declared.wire.Wire.{Wire}
-use Rattle.fm_circuit.specs.declared.circuit.Pin.{Pin}
-use Rattle.fm_circuit.specs.declared.circuit.Pin.TheVariants.{Whole, Bits, Constant}
-use Rattle.fm_circuit.specs.declared.circuit.Driver.{Driver}
-use Rattle.fm_circuit.specs.declared.circuit.Driver.TheVariants.{Register, Input, FileRead, Not, And, Or, Xor, Join, Add, Equal}
-use Rattle.fm_circuit.specs.declared.circuit.Driver.TheVariants.{Two, Four, Eight, Sixteen}
-use Rattle.fm_circuit.specs.Widths.{width_of}
-use Rattle.fm_circuit.specs.Circuit.{pin_width}
-use Rattle.fm_circuit.specs.Processor.{driver_of}
-use Rattle.fm_circuit.specs.Board.{Board, cycle, reset_cycle, on_board, registers}
-use Rattle.fm_circuit.specs.Following.{AreWords}
+use Rattle.fm_circuit.specs.{declared.wire.Wire.{Wire}, declared.circuit.Pin.{Pin}, declared.circuit.Pin.TheVariants.{Whole, Bits}}
+use Rattle.fm_circuit.specs.{declared.circuit.Pin.TheVariants.{Constant}, declared.circuit.Driver.{Driver}}
+use Rattle.fm_circuit.specs.declared.circuit.Driver.TheVariants.{Register, Input, FileRead, Not, And, Or, Xor, Join, Add, Equal, Two, Four}
+use Rattle.fm_circuit.specs.{declared.circuit.Driver.TheVariants.{Eight, Sixteen}, Widths.{width_of}, Circuit.{pin_width}}
+use Rattle.fm_circuit.specs.{Processor.{driver_of}, Board.{Board, cycle, reset_cycle, on_board, registers}, Following.{AreWords}}
 
 -- the widths of the registers, and of the inputs
 abbrev pub register_widths : List ℕ

@@ -1,7 +1,6 @@
 //! The laws of the processor. These functions do nothing: their clauses hold of all boards.
 
-ghost use Rattle.fm_circuit.specs.Sizes.{Sized, Fitting};
-ghost use Rattle.fm_circuit.specs.Laws.{Settles, Begins, Steps, Faults, Runs, Ends, Ceases};
+ghost use Rattle.fm_circuit.specs.{Sizes.{Sized, Fitting}, Laws.{Settles, Begins, Steps, Faults, Runs, Ends, Ceases}};
 
 /// Each wire of the processor has its value once nine levels of logic have settled, and no other values agree with all drivers.
 pub fn settles()

@@ -1,7 +1,8 @@
 //! Choices whose rows stand by their names.
 
 ghost use Rattle.std.specs.Prelude.{◌≡◌};
-ghost use Rattle.fm_circuit.specs.Rows.{by_phase, in_each_phase, by_mode, by_operation, for_each_operation, for_each_sum, by_sum, in_each_sum, by_condition, by_mask};
+ghost use Rattle.fm_circuit.specs.Rows.{by_phase, in_each_phase, by_mode, by_operation, for_each_operation, for_each_sum, by_sum, in_each_sum, by_condition};
+ghost use Rattle.fm_circuit.specs.Rows.{by_mask};
 
 use crate::circuit::Pin::{Bits, Whole};
 use crate::circuit::{Driver, Pin};

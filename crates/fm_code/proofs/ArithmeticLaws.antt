@@ -1,24 +1,12 @@
 -- What the words of operations on words do.
-use Rattle.std.proofs.Common.{◌≡◌, ℕ, ◌+◌, ◌/◌, ◌%◌, ◌^◌, ◌<◌, ◌==◌, Bool, true, false, List, ◌∷◌, length, refl, ap, ◌∙◌, arith}
-use Rattle.std.specs.Prelude.{if◌then◌else◌, not, nat_le, bit_and, bit_xor}
-use Rattle.std.specs.Int.{from_bool as bit_of}
-use Rattle.std.proofs.lemmas.Nat.{and_mask}
-use Rattle.fm_words.specs.declared.operation.Op.{Op}
-use Rattle.fm_words.specs.declared.operation.Op.TheVariants.{Move, Add, Sub, Lsr, Xor, And}
-use Rattle.fm_words.specs.declared.condition.Cc.{Cc}
-use Rattle.fm_words.specs.declared.condition.Cc.TheVariants.{Cs, Zs}
-use Rattle.fm_words.specs.declared.condition.Flags.{Flags}
-use Rattle.fm_words.specs.Alu.{alu_of, does_hold}
-use Rattle.fm_machine.specs.State.{Fm}
-use Rattle.fm_words.specs.Code.{no_flags}
-use Rattle.fm_machine.specs.Masks.{all_flags}
-use Rattle.fm_code.specs.InstructionWords.{flag_z, flag_c, flags_cv}
-use Rattle.fm_code.specs.Flags.{flags_of_difference}
-use Rattle.fm_code.specs.Templates.{two_code, one_code, not_bool_code, eq_code, lt_code, carry_code, mult2_carry_code, div2_code}
-use Rattle.fm_code.specs.Execution.{Parts, CodeAt}
-use Rattle.fm_code.proofs.XorLaws.{xor_tests}
-use Rattle.fm_code.proofs.OperandLaws.{from_immediate, from_register, from_top, from_pop}
-use Rattle.fm_code.proofs.TargetLaws.{into_r3, into_r4, into_top, one_when, push_temp}
+use Rattle.std.{proofs.Common.{◌≡◌, ℕ, ◌+◌, ◌/◌, ◌%◌, ◌^◌, ◌<◌, ◌==◌, Bool, true, false, List, ◌∷◌, length, refl, ap, ◌∙◌, arith}, specs.Prelude.if◌then◌else◌}
+use Rattle.std.{specs.Prelude.{not, nat_le, bit_and, bit_xor}, specs.Int.from_bool as bit_of, proofs.lemmas.Nat.and_mask}
+use Rattle.fm_words.{specs.declared.operation.Op.Op, specs.declared.operation.Op.TheVariants.{Move, Add, Sub, Lsr, Xor, And}, specs.declared.condition.Cc.Cc}
+use Rattle.fm_words.{specs.declared.condition.Cc.TheVariants.{Cs, Zs}, specs.declared.condition.Flags.Flags, specs.Alu.{alu_of, does_hold}, specs.Code.no_flags}
+use Rattle.fm_machine.{specs.State.Fm, specs.Masks.all_flags}
+use Rattle.fm_code.{specs.InstructionWords.{flag_z, flag_c, flags_cv}, specs.Flags.flags_of_difference, specs.Templates.{two_code, one_code, not_bool_code}}
+use Rattle.fm_code.{specs.Templates.{eq_code, lt_code, carry_code, mult2_carry_code, div2_code}, specs.Execution.{Parts, CodeAt}, proofs.XorLaws.xor_tests}
+use Rattle.fm_code.{proofs.OperandLaws.{from_immediate, from_register, from_top, from_pop}, proofs.TargetLaws.{into_r3, into_r4, into_top, one_when, push_temp}}
 use Rattle.fm_code.proofs.RunLaws.{RunsToView, runs_to_view, with_temp}
 
 -- a truth value as a word

@@ -1,6 +1,5 @@
 -- Where the words of the code are.
-use Rattle.std.proofs.Common.{◌≡◌, ℕ, zero, suc, ◌+◌, ◌-◌, Some, List, [], ◌∷◌, ◌++◌, length, refl, subst, arith}
-use Rattle.std.specs.Prelude.{slice_get}
+use Rattle.std.{proofs.Common.{◌≡◌, ℕ, zero, suc, ◌+◌, ◌-◌, Some, List, [], ◌∷◌, ◌++◌, length, refl, subst, arith}, specs.Prelude.slice_get}
 use Rattle.fm_code.specs.Execution.{Parts, CodeAt, CodeWord}
 
 -- words that the code has from its k-th word on are at its k-th address and those after it

@@ -1,26 +1,15 @@
 -- What the words of jumps, tests, calls and returns do.
 use Rattle.std.proofs.Common.{◌≡◌, ℕ, ◌+◌, ◌-◌, ◌*◌, ◌%◌, ◌^◌, ◌<◌, ◌≤◌, ◌==◌, Some, Bool, List, [], ◌∷◌, ◌++◌, length, refl, sym, ap, ◌∙◌, arith}
-use Rattle.std.proofs.Common.{length-append, append_assoc}
-use Rattle.std.specs.Prelude.{if◌then◌else◌, slice_get, replicate, reverse}
-use Rattle.std.proofs.lemmas.Bool.Decides.{nat_tests}
-use Rattle.std.proofs.lemmas.List.{length-replicate, length-reverse}
-use Rattle.std.proofs.lemmas.Grind.{reverse_onto}
-use Rattle.fm_words.specs.declared.operation.Op.TheVariants.{Move, Add, Sub}
-use Rattle.fm_words.specs.declared.condition.Cc.{Cc}
-use Rattle.fm_words.specs.declared.condition.Cc.TheVariants.{Zs}
-use Rattle.fm_words.specs.Alu.{does_hold}
-use Rattle.fm_machine.specs.State.{Fm}
-use Rattle.fm_words.specs.Code.{no_flags}
-use Rattle.fm_machine.specs.Masks.{all_flags}
-use Rattle.fm_code.specs.InstructionWords.{reg, push, pop, literal, mov, flag_z}
-use Rattle.fm_code.specs.Flags.{flags_of_word}
-use Rattle.fm_code.specs.Templates.{below_end, jump_code, jump_if_top_code, jump_case_code, pushj_code, popj_code, test_and_jump_code, call_code, pop_call_code}
-use Rattle.fm_code.specs.Templates.{ret_code, temporaries_code, prelude_code}
-use Rattle.fm_code.specs.Execution.{Parts, CodeAt}
-use Rattle.fm_code.proofs.CodeLaws.{code_front, code_after, code_get}
-use Rattle.fm_code.proofs.RegisterLaws.{with_register, next}
-use Rattle.fm_code.proofs.OperandLaws.{fetch, from_literal, from_literal_at, from_register, from_address, from_pop, from_ctrl}
-use Rattle.fm_code.proofs.TargetLaws.{into_r0, into_r1, into_r3, into_r15, push_temp, push_ctrl, jump_when}
+use Rattle.std.{proofs.Common.{length-append, append_assoc}, specs.Prelude.{if◌then◌else◌, slice_get, replicate, reverse}, proofs.lemmas.Bool.Decides.nat_tests}
+use Rattle.std.{proofs.lemmas.List.{length-replicate, length-reverse}, proofs.lemmas.Grind.reverse_onto}
+use Rattle.fm_words.{specs.declared.operation.Op.TheVariants.{Move, Add, Sub}, specs.declared.condition.Cc.Cc, specs.declared.condition.Cc.TheVariants.Zs}
+use Rattle.fm_words.{specs.Alu.does_hold, specs.Code.no_flags}
+use Rattle.fm_machine.{specs.State.Fm, specs.Masks.all_flags}
+use Rattle.fm_code.{specs.InstructionWords.{reg, push, pop, literal, mov, flag_z}, specs.Flags.flags_of_word, specs.Templates.{below_end, jump_code}}
+use Rattle.fm_code.specs.Templates.{jump_if_top_code, jump_case_code, pushj_code, popj_code, test_and_jump_code, call_code, pop_call_code, ret_code}
+use Rattle.fm_code.{specs.Templates.{temporaries_code, prelude_code}, specs.Execution.{Parts, CodeAt}, proofs.CodeLaws.{code_front, code_after, code_get}}
+use Rattle.fm_code.{proofs.RegisterLaws.{with_register, next}, proofs.OperandLaws.{fetch, from_literal, from_literal_at, from_register, from_address, from_pop}}
+use Rattle.fm_code.{proofs.OperandLaws.from_ctrl, proofs.TargetLaws.{into_r0, into_r1, into_r3, into_r15, push_temp, push_ctrl, jump_when}}
 use Rattle.fm_code.proofs.RunLaws.{RunsToView, runs_to_view, with_ctrl, with_count, ctrl_top}
 
 module _ {P : Parts} {n : ℕ} {s : Fm} {f pc : ℕ} {ctrl temp areas : List ℕ} where

@@ -1,12 +1,9 @@
 -- A window as code, areas, control stack and temporary stack.
-use Rattle.std.proofs.Common.{◌≡◌, ℕ, ◌+◌, ◌<◌, ◌≤◌, List, [], ◌∷◌, ◌++◌, length, sym, subst, arith, length-append}
-use Rattle.std.specs.Prelude.{slice_set}
+use Rattle.std.{proofs.Common.{◌≡◌, ℕ, ◌+◌, ◌<◌, ◌≤◌, List, [], ◌∷◌, ◌++◌, length, sym, subst, arith, length-append}, specs.Prelude.slice_set}
 use Rattle.std.proofs.lemmas.List.{length-set}
-use Rattle.fm_machine.specs.State.{with_word}
-use Rattle.fm_code.specs.Execution.{Holds, Parts, AreParts, IsLaidOut, code_words}
-use Rattle.fm_code.specs.InstructionWords.{halt_word}
-use Rattle.fm_machine.proofs.WindowLaws.{word_at-same, length-with_word, some_word}
-use Rattle.fm_code.proofs.HoldsLaws.{Holds-store_below, Holds-store_above, Holds-store}
+use Rattle.fm_machine.{specs.State.with_word, proofs.WindowLaws.{word_at-same, length-with_word, some_word}}
+use Rattle.fm_code.{specs.Execution.{Holds, Parts, AreParts, IsLaidOut, code_words}, specs.InstructionWords.halt_word, proofs.HoldsLaws.Holds-store_below}
+use Rattle.fm_code.proofs.HoldsLaws.{Holds-store_above, Holds-store}
 
 module _ (P : Parts) (is : AreParts P) (m : List ℕ) (c t : ℕ) (ctrl temp areas : List ℕ) (laid : IsLaidOut P m c t ctrl temp areas) where
   -- what a store above the areas leaves unchanged

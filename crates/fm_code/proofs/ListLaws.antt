@@ -1,8 +1,6 @@
 -- Words of areas, of frames and of stacks at their places in longer lists.
 use Rattle.std.proofs.Common.{◌≡◌, ℕ, zero, suc, ◌+◌, ◌<◌, Some, List, [], ◌∷◌, ◌++◌, length, refl, sym, ap, ◌∙◌, subst, arith, length-append}
-use Rattle.std.specs.Prelude.{map, reverse, slice_get, slice_set}
-use Rattle.std.proofs.lemmas.Grind.{reverse_onto}
-use Rattle.std.proofs.lemmas.List.{map-append}
+use Rattle.std.{specs.Prelude.{map, reverse, slice_get, slice_set}, proofs.lemmas.Grind.reverse_onto, proofs.lemmas.List.map-append}
 use Rattle.fm_code.specs.Areas.{joined, words_before}
 
 -- the words of a list that is followed by another, and of one that follows another

@@ -1,18 +1,14 @@
 -- What the words of pushes, pops, fetches and deposits do.
-use Rattle.std.proofs.Common.{◌≡◌, ℕ, ◌+◌, ◌-◌, ◌%◌, ◌^◌, ◌<◌, Some, List, [], ◌∷◌, ◌++◌, length, refl, ap, arith, length-append}
-use Rattle.std.specs.Prelude.{slice_get, slice_set}
-use Rattle.std.proofs.lemmas.Option.{slice_get_within}
-use Rattle.fm_words.specs.declared.operation.Op.TheVariants.{Move, Inc, Add, Sub}
+use Rattle.std.{proofs.Common.{◌≡◌, ℕ, ◌+◌, ◌-◌, ◌%◌, ◌^◌, ◌<◌, Some, List, [], ◌∷◌, ◌++◌, length, refl, ap, arith, length-append}, specs.Prelude.slice_get}
+use Rattle.std.{specs.Prelude.slice_set, proofs.lemmas.Option.slice_get_within}
+use Rattle.fm_words.{specs.declared.operation.Op.TheVariants.{Move, Inc, Add, Sub}, specs.Code.no_flags}
 use Rattle.fm_machine.specs.State.{Fm}
-use Rattle.fm_words.specs.Code.{no_flags}
 use Rattle.fm_code.specs.Templates.{below_end, push_constant_code, push_local_code, pop_local_code, set_local_code, push_global_code, pop_global_code}
 use Rattle.fm_code.specs.Templates.{set_global_code, push_temp_stk_index_code, push_temp_stk_free_size_code, push_ctrl_stk_free_size_code, fetch_temp_stk_code}
-use Rattle.fm_code.specs.Templates.{deposit_temp_stk_code, fetch_code, deposit_code, pop_code, pop_star_code, popn_code, no_op_code}
-use Rattle.fm_code.specs.Execution.{Parts, CodeAt}
-use Rattle.fm_code.proofs.HoldsLaws.{Holds-get}
-use Rattle.fm_code.proofs.OperandLaws.{from_literal, from_register, from_address, from_top, from_pop}
-use Rattle.fm_code.proofs.TargetLaws.{into_r2, into_r3, push_temp, into_top, into_temp, into_ctrl, into_areas}
-use Rattle.fm_code.proofs.RunLaws.{RunsToView, runs_to_view, with_temp, ctrl_top}
+use Rattle.fm_code.{specs.Templates.{deposit_temp_stk_code, fetch_code, deposit_code, pop_code, pop_star_code, popn_code, no_op_code}, specs.Execution.Parts}
+use Rattle.fm_code.{specs.Execution.CodeAt, proofs.HoldsLaws.Holds-get, proofs.OperandLaws.{from_literal, from_register, from_address, from_top, from_pop}}
+use Rattle.fm_code.{proofs.TargetLaws.{into_r2, into_r3, push_temp, into_top, into_temp, into_ctrl, into_areas}, proofs.RunLaws.{RunsToView, runs_to_view}}
+use Rattle.fm_code.proofs.RunLaws.{with_temp, ctrl_top}
 
 module _ {P : Parts} {n : ℕ} {s : Fm} {f pc : ℕ} {ctrl temp areas : List ℕ} where
   -- a literal pushed

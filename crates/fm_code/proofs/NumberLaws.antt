@@ -1,15 +1,10 @@
 -- Words of integers: their sums, differences, signs and order.
-use Rattle.std.proofs.Common.{◌≡◌, ℕ, ◌+◌, ◌-◌, ◌*◌, ◌%◌, ◌^◌, ◌<◌, ◌≤◌, ◌==◌, Bool, true, false, refl, sym, ap, ◌∙◌, arith}
-use Rattle.std.specs.Prelude.{nat_le, nat_lt, not, ◌&&◌, ◌||◌, ℤ, pos, negsuc, ◌+ℤ◌, ◌-ℤ◌, int_lt, unsigned_abs, bit_and, bit_or}
-use Rattle.std.specs.Int.{from_bool as bit_of}
-use Rattle.std.proofs.lemmas.Bool.Decides.{nat_tests}
-use Rattle.std.proofs.lemmas.Int.{ints, int_rem_euclid_is}
-use Rattle.std.proofs.Math.IntN.{+ℤ_idr}
-use Rattle.fm_words.specs.Word.{signed_of, is_int, is_nat, word_of_int, wrapped, are_same_ints}
-use Rattle.fm_words.proofs.WordLaws.{signed_of-word_of_int, wrapped-int}
-use Rattle.fm_words.specs.Alu.{does_hold, are_same}
+use Rattle.std.{proofs.Common.{◌≡◌, ℕ, ◌+◌, ◌-◌, ◌*◌, ◌%◌, ◌^◌, ◌<◌, ◌≤◌, ◌==◌, Bool, true, false, refl, sym, ap, ◌∙◌, arith}, specs.Prelude.{nat_le, nat_lt}}
+use Rattle.std.{specs.Prelude.{not, ◌&&◌, ◌||◌, ℤ, pos, negsuc, ◌+ℤ◌, ◌-ℤ◌, int_lt, unsigned_abs, bit_and, bit_or}, specs.Int.from_bool as bit_of}
+use Rattle.std.{proofs.lemmas.Bool.Decides.nat_tests, proofs.lemmas.Int.{ints, int_rem_euclid_is}, proofs.Math.IntN.+ℤ_idr}
+use Rattle.fm_words.{specs.Word.{signed_of, is_int, is_nat, word_of_int, wrapped, are_same_ints}, proofs.WordLaws.{signed_of-word_of_int, wrapped-int}}
+use Rattle.fm_words.{specs.Alu.{does_hold, are_same}, specs.declared.condition.Flags.Flags}
 use Rattle.fm_words.specs.declared.condition.Cc.TheVariants as cc
-use Rattle.fm_words.specs.declared.condition.Flags.{Flags}
 use Rattle.fm_code.specs.Flags.{flags_of_word, flags_of_difference}
 
 -- what 32 bits keep of an exact number, from that number with a multiple of 2^32 added

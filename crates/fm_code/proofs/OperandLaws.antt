@@ -1,35 +1,17 @@
 -- A step at an instruction of the code: the values of its operands, and where its result goes.
-use Rattle.std.proofs.Common.{◌≡◌, ◌≢◌, ℕ, ◌+◌, ◌-◌, ◌%◌, ◌^◌, ◌<◌, ◌≤◌, Ok, Some, Bool, true, false, List, ◌∷◌, refl, ap, ◌∙◌, subst, arith}
-use Rattle.std.specs.Prelude.{if◌then◌else◌, slice_index, is_some}
-use Rattle.std.proofs.Common.{rules}
-use Rattle.std.proofs.lemmas.Int.{ints}
-use Rattle.std.proofs.lemmas.Option.{slice_get_within}
-use Rattle.fm_words.specs.declared.operation.Op.{Op}
-use Rattle.fm_words.specs.declared.operation.Op.TheVariants.{Move}
-use Rattle.fm_words.specs.declared.condition.Cc.{Cc}
-use Rattle.fm_words.specs.declared.condition.Cc.TheVariants.{Al}
-use Rattle.fm_words.specs.declared.condition.Flags.{Flags}
-use Rattle.fm_words.specs.declared.instruction.Mode.{Mode}
-use Rattle.fm_words.specs.declared.instruction.OperandA.{OperandA}
-use Rattle.fm_words.specs.declared.instruction.OperandA.TheVariants.{Place}
-use Rattle.fm_words.specs.declared.instruction.Instr.{Instr}
-use Rattle.fm_words.specs.Alu.{alu_of, does_hold}
-use Rattle.fm_words.specs.Code.{no_flags}
-use Rattle.fm_words.specs.Encoding.{encode_of, IsInstr, IsOperand}
+use Rattle.std.proofs.Common.{◌≡◌, ◌≢◌, ℕ, ◌+◌, ◌-◌, ◌%◌, ◌^◌, ◌<◌, ◌≤◌, Ok, Some, Bool, true, false, List, ◌∷◌, refl, ap, ◌∙◌, subst, arith, rules}
+use Rattle.std.{specs.Prelude.{if◌then◌else◌, slice_index, is_some}, proofs.lemmas.Int.ints, proofs.lemmas.Option.slice_get_within}
+use Rattle.fm_words.{specs.declared.operation.Op.Op, specs.declared.operation.Op.TheVariants.Move, specs.declared.condition.Cc.Cc}
+use Rattle.fm_words.{specs.declared.condition.Cc.TheVariants.Al, specs.declared.condition.Flags.Flags, specs.declared.instruction.Mode.Mode}
+use Rattle.fm_words.{specs.declared.instruction.OperandA.OperandA, specs.declared.instruction.OperandA.TheVariants.Place}
+use Rattle.fm_words.{specs.declared.instruction.Instr.Instr, specs.Alu.{alu_of, does_hold}, specs.Code.no_flags, specs.Encoding.{encode_of, IsInstr, IsOperand}}
 use Rattle.fm_words.proofs.FieldLaws.{decode_encode}
-use Rattle.fm_machine.specs.State.{Fm, word_at, with_word}
-use Rattle.fm_machine.specs.Step.{fm_step, found_word, effect_of, effect_of_values, value_a, value_at, value_b, registers_after, registers_after_a, address_of}
-use Rattle.fm_machine.specs.Step.{reads_b, flags_set, store_result, store_at_if, then_on}
-use Rattle.fm_machine.specs.Run.{fm_run, Avoids}
-use Rattle.fm_machine.proofs.RunLaws.{run_more, avoids_more}
-use Rattle.fm_machine.proofs.StepLaws.{unread, ending}
-use Rattle.fm_code.specs.InstructionWords.{instruction, when, setting, reg, at, pop, immediate, literal, literal_at}
-use Rattle.fm_code.specs.Execution.{Parts, AreParts, IsLaidOut, code_words, final_pc, CodeWord}
-use Rattle.fm_code.proofs.ListLaws.{get_front}
-use Rattle.fm_machine.proofs.WindowLaws.{some_word}
-use Rattle.fm_code.proofs.HoldsLaws.{Holds-get}
-use Rattle.fm_code.proofs.LayoutLaws.{laid_pop, laid_pop_ctrl}
-use Rattle.fm_code.proofs.RegisterLaws.{registers_of, with_register, next, past, index_of, set_of}
+use Rattle.fm_machine.{specs.State.{Fm, word_at, with_word}, specs.Step.{fm_step, found_word, effect_of, effect_of_values, value_a, value_at, value_b}}
+use Rattle.fm_machine.{specs.Step.{registers_after, registers_after_a, address_of, reads_b, flags_set, store_result, store_at_if, then_on}, specs.Run.fm_run}
+use Rattle.fm_machine.{specs.Run.Avoids, proofs.RunLaws.{run_more, avoids_more}, proofs.StepLaws.{unread, ending}, proofs.WindowLaws.some_word}
+use Rattle.fm_code.{specs.InstructionWords.{instruction, when, setting, reg, at, pop, immediate, literal, literal_at}, specs.Execution.{Parts, AreParts}}
+use Rattle.fm_code.{specs.Execution.{IsLaidOut, code_words, final_pc, CodeWord}, proofs.ListLaws.get_front, proofs.HoldsLaws.Holds-get}
+use Rattle.fm_code.{proofs.LayoutLaws.{laid_pop, laid_pop_ctrl}, proofs.RegisterLaws.{registers_of, with_register, next, past, index_of, set_of}}
 
 -- the state of these registers and flags, with the window m
 abbrev pub state_of : ℕ → (ℕ → ℕ) → Flags → List ℕ → Fm

@@ -1,28 +1,20 @@
 -- What the words of each instruction do, one field for each row.
-use Rattle.std.proofs.Common.{◌≡◌, ℕ, ◌+◌, ◌*◌, List, [], ◌∷◌, ◌++◌, length, refl, ap, ◌∙◌, arith, length-append}
-use Rattle.std.specs.Prelude.{replicate, reverse}
-use Rattle.std.proofs.lemmas.List.{length-replicate, length-reverse}
-use Rattle.std.proofs.Math.IntN.{+ℤ_comm}
-use Rattle.fm_words.proofs.FlagsLaws.{bit_small}
+use Rattle.std.{proofs.Common.{◌≡◌, ℕ, ◌+◌, ◌*◌, List, [], ◌∷◌, ◌++◌, length, refl, ap, ◌∙◌, arith, length-append}, specs.Prelude.{replicate, reverse, Bool}}
+use Rattle.std.specs.Prelude.{true, not, ◌&&◌, ◌||◌, ◌==◌, nat_le, nat_lt, ℤ, pos, ◌+ℤ◌, ◌-ℤ◌, ◌*ℤ◌, bit_and, bit_or, bit_xor, ◌-◌, ◌/◌, ◌%◌, ◌^◌, ◌<◌}
+use Rattle.std.{proofs.lemmas.List.{length-replicate, length-reverse}, proofs.Math.IntN.+ℤ_comm, specs.Int.from_bool as bit_of}
+use Rattle.std.proofs.lemmas.Bool.Decides.{nat_tests}
+use Rattle.fm_words.{proofs.FlagsLaws.bit_small, specs.declared.operation.Op.TheVariants.{Inc, Addc, Add, Neg, Dec, Subb, Sub, Lsr, Xor, Or, And, Not}}
+use Rattle.fm_words.{specs.declared.condition.Cc.TheVariants.{Cs, Vs, Lt}, specs.Word.{signed_of, is_int, is_nat, word_of_int, wrapped}}
 use Rattle.fm_machine.specs.State.{Fm}
-use Rattle.fm_code.specs.InstructionWords.{reg, push, pop as pop_of, mov}
-use Rattle.fm_code.specs.Templates.{prelude_code, temporaries_code, carry_code, mult2_carry_code}
-use Rattle.fm_code.specs.Execution.{Parts, CodeAt, view}
-use Rattle.fm_code.specs.CodeRows.{MoveRows, JumpRows, WordRows, TestRows, HasRoom, framed}
-use Rattle.fm_code.proofs.RunLaws.{RunsToView, executes, with_count, with_temp}
+use Rattle.fm_code.{specs.InstructionWords.{reg, push, pop as pop_of, mov}, specs.Templates.{prelude_code, temporaries_code, carry_code, mult2_carry_code}}
+use Rattle.fm_code.{specs.Execution.{Parts, CodeAt, view}, specs.CodeRows.{MoveRows, JumpRows, WordRows, TestRows, HasRoom, framed}, proofs.RunLaws.RunsToView}
+use Rattle.fm_code.{proofs.RunLaws.{executes, with_count, with_temp}, proofs.NumberLaws.{same_ints, same_bools, lt_int, sum_number, difference_number}}
+use Rattle.fm_code.proofs.NumberLaws.{last_bit, or_bools, and_bools, sum_outside, difference_outside, wrapped_sum, wrapped_difference, nat_sum, nat_sum_outside}
+use Rattle.fm_code.proofs.NumberLaws.{nat_difference, nat_difference_outside, is_zero, is_negative, is_positive, le_is, true_word, false_word}
+use Rattle.fm_code.specs.Flags.{flags_of_word}
 use Rattle.fm_code.proofs.MoveLaws as moves
 use Rattle.fm_code.proofs.JumpLaws as jumps
 use Rattle.fm_code.proofs.ArithmeticLaws as words
-use Rattle.fm_code.proofs.NumberLaws.{same_ints, same_bools, lt_int, sum_number, difference_number, last_bit, or_bools, and_bools, sum_outside}
-use Rattle.fm_code.proofs.NumberLaws.{difference_outside, wrapped_sum, wrapped_difference, nat_sum, nat_sum_outside, nat_difference, nat_difference_outside}
-use Rattle.fm_code.proofs.NumberLaws.{is_zero, is_negative, is_positive, le_is, true_word, false_word}
-use Rattle.std.specs.Prelude.{Bool, true, not, ◌&&◌, ◌||◌, ◌==◌, nat_le, nat_lt, ℤ, pos, ◌+ℤ◌, ◌-ℤ◌, ◌*ℤ◌, bit_and, bit_or, bit_xor, ◌-◌, ◌/◌, ◌%◌, ◌^◌, ◌<◌}
-use Rattle.std.specs.Int.{from_bool as bit_of}
-use Rattle.std.proofs.lemmas.Bool.Decides.{nat_tests}
-use Rattle.fm_words.specs.declared.operation.Op.TheVariants.{Inc, Addc, Add, Neg, Dec, Subb, Sub, Lsr, Xor, Or, And, Not}
-use Rattle.fm_words.specs.declared.condition.Cc.TheVariants.{Cs, Vs, Lt}
-use Rattle.fm_words.specs.Word.{signed_of, is_int, is_nat, word_of_int, wrapped}
-use Rattle.fm_code.specs.Flags.{flags_of_word}
 
 pub move_rows : (P : Parts) (f pc : ℕ) (ctrl temp areas : List ℕ) → MoveRows P (view f pc ctrl temp areas)
 move_rows P f pc ctrl temp areas =

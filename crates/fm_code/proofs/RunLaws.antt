@@ -1,11 +1,8 @@
 -- Runs between views of the machine: how they begin, continue and end.
-use Rattle.std.proofs.Common.{◌≡◌, ℕ, ◌+◌, Ok, List, length, refl, ap, ◌∙◌, subst, arith}
-use Rattle.std.specs.Prelude.{slice_index}
+use Rattle.std.{proofs.Common.{◌≡◌, ℕ, ◌+◌, Ok, List, length, refl, ap, ◌∙◌, subst, arith}, specs.Prelude.slice_index}
 use Rattle.fm_words.specs.declared.condition.Flags.{Flags}
-use Rattle.fm_machine.specs.State.{Fm}
-use Rattle.fm_machine.proofs.RunLaws.{run_none, avoids_none, run_then, avoids_then}
-use Rattle.fm_code.specs.Execution.{Parts, AreParts, HasView, Arrives, View, view, Executes, CodeAt, final_pc}
-use Rattle.fm_code.proofs.RegisterLaws.{sixteen_are}
+use Rattle.fm_machine.{specs.State.Fm, proofs.RunLaws.{run_none, avoids_none, run_then, avoids_then}}
+use Rattle.fm_code.{specs.Execution.{Parts, AreParts, HasView, Arrives, View, view, Executes, CodeAt, final_pc}, proofs.RegisterLaws.sixteen_are}
 use Rattle.fm_code.proofs.OperandLaws.{RunsTo, state_of}
 
 -- After n steps from s the machine has f in r0 and pc in r15, and these words on both stacks and in the areas, whatever

@@ -1,22 +1,14 @@
 -- What a step at an instruction of the code does, one law for each kind of target.
-use Rattle.std.proofs.Common.{◌≡◌, ℕ, ◌+◌, ◌-◌, ◌%◌, ◌^◌, ◌<◌, Some, Bool, true, false, List, ◌∷◌, ◌++◌, length, refl, arith}
-use Rattle.std.specs.Prelude.{if◌then◌else◌, slice_set}
-use Rattle.fm_words.specs.declared.operation.Op.{Op}
-use Rattle.fm_words.specs.declared.operation.Op.TheVariants.{Move}
-use Rattle.fm_words.specs.declared.condition.Cc.{Cc}
-use Rattle.fm_words.specs.declared.condition.Flags.{Flags}
-use Rattle.fm_words.specs.declared.instruction.Mode.TheVariants.{Register, Indirect, PreDecrement}
-use Rattle.fm_words.specs.declared.instruction.OperandA.{OperandA}
-use Rattle.fm_words.specs.Alu.{alu_of, does_hold}
-use Rattle.fm_machine.specs.State.{Fm, word_at, with_word}
-use Rattle.fm_machine.specs.Step.{flags_set}
-use Rattle.fm_words.specs.Code.{no_flags}
-use Rattle.fm_code.specs.InstructionWords.{reg, at, push, immediate, literal, always, mov, setting, when}
-use Rattle.fm_code.specs.Execution.{Parts, CodeWord}
+use Rattle.std.{proofs.Common.{◌≡◌, ℕ, ◌+◌, ◌-◌, ◌%◌, ◌^◌, ◌<◌, Some, Bool, true, false, List, ◌∷◌, ◌++◌, length, refl, arith}, specs.Prelude.if◌then◌else◌}
+use Rattle.std.specs.Prelude.{slice_set}
+use Rattle.fm_words.{specs.declared.operation.Op.Op, specs.declared.operation.Op.TheVariants.Move, specs.declared.condition.Cc.Cc}
+use Rattle.fm_words.{specs.declared.condition.Flags.Flags, specs.declared.instruction.Mode.TheVariants.{Register, Indirect, PreDecrement}}
+use Rattle.fm_words.{specs.declared.instruction.OperandA.OperandA, specs.Alu.{alu_of, does_hold}, specs.Code.no_flags}
+use Rattle.fm_machine.{specs.State.{Fm, word_at, with_word}, specs.Step.flags_set}
+use Rattle.fm_code.{specs.InstructionWords.{reg, at, push, immediate, literal, always, mov, setting, when}, specs.Execution.{Parts, CodeWord}}
 use Rattle.fm_code.proofs.LayoutLaws.{laid_push, laid_push_ctrl, laid_temp, laid_ctrl, laid_areas, laid_drop, laid_drop_ctrl}
-use Rattle.fm_code.proofs.RegisterLaws.{with_register, next, past}
-use Rattle.fm_code.proofs.OperandLaws.{RunsTo, ReadsOperand, state_of, found, kept, some_word_at, into_register, into_memory, conditional, from_literal}
-use Rattle.fm_code.proofs.OperandLaws.{from_immediate}
+use Rattle.fm_code.{proofs.RegisterLaws.{with_register, next, past}, proofs.OperandLaws.{RunsTo, ReadsOperand, state_of, found, kept, some_word_at}}
+use Rattle.fm_code.proofs.OperandLaws.{into_register, into_memory, conditional, from_literal, from_immediate}
 
 module _ {P : Parts} {n : ℕ} {s : Fm} {r : ℕ → ℕ} {fl : Flags} {ctrl temp areas : List ℕ} {a : OperandA} {x : ℕ} {r1 : ℕ → ℕ} {ctrl1 temp1 : List ℕ} where
   -- `OP{set} r0,a`: the result into a register that is no top of a stack

@@ -1,21 +1,17 @@
 -- What the words of each of Piton's instructions do, and in how many steps. Stacks are listed from their tops.
-use Rattle.std.specs.Prelude.{◌≡◌, ℕ, ◌+◌, ◌-◌, ◌*◌, ◌/◌, ◌%◌, ◌^◌, ◌<◌, ◌≤◌, ◌==◌, Some, Bool, true, not}
-use Rattle.std.specs.Prelude.{◌&&◌, ◌||◌, ℤ, pos, ◌+ℤ◌, ◌-ℤ◌, ◌*ℤ◌, int_lt, nat_lt, if◌then◌else◌, List}
-use Rattle.std.specs.Prelude.{◌∷◌, ◌++◌, length, reverse, slice_get, slice_set, bit_and, bit_or, bit_xor}
-use Rattle.std.specs.Int.{from_bool as bit_of}
-use Rattle.fm_words.specs.declared.condition.Cc.{Cc}
-use Rattle.fm_words.specs.declared.condition.Cc.TheVariants.{Cs, Vs, Nc, Ns, Zc, Zs, Lt, Gt, Le}
-use Rattle.fm_words.specs.declared.operation.Op.TheVariants.{Inc, Addc, Add, Neg, Dec, Subb, Sub, Lsr, Xor, Or, And, Not}
-use Rattle.fm_words.specs.Word.{is_int, is_nat, word_of_int, wrapped, are_same_ints}
-use Rattle.fm_words.specs.Alu.{does_hold, are_same}
-use Rattle.fm_code.specs.Flags.{flags_of_word}
-use Rattle.fm_code.specs.Execution.{Parts, CodeAt, View, Executes}
-use Rattle.fm_code.specs.Templates.{below_end, push_constant_code, push_local_code, pop_local_code, set_local_code, push_global_code}
-use Rattle.fm_code.specs.Templates.{pop_global_code, set_global_code, push_temp_stk_index_code, push_temp_stk_free_size_code}
-use Rattle.fm_code.specs.Templates.{push_ctrl_stk_free_size_code, fetch_temp_stk_code, deposit_temp_stk_code, fetch_code, deposit_code}
-use Rattle.fm_code.specs.Templates.{pop_code, pop_star_code, popn_code, no_op_code, jump_code, jump_if_top_code, jump_case_code}
-use Rattle.fm_code.specs.Templates.{pushj_code, popj_code, test_and_jump_code, call_code, pop_call_code, ret_code, prelude_code}
-use Rattle.fm_code.specs.Templates.{two_code, one_code, not_bool_code, eq_code, lt_code, carry_code, mult2_carry_code, div2_code}
+use Rattle.std.specs.Prelude.{◌≡◌, ℕ, ◌+◌, ◌-◌, ◌*◌, ◌/◌, ◌%◌, ◌^◌, ◌<◌, ◌≤◌, ◌==◌, Some, Bool, true, not, ◌&&◌, ◌||◌, ℤ, pos, ◌+ℤ◌, ◌-ℤ◌}
+use Rattle.std.specs.Prelude.{◌*ℤ◌, int_lt, nat_lt, if◌then◌else◌, List, ◌∷◌, ◌++◌, length, reverse, slice_get, slice_set, bit_and, bit_or}
+use Rattle.std.specs.{Prelude.{bit_xor}, Int.{from_bool as bit_of}}
+use Rattle.fm_words.specs.{declared.condition.Cc.{Cc}, declared.condition.Cc.TheVariants.{Cs, Vs, Nc, Ns, Zc, Zs, Lt, Gt, Le}}
+use Rattle.fm_words.specs.{declared.operation.Op.TheVariants.{Inc, Addc, Add, Neg, Dec, Subb, Sub, Lsr, Xor, Or, And, Not}, Word.{is_int}}
+use Rattle.fm_words.specs.{Word.{is_nat, word_of_int, wrapped, are_same_ints}, Alu.{does_hold, are_same}}
+use Rattle.fm_code.specs.{Flags.{flags_of_word}, Execution.{Parts, CodeAt, View, Executes}, Templates.{below_end, push_constant_code}}
+use Rattle.fm_code.specs.Templates.{push_local_code, pop_local_code, set_local_code, push_global_code, pop_global_code, set_global_code}
+use Rattle.fm_code.specs.Templates.{push_temp_stk_index_code, push_temp_stk_free_size_code, push_ctrl_stk_free_size_code}
+use Rattle.fm_code.specs.Templates.{fetch_temp_stk_code, deposit_temp_stk_code, fetch_code, deposit_code, pop_code, pop_star_code}
+use Rattle.fm_code.specs.Templates.{popn_code, no_op_code, jump_code, jump_if_top_code, jump_case_code, pushj_code, popj_code}
+use Rattle.fm_code.specs.Templates.{test_and_jump_code, call_code, pop_call_code, ret_code, prelude_code, two_code, one_code, not_bool_code}
+use Rattle.fm_code.specs.Templates.{eq_code, lt_code, carry_code, mult2_carry_code, div2_code}
 
 -- the temporary stack has room for another word
 abbrev pub HasRoom : Parts → List ℕ → Type 0

@@ -1,7 +1,6 @@
 -- The parts of a program's memory, views of the machine's state, and what it is that the machine executes code.
 use Rattle.std.specs.Prelude.{◌≡◌, ℕ, ◌+◌, ◌-◌, ◌≤◌, ◌<◌, ◌^◌, List, [], ◌∷◌, ◌++◌, length, Some, Ok, slice_get, slice_index}
-use Rattle.fm_machine.specs.State.{Fm, word_at}
-use Rattle.fm_machine.specs.Run.{fm_run, Avoids}
+use Rattle.fm_machine.specs.{State.{Fm, word_at}, Run.{fm_run, Avoids}}
 use Rattle.fm_code.specs.InstructionWords.{halt_word}
 
 -- a window with this base and memory holds these words from an address on

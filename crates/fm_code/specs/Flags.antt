@@ -1,8 +1,6 @@
 -- What the flags say of a word that was moved, and of a difference.
 use Rattle.std.specs.Prelude.{ℕ, ◌^◌, ◌==◌, nat_le, false}
-use Rattle.fm_words.specs.declared.operation.Op.TheVariants.{Sub}
-use Rattle.fm_words.specs.declared.operation.AluOut.{AluOut}
-use Rattle.fm_words.specs.declared.condition.Flags.{Flags}
+use Rattle.fm_words.specs.{declared.operation.Op.TheVariants.{Sub}, declared.operation.AluOut.{AluOut}, declared.condition.Flags.{Flags}}
 use Rattle.fm_words.specs.Alu.{alu_of}
 
 -- all four flags of a result

@@ -1,16 +1,10 @@
 -- The notation of instruction words: an operation, then its target, then its source.
 use Rattle.std.specs.Prelude.{ℕ, pos, true, false}
-use Rattle.fm_words.specs.declared.operation.Op.{Op}
-use Rattle.fm_words.specs.declared.operation.Op.TheVariants.{Move, Add, Dec, Sub}
-use Rattle.fm_words.specs.declared.condition.Cc.{Cc}
-use Rattle.fm_words.specs.declared.condition.Cc.TheVariants.{Al}
-use Rattle.fm_words.specs.declared.condition.Flags.{Flags}
+use Rattle.fm_words.specs.{declared.operation.Op.{Op}, declared.operation.Op.TheVariants.{Move, Add, Dec, Sub}, declared.condition.Cc.{Cc}}
+use Rattle.fm_words.specs.{declared.condition.Cc.TheVariants.{Al}, declared.condition.Flags.{Flags}}
 use Rattle.fm_words.specs.declared.instruction.Mode.TheVariants.{Register, Indirect, PreDecrement, PostIncrement}
-use Rattle.fm_words.specs.declared.instruction.OperandA.{OperandA}
-use Rattle.fm_words.specs.declared.instruction.OperandA.TheVariants.{Immediate, Place}
-use Rattle.fm_words.specs.declared.instruction.Instr.{Instr}
-use Rattle.fm_words.specs.Code.{no_flags}
-use Rattle.fm_words.specs.Encoding.{encode_of}
+use Rattle.fm_words.specs.{declared.instruction.OperandA.{OperandA}, declared.instruction.OperandA.TheVariants.{Immediate, Place}}
+use Rattle.fm_words.specs.{declared.instruction.Instr.{Instr}, Code.{no_flags}, Encoding.{encode_of}}
 
 -- `r3`
 abbrev pub reg : ℕ → OperandA

@@ -1,13 +1,11 @@
 -- The words of each of Piton's instructions. r0 points to the frame, r1 and r2 to the tops of the control stack and of the
 -- temporary stack. A local is named by its offset in the frame; an area, a place and a program by their addresses.
 use Rattle.std.specs.Prelude.{ℕ, ◌+◌, ◌-◌, ◌%◌, ◌^◌, List, [], ◌∷◌, ◌++◌, replicate}
-use Rattle.fm_words.specs.declared.operation.Op.{Op}
-use Rattle.fm_words.specs.declared.operation.Op.TheVariants.{Move, Inc, Add, Sub, Lsr, Xor, And}
-use Rattle.fm_words.specs.declared.condition.Cc.{Cc}
-use Rattle.fm_words.specs.declared.condition.Cc.TheVariants.{Zs, Cs}
+use Rattle.fm_words.specs.{declared.operation.Op.{Op}, declared.operation.Op.TheVariants.{Move, Inc, Add, Sub, Lsr, Xor, And}}
+use Rattle.fm_words.specs.{declared.condition.Cc.{Cc}, declared.condition.Cc.TheVariants.{Zs, Cs}}
 use Rattle.fm_machine.specs.Masks.{all_flags}
-use Rattle.fm_code.specs.InstructionWords.{reg, at, push, pop, immediate, literal, literal_at, flag_z}
-use Rattle.fm_code.specs.InstructionWords.{flag_c, flags_cv, always, setting, when, mov, add, sub}
+use Rattle.fm_code.specs.InstructionWords.{reg, at, push, pop, immediate, literal, literal_at, flag_z, flag_c, flags_cv, always, setting}
+use Rattle.fm_code.specs.InstructionWords.{when, mov, add, sub}
 
 -- the word of the literal `=end-k`, which is taken modulo 2^32
 abbrev pub below_end : ℕ → ℕ → ℕ

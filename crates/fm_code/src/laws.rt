@@ -1,7 +1,6 @@
 //! The laws of the code. These functions do nothing: their clauses hold of all machines.
 
-ghost use Rattle.fm_code.specs.Execution.{Parts, View};
-ghost use Rattle.fm_code.specs.CodeRows.{MoveRows, JumpRows, WordRows, TestRows};
+ghost use Rattle.fm_code.specs.{Execution.{Parts, View}, CodeRows.{MoveRows, JumpRows, WordRows, TestRows}};
 
 /// What the words of pushes, pops, fetches and deposits do.
 pub fn move_rows()

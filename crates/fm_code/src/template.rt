@@ -1,7 +1,8 @@
 //! The templates of Piton's instructions that have no literal.
 
 ghost use Rattle.std.specs.Prelude.{◌≡◌};
-ghost use Rattle.fm_code.specs.Templates.{fetch_code, deposit_code, pop_code, popn_code, no_op_code, popj_code, two_code, one_code, not_bool_code, eq_code, lt_code, carry_code, mult2_carry_code, div2_code};
+ghost use Rattle.fm_code.specs.Templates.{fetch_code, deposit_code, pop_code, popn_code, no_op_code, popj_code, two_code, one_code, not_bool_code, eq_code};
+ghost use Rattle.fm_code.specs.Templates.{lt_code, carry_code, mult2_carry_code, div2_code};
 
 use crate::word::{
     ALL_FLAGS, FLAG_C, FLAG_Z, FLAGS_CV, add, always, at, immediate, mov, pop, push, reg, setting,

@@ -1,10 +1,7 @@
 -- Bits of sums, differences and choices.
-use Rattle.std.proofs.Common.{◌≡◌, ℕ, zero, suc, ◌+◌, ◌-◌, ◌*◌, ◌/◌, ◌%◌, ◌^◌, ◌<◌, [], ◌∷◌, refl, ap, sym, ◌∙◌, arith}
-use Rattle.std.proofs.lemmas.Nat.{pow_pos, pow-add, shr-shr, shr_split, shr_high, mod-pow-add, div_below, mod_below}
-use Rattle.std.proofs.Math.Nat.{mod-eq_of_lt}
-use Rattle.std.proofs.lemmas.Nat.Bits.{bit_at-suc, bit_at-lt, bit_at_lowest, bit_at_cat_low}
-use Rattle.std.specs.Prelude.{slice_index}
-use Rattle.std.specs.Int.{bit_at}
+use Rattle.std.{proofs.Common.{◌≡◌, ℕ, zero, suc, ◌+◌, ◌-◌, ◌*◌, ◌/◌, ◌%◌, ◌^◌, ◌<◌, [], ◌∷◌, refl, ap, sym, ◌∙◌, arith}, proofs.lemmas.Nat.{pow_pos, pow-add}}
+use Rattle.std.{proofs.lemmas.Nat.{shr-shr, shr_split, shr_high, mod-pow-add, div_below, mod_below}, proofs.Math.Nat.mod-eq_of_lt}
+use Rattle.std.{proofs.lemmas.Nat.Bits.{bit_at-suc, bit_at-lt, bit_at_lowest, bit_at_cat_low}, specs.Prelude.slice_index, specs.Int.bit_at}
 
 -- a bit of the lowest bits
 pub bit_of_low : (x k i : ℕ) → i < k → bit_at (x % 2 ^ k) i ≡ bit_at x i

@@ -1,28 +1,17 @@
 -- The gates of a driver give the bits of its value.
 use Rattle.std.proofs.Common.{◌≡◌, ◌≢◌, ℕ, zero, suc, ◌+◌, ◌-◌, ◌*◌, ◌%◌, ◌^◌, ◌<◌, ◌≤◌, ◌==◌, ◌&&◌, Bool, true, false, List, [], ◌∷◌, length, drop, refl, ap}
-use Rattle.std.proofs.Common.{sym, subst, ◌∙◌, arith, ⊎_elim, eq-eqb, if◌then◌else◌}
-use Rattle.std.proofs.lemmas.Bool.{eqb-true, ltb-true, and_parts, cases_lt, cases_eq, ne_eqb}
-use Rattle.std.proofs.lemmas.Bool.Decides.{nat_tests}
-use Rattle.std.proofs.lemmas.Nat.{mod-pow-add}
-use Rattle.std.proofs.lemmas.Nat.Bits.{bit_at-lt, bit_at-zero, bit_at_and, bit_at_or, bit_at_xor, bit_at_cat_low, bit_at_cat_high, same_from_bits_below}
-use Rattle.std.proofs.lemmas.List.{get_or-drop}
-use Rattle.std.proofs.Math.ListN.{get_or-map}
-use Rattle.std.proofs.Math.Nat.{mod-eq_of_lt}
-use Rattle.std.specs.Prelude.{map, min, max, nat_lt, nat_le, slice_index}
-use Rattle.std.specs.List.{list_all}
-use Rattle.std.specs.Int.{from_bool as bit_of, bit_at}
-use Rattle.fm_circuit.specs.declared.wire.Wire.{Wire}
-use Rattle.fm_circuit.specs.declared.circuit.Pin.{Pin}
-use Rattle.fm_circuit.specs.declared.circuit.Pin.TheVariants.{Whole, Bits, Constant}
-use Rattle.fm_circuit.specs.declared.circuit.Driver.{Driver}
+use Rattle.std.{proofs.Common.{sym, subst, ◌∙◌, arith, ⊎_elim, eq-eqb, if◌then◌else◌}, proofs.lemmas.Bool.{eqb-true, ltb-true, and_parts, cases_lt, cases_eq}}
+use Rattle.std.{proofs.lemmas.Bool.ne_eqb, proofs.lemmas.Bool.Decides.nat_tests, proofs.lemmas.Nat.mod-pow-add, proofs.lemmas.Nat.Bits.{bit_at-lt, bit_at-zero}}
+use Rattle.std.proofs.lemmas.Nat.Bits.{bit_at_and, bit_at_or, bit_at_xor, bit_at_cat_low, bit_at_cat_high, same_from_bits_below}
+use Rattle.std.{proofs.lemmas.List.get_or-drop, proofs.Math.ListN.get_or-map, proofs.Math.Nat.mod-eq_of_lt, specs.Prelude.{map, min, max, nat_lt, nat_le}}
+use Rattle.std.{specs.Prelude.slice_index, specs.List.list_all, specs.Int.{from_bool as bit_of, bit_at}}
+use Rattle.fm_circuit.{specs.declared.wire.Wire.Wire, specs.declared.circuit.Pin.Pin, specs.declared.circuit.Pin.TheVariants.{Whole, Bits, Constant}}
+use Rattle.fm_circuit.{specs.declared.circuit.Driver.Driver, specs.Widths.width_of, specs.Circuit.{Kept, pin_of, pin_width, above, chosen, driven}}
+use Rattle.fm_circuit.{specs.Sizes.{has_width, is_choice, is_sized, register_widths, input_widths}, proofs.SizeLaws.{pin_fits, width_is}}
 use Rattle.fm_circuit.specs.declared.circuit.Driver.TheVariants as d
-use Rattle.fm_circuit.specs.Widths.{width_of}
-use Rattle.fm_circuit.specs.Circuit.{Kept, pin_of, pin_width, above, chosen, driven}
-use Rattle.fm_circuit.specs.Sizes.{has_width, is_choice, is_sized, register_widths, input_widths}
-use Rattle.fm_circuit.proofs.SizeLaws.{pin_fits, width_is}
 use Rattle.fm_gates.specs.Gates.{Gate, Off, CarryBit, FileBit, Differ, Signals, gate_value, constant_gate, pin_gate, carry_gate, equal_gate, first_gate}
-use Rattle.fm_gates.specs.Gates.{choice_gate, choice_of_pins, file_numbers, driver_gate}
-use Rattle.fm_gates.proofs.BitLaws.{bit_of_low, bit_of_high, bit_of_inverse, carry_into, carry_next, sum_bit, sum_top}
+use Rattle.fm_gates.{specs.Gates.{choice_gate, choice_of_pins, file_numbers, driver_gate}, proofs.BitLaws.{bit_of_low, bit_of_high, bit_of_inverse, carry_into}}
+use Rattle.fm_gates.proofs.BitLaws.{carry_next, sum_bit, sum_top}
 
 pick_path : (a a' b b' c c' : ℕ) → a ≡ a' → b ≡ b' → c ≡ c' → slice_index (a ∷ c ∷ []) ((a + b) % 2) ≡ slice_index (a' ∷ c' ∷ []) ((a' + b') % 2)
 pick_path a a' b b' c c' e f g = λ j. slice_index (e j ∷ g j ∷ []) ((e j + f j) % 2)

@@ -1,28 +1,17 @@
 -- A cycle of the netlist is a cycle of the circuit.
 use Rattle.std.proofs.Common.{◌≡◌, ℕ, zero, suc, ◌-◌, ◌^◌, ◌<◌, ◌==◌, ◌&&◌, Bool, true, false, not, List, [], ◌∷◌, Option, Some, None, refl, ap, sym, subst}
-use Rattle.std.proofs.Common.{◌∙◌, arith, if◌then◌else◌}
-use Rattle.std.proofs.lemmas.Bool.{lt-ltb}
-use Rattle.std.proofs.lemmas.Nat.Bits.{bit_at-lt, bit_at-zero, same_from_bits_below}
-use Rattle.std.specs.Prelude.{map, min, get_or, is_some, unwrap_or, slice_index}
-use Rattle.std.specs.Int.{from_bool as bit_of, bit_at}
+use Rattle.std.{proofs.Common.{◌∙◌, arith, if◌then◌else◌}, proofs.lemmas.Bool.lt-ltb, proofs.lemmas.Nat.Bits.{bit_at-lt, bit_at-zero, same_from_bits_below}}
+use Rattle.std.{specs.Prelude.{map, min, get_or, is_some, unwrap_or, slice_index}, specs.Int.{from_bool as bit_of, bit_at}}
 use Rattle.fm_words.proofs.FlagsLaws.{bit_small}
 use Rattle.fm_machine.specs.State.{word_at, with_word}
-use Rattle.fm_circuit.specs.declared.wire.Wire.{Wire}
+use Rattle.fm_circuit.{specs.declared.wire.Wire.Wire, specs.declared.circuit.Pin.TheVariants.{Whole, Constant}, specs.Widths.width_of, specs.Circuit.driven}
+use Rattle.fm_circuit.{specs.Processor.driver_of, specs.Board.{cycle, cycle_with, cycles, on_board, registers, levels}, specs.Following.AreWords}
+use Rattle.fm_circuit.{specs.Sizes.{FitWidths, register_widths, input_widths}, proofs.SettledLaws.{settled_on, only_settled}, proofs.SizeLaws.driven_fits}
+use Rattle.fm_circuit.{proofs.SizeLaws.{settled_fits, sized, memory_fits}, proofs.WordsLaws.word_found}
 use Rattle.fm_circuit.specs.declared.wire.Wire.TheVariants as w
-use Rattle.fm_circuit.specs.declared.circuit.Pin.TheVariants.{Whole, Constant}
-use Rattle.fm_circuit.specs.Widths.{width_of}
-use Rattle.fm_circuit.specs.Circuit.{driven}
-use Rattle.fm_circuit.specs.Processor.{driver_of}
-use Rattle.fm_circuit.specs.Board.{cycle, cycle_with, cycles, on_board, registers, levels}
-use Rattle.fm_circuit.specs.Following.{AreWords}
-use Rattle.fm_circuit.specs.Sizes.{FitWidths, register_widths, input_widths}
-use Rattle.fm_circuit.proofs.SettledLaws.{settled_on, only_settled}
-use Rattle.fm_circuit.proofs.SizeLaws.{driven_fits, settled_fits, sized, memory_fits}
-use Rattle.fm_circuit.proofs.WordsLaws.{word_found}
-use Rattle.fm_gates.specs.Gates.{Signals, gate_value, constant_gate, equal_gate, next_gate, file_gate, file_numbers, write_gate}
-use Rattle.fm_gates.specs.Netlist.{BitBoard, HasBits, AreNets, Lowered, GoesOn, Runs, word_of_bits, words_of, register_numbers, input_bit, signals_of}
-use Rattle.fm_gates.specs.Netlist.{carried_word, next_bits}
-use Rattle.fm_gates.proofs.GateLaws.{carried_value, carries_are, carries_hold, driver_bit, equal_value, agrees_is}
+use Rattle.fm_gates.{specs.Gates.{Signals, gate_value, constant_gate, equal_gate, next_gate, file_gate, file_numbers, write_gate}, specs.Netlist.BitBoard}
+use Rattle.fm_gates.specs.Netlist.{HasBits, AreNets, Lowered, GoesOn, Runs, word_of_bits, words_of, register_numbers, input_bit, signals_of, carried_word}
+use Rattle.fm_gates.{specs.Netlist.next_bits, proofs.GateLaws.{carried_value, carries_are, carries_hold, driver_bit, equal_value, agrees_is}}
 use Rattle.fm_gates.proofs.WordLaws.{word_below, bit_of_word, word_of_own, zero_word, picked_word, file_words, write_bit, file_bit, is_one}
 
 constant_small : (s : Signals) (n : ℕ) → n < 2 → gate_value s (constant_gate n) < 2

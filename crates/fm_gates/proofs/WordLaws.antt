@@ -1,12 +1,8 @@
 -- Words of bits, and the words of the register file.
 use Rattle.std.proofs.Common.{◌≡◌, ◌≢◌, ℕ, zero, suc, ◌+◌, ◌-◌, ◌*◌, ◌/◌, ◌%◌, ◌^◌, ◌<◌, ◌≤◌, ◌==◌, ◌&&◌, Bool, true, false, not, List, [], ◌∷◌, refl, ap, ◌∙◌}
-use Rattle.std.proofs.Common.{arith, eq-eqb, pow-suc, if◌then◌else◌}
-use Rattle.std.proofs.lemmas.Bool.{ne_eqb}
-use Rattle.std.proofs.lemmas.Nat.Bits.{bit_at-suc, bit_at_lowest, bit_at-lt, same_from_bits_below}
-use Rattle.std.specs.Prelude.{map, min, slice_index, slice_set}
-use Rattle.std.specs.Int.{from_bool as bit_of, bit_at}
-use Rattle.fm_gates.specs.Gates.{file_numbers}
-use Rattle.fm_gates.specs.Netlist.{word_of_bits}
+use Rattle.std.{proofs.Common.{arith, eq-eqb, pow-suc, if◌then◌else◌}, proofs.lemmas.Bool.ne_eqb, proofs.lemmas.Nat.Bits.{bit_at-suc, bit_at_lowest, bit_at-lt}}
+use Rattle.std.{proofs.lemmas.Nat.Bits.same_from_bits_below, specs.Prelude.{map, min, slice_index, slice_set}, specs.Int.{from_bool as bit_of, bit_at}}
+use Rattle.fm_gates.{specs.Gates.file_numbers, specs.Netlist.word_of_bits}
 
 -- a word of bits is below its power
 pub word_below : (n : ℕ) (f : ℕ → ℕ) → ((i : ℕ) → i < n → f i < 2) → word_of_bits n f < 2 ^ n

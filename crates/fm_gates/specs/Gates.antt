@@ -1,14 +1,10 @@
 -- The circuit's words as bits: each bit of each wire as gates over bits.
-use Rattle.std.specs.Prelude.{ℕ, zero, suc, ◌+◌, ◌-◌, ◌%◌, ◌^◌, List, [], ◌∷◌, map}
-use Rattle.std.specs.Prelude.{slice_index, nat_lt, if◌then◌else◌, drop, min, max}
+use Rattle.std.specs.Prelude.{ℕ, zero, suc, ◌+◌, ◌-◌, ◌%◌, ◌^◌, List, [], ◌∷◌, map, slice_index, nat_lt, if◌then◌else◌, drop, min, max}
 use Rattle.std.specs.Int.{bit_at}
-use Rattle.fm_circuit.specs.declared.wire.Wire.{Wire}
+use Rattle.fm_circuit.specs.{declared.wire.Wire.{Wire}, declared.circuit.Pin.{Pin}, declared.circuit.Pin.TheVariants.{Whole, Bits}}
+use Rattle.fm_circuit.specs.{declared.circuit.Pin.TheVariants.{Constant}, declared.circuit.Driver.{Driver}, Circuit.{pin_width}}
 use Rattle.fm_circuit.specs.declared.wire.Wire.TheVariants as w
-use Rattle.fm_circuit.specs.declared.circuit.Pin.{Pin}
-use Rattle.fm_circuit.specs.declared.circuit.Pin.TheVariants.{Whole, Bits, Constant}
-use Rattle.fm_circuit.specs.declared.circuit.Driver.{Driver}
 use Rattle.fm_circuit.specs.declared.circuit.Driver.TheVariants as d
-use Rattle.fm_circuit.specs.Circuit.{pin_width}
 
 -- a gate over bits: a constant; a bit of a wire, a carry of a sum, a bit of a register, of an input or of a word of the register file, or
 -- the reset; or one of the gates not, and, or, exclusive or, and a choice of two

@@ -1,15 +1,10 @@
 -- The netlist of the processor, and a board of bits.
-use Rattle.std.specs.Prelude.{◌≡◌, ℕ, zero, suc, ◌+◌, ◌*◌, ◌<◌, ◌==◌, ◌&&◌, not, Bool, false, List, [], ◌∷◌, map}
-use Rattle.std.specs.Prelude.{Option, is_some, unwrap_or, get_or, slice_index, if◌then◌else◌}
-use Rattle.std.specs.Int.{from_bool as bit_of, bit_at}
+use Rattle.std.specs.Prelude.{◌≡◌, ℕ, zero, suc, ◌+◌, ◌*◌, ◌<◌, ◌==◌, ◌&&◌, not, Bool, false, List, [], ◌∷◌, map, Option, is_some}
+use Rattle.std.specs.{Prelude.{unwrap_or, get_or, slice_index, if◌then◌else◌}, Int.{from_bool as bit_of, bit_at}}
 use Rattle.fm_machine.specs.State.{word_at, with_word}
-use Rattle.fm_circuit.specs.declared.wire.Wire.{Wire}
+use Rattle.fm_circuit.specs.{declared.wire.Wire.{Wire}, Widths.{width_of}, Processor.{driver_of}, Board.{Board, cycle_with, cycles}}
+use Rattle.fm_circuit.specs.{Board.{registers}, Sizes.{register_widths}, Following.{AreWords}}
 use Rattle.fm_circuit.specs.declared.wire.Wire.TheVariants as w
-use Rattle.fm_circuit.specs.Widths.{width_of}
-use Rattle.fm_circuit.specs.Processor.{driver_of}
-use Rattle.fm_circuit.specs.Board.{Board, cycle_with, cycles, registers}
-use Rattle.fm_circuit.specs.Sizes.{register_widths}
-use Rattle.fm_circuit.specs.Following.{AreWords}
 use Rattle.fm_gates.specs.Gates.{Signals, gate_value, carry_gate, driver_gate, next_gate, file_gate, file_numbers, write_gate}
 
 -- a word of so many bits, from the lowest on

@@ -1,19 +1,13 @@
 -- The laws of each field.
 use Rattle.std.proofs.Common.{◌≡◌, ℕ, suc, ◌+◌, ◌^◌, ◌<◌, ◌≤◌, Bool, true, false, ◌&&◌, ◌||◌, ltb, leb, eqb, List, [], ◌∷◌, ◌++◌, length, Ok, refl, sym, ap}
-use Rattle.std.proofs.Common.{subst, ◌∙◌, append_assoc, arith}
-use Rattle.std.proofs.lemmas.Bool.{lt-ltb, ltb-true, leb-true, le-leb, and_parts, and_from, eqb-true, eq-eqb, and_right}
-use Rattle.stack_text.specs.Names.{is_name}
-use Rattle.fm_image.specs.declared.fault.Rule.{Rule}
-use Rattle.fm_image.specs.declared.fault.Rule.TheVariants as rules
-use Rattle.fm_image.specs.declared.window.Window.{Window}
-use Rattle.fm_image.specs.Limits.{magic_bytes, is_version, is_size, is_inside, is_window, is_new, is_condition}
-use Rattle.fm_image.specs.Spelling.{number_bytes, name_bytes, window_bytes, opening_bytes}
-use Rattle.stack_text.specs.Results.{◌>>=◌}
-use Rattle.fm_image.specs.Fields.{number_at, passing, bytes_at, is_name_length, text_at}
-use Rattle.fm_image.specs.Reading.{opening_at, is_magic, window_at, name_at, new_name_at}
-use Rattle.stack_text.proofs.ResultLaws.{bind_ok, bind_at}
-use Rattle.stack_text.proofs.SharedLaws.{bytes_same}
+use Rattle.std.{proofs.Common.{subst, ◌∙◌, append_assoc, arith}, proofs.lemmas.Bool.{lt-ltb, ltb-true, leb-true, le-leb, and_parts, and_from, eqb-true, eq-eqb}}
+use Rattle.std.proofs.lemmas.Bool.{and_right}
+use Rattle.stack_text.{specs.Names.is_name, specs.Results.◌>>=◌, proofs.ResultLaws.{bind_ok, bind_at}, proofs.SharedLaws.bytes_same}
+use Rattle.fm_image.{specs.declared.fault.Rule.Rule, specs.declared.window.Window.Window, specs.Limits.{magic_bytes, is_version, is_size, is_inside, is_window}}
+use Rattle.fm_image.{specs.Limits.{is_new, is_condition}, specs.Spelling.{number_bytes, name_bytes, window_bytes, opening_bytes}, specs.Fields.number_at}
+use Rattle.fm_image.{specs.Fields.{passing, bytes_at, is_name_length, text_at}, specs.Reading.{opening_at, is_magic, window_at, name_at, new_name_at}}
 use Rattle.fm_image.proofs.ReaderLaws.{IsBytes, ok_is, Took, Took-then, Reads, bytes_reads, is_word, number_reads, passing_reads, refit_reads}
+use Rattle.fm_image.specs.declared.fault.Rule.TheVariants as rules
 
 abbrev pub limited_reads : (test : ℕ → Bool) (rule : Rule) (end : ℕ) → Reads (passing test rule end (number_at end)) number_bytes (λ n. is_word n && test n)
 limited_reads test rule end = passing_reads test rule end (number_at end) number_bytes is_word (number_reads end)

@@ -1,30 +1,19 @@
 -- The laws of the whole image: what is read is spelled so, and what is spelled so is read.
 use Rattle.std.proofs.Common.{◌≡◌, ℕ, ◌+◌, ◌^◌, ◌<◌, ◌≤◌, Bool, true, false, cond, ◌&&◌, leb, eqb, List, [], ◌∷◌, ◌++◌, length, map, Option, Result, Ok, Err}
-use Rattle.std.proofs.Common.{refl, sym, ap, subst, ◌∙◌, append_assoc, arith}
-use Rattle.std.specs.Prelude.{IsTrue, IfOk}
-use Rattle.std.proofs.lemmas.Bool.{leb-true, and_parts, and_from, eqb-true, eq-eqb}
-use Rattle.std.proofs.lemmas.List.{append-nil, nil_from_length}
+use Rattle.std.{proofs.Common.{refl, sym, ap, subst, ◌∙◌, append_assoc, arith}, specs.Prelude.{IsTrue, IfOk}, proofs.lemmas.Bool.{leb-true, and_parts}}
+use Rattle.std.{proofs.lemmas.Bool.{and_from, eqb-true, eq-eqb}, proofs.lemmas.List.{append-nil, nil_from_length}}
 use Rattle.fm_words.specs.declared.condition.Flags.{Flags}
-use Rattle.fm_image.specs.declared.fault.ImageFault.{ImageFault}
-use Rattle.fm_image.specs.declared.fault.ImageFault.TheVariants.{Refused, Memory}
-use Rattle.fm_image.specs.declared.slot.Slot.{Slot}
-use Rattle.fm_image.specs.declared.window.Window.{Window}
-use Rattle.fm_image.specs.Image.{ImageOf}
-use Rattle.fm_image.specs.Limits.{Tables, tables_of, window_of, is_version, is_size, is_inside, is_window, is_condition_address}
-use Rattle.fm_image.specs.Limits.{is_condition, is_count, most_conditions, is_slot, is_tables, all_after, is_image}
+use Rattle.fm_image.{specs.declared.fault.ImageFault.ImageFault, specs.declared.fault.ImageFault.TheVariants.{Refused, Memory}, specs.declared.slot.Slot.Slot}
+use Rattle.fm_image.{specs.declared.window.Window.Window, specs.Image.ImageOf, specs.Limits.{Tables, tables_of, window_of, is_version, is_size, is_inside}}
+use Rattle.fm_image.specs.Limits.{is_window, is_condition_address, is_condition, is_count, most_conditions, is_slot, is_tables, all_after, is_image}
 use Rattle.fm_image.specs.Spelling.{number_bytes, numbers_bytes, name_bytes, counted_bytes, window_bytes, flags_bytes, condition_address_bytes, slot_bytes}
-use Rattle.fm_image.specs.Spelling.{opening_bytes, tables_bytes, spelling, are_words, Spelled}
-use Rattle.stack_text.specs.Results.{◌>>=◌}
-use Rattle.fm_image.specs.Rules.{Fault, GivesImageUnless}
-use Rattle.fm_image.specs.Fields.{place, number_at}
-use Rattle.fm_image.specs.Reading.{opening_at, window_at, numbers_at, flags_at, condition_address_at, conditions_at, slot_at, slots_at, words_at, tables_at}
-use Rattle.fm_image.specs.Reading.{image_at, read_of, error_of, ReportsFault}
-use Rattle.fm_image.proofs.LimitLaws.{Limits, limits_of, from_limits}
-use Rattle.stack_text.proofs.ResultLaws.{bind_ok, bind_at}
-use Rattle.fm_image.proofs.ReaderLaws.{IsBytes, ok_is, guard_passed, Took, Took-then, Reads, is_word, number_reads, items_take, items_again, counted_reads}
-use Rattle.fm_image.proofs.FieldLaws.{opening_reads, window_reads}
-use Rattle.fm_image.proofs.SlotLaws.{flags_reads, address_reads, slot_reads}
-use Rattle.fm_image.proofs.TableLaws.{small_count, conditions_reads, tables_reads}
+use Rattle.fm_image.{specs.Spelling.{opening_bytes, tables_bytes, spelling, are_words, Spelled}, specs.Rules.{Fault, GivesImageUnless}, specs.Fields.place}
+use Rattle.fm_image.{specs.Fields.number_at, specs.Reading.{opening_at, window_at, numbers_at, flags_at, condition_address_at, conditions_at, slot_at}}
+use Rattle.fm_image.{specs.Reading.{slots_at, words_at, tables_at, image_at, read_of, error_of, ReportsFault}, proofs.LimitLaws.{Limits, limits_of}}
+use Rattle.fm_image.{proofs.LimitLaws.from_limits, proofs.ReaderLaws.{IsBytes, ok_is, guard_passed, Took, Took-then, Reads, is_word, number_reads, items_take}}
+use Rattle.fm_image.{proofs.ReaderLaws.{items_again, counted_reads}, proofs.FieldLaws.{opening_reads, window_reads}, proofs.SlotLaws.flags_reads}
+use Rattle.fm_image.{proofs.SlotLaws.{address_reads, slot_reads}, proofs.TableLaws.{small_count, conditions_reads, tables_reads}}
+use Rattle.stack_text.{specs.Results.◌>>=◌, proofs.ResultLaws.{bind_ok, bind_at}}
 
 abbrev is_number : List ℕ → ℕ → Bool
 is_number earlier n = is_word n

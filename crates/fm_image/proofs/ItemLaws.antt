@@ -1,9 +1,7 @@
 -- Reading items one after the other, as a loop does.
 use Rattle.std.proofs.Common.{◌≡◌, ℕ, suc, ◌-◌, ◌+◌, ◌≤◌, ◌<◌, List, [], ◌∷◌, ◌++◌, Result, Ok, Err, refl, sym, ◌∙◌, arith}
-use Rattle.fm_image.specs.declared.fault.ImageFault.{ImageFault}
-use Rattle.fm_image.specs.declared.fault.ImageFault.TheVariants.{Refused, Memory}
-use Rattle.fm_image.specs.Rules.{Fault, Parser, FailsUnless}
-use Rattle.fm_image.specs.Fields.{items_at}
+use Rattle.fm_image.{specs.declared.fault.ImageFault.ImageFault, specs.declared.fault.ImageFault.TheVariants.{Refused, Memory}, specs.Rules.{Fault, Parser}}
+use Rattle.fm_image.{specs.Rules.FailsUnless, specs.Fields.items_at}
 
 -- one item more
 pub goes_on : {A : Type 0} (item : List A → Parser A) (earlier : List A) (count i : ℕ) (left : List ℕ) (x : A) (rest : List ℕ)

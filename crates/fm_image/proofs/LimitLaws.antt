@@ -1,17 +1,11 @@
 -- The limits of an image, one by one.
 use Rattle.std.proofs.Common.{◌≡◌, ◌≤◌, ◌<◌, ◌+◌, ◌^◌, ℕ, Bool, true, false, cond, ◌&&◌, eqb, leb, List, [], ◌∷◌, ◌++◌, length, refl, ap, arith}
-use Rattle.std.specs.Prelude.{IsTrue}
-use Rattle.std.specs.List.{list_all}
-use Rattle.std.proofs.lemmas.List.{nil_from_length}
-use Rattle.std.proofs.lemmas.Bool.{and_parts, and_from, le-leb, leb-true, eqb-true}
-use Rattle.fm_image.specs.declared.procedure.Mark.{Mark}
-use Rattle.fm_image.specs.declared.window.Window.{Window}
-use Rattle.fm_image.specs.Procedure.{ProcedureOf}
-use Rattle.fm_image.specs.Spelling.{is_small}
-use Rattle.fm_image.specs.Image.{ImageOf}
-use Rattle.fm_image.specs.Limits.{Tables, tables_of, in_version_2, window_of, is_version, is_size, is_inside, is_window}
-use Rattle.fm_image.specs.Limits.{is_condition_address, is_count, most_conditions, is_condition, is_slot, is_variable, is_procedure}
-use Rattle.fm_image.specs.Limits.{is_mark, are_tables, is_tables, all_after, is_image}
+use Rattle.std.{specs.Prelude.IsTrue, specs.List.list_all, proofs.lemmas.List.nil_from_length, proofs.lemmas.Bool.{and_parts, and_from, le-leb, leb-true}}
+use Rattle.std.proofs.lemmas.Bool.{eqb-true}
+use Rattle.fm_image.{specs.declared.procedure.Mark.Mark, specs.declared.window.Window.Window, specs.Procedure.ProcedureOf, specs.Spelling.is_small}
+use Rattle.fm_image.{specs.Image.ImageOf, specs.Limits.{Tables, tables_of, in_version_2, window_of, is_version, is_size, is_inside, is_window}}
+use Rattle.fm_image.specs.Limits.{is_condition_address, is_count, most_conditions, is_condition, is_slot, is_variable, is_procedure, is_mark, are_tables}
+use Rattle.fm_image.specs.Limits.{is_tables, all_after, is_image}
 
 pub record Limits (image : ImageOf) : Type 0 where
   pub version : is_version image.version ≡ true

@@ -1,14 +1,9 @@
 -- The marks of an image have addresses that ascend.
 use Rattle.std.proofs.Common.{◌≡◌, ◌<◌, ◌≤◌, ◌+◌, ◌-◌, ◌&&◌, ℕ, zero, suc, Bool, true, false, cond, eqb, List, [], ◌∷◌, ◌++◌, length, get_or, Option, Some}
-use Rattle.std.proofs.Common.{None, refl, sym, ap, ◌∙◌, arith, length-append}
-use Rattle.std.specs.Prelude.{IsTrue, ◌^◌, nat_lt, slice_get}
-use Rattle.std.specs.List.{Contains, list_all}
+use Rattle.std.{proofs.Common.{None, refl, sym, ap, ◌∙◌, arith, length-append}, specs.Prelude.{IsTrue, ◌^◌, nat_lt, slice_get}, specs.List.{Contains, list_all}}
 use Rattle.std.proofs.lemmas.Bool.{and_parts, and_from, eqb-true, ltb-true, lt-ltb}
-use Rattle.fm_image.specs.declared.procedure.Mark.{Mark}
-use Rattle.fm_image.specs.declared.window.Window.{Window}
-use Rattle.fm_image.specs.Image.{ImageOf}
-use Rattle.fm_image.specs.Limits.{Tables, tables_of, window_of, is_inside, last_mark, is_after, is_place, is_mark, is_count, is_procedure}
-use Rattle.fm_image.specs.Limits.{are_tables, all_after, is_image}
+use Rattle.fm_image.{specs.declared.procedure.Mark.Mark, specs.declared.window.Window.Window, specs.Image.ImageOf, specs.Limits.{Tables, tables_of, window_of}}
+use Rattle.fm_image.specs.Limits.{is_inside, last_mark, is_after, is_place, is_mark, is_count, is_procedure, are_tables, all_after, is_image}
 use Rattle.fm_image.proofs.LimitLaws.{limits_of}
 
 pub no_mark : Mark

@@ -1,16 +1,10 @@
 -- Items whose names all differ, and items each of which has a new name.
 use Rattle.std.proofs.Common.{◌≡◌, List, ℕ, [], ◌∷◌, ◌++◌, map, Bool, true, false, not, ◌&&◌, leb, length, refl, sym, ap, subst, ◌∙◌, append_assoc}
-use Rattle.std.specs.List.{list_any, list_all, AllByRecursion, IsDistinct}
-use Rattle.std.specs.Str.{bytes_eq}
-use Rattle.std.proofs.lemmas.Bool.{and_parts, and_from, not-true}
-use Rattle.std.proofs.lemmas.Cmp.{nat_list_eq_equiv}
-use Rattle.std.proofs.lemmas.List.{append-nil, map_push}
-use Rattle.std.proofs.lemmas.Map.Keys.{IsDistinct-head, IsDistinct-tail, IsDistinct-push}
+use Rattle.std.{specs.List.{list_any, list_all, AllByRecursion, IsDistinct}, specs.Str.bytes_eq, proofs.lemmas.Bool.{and_parts, and_from, not-true}}
+use Rattle.std.{proofs.lemmas.Cmp.nat_list_eq_equiv, proofs.lemmas.List.{append-nil, map_push}, proofs.lemmas.Map.Keys.{IsDistinct-head, IsDistinct-tail}}
+use Rattle.std.proofs.lemmas.Map.Keys.{IsDistinct-push}
 use Rattle.stack_text.specs.Names.{is_name}
-use Rattle.fm_image.specs.declared.procedure.VarInfo.{VarInfo}
-use Rattle.fm_image.specs.declared.slot.Slot.{Slot}
-use Rattle.fm_image.specs.declared.window.Window.{Window}
-use Rattle.fm_image.specs.Procedure.{ProcedureOf}
+use Rattle.fm_image.{specs.declared.procedure.VarInfo.VarInfo, specs.declared.slot.Slot.Slot, specs.declared.window.Window.Window, specs.Procedure.ProcedureOf}
 use Rattle.fm_image.specs.Limits.{is_new, is_count, is_condition, is_slot, is_slot_address, is_offset, is_variable, is_procedure, all_after}
 
 -- ---- from names that differ

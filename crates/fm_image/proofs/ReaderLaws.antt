@@ -1,20 +1,13 @@
 -- A field that is read is the field that was written, and what was written is read again.
 use Rattle.std.proofs.Common.{◌≡◌, ℕ, zero, suc, ◌+◌, ◌^◌, ◌<◌, ◌≤◌, Bool, true, false, cond, ◌&&◌, ltb, eqb, List, [], ◌∷◌, ◌++◌, length, get_or, take, drop}
-use Rattle.std.proofs.Common.{Result, Ok, Err, refl, sym, ap, subst, ◌∙◌, append_assoc, arith, inl, inr}
-use Rattle.std.specs.List.{flat_map}
-use Rattle.std.specs.Int.{w32, from_be_bytes}
-use Rattle.std.proofs.lemmas.Bool.{cases_lt, ltb-false, le-ltb, lt-ltb, ltb-true, and_parts, and_from, eqb-true, eq-eqb}
-use Rattle.std.proofs.lemmas.List.{take_at, drop_at, take-append-drop, length-append, length-take, get_or-drop, get_or-take, get_or_past, append-nil}
-use Rattle.std.proofs.lemmas.List.Concat.{flat_map-cons}
-use Rattle.std.proofs.lemmas.Nat.{be_bytes_4, from_be_bytes-to_be_bytes_4}
-use Rattle.fm_image.specs.declared.fault.Rule.{Rule}
-use Rattle.fm_image.specs.declared.fault.Rule.TheVariants as rules
-use Rattle.fm_image.specs.Limits.{all_after}
-use Rattle.fm_image.specs.Spelling.{number_bytes, counted_bytes}
-use Rattle.stack_text.specs.Results.{◌>>=◌}
-use Rattle.stack_text.proofs.ResultLaws.{bind_ok, bind_at}
-use Rattle.fm_image.specs.Rules.{rule_number, Fault}
+use Rattle.std.{proofs.Common.{Result, Ok, Err, refl, sym, ap, subst, ◌∙◌, append_assoc, arith, inl, inr}, specs.List.flat_map, specs.Int.{w32, from_be_bytes}}
+use Rattle.std.{proofs.lemmas.Bool.{cases_lt, ltb-false, le-ltb, lt-ltb, ltb-true, and_parts, and_from, eqb-true, eq-eqb}, proofs.lemmas.List.take_at}
+use Rattle.std.proofs.lemmas.List.{drop_at, take-append-drop, length-append, length-take, get_or-drop, get_or-take, get_or_past, append-nil}
+use Rattle.std.{proofs.lemmas.List.Concat.flat_map-cons, proofs.lemmas.Nat.{be_bytes_4, from_be_bytes-to_be_bytes_4}}
+use Rattle.fm_image.{specs.declared.fault.Rule.Rule, specs.Limits.all_after, specs.Spelling.{number_bytes, counted_bytes}, specs.Rules.{rule_number, Fault}}
 use Rattle.fm_image.specs.Fields.{place, number_at, passing, bytes_at, items_at}
+use Rattle.fm_image.specs.declared.fault.Rule.TheVariants as rules
+use Rattle.stack_text.{specs.Results.◌>>=◌, proofs.ResultLaws.{bind_ok, bind_at}}
 
 abbrev pub IsBytes : List ℕ → Type 0
 IsBytes bytes = (i : ℕ) → get_or bytes i 0 < 256

@@ -1,31 +1,19 @@
 -- The laws of flags, addresses, shapes and slots.
 use Rattle.std.proofs.Common.{◌≡◌, ℕ, ◌+◌, ◌^◌, ◌<◌, ◌≤◌, Bool, true, false, cond, ◌&&◌, ltb, leb, eqb, List, ◌++◌, map, Option, Some, None, Result, Ok, refl}
-use Rattle.std.proofs.Common.{sym, ap, subst, ◌∙◌, append_assoc, arith, inl, inr}
-use Rattle.std.proofs.lemmas.Bool.{lt-ltb, le-leb, ltb-true, leb-true, and_parts, and_from, eqb-true, ne_eqb, cases_Bool, agree_below_at}
-use Rattle.stack_text.specs.declared.shape.Kind.{Kind}
-use Rattle.stack_text.specs.declared.shape.Kind.TheVariants.{Integer, Boolean, Character}
-use Rattle.stack_text.specs.declared.shape.Shape.{Shape}
-use Rattle.stack_text.specs.Values.{item_count}
-use Rattle.fm_words.specs.declared.condition.Flags.{Flags}
-use Rattle.fm_words.specs.Code.{flags_of}
-use Rattle.fm_words.specs.Encoding.{flags_number}
-use Rattle.fm_words.proofs.FlagsLaws.{flags_of_back, flags_number_back, flags_number_below}
+use Rattle.std.{proofs.Common.{sym, ap, subst, ◌∙◌, append_assoc, arith, inl, inr}, proofs.lemmas.Bool.{lt-ltb, le-leb, ltb-true, leb-true, and_parts}}
+use Rattle.std.proofs.lemmas.Bool.{and_from, eqb-true, ne_eqb, cases_Bool, agree_below_at}
+use Rattle.stack_text.{specs.declared.shape.Kind.Kind, specs.declared.shape.Kind.TheVariants.{Integer, Boolean, Character}, specs.declared.shape.Shape.Shape}
+use Rattle.stack_text.{specs.Values.item_count, specs.Results.◌>>=◌, proofs.ResultLaws.{bind_ok, bind_at}}
+use Rattle.fm_words.{specs.declared.condition.Flags.Flags, specs.Code.flags_of, specs.Encoding.flags_number, proofs.FlagsLaws.flags_of_back}
+use Rattle.fm_words.proofs.FlagsLaws.{flags_number_back, flags_number_below}
 use Rattle.fm_image.specs.declared.fault.Rule.TheVariants as rules
-use Rattle.fm_image.specs.declared.procedure.VarInfo.{VarInfo}
-use Rattle.fm_image.specs.declared.slot.Slot.{Slot}
-use Rattle.fm_image.specs.declared.window.Window.{Window}
-use Rattle.fm_image.specs.Limits.{is_size, is_inside, is_window, is_condition_address, is_condition, is_slot, is_slot_address, is_offset}
-use Rattle.fm_image.specs.Limits.{is_variable}
+use Rattle.fm_image.{specs.declared.procedure.VarInfo.VarInfo, specs.declared.slot.Slot.Slot, specs.declared.window.Window.Window, specs.Limits.is_size}
+use Rattle.fm_image.specs.Limits.{is_inside, is_window, is_condition_address, is_condition, is_slot, is_slot_address, is_offset, is_variable}
 use Rattle.fm_image.specs.Spelling.{number_bytes, name_bytes, flags_bytes, address_number, condition_address_bytes, kind_number, kind_bytes, shape_bytes}
-use Rattle.fm_image.specs.Spelling.{slot_bytes, variable_bytes}
-use Rattle.stack_text.specs.Results.{◌>>=◌}
-use Rattle.fm_image.specs.Rules.{Fault}
-use Rattle.fm_image.specs.Fields.{number_at, passing}
-use Rattle.fm_image.specs.Reading.{is_flags, flags_at, address_from, condition_address_at, new_name_at, is_kind, kind_of, kind_at, is_length, shape_at, slot_at}
-use Rattle.fm_image.specs.Reading.{variable_at}
-use Rattle.stack_text.proofs.ResultLaws.{bind_ok, bind_at}
-use Rattle.fm_image.proofs.ReaderLaws.{IsBytes, ok_is, Took, Took-then, Reads, is_word, coded_reads, three_reads}
-use Rattle.fm_image.proofs.FieldLaws.{limited_reads, both, small_reads, new_name_reads}
+use Rattle.fm_image.{specs.Spelling.{slot_bytes, variable_bytes}, specs.Rules.Fault, specs.Fields.{number_at, passing}, specs.Reading.{is_flags, flags_at}}
+use Rattle.fm_image.specs.Reading.{address_from, condition_address_at, new_name_at, is_kind, kind_of, kind_at, is_length, shape_at, slot_at, variable_at}
+use Rattle.fm_image.{proofs.ReaderLaws.{IsBytes, ok_is, Took, Took-then, Reads, is_word, coded_reads, three_reads}, proofs.FieldLaws.{limited_reads, both}}
+use Rattle.fm_image.proofs.FieldLaws.{small_reads, new_name_reads}
 
 -- ---- flags
 

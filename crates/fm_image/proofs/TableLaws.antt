@@ -1,24 +1,16 @@
 -- The laws of procedures and marks, which only version 2 has.
 use Rattle.std.proofs.Common.{◌≡◌, ℕ, ◌+◌, ◌^◌, ◌<◌, ◌≤◌, Bool, true, false, cond, ◌&&◌, ltb, leb, eqb, List, [], ◌++◌, length, map, Option, Result, Ok, refl}
-use Rattle.std.proofs.Common.{sym, ap, subst, ◌∙◌, append_assoc, arith}
-use Rattle.std.proofs.lemmas.Bool.{lt-ltb, ltb-true, leb-true, and_parts, and_from, eqb-true}
+use Rattle.std.{proofs.Common.{sym, ap, subst, ◌∙◌, append_assoc, arith}, proofs.lemmas.Bool.{lt-ltb, ltb-true, leb-true, and_parts, and_from, eqb-true}}
 use Rattle.std.proofs.lemmas.List.{nil_from_length}
-use Rattle.stack_text.specs.Results.{◌>>=◌}
-use Rattle.stack_text.proofs.ResultLaws.{bind_ok, bind_at}
+use Rattle.stack_text.{specs.Results.◌>>=◌, proofs.ResultLaws.{bind_ok, bind_at}}
 use Rattle.fm_image.specs.declared.fault.Rule.TheVariants as rules
-use Rattle.fm_image.specs.declared.procedure.Mark.{Mark}
-use Rattle.fm_image.specs.declared.window.Window.{Window}
-use Rattle.fm_image.specs.Procedure.{ProcedureOf}
-use Rattle.fm_image.specs.Limits.{Tables, no_tables, is_size, is_inside, is_window, is_count, is_condition, all_after, is_variable}
-use Rattle.fm_image.specs.Limits.{is_procedure, last_mark, is_after, is_place, is_mark, are_tables, is_tables}
-use Rattle.fm_image.specs.Spelling.{number_bytes, name_bytes, counted_bytes, variable_bytes, procedure_bytes, mark_bytes, tables_bytes}
-use Rattle.fm_image.specs.Rules.{Fault}
-use Rattle.fm_image.specs.Fields.{number_at, passing}
-use Rattle.fm_image.specs.Reading.{new_name_at, conditions_at, variable_at, variables_at, procedure_at, procedures_at, mark_address_at, mark_at, marks_at}
-use Rattle.fm_image.specs.Reading.{both_tables_at, tables_at}
-use Rattle.fm_image.proofs.ReaderLaws.{IsBytes, ok_is, Took, Took-then, Reads, is_word, passing_reads, three_reads, counted_reads}
-use Rattle.fm_image.proofs.FieldLaws.{small_reads, new_name_reads}
-use Rattle.fm_image.proofs.SlotLaws.{variable_reads}
+use Rattle.fm_image.{specs.declared.procedure.Mark.Mark, specs.declared.window.Window.Window, specs.Procedure.ProcedureOf, specs.Limits.{Tables, no_tables}}
+use Rattle.fm_image.specs.Limits.{is_size, is_inside, is_window, is_count, is_condition, all_after, is_variable, is_procedure, last_mark, is_after, is_place}
+use Rattle.fm_image.{specs.Limits.{is_mark, are_tables, is_tables}, specs.Spelling.{number_bytes, name_bytes, counted_bytes, variable_bytes, procedure_bytes}}
+use Rattle.fm_image.{specs.Spelling.{mark_bytes, tables_bytes}, specs.Rules.Fault, specs.Fields.{number_at, passing}, specs.Reading.new_name_at}
+use Rattle.fm_image.specs.Reading.{conditions_at, variable_at, variables_at, procedure_at, procedures_at, mark_address_at, mark_at, marks_at, both_tables_at}
+use Rattle.fm_image.{specs.Reading.tables_at, proofs.ReaderLaws.{IsBytes, ok_is, Took, Took-then, Reads, is_word, passing_reads, three_reads, counted_reads}}
+use Rattle.fm_image.{proofs.FieldLaws.{small_reads, new_name_reads}, proofs.SlotLaws.variable_reads}
 
 pub small_count : (most : ℕ) → most < 2 ^ 32 → (n : ℕ) → is_count most n ≡ true → is_word n ≡ true
 small_count most lt n h = let le : n ≤ most = leb-true n most h in lt-ltb n (2 ^ 32) (omega (arith, le, lt))

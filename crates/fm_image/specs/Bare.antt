@@ -1,8 +1,7 @@
 -- Images that have a window, registers and words alone.
 use Rattle.std.specs.Prelude.{ℕ, List, [], None}
 use Rattle.fm_words.specs.Code.{no_flags}
-use Rattle.fm_image.specs.Image.{ImageOf}
-use Rattle.fm_image.specs.Limits.{marked_version}
+use Rattle.fm_image.specs.{Image.{ImageOf}, Limits.{marked_version}}
 
 -- the image of this window, these registers and these words, with nothing else: no flag is set, and there is no condition word, no
 -- name of a condition, no slot, no procedure and no mark

@@ -1,12 +1,9 @@
 -- Fields, each of which is read at the beginning of what is left of a file, or is the first fault.
-use Rattle.std.specs.Prelude.{ℕ, zero, suc, ◌-◌, List, [], ◌∷◌, ◌++◌, length, take, drop}
-use Rattle.std.specs.Prelude.{Ok, Err, Bool, nat_lt, nat_le, ◌&&◌, if◌then◌else◌}
-use Rattle.std.specs.Int.{w32, from_be_bytes}
-use Rattle.stack_text.specs.SharedLimits.{most_name_bytes}
-use Rattle.stack_text.specs.Results.{◌>>=◌}
-use Rattle.fm_image.specs.declared.fault.Rule.{Rule}
+use Rattle.std.specs.Prelude.{ℕ, zero, suc, ◌-◌, List, [], ◌∷◌, ◌++◌, length, take, drop, Ok, Err, Bool, nat_lt, nat_le, ◌&&◌}
+use Rattle.std.specs.{Prelude.{if◌then◌else◌}, Int.{w32, from_be_bytes}}
+use Rattle.stack_text.specs.{SharedLimits.{most_name_bytes}, Results.{◌>>=◌}}
+use Rattle.fm_image.specs.{declared.fault.Rule.{Rule}, Rules.{rule_number, Parser}}
 use Rattle.fm_image.specs.declared.fault.Rule.TheVariants as rules
-use Rattle.fm_image.specs.Rules.{rule_number, Parser}
 
 -- where the field begins that is first in what is left of a file that ends at a place
 abbrev pub place : ℕ → List ℕ → ℕ

@@ -1,9 +1,7 @@
 -- Images as contracts see them.
 use Rattle.std.specs.Prelude.{ℕ, List, Option}
 use Rattle.fm_words.specs.declared.condition.Flags.{Flags}
-use Rattle.fm_image.specs.declared.procedure.Mark.{Mark}
-use Rattle.fm_image.specs.declared.slot.Slot.{Slot}
-use Rattle.fm_image.specs.Procedure.{ProcedureOf}
+use Rattle.fm_image.specs.{declared.procedure.Mark.{Mark}, declared.slot.Slot.{Slot}, Procedure.{ProcedureOf}}
 
 -- what clauses see of an `Image`
 pub record ImageOf : Type 0 where

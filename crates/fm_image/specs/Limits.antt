@@ -1,17 +1,11 @@
 -- The versions of images, and their limits.
-use Rattle.std.specs.Prelude.{ℕ, ◌+◌, ◌^◌, ◌-◌, List, [], ◌∷◌, ◌++◌, length, map, slice_get, Option}
-use Rattle.std.specs.Prelude.{Some, None, Bool, true, not, ◌&&◌, ◌||◌, ◌==◌, nat_lt, nat_le, if◌then◌else◌, codes}
+use Rattle.std.specs.Prelude.{ℕ, ◌+◌, ◌^◌, ◌-◌, List, [], ◌∷◌, ◌++◌, length, map, slice_get, Option, Some, None, Bool, true, not, ◌&&◌}
+use Rattle.std.specs.Prelude.{◌||◌, ◌==◌, nat_lt, nat_le, if◌then◌else◌, codes}
 use Rattle.fm_words.specs.WindowLimit.{most_window}
-use Rattle.stack_text.specs.SharedLimits.{most_array, most_text, most_declared, most_procedures}
-use Rattle.stack_text.specs.declared.shape.Shape.{Shape}
-use Rattle.stack_text.specs.Names.{is_name, is_among}
-use Rattle.stack_text.specs.Values.{item_count}
-use Rattle.fm_image.specs.declared.procedure.Mark.{Mark}
-use Rattle.fm_image.specs.declared.procedure.VarInfo.{VarInfo}
-use Rattle.fm_image.specs.declared.slot.Slot.{Slot}
-use Rattle.fm_image.specs.declared.window.Window.{Window}
-use Rattle.fm_image.specs.Procedure.{ProcedureOf}
-use Rattle.fm_image.specs.Image.{ImageOf}
+use Rattle.stack_text.specs.{SharedLimits.{most_array, most_text, most_declared, most_procedures}, declared.shape.Shape.{Shape}}
+use Rattle.stack_text.specs.{Names.{is_name, is_among}, Values.{item_count}}
+use Rattle.fm_image.specs.{declared.procedure.Mark.{Mark}, declared.procedure.VarInfo.{VarInfo}, declared.slot.Slot.{Slot}}
+use Rattle.fm_image.specs.{declared.window.Window.{Window}, Procedure.{ProcedureOf}, Image.{ImageOf}}
 
 -- the bytes that an image file begins with
 abbrev pub magic_bytes : List ℕ

@@ -1,30 +1,18 @@
 -- Reading an image field by field, from left to right, with the first fault.
-use Rattle.std.specs.Prelude.{◌≡◌, ℕ, zero, suc, ◌-◌, ◌^◌, List, [], length, map, Result, Ok, Err}
-use Rattle.std.specs.Prelude.{Option, Some, None, Bool, nat_lt, nat_le, ◌==◌, if◌then◌else◌}
-use Rattle.std.specs.Str.{bytes_eq}
-use Rattle.fm_words.specs.WindowLimit.{most_window}
-use Rattle.stack_text.specs.SharedLimits.{most_array, most_declared, most_procedures}
-use Rattle.stack_text.specs.declared.shape.Kind.{Kind}
-use Rattle.stack_text.specs.declared.shape.Kind.TheVariants.{Integer, Boolean, Character}
-use Rattle.stack_text.specs.declared.shape.Shape.{Shape}
-use Rattle.stack_text.specs.Names.{is_name}
+use Rattle.std.specs.Prelude.{◌≡◌, ℕ, zero, suc, ◌-◌, ◌^◌, List, [], length, map, Result, Ok, Err, Option, Some, None, Bool, nat_lt, nat_le}
+use Rattle.std.specs.{Prelude.{◌==◌, if◌then◌else◌}, Str.{bytes_eq}}
+use Rattle.fm_words.specs.{WindowLimit.{most_window}, declared.condition.Flags.{Flags}, Code.{flags_of}}
+use Rattle.stack_text.specs.{SharedLimits.{most_array, most_declared, most_procedures}, declared.shape.Kind.{Kind}}
+use Rattle.stack_text.specs.{declared.shape.Kind.TheVariants.{Integer, Boolean, Character}, declared.shape.Shape.{Shape}, Names.{is_name}}
 use Rattle.stack_text.specs.Results.{◌>>=◌}
-use Rattle.fm_words.specs.declared.condition.Flags.{Flags}
-use Rattle.fm_words.specs.Code.{flags_of}
-use Rattle.fm_image.specs.declared.fault.ImageFault.{ImageFault}
-use Rattle.fm_image.specs.declared.fault.ImageFault.TheVariants.{Refused, Memory}
+use Rattle.fm_image.specs.{declared.fault.ImageFault.{ImageFault}, declared.fault.ImageFault.TheVariants.{Refused, Memory}}
+use Rattle.fm_image.specs.{declared.procedure.Mark.{Mark}, declared.procedure.VarInfo.{VarInfo}, declared.slot.Slot.{Slot}}
+use Rattle.fm_image.specs.{declared.window.Window.{Window}, Procedure.{ProcedureOf}, Image.{ImageOf}, Limits.{magic_bytes}}
+use Rattle.fm_image.specs.Limits.{unmarked_version, Tables, no_tables, is_version, is_size, is_inside, most_marked_conditions}
+use Rattle.fm_image.specs.Limits.{is_condition_address, is_count, is_new, is_slot_address, most_conditions, is_offset, last_mark, is_after}
+use Rattle.fm_image.specs.{Limits.{is_place}, Rules.{rule_number, Fault, Parser}, Fields.{place, number_at, passing, bytes_at, text_at}}
+use Rattle.fm_image.specs.Fields.{items_at}
 use Rattle.fm_image.specs.declared.fault.Rule.TheVariants as rules
-use Rattle.fm_image.specs.declared.procedure.Mark.{Mark}
-use Rattle.fm_image.specs.declared.procedure.VarInfo.{VarInfo}
-use Rattle.fm_image.specs.declared.slot.Slot.{Slot}
-use Rattle.fm_image.specs.declared.window.Window.{Window}
-use Rattle.fm_image.specs.Procedure.{ProcedureOf}
-use Rattle.fm_image.specs.Image.{ImageOf}
-use Rattle.fm_image.specs.Limits.{magic_bytes, unmarked_version, Tables, no_tables, is_version, is_size, is_inside, most_marked_conditions}
-use Rattle.fm_image.specs.Limits.{is_condition_address, is_count, is_new}
-use Rattle.fm_image.specs.Limits.{is_slot_address, most_conditions, is_offset, last_mark, is_after, is_place}
-use Rattle.fm_image.specs.Rules.{rule_number, Fault, Parser}
-use Rattle.fm_image.specs.Fields.{place, number_at, passing, bytes_at, text_at, items_at}
 
 abbrev pub is_magic : List ℕ → Bool
 is_magic bytes = bytes_eq bytes magic_bytes

@@ -1,11 +1,9 @@
 -- The rules of image files, and what a call says that breaks one.
 use Rattle.std.specs.Prelude.{ℕ, List, Option, Some, None, Result}
 use Rattle.stack_text.specs.Gives as common
-use Rattle.fm_image.specs.declared.fault.Rule.{Rule}
-use Rattle.fm_image.specs.declared.fault.Rule.TheVariants as rules
-use Rattle.fm_image.specs.declared.fault.Refusal.{Refusal}
-use Rattle.fm_image.specs.declared.fault.ImageFault.{ImageFault}
+use Rattle.fm_image.specs.{declared.fault.Rule.{Rule}, declared.fault.Refusal.{Refusal}, declared.fault.ImageFault.{ImageFault}}
 use Rattle.fm_image.specs.declared.fault.ImageFault.TheVariants.{Refused, Memory}
+use Rattle.fm_image.specs.declared.fault.Rule.TheVariants as rules
 
 -- I1 to I9
 abbrev pub rule_number : Rule → ℕ

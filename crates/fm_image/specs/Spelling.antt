@@ -1,21 +1,12 @@
 -- The one spelling of an image: its fields, one after the other.
-use Rattle.std.specs.Prelude.{◌≡◌, ℕ, ◌-◌, ◌^◌, List, [], ◌++◌, length, Option, Some, None}
-use Rattle.std.specs.Prelude.{Bool, IsTrue, nat_lt, ◌==◌, ◌&&◌, if◌then◌else◌}
-use Rattle.std.specs.Int.{w32, to_be_bytes}
-use Rattle.std.specs.List.{flat_map, list_all}
-use Rattle.stack_text.specs.SharedLimits.{most_declared}
-use Rattle.stack_text.specs.declared.shape.Kind.{Kind}
-use Rattle.stack_text.specs.declared.shape.Kind.TheVariants.{Integer, Boolean, Character}
-use Rattle.stack_text.specs.declared.shape.Shape.{Shape}
-use Rattle.fm_words.specs.declared.condition.Flags.{Flags}
-use Rattle.fm_words.specs.Encoding.{flags_number}
-use Rattle.fm_image.specs.declared.procedure.Mark.{Mark}
-use Rattle.fm_image.specs.declared.procedure.VarInfo.{VarInfo}
-use Rattle.fm_image.specs.declared.slot.Slot.{Slot}
-use Rattle.fm_image.specs.declared.window.Window.{Window}
-use Rattle.fm_image.specs.Procedure.{ProcedureOf}
-use Rattle.fm_image.specs.Image.{ImageOf}
-use Rattle.fm_image.specs.Limits.{magic_bytes, unmarked_version, Tables, tables_of, is_count, window_of, is_image, most_marked_conditions}
+use Rattle.std.specs.Prelude.{◌≡◌, ℕ, ◌-◌, ◌^◌, List, [], ◌++◌, length, Option, Some, None, Bool, IsTrue, nat_lt, ◌==◌, ◌&&◌, if◌then◌else◌}
+use Rattle.std.specs.{Int.{w32, to_be_bytes}, List.{flat_map, list_all}}
+use Rattle.stack_text.specs.{SharedLimits.{most_declared}, declared.shape.Kind.{Kind}, declared.shape.Kind.TheVariants.{Integer, Boolean}}
+use Rattle.stack_text.specs.{declared.shape.Kind.TheVariants.{Character}, declared.shape.Shape.{Shape}}
+use Rattle.fm_words.specs.{declared.condition.Flags.{Flags}, Encoding.{flags_number}}
+use Rattle.fm_image.specs.{declared.procedure.Mark.{Mark}, declared.procedure.VarInfo.{VarInfo}, declared.slot.Slot.{Slot}}
+use Rattle.fm_image.specs.{declared.window.Window.{Window}, Procedure.{ProcedureOf}, Image.{ImageOf}, Limits.{magic_bytes}}
+use Rattle.fm_image.specs.Limits.{unmarked_version, Tables, tables_of, is_count, window_of, is_image, most_marked_conditions}
 
 -- a number in four bytes, highest first
 abbrev pub number_bytes : ℕ → List ℕ

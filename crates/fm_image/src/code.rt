@@ -1,8 +1,7 @@
 //! The numbers of kinds and addresses.
 
 ghost use Rattle.std.specs.Prelude.{◌≡◌, ◌≤◌};
-ghost use Rattle.fm_image.specs.Spelling.{address_number, kind_number};
-ghost use Rattle.fm_image.specs.Reading.{address_from, kind_of};
+ghost use Rattle.fm_image.specs.{Spelling.{address_number, kind_number}, Reading.{address_from, kind_of}};
 
 use stack_text::Kind;
 

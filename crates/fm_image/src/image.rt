@@ -1,8 +1,7 @@
 //! Images.
 
 ghost use Rattle.std.specs.Prelude.{◌≡◌, ◌≤◌, IsTrue, length};
-ghost use Rattle.fm_image.specs.Limits.{is_size, is_inside, in_version_2, is_image};
-ghost use Rattle.fm_image.specs.Bare.{bare_image};
+ghost use Rattle.fm_image.specs.{Limits.{is_size, is_inside, in_version_2, is_image}, Bare.{bare_image}};
 
 use crate::limit::MARKED_VERSION;
 use crate::procedure::{Mark, ProcInfo};
@@ -46,8 +45,7 @@ pub struct Image {
 
 impl Model for Image {
     ghost use Rattle.std.specs.Prelude.{IsTrue};
-    ghost use Rattle.fm_image.specs.Image.{ImageOf};
-    ghost use Rattle.fm_image.specs.Limits.{is_image};
+    ghost use Rattle.fm_image.specs.{Image.{ImageOf}, Limits.{is_image}};
 
     ghost Value = { ImageOf };
 

@@ -1,10 +1,7 @@
 //! Laws of image files.
 
 ghost use Rattle.std.specs.Prelude.{◌≡◌, ℕ, List, IsTrue, Ok};
-ghost use Rattle.fm_image.specs.Image.{ImageOf};
-ghost use Rattle.fm_image.specs.Limits.{is_image};
-ghost use Rattle.fm_image.specs.Spelling.{are_words, spelling, Spelled};
-ghost use Rattle.fm_image.specs.Reading.{read_of};
+ghost use Rattle.fm_image.specs.{Image.{ImageOf}, Limits.{is_image}, Spelling.{are_words, spelling, Spelled}, Reading.{read_of}};
 
 /// Image files and images correspond one to one. It does nothing: its clauses hold of all bytes and all images.
 pub fn one_spelling()

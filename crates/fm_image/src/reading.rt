@@ -1,12 +1,10 @@
 //! Reading images.
 
 ghost use Rattle.std.specs.Prelude.{◌≡◌, ◌∷◌, ◌++◌, [], IfOk, Ok};
-ghost use Rattle.fm_image.specs.Image.{ImageOf};
-ghost use Rattle.fm_image.specs.Limits.{last_mark};
-ghost use Rattle.fm_image.specs.Spelling.{Spelled};
-ghost use Rattle.fm_image.specs.Rules.{GivesExactly, GivesImageUnless};
-ghost use Rattle.fm_image.specs.Fields.{place, number_at, bytes_at, text_at};
-ghost use Rattle.fm_image.specs.Reading.{opening_at, window_at, numbers_at, flags_at, condition_address_at, name_at, new_name_at, count_at, conditions_at, kind_at, shape_at, slot_at, slots_at, words_at, variable_at, variables_at, procedure_at, procedures_at, mark_address_at, mark_at, marks_at, both_tables_at, tables_at, image_at, read_of, ReportsFault};
+ghost use Rattle.fm_image.specs.{Image.{ImageOf}, Limits.{last_mark}, Spelling.{Spelled}, Rules.{GivesExactly, GivesImageUnless}, Fields.{place, number_at}};
+ghost use Rattle.fm_image.specs.{Fields.{bytes_at, text_at}, Reading.{opening_at, window_at, numbers_at, flags_at, condition_address_at, name_at, new_name_at}};
+ghost use Rattle.fm_image.specs.Reading.{count_at, conditions_at, kind_at, shape_at, slot_at, slots_at, words_at, variable_at, variables_at, procedure_at};
+ghost use Rattle.fm_image.specs.Reading.{procedures_at, mark_address_at, mark_at, marks_at, both_tables_at, tables_at, image_at, read_of, ReportsFault};
 
 use crate::code::{address_from, kind_from};
 use crate::fault::{ImageFault, Refusal, Rule};

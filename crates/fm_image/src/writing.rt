@@ -1,11 +1,9 @@
 //! Writing images.
 
-ghost use Rattle.std.specs.Prelude.{◌≡◌, ◌≤◌, ◌<◌, ◌^◌, ◌++◌, length, IsTrue};
+ghost use Rattle.std.specs.{Prelude.{◌≡◌, ◌≤◌, ◌<◌, ◌^◌, ◌++◌, length, IsTrue}, List.{list_all}};
 ghost use Rattle.stack_heap.specs.Heaps.{IfOkUnless, OnOkUnless};
-ghost use Rattle.std.specs.List.{list_all};
-ghost use Rattle.fm_image.specs.Limits.{Tables};
-ghost use Rattle.fm_image.specs.Spelling.{is_small};
-ghost use Rattle.fm_image.specs.Spelling.{number_bytes, numbers_bytes, name_bytes, counted_bytes, slot_bytes, opening_bytes, window_bytes, variable_bytes, procedure_bytes, mark_bytes, tables_bytes, spelling};
+ghost use Rattle.fm_image.specs.{Limits.{Tables}, Spelling.{is_small, number_bytes, numbers_bytes, name_bytes, counted_bytes, slot_bytes, opening_bytes}};
+ghost use Rattle.fm_image.specs.Spelling.{window_bytes, variable_bytes, procedure_bytes, mark_bytes, tables_bytes, spelling};
 
 use crate::code::{address_bits, kind_bits};
 use crate::image::Image;

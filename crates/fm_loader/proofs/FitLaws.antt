@@ -1,18 +1,11 @@
 -- A value that fits a shape is one of it.
 use Rattle.std.proofs.Common.{◌≡◌, ℤ, List, [], ◌∷◌, map, length, Option, Some, None, Bool, true, false, cond, not, ◌&&◌, ◌||◌, eqb, refl, sym, subst, ◌∙◌}
-use Rattle.std.specs.List.{list_all}
-use Rattle.std.proofs.lemmas.Bool.{and_parts, and_from, eqb-true, eq-eqb}
-use Rattle.std.proofs.lemmas.List.{length-map}
-use Rattle.stack_text.specs.declared.shape.Kind.{Kind}
-use Rattle.stack_text.specs.declared.shape.Shape.{Shape}
-use Rattle.stack_text.specs.Values.{is_item, is_value, same_kind}
+use Rattle.std.{specs.List.list_all, proofs.lemmas.Bool.{and_parts, and_from, eqb-true, eq-eqb}, proofs.lemmas.List.length-map}
+use Rattle.stack_text.{specs.declared.shape.Kind.Kind, specs.declared.shape.Shape.Shape, specs.Values.{is_item, is_value, same_kind}}
 use Rattle.stack_text.proofs.SharedLaws.{kind_same}
-use Rattle.fm_loader.specs.declared.fault.Rule.{Rule}
+use Rattle.fm_loader.{specs.declared.fault.Rule.Rule, specs.declared.parsed.Scalar.Scalar, specs.declared.parsed.ParsedValue.ParsedValue}
+use Rattle.fm_loader.{specs.declared.parsed.ParsedValue.TheVariants.{Single, Several}, specs.Values.{is_there, is_within, mismatch, number_of, numbers_of}}
 use Rattle.fm_loader.specs.declared.fault.Rule.TheVariants as rules
-use Rattle.fm_loader.specs.declared.parsed.Scalar.{Scalar}
-use Rattle.fm_loader.specs.declared.parsed.ParsedValue.{ParsedValue}
-use Rattle.fm_loader.specs.declared.parsed.ParsedValue.TheVariants.{Single, Several}
-use Rattle.fm_loader.specs.Values.{is_there, is_within, mismatch, number_of, numbers_of}
 
 there_is_item : (kind : Kind) (number : Option ℤ) → is_there kind number ≡ true → is_item kind (number_of (record { kind = kind; number = number })) ≡ true
 there_is_item kind None h = cc

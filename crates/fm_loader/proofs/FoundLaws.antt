@@ -1,29 +1,17 @@
 -- What each slot gets.
 use Rattle.std.proofs.Common.{◌≡◌, ℕ, ℤ, zero, suc, ◌+◌, ◌<◌, ◌≤◌, List, [], ◌∷◌, ◌++◌, map, length, get_or, take, drop, Bool, true, false, cond, ◌||◌, Option}
-use Rattle.std.proofs.Common.{Some, None, Result, Ok, Err, option_map, is_some, refl, sym, ap, subst, ◌∙◌, append_assoc, arith}
-use Rattle.std.specs.Prelude.{slice_set, replicate}
-use Rattle.std.specs.List.{AllByRecursion, slice_get}
-use Rattle.std.specs.Str.{bytes_eq}
-use Rattle.std.proofs.lemmas.List.{append-nil, drop_all, take_all, take_more, length-map}
-use Rattle.std.proofs.lemmas.Map.Keys.{IsDistinct-head, IsDistinct-tail, apart_from_distinct}
-use Rattle.std.proofs.lemmas.Slice.Eq.{bytes_eq-Decides}
-use Rattle.std.proofs.lemmas.Option.{slice_get_within}
-use Rattle.stack_text.proofs.Loops.{drop-item}
-use Rattle.stack_text.proofs.ResultLoops.{with_front}
-use Rattle.stack_text.specs.declared.shape.Shape.{Shape}
-use Rattle.stack_text.specs.Values.{ValueOf}
+use Rattle.std.{proofs.Common.{Some, None, Result, Ok, Err, option_map, is_some, refl, sym, ap, subst, ◌∙◌, append_assoc, arith}, specs.Prelude.slice_set}
+use Rattle.std.{specs.Prelude.replicate, specs.List.{AllByRecursion, slice_get}, specs.Str.bytes_eq, proofs.lemmas.List.{append-nil, drop_all, take_all}}
+use Rattle.std.{proofs.lemmas.List.{take_more, length-map}, proofs.lemmas.Map.Keys.{IsDistinct-head, IsDistinct-tail, apart_from_distinct}}
+use Rattle.std.{proofs.lemmas.Slice.Eq.bytes_eq-Decides, proofs.lemmas.Option.slice_get_within}
+use Rattle.stack_text.{proofs.Loops.drop-item, proofs.ResultLoops.with_front, specs.declared.shape.Shape.Shape, specs.Values.ValueOf}
+use Rattle.stack_text.{specs.Results.unless_fault, proofs.SharedLaws.bytes_apart}
 use Rattle.fm_image.specs.declared.slot.Slot.{Slot}
-use Rattle.fm_loader.specs.declared.parsed.Entry.{Entry}
-use Rattle.fm_loader.specs.declared.fault.Rule.{Rule}
+use Rattle.fm_loader.{specs.declared.parsed.Entry.Entry, specs.declared.fault.Rule.Rule, specs.declared.fault.ValuesFault.ValuesFault}
+use Rattle.fm_loader.{specs.declared.fault.ValuesFault.TheVariants.{Refused, Memory}, specs.Rules.{rule_number, Fault, FailsUnless}, specs.Values.mismatch}
+use Rattle.fm_loader.specs.Values.{rule_broken, value_or_fault, found_in, is_named, slot_named, rule_of, fault_at, entry_fault, numbers_of, numbers_for}
+use Rattle.fm_loader.{specs.Values.{value_with, value_for, all_found, HaveOwnNames}, proofs.NameLaws.named_same}
 use Rattle.fm_loader.specs.declared.fault.Rule.TheVariants as rules
-use Rattle.fm_loader.specs.declared.fault.ValuesFault.{ValuesFault}
-use Rattle.fm_loader.specs.declared.fault.ValuesFault.TheVariants.{Refused, Memory}
-use Rattle.fm_loader.specs.Rules.{rule_number, Fault, FailsUnless}
-use Rattle.fm_loader.specs.Values.{mismatch, rule_broken, value_or_fault, found_in, is_named, slot_named, rule_of, fault_at, entry_fault, numbers_of}
-use Rattle.fm_loader.specs.Values.{numbers_for, value_with, value_for, all_found, HaveOwnNames}
-use Rattle.stack_text.specs.Results.{unless_fault}
-use Rattle.stack_text.proofs.SharedLaws.{bytes_apart}
-use Rattle.fm_loader.proofs.NameLaws.{named_same}
 
 -- ---- all are there
 

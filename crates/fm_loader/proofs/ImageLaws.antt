@@ -1,18 +1,11 @@
 -- What the limits of an image give whoever reads values for it and loads it.
-use Rattle.std.proofs.Common.{◌≡◌, ◌+◌, List, [], ◌∷◌, ◌++◌, map, true, false, ◌&&◌, leb, ltb, eqb, refl, arith}
-use Rattle.std.specs.Prelude.{IsTrue}
+use Rattle.std.{proofs.Common.{◌≡◌, ◌+◌, List, [], ◌∷◌, ◌++◌, map, true, false, ◌&&◌, leb, ltb, eqb, refl, arith}, specs.Prelude.IsTrue}
 use Rattle.std.proofs.lemmas.Bool.{and_parts, and_from, lt-leb, ne_eqb, le-ltb}
-use Rattle.stack_text.specs.Names.{is_name}
-use Rattle.stack_text.specs.Values.{item_count}
+use Rattle.stack_text.{specs.Names.is_name, specs.Values.item_count}
 use Rattle.fm_machine.specs.State.{is_refused}
-use Rattle.fm_image.specs.declared.slot.Slot.{Slot}
-use Rattle.fm_image.specs.declared.window.Window.{Window}
-use Rattle.fm_image.specs.Image.{ImageOf}
-use Rattle.fm_image.specs.Limits.{window_of, is_new, is_slot, is_slot_address, all_after, is_image}
-use Rattle.fm_image.proofs.LimitLaws.{limits_of, sized}
-use Rattle.fm_image.proofs.NameLaws.{slots_differ}
-use Rattle.fm_loader.specs.Values.{HaveOwnNames}
-use Rattle.fm_loader.specs.Loaded.{HaveRoom}
+use Rattle.fm_image.{specs.declared.slot.Slot.Slot, specs.declared.window.Window.Window, specs.Image.ImageOf, specs.Limits.{window_of, is_new, is_slot}}
+use Rattle.fm_image.{specs.Limits.{is_slot_address, all_after, is_image}, proofs.LimitLaws.{limits_of, sized}, proofs.NameLaws.slots_differ}
+use Rattle.fm_loader.{specs.Values.HaveOwnNames, specs.Loaded.HaveRoom}
 
 -- the slots of an image have different names
 pub own_names : (image : ImageOf) → IsTrue (is_image image) → HaveOwnNames image.slots

@@ -1,15 +1,8 @@
 -- Names of slots that all differ.
-use Rattle.std.proofs.Common.{◌≡◌, Some, None, ℕ, ◌<◌, ◌≤◌, List, [], ◌∷◌, map, length, Bool, true, false, cond}
-use Rattle.std.proofs.Common.{refl, sym, ap, subst, ◌∙◌}
-use Rattle.std.specs.Prelude.{nat_lt}
-use Rattle.std.specs.List.{position, position_or_len, slice_get}
-use Rattle.std.proofs.lemmas.Bool.{ltb-true, ltb-false}
-use Rattle.std.proofs.lemmas.List.Folds.{find_at}
-use Rattle.std.specs.Str.{bytes_eq}
-use Rattle.std.proofs.lemmas.Slice.Eq.{bytes_eq-Decides}
-use Rattle.std.proofs.lemmas.Option.{slice_get_past}
-use Rattle.stack_text.specs.Names.{place_among}
-use Rattle.stack_text.proofs.SharedLaws.{place_among-map}
+use Rattle.std.proofs.Common.{◌≡◌, Some, None, ℕ, ◌<◌, ◌≤◌, List, [], ◌∷◌, map, length, Bool, true, false, cond, refl, sym, ap, subst, ◌∙◌}
+use Rattle.std.{specs.Prelude.nat_lt, specs.List.{position, position_or_len, slice_get}, proofs.lemmas.Bool.{ltb-true, ltb-false}}
+use Rattle.std.{proofs.lemmas.List.Folds.find_at, specs.Str.bytes_eq, proofs.lemmas.Slice.Eq.bytes_eq-Decides, proofs.lemmas.Option.slice_get_past}
+use Rattle.stack_text.{specs.Names.place_among, proofs.SharedLaws.place_among-map}
 use Rattle.fm_image.specs.declared.slot.Slot.{Slot}
 use Rattle.fm_loader.specs.Values.{slot_named}
 

@@ -1,13 +1,9 @@
 -- Words set in a window, one after the other.
 use Rattle.std.proofs.Common.{◌≡◌, ◌<◌, ◌≤◌, ◌-◌, ◌+◌, ℕ, zero, suc, length, map, get_or, List, [], ◌∷◌, Some, None, Bool, true, false, Option, Result, Ok, Err}
-use Rattle.std.proofs.Common.{refl, sym, ap, ◌∙◌, arith, IfErr, leb}
-use Rattle.std.specs.Prelude.{slice_get, slice_set, OnOk, OnErr, is_some, nat_lt}
-use Rattle.std.proofs.lemmas.Bool.{le-ltb, leb-true, and_parts}
-use Rattle.std.specs.List.{list_all}
+use Rattle.std.{proofs.Common.{refl, sym, ap, ◌∙◌, arith, IfErr, leb}, specs.Prelude.{slice_get, slice_set, OnOk, OnErr, is_some, nat_lt}}
+use Rattle.std.{proofs.lemmas.Bool.{le-ltb, leb-true, and_parts}, specs.List.list_all}
 use Rattle.stack_text.specs.Values.{ValueOf, item_count}
-use Rattle.fm_machine.specs.State.{Fm, word_at, with_word}
-use Rattle.fm_machine.specs.Step.{store_at, store_at_if}
-use Rattle.fm_machine.specs.declared.fault.Outside.{Outside}
+use Rattle.fm_machine.{specs.State.{Fm, word_at, with_word}, specs.Step.{store_at, store_at_if}, specs.declared.fault.Outside.Outside}
 use Rattle.fm_image.specs.declared.slot.Slot.{Slot}
 use Rattle.fm_loader.specs.Loaded.{Fits, HaveRoom}
 

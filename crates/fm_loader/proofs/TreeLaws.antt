@@ -1,19 +1,11 @@
 -- Reading trees one after the other, as a loop does.
 use Rattle.std.proofs.Common.{◌≡◌, ◌≢◌, ℕ, ◌+◌, ◌<◌, ◌≤◌, List, [], ◌∷◌, ◌++◌, length, get_or, drop, Option, Some, None, Result, Ok, Err, option_map, refl, sym}
-use Rattle.std.proofs.Common.{ap, ◌∙◌, append_assoc, arith}
-use Rattle.std.proofs.lemmas.List.{drop_all, append-nil}
-use Rattle.stack_text.proofs.Loops.{drop-item}
-use Rattle.stack_text.proofs.ResultLoops.{with_front}
-use Rattle.stack_text.specs.Trees.{Node, more}
-use Rattle.stack_text.specs.Views.TreeView.{node_of, nodes_of}
+use Rattle.std.{proofs.Common.{ap, ◌∙◌, append_assoc, arith}, proofs.lemmas.List.{drop_all, append-nil}}
+use Rattle.stack_text.{proofs.Loops.drop-item, proofs.ResultLoops.with_front, specs.Trees.{Node, more}, specs.Views.TreeView.{node_of, nodes_of}}
 use Rattle.stack_text.specs.declared.tree.TextTree.{TextTree}
-use Rattle.fm_loader.specs.declared.parsed.Scalar.{Scalar}
-use Rattle.fm_loader.specs.declared.parsed.Entry.{Entry}
-use Rattle.fm_loader.specs.declared.fault.ValuesFault.{ValuesFault}
-use Rattle.fm_loader.specs.declared.fault.ValuesFault.TheVariants.{Refused, Memory}
-use Rattle.fm_loader.specs.Parsed.{scalar_at, scalars_of, pair_of}
-use Rattle.fm_loader.specs.Values.{entry_at, entries_of}
-use Rattle.fm_loader.specs.Rules.{Fault, FailsUnless}
+use Rattle.fm_loader.{specs.declared.parsed.Scalar.Scalar, specs.declared.parsed.Entry.Entry, specs.declared.fault.ValuesFault.ValuesFault}
+use Rattle.fm_loader.{specs.declared.fault.ValuesFault.TheVariants.{Refused, Memory}, specs.Parsed.{scalar_at, scalars_of, pair_of}, specs.Values.entry_at}
+use Rattle.fm_loader.{specs.Values.entries_of, specs.Rules.{Fault, FailsUnless}}
 
 -- ---- the single values of a list
 

@@ -1,44 +1,24 @@
 -- What the values that a text gives the slots keep.
 use Rattle.std.proofs.Common.{◌≡◌, Vec, Global, IfOk, ℕ, ℤ, zero, suc, pos, ◌<◌, List, [], ◌∷◌, ◌++◌, map, length, Bool, true, false, cond, ◌&&◌, eqb, Option}
-use Rattle.std.proofs.Common.{Some, None, Result, Ok, Err, option_map, refl, sym, ap, subst, ◌∙◌, arith}
-use Rattle.std.specs.Prelude.{unwrap_or, codes}
-use Rattle.std.specs.Option.{option_or, ok_or}
-use Rattle.std.specs.List.{list_all, slice_get}
-use Rattle.std.specs.Str.{bytes_eq}
-use Rattle.std.proofs.lemmas.Bool.{and_parts, and_from}
-use Rattle.std.proofs.lemmas.List.{length-map}
-use Rattle.std.proofs.lemmas.Map.Keys.{IsDistinct-tail, apart_from_distinct}
-use Rattle.std.proofs.lemmas.Slice.Eq.{bytes_eq-Decides}
+use Rattle.std.{proofs.Common.{Some, None, Result, Ok, Err, option_map, refl, sym, ap, subst, ◌∙◌, arith}, specs.Prelude.{unwrap_or, codes}}
+use Rattle.std.{specs.Option.{option_or, ok_or}, specs.List.{list_all, slice_get}, specs.Str.bytes_eq, proofs.lemmas.Bool.{and_parts, and_from}}
+use Rattle.std.{proofs.lemmas.List.length-map, proofs.lemmas.Map.Keys.{IsDistinct-tail, apart_from_distinct}, proofs.lemmas.Slice.Eq.bytes_eq-Decides}
 use Rattle.std.proofs.lemmas.Option.{slice_get_within}
-use Rattle.stack_text.specs.declared.text_fault.TextRule.{TextRule}
-use Rattle.stack_text.specs.declared.shape.Kind.TheVariants.{Integer, Boolean, Character}
-use Rattle.stack_text.specs.declared.shape.Shape.{Shape}
-use Rattle.stack_text.specs.Trees.{Node, Nodes, atom, list, none, more, place_of}
-use Rattle.stack_text.specs.TreeIn.{tree_in}
-use Rattle.stack_text.specs.Numerals.{is_digits, is_numeral, numeral_value}
-use Rattle.stack_text.specs.Values.{ValueOf, is_value}
-use Rattle.stack_text.specs.TreeNames.{name_of_tree}
+use Rattle.stack_text.{specs.declared.text_fault.TextRule.TextRule, specs.declared.shape.Kind.TheVariants.{Integer, Boolean, Character}}
+use Rattle.stack_text.{specs.declared.shape.Shape.Shape, specs.Trees.{Node, Nodes, atom, list, none, more, place_of}, specs.TreeIn.tree_in}
+use Rattle.stack_text.{specs.Numerals.{is_digits, is_numeral, numeral_value}, specs.Values.{ValueOf, is_value}, specs.TreeNames.name_of_tree}
+use Rattle.stack_text.{specs.Results.{◌>>=◌, unless_fault}, proofs.ResultLaws.bind_ok, proofs.OptionLaws.bind_some, proofs.SharedLaws.bytes_apart}
 use Rattle.fm_image.specs.declared.slot.Slot.{Slot}
-use Rattle.fm_loader.specs.declared.parsed.Scalar.{Scalar}
-use Rattle.fm_loader.specs.declared.parsed.ParsedValue.{ParsedValue}
-use Rattle.fm_loader.specs.declared.parsed.ParsedValue.TheVariants.{Single, Several}
-use Rattle.fm_loader.specs.declared.parsed.Entry.{Entry}
-use Rattle.fm_loader.specs.declared.fault.Rule.{Rule}
-use Rattle.fm_loader.specs.declared.fault.Rule.TheVariants as rules
-use Rattle.fm_loader.specs.declared.fault.ValuesFault.{ValuesFault}
-use Rattle.stack_text.specs.Options as options
-use Rattle.stack_text.specs.Results.{◌>>=◌, unless_fault}
-use Rattle.stack_text.proofs.ResultLaws.{bind_ok}
-use Rattle.stack_text.proofs.OptionLaws.{bind_some}
-use Rattle.stack_text.proofs.SharedLaws.{bytes_apart}
-use Rattle.fm_words.specs.Word.{is_int, signed_32}
-use Rattle.fm_loader.specs.Parsed.{character_of, scalar_of, scalar_at, scalars_of, parsed_value, pair_of, entry_of}
-use Rattle.fm_loader.specs.Values.{entry_at, entries_of, mismatch, rule_broken, slot_named, is_named, rule_of, fault_at, entry_fault, number_of, numbers_of}
-use Rattle.fm_loader.specs.Values.{numbers_for, value_with, value_for, found_in, all_found, values_at, values_on, values_in, HaveOwnNames}
-use Rattle.fm_loader.specs.Rules.{rule_number, Fault, GivesValuesUnless}
-use Rattle.fm_loader.specs.Loaded.{Fits}
-use Rattle.fm_loader.proofs.FoundLaws.{at_slot}
+use Rattle.fm_loader.{specs.declared.parsed.Scalar.Scalar, specs.declared.parsed.ParsedValue.ParsedValue, specs.declared.parsed.ParsedValue.TheVariants.Single}
+use Rattle.fm_loader.{specs.declared.parsed.ParsedValue.TheVariants.Several, specs.declared.parsed.Entry.Entry, specs.declared.fault.Rule.Rule}
+use Rattle.fm_loader.{specs.declared.fault.ValuesFault.ValuesFault, specs.Parsed.{character_of, scalar_of, scalar_at, scalars_of, parsed_value, pair_of}}
+use Rattle.fm_loader.{specs.Parsed.entry_of, specs.Values.{entry_at, entries_of, mismatch, rule_broken, slot_named, is_named, rule_of, fault_at, entry_fault}}
+use Rattle.fm_loader.specs.Values.{number_of, numbers_of, numbers_for, value_with, value_for, found_in, all_found, values_at, values_on, values_in}
+use Rattle.fm_loader.{specs.Values.HaveOwnNames, specs.Rules.{rule_number, Fault, GivesValuesUnless}, specs.Loaded.Fits, proofs.FoundLaws.at_slot}
 use Rattle.fm_loader.proofs.FitLaws.{fits_is_value}
+use Rattle.fm_loader.specs.declared.fault.Rule.TheVariants as rules
+use Rattle.stack_text.specs.Options as options
+use Rattle.fm_words.specs.Word.{is_int, signed_32}
 
 -- ---- a reading that came to values came to its entries, and each slot has its value
 

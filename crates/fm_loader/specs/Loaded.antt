@@ -1,11 +1,9 @@
 -- The machine as it is loaded.
-use Rattle.std.specs.Prelude.{◌≡◌, ℕ, ◌+◌, ◌-◌, ℤ, List, [], ◌∷◌, map, replicate, IsTrue, nat_le}
-use Rattle.std.specs.List.{list_all}
+use Rattle.std.specs.{Prelude.{◌≡◌, ℕ, ◌+◌, ◌-◌, ℤ, List, [], ◌∷◌, map, replicate, IsTrue, nat_le}, List.{list_all}}
 use Rattle.stack_text.specs.Values.{ValueOf, item_count}
 use Rattle.fm_words.specs.Word.{word_of_int}
 use Rattle.fm_machine.specs.State.{Fm, with_word}
-use Rattle.fm_image.specs.declared.slot.Slot.{Slot}
-use Rattle.fm_image.specs.Image.{ImageOf}
+use Rattle.fm_image.specs.{declared.slot.Slot.{Slot}, Image.{ImageOf}}
 
 -- a value of its shape for each slot
 abbrev pub Fits : List Slot → List ValueOf → Type 0

@@ -1,17 +1,11 @@
 -- Values as a text has them.
-use Rattle.std.specs.Prelude.{ℕ, pos, List, [], ◌∷◌, Option, Some, None, ◌&&◌, ◌==◌, if◌then◌else◌, codes}
-use Rattle.std.specs.Option.{option_map}
+use Rattle.std.specs.{Prelude.{ℕ, pos, List, [], ◌∷◌, Option, Some, None, ◌&&◌, ◌==◌, if◌then◌else◌, codes}, Option.{option_map}}
 use Rattle.std.specs.Str.{bytes_eq}
-use Rattle.stack_text.specs.TreeNames.{name_of_tree}
+use Rattle.stack_text.specs.{TreeNames.{name_of_tree}, declared.shape.Kind.TheVariants.{Integer, Boolean, Character}, Options.{◌>>=◌}}
+use Rattle.stack_text.specs.{Numerals.{is_digits, is_numeral, numeral_value}, Trees.{Node, Nodes, atom, list, none, more}}
 use Rattle.fm_words.specs.Word.{signed_32}
-use Rattle.stack_text.specs.declared.shape.Kind.TheVariants.{Integer, Boolean, Character}
-use Rattle.stack_text.specs.Options.{◌>>=◌}
-use Rattle.stack_text.specs.Numerals.{is_digits, is_numeral, numeral_value}
-use Rattle.stack_text.specs.Trees.{Node, Nodes, atom, list, none, more}
-use Rattle.fm_loader.specs.declared.parsed.Scalar.{Scalar}
-use Rattle.fm_loader.specs.declared.parsed.ParsedValue.{ParsedValue}
-use Rattle.fm_loader.specs.declared.parsed.ParsedValue.TheVariants.{Single, Several}
-use Rattle.fm_loader.specs.declared.parsed.Entry.{Entry}
+use Rattle.fm_loader.specs.{declared.parsed.Scalar.{Scalar}, declared.parsed.ParsedValue.{ParsedValue}}
+use Rattle.fm_loader.specs.{declared.parsed.ParsedValue.TheVariants.{Single, Several}, declared.parsed.Entry.{Entry}}
 
 -- `#` and digits
 abbrev pub character_of : List ℕ → Option Scalar

@@ -1,10 +1,9 @@
 -- The rules of values files, and what a call says that breaks one.
 use Rattle.std.specs.Prelude.{ℕ, Option, Some, None, Result}
 use Rattle.stack_text.specs.Gives as common
-use Rattle.fm_loader.specs.declared.fault.Rule.{Rule}
-use Rattle.fm_loader.specs.declared.fault.Rule.TheVariants as rules
-use Rattle.fm_loader.specs.declared.fault.ValuesFault.{ValuesFault}
+use Rattle.fm_loader.specs.{declared.fault.Rule.{Rule}, declared.fault.ValuesFault.{ValuesFault}}
 use Rattle.fm_loader.specs.declared.fault.ValuesFault.TheVariants.{Refused, Memory}
+use Rattle.fm_loader.specs.declared.fault.Rule.TheVariants as rules
 
 -- V1 to V7
 abbrev pub rule_number : Rule → ℕ

@@ -1,25 +1,15 @@
 -- The values that a text gives the variables of an image, and the rules V1 to V7 that it may break.
-use Rattle.std.specs.Prelude.{ℕ, ℤ, pos, List, [], ◌∷◌, ◌++◌, length, map, Option, Some, None, unwrap_or}
-use Rattle.std.specs.Prelude.{Result, Ok, Err, Bool, true, false, not, ◌&&◌, ◌||◌, ◌==◌, if◌then◌else◌}
-use Rattle.std.specs.Option.{option_map, option_or, ok_or}
-use Rattle.std.specs.List.{list_any, list_all, find, IsDistinct}
-use Rattle.std.specs.Str.{bytes_eq}
-use Rattle.stack_text.specs.declared.text_fault.TextRule.{TextRule}
-use Rattle.stack_text.specs.declared.shape.Kind.{Kind}
-use Rattle.stack_text.specs.declared.shape.Shape.{Shape}
-use Rattle.stack_text.specs.Results.{◌>>=◌, unless_fault}
-use Rattle.stack_text.specs.Trees.{Node, Nodes, atom, list, none, more, place_of}
-use Rattle.stack_text.specs.TreeIn.{tree_in}
+use Rattle.std.specs.Prelude.{ℕ, ℤ, pos, List, [], ◌∷◌, ◌++◌, length, map, Option, Some, None, unwrap_or, Result, Ok, Err, Bool, true}
+use Rattle.std.specs.{Prelude.{false, not, ◌&&◌, ◌||◌, ◌==◌, if◌then◌else◌}, Option.{option_map, option_or, ok_or}, List.{list_any}}
+use Rattle.std.specs.{List.{list_all, find, IsDistinct}, Str.{bytes_eq}}
+use Rattle.stack_text.specs.{declared.text_fault.TextRule.{TextRule}, declared.shape.Kind.{Kind}, declared.shape.Shape.{Shape}}
+use Rattle.stack_text.specs.{Results.{◌>>=◌, unless_fault}, Trees.{Node, Nodes, atom, list, none, more, place_of}, TreeIn.{tree_in}}
 use Rattle.stack_text.specs.Values.{ValueOf, is_item, same_kind}
 use Rattle.fm_image.specs.declared.slot.Slot.{Slot}
-use Rattle.fm_loader.specs.declared.fault.Rule.{Rule}
-use Rattle.fm_loader.specs.declared.fault.Rule.TheVariants as rules
-use Rattle.fm_loader.specs.declared.parsed.Scalar.{Scalar}
-use Rattle.fm_loader.specs.declared.parsed.ParsedValue.{ParsedValue}
-use Rattle.fm_loader.specs.declared.parsed.ParsedValue.TheVariants.{Single, Several}
-use Rattle.fm_loader.specs.declared.parsed.Entry.{Entry}
-use Rattle.fm_loader.specs.Parsed.{entry_of}
+use Rattle.fm_loader.specs.{declared.fault.Rule.{Rule}, declared.parsed.Scalar.{Scalar}, declared.parsed.ParsedValue.{ParsedValue}}
+use Rattle.fm_loader.specs.{declared.parsed.ParsedValue.TheVariants.{Single, Several}, declared.parsed.Entry.{Entry}, Parsed.{entry_of}}
 use Rattle.fm_loader.specs.Rules.{rule_number, Fault}
+use Rattle.fm_loader.specs.declared.fault.Rule.TheVariants as rules
 
 -- 1. Entries. A text that is no list of entries breaks the first rule: at its own fault where it is no tree, at a tree
 -- that is no list, or at the first item that is no entry.

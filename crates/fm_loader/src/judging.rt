@@ -1,11 +1,10 @@
 //! Judging the entries of a text.
 
-ghost use Rattle.std.specs.Prelude.{◌≡◌, map, length, replicate, None, Some, IfSome, option_map, slice_get};
-ghost use Rattle.std.specs.List.{list_all};
+ghost use Rattle.std.specs.{Prelude.{◌≡◌, map, length, replicate, None, Some, IfSome, option_map, slice_get}, List.{list_all}};
 ghost use Rattle.stack_heap.specs.Heaps.{IfOkUnless};
 ghost use Rattle.stack_text.specs.Gives as memory;
-ghost use Rattle.fm_loader.specs.Rules.{GivesValuesUnless};
-ghost use Rattle.fm_loader.specs.Values.{is_within, single_mismatch, array_mismatch, mismatch, value_or_fault, number_of, numbers_of, slot_named, found_in, all_found, HaveOwnNames};
+ghost use Rattle.fm_loader.specs.{Rules.{GivesValuesUnless}, Values.{is_within, single_mismatch, array_mismatch, mismatch, value_or_fault, number_of}};
+ghost use Rattle.fm_loader.specs.Values.{numbers_of, slot_named, found_in, all_found, HaveOwnNames};
 ghost use Rattle.stack_text.specs.Values.{same_kind};
 
 use crate::fault::{Rule, ValuesFault, refused};

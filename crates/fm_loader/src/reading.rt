@@ -2,12 +2,9 @@
 
 ghost use Rattle.std.specs.Prelude.{◌≡◌, IsTrue, option_map};
 ghost use Rattle.stack_text.specs.Gives as memory;
-ghost use Rattle.stack_text.specs.Numerals.{is_numeral, numeral_value};
-ghost use Rattle.stack_text.specs.Views.TreeView.{node_of, nodes_of};
-ghost use Rattle.stack_text.specs.TreeNames.{name_of_tree};
+ghost use Rattle.stack_text.specs.{Numerals.{is_numeral, numeral_value}, Views.TreeView.{node_of, nodes_of}, TreeNames.{name_of_tree}};
 ghost use Rattle.fm_words.specs.Word.{signed_32};
-ghost use Rattle.fm_loader.specs.Rules.{GivesValuesUnless};
-ghost use Rattle.fm_loader.specs.Parsed.{character_of, scalar_of, scalar_at, scalars_of, parsed_value, pair_of, entry_of};
+ghost use Rattle.fm_loader.specs.{Rules.{GivesValuesUnless}, Parsed.{character_of, scalar_of, scalar_at, scalars_of, parsed_value, pair_of, entry_of}};
 ghost use Rattle.fm_loader.specs.Values.{entries_of, entry_at};
 
 use crate::fault::{Rule, ValuesFault, refused};

@@ -2,9 +2,7 @@
 
 ghost use Rattle.std.specs.Prelude.{◌≤◌, ◌^◌, length, IfOk};
 ghost use Rattle.stack_text.specs.Views.TreeView.{node_of};
-ghost use Rattle.fm_loader.specs.Rules.{GivesValuesUnless};
-ghost use Rattle.fm_loader.specs.Loaded.{Fits};
-ghost use Rattle.fm_loader.specs.Values.{values_at, values_in, HaveOwnNames};
+ghost use Rattle.fm_loader.specs.{Rules.{GivesValuesUnless}, Loaded.{Fits}, Values.{values_at, values_in, HaveOwnNames}};
 
 use crate::fault::{Rule, ValuesFault, refused};
 use crate::judging::{all_found, found};

@@ -1,25 +1,15 @@
 -- The expressions that the code writes are those of the gates.
-use Rattle.std.proofs.Common.{◌≡◌, ℕ, zero, suc, ◌+◌, ◌-◌, ◌^◌, ◌<◌, Bool, true, false, List, [], ◌∷◌, ◌++◌, codes, drop}
-use Rattle.std.proofs.Common.{refl, ap, sym, ◌∙◌, arith, append_assoc, if◌then◌else◌}
-use Rattle.std.proofs.lemmas.Nat.Bits.{bit_at-lt}
-use Rattle.std.proofs.lemmas.Bool.{eqb-true}
-use Rattle.std.specs.Fmt.{digits}
-use Rattle.std.specs.Prelude.{map, nat_lt, ◌==◌}
-use Rattle.std.specs.Int.{bit_at}
-use Rattle.fm_circuit.specs.declared.wire.Wire.{Wire}
+use Rattle.std.proofs.Common.{◌≡◌, ℕ, zero, suc, ◌+◌, ◌-◌, ◌^◌, ◌<◌, Bool, true, false, List, [], ◌∷◌, ◌++◌, codes, drop, refl, ap, sym, ◌∙◌, arith}
+use Rattle.std.{proofs.Common.{append_assoc, if◌then◌else◌}, proofs.lemmas.Nat.Bits.bit_at-lt, proofs.lemmas.Bool.eqb-true, specs.Fmt.digits, specs.Prelude.map}
+use Rattle.std.{specs.Prelude.{nat_lt, ◌==◌}, specs.Int.bit_at}
+use Rattle.fm_circuit.{specs.declared.wire.Wire.Wire, specs.declared.circuit.Pin.Pin, specs.declared.circuit.Pin.TheVariants.{Whole, Bits, Constant}}
+use Rattle.fm_circuit.{specs.declared.circuit.Driver.Driver, specs.Circuit.pin_width}
 use Rattle.fm_circuit.specs.declared.wire.Wire.TheVariants as w
-use Rattle.fm_circuit.specs.declared.circuit.Pin.{Pin}
-use Rattle.fm_circuit.specs.declared.circuit.Pin.TheVariants.{Whole, Bits, Constant}
-use Rattle.fm_circuit.specs.declared.circuit.Driver.{Driver}
 use Rattle.fm_circuit.specs.declared.circuit.Driver.TheVariants as d
-use Rattle.fm_circuit.specs.Circuit.{pin_width}
-use Rattle.fm_gates.specs.Gates.{Gate, FileBit, CarryBit, Differ, Pick}
-use Rattle.fm_gates.specs.Gates.{constant_gate, pin_gate, carry_gate, equal_gate, choice_gate, choice_of_pins, file_gate}
-use Rattle.fm_netlist.specs.NetlistText.{below, carry_text, file_text, gate_text, line_gate}
-use Rattle.fm_netlist.specs.Pieces.{constant_text, pin_text, between, choice_0, choice_1, choice_2, choice_3, choice_4}
-use Rattle.fm_netlist.specs.Pieces.{word_0, word_1, word_2, word_3, word_4}
-use Rattle.fm_netlist.specs.Pieces.{agreeing_text, opening_text, equal_text, bit_text, carried_text}
-use Rattle.fm_netlist.specs.Pieces.{written_text, taken_text, kept_text}
+use Rattle.fm_gates.specs.Gates.{Gate, FileBit, CarryBit, Differ, Pick, constant_gate, pin_gate, carry_gate, equal_gate, choice_gate, choice_of_pins, file_gate}
+use Rattle.fm_netlist.{specs.NetlistText.{below, carry_text, file_text, gate_text, line_gate}, specs.Pieces.{constant_text, pin_text, between, choice_0}}
+use Rattle.fm_netlist.specs.Pieces.{choice_1, choice_2, choice_3, choice_4, word_0, word_1, word_2, word_3, word_4, agreeing_text, opening_text, equal_text}
+use Rattle.fm_netlist.specs.Pieces.{bit_text, carried_text, written_text, taken_text, kept_text}
 
 constant_is : (n : ℕ) → n < 2 → constant_text n ≡ gate_text (constant_gate n)
 unfolding gate_text digits

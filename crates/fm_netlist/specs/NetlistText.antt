@@ -1,19 +1,13 @@
 -- The netlist as Verilog text: a line for each bit of each wire, for each carry of a sum, and for each bit of the register file, with what
 -- its gates are (`Rattle.fm_gates.specs.Gates`).
-use Rattle.std.specs.Prelude.{ℕ, zero, suc, ◌-◌, List, ◌++◌, [], codes, get_or}
-use Rattle.std.specs.List.{flat_map}
-use Rattle.std.specs.Fmt.{decimal}
-use Rattle.fm_circuit.specs.declared.wire.Wire.{Wire}
-use Rattle.fm_circuit.specs.declared.wire.Wire.TheVariants as w
-use Rattle.fm_circuit.specs.declared.circuit.Driver.{Driver}
-use Rattle.fm_circuit.specs.declared.circuit.Driver.TheVariants as d
-use Rattle.fm_circuit.specs.Widths.{width_of, wires}
-use Rattle.fm_circuit.specs.Processor.{driver_of}
+use Rattle.std.specs.{Prelude.{ℕ, zero, suc, ◌-◌, List, ◌++◌, [], codes, get_or}, List.{flat_map}, Fmt.{decimal}}
+use Rattle.fm_circuit.specs.{declared.wire.Wire.{Wire}, declared.circuit.Driver.{Driver}, Widths.{width_of, wires}, Processor.{driver_of}}
 use Rattle.fm_circuit.specs.Board.{registers}
-use Rattle.fm_gates.specs.Gates.{Gate, Off, On, WireBit, CarryBit, RegisterBit, InputBit, FileBit, Reset}
-use Rattle.fm_gates.specs.Gates.{Inverse, Both, Either, Differ, Pick, driver_gate, next_gate, carry_gate, file_gate, write_gate}
-use Rattle.fm_verilog.specs.WireNames.{name_of}
-use Rattle.fm_verilog.specs.VerilogText.{port_name, clock_text, declaration_text}
+use Rattle.fm_circuit.specs.declared.wire.Wire.TheVariants as w
+use Rattle.fm_circuit.specs.declared.circuit.Driver.TheVariants as d
+use Rattle.fm_gates.specs.Gates.{Gate, Off, On, WireBit, CarryBit, RegisterBit, InputBit, FileBit, Reset, Inverse, Both, Either, Differ}
+use Rattle.fm_gates.specs.Gates.{Pick, driver_gate, next_gate, carry_gate, file_gate, write_gate}
+use Rattle.fm_verilog.specs.{WireNames.{name_of}, VerilogText.{port_name, clock_text, declaration_text}}
 
 -- the texts of the numbers below one, in their order
 unfoldable pub below : (ℕ → List ℕ) → ℕ → List ℕ

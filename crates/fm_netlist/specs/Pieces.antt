@@ -1,14 +1,10 @@
 -- The netlist's expressions as the code writes them.
 use Rattle.std.specs.Prelude.{ℕ, ◌+◌, ◌-◌, ◌==◌, List, ◌++◌, Option, Some, None, codes, drop, nat_lt, slice_get, if◌then◌else◌}
-use Rattle.std.specs.Fmt.{decimal}
-use Rattle.std.specs.Int.{bit_at}
-use Rattle.fm_circuit.specs.declared.wire.Wire.{Wire}
+use Rattle.std.specs.{Fmt.{decimal}, Int.{bit_at}}
+use Rattle.fm_circuit.specs.{declared.wire.Wire.{Wire}, declared.circuit.Pin.{Pin}, declared.circuit.Pin.TheVariants.{Whole, Bits}}
+use Rattle.fm_circuit.specs.{declared.circuit.Pin.TheVariants.{Constant}, declared.circuit.Driver.{Driver}, Circuit.{pin_width}}
 use Rattle.fm_circuit.specs.declared.wire.Wire.TheVariants as w
-use Rattle.fm_circuit.specs.declared.circuit.Pin.{Pin}
-use Rattle.fm_circuit.specs.declared.circuit.Pin.TheVariants.{Whole, Bits, Constant}
-use Rattle.fm_circuit.specs.declared.circuit.Driver.{Driver}
 use Rattle.fm_circuit.specs.declared.circuit.Driver.TheVariants as d
-use Rattle.fm_circuit.specs.Circuit.{pin_width}
 use Rattle.fm_verilog.specs.WireNames.{name_of}
 use Rattle.fm_netlist.specs.NetlistText.{below, indexed, carry_text, file_text, input_text}
 

@@ -1,9 +1,7 @@
 //! Bits of pins, carries and words as text.
 
-ghost use Rattle.std.specs.Prelude.{◌≡◌, ◌++◌, codes, OnOk, Some};
-ghost use Rattle.std.specs.Int.{bit_at};
-ghost use Rattle.fm_netlist.specs.NetlistText.{carry_text, file_text};
-ghost use Rattle.fm_netlist.specs.Pieces.{pin_text, between};
+ghost use Rattle.std.specs.{Prelude.{◌≡◌, ◌++◌, codes, OnOk, Some}, Int.{bit_at}};
+ghost use Rattle.fm_netlist.specs.{NetlistText.{carry_text, file_text}, Pieces.{pin_text, between}};
 
 use fm_circuit::{Pin, Wire};
 use fm_verilog::name;

@@ -1,13 +1,12 @@
 //! The lines of the netlist.
 
-ghost use Rattle.std.specs.Prelude.{◌≡◌, ◌++◌, ◌-◌, codes, OnOk};
-ghost use Rattle.std.specs.Fmt.{decimal};
+ghost use Rattle.std.specs.{Prelude.{◌≡◌, ◌++◌, ◌-◌, codes, OnOk}, Fmt.{decimal}, Int.{bit_at}};
 ghost use Rattle.fm_circuit.specs.Widths.{width_of};
 ghost use Rattle.fm_verilog.specs.WireNames.{name_of};
-ghost use Rattle.std.specs.Int.{bit_at};
 ghost use Rattle.fm_gates.specs.Gates.{carry_gate, file_gate};
-ghost use Rattle.fm_netlist.specs.NetlistText.{below, gate_text, line_gate, input_text, target_text, gets_text, bit_line, carry_line, bit_lines, wire_lines, file_line, word_lines, carries_declared, declared_text};
-ghost use Rattle.fm_netlist.specs.Pieces.{agreeing_text, opening_text, equal_text, sum_text, join_text, bit_text, carried_text, kept_text, constant_text, pin_text, written_text, taken_text};
+ghost use Rattle.fm_netlist.specs.NetlistText.{below, gate_text, line_gate, input_text, target_text, gets_text, bit_line, carry_line, bit_lines, wire_lines};
+ghost use Rattle.fm_netlist.specs.{NetlistText.{file_line, word_lines, carries_declared, declared_text}, Pieces.{agreeing_text, opening_text, equal_text}};
+ghost use Rattle.fm_netlist.specs.Pieces.{sum_text, join_text, bit_text, carried_text, kept_text, constant_text, pin_text, written_text, taken_text};
 
 use crate::bits::{Carry, Differ, FileBit, PinBit, push, push_between, push_bit};
 use crate::choices::{choose_1, choose_2, choose_3, choose_4, word_4};

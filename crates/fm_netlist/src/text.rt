@@ -1,8 +1,8 @@
 //! The text of the netlist.
 
-ghost use Rattle.std.specs.Prelude.{◌≡◌, ◌++◌, IfOk, OnOk};
-ghost use Rattle.std.specs.List.{flat_map};
-ghost use Rattle.fm_netlist.specs.NetlistText.{below, word_declared, word_begun, word_shown, word_lines, declared_text, wire_lines, head_text, begin_text, begun_text, element_text, tail_text, netlist_text};
+ghost use Rattle.std.specs.{Prelude.{◌≡◌, ◌++◌, IfOk, OnOk}, List.{flat_map}};
+ghost use Rattle.fm_netlist.specs.NetlistText.{below, word_declared, word_begun, word_shown, word_lines, declared_text, wire_lines, head_text, begin_text};
+ghost use Rattle.fm_netlist.specs.NetlistText.{begun_text, element_text, tail_text, netlist_text};
 
 use crate::bits::push;
 use crate::lines::{push_declared, push_wire, push_word};

@@ -1,28 +1,16 @@
 -- An instruction can be read back from its text.
 use Rattle.std.proofs.Common.{◌≡◌, ℕ, ◌+◌, ◌/◌, ◌%◌, ◌^◌, ◌<◌, ◌≤◌, ◌==◌, Bool, true, false, not, ◌&&◌, ◌||◌, List, [], ◌∷◌, ◌++◌, refl, sym, ap, ◌∙◌, arith}
-use Rattle.std.proofs.Common.{append_assoc, append-nil, get_or, codes, unwrap_or}
-use Rattle.std.specs.Prelude.{find, ℤ, pos, negsuc, ◌↔◌}
-use Rattle.std.specs.List.{list_any}
-use Rattle.std.specs.Str.{bytes_eq}
-use Rattle.std.specs.Fmt.{decimal, signed_decimal}
-use Rattle.std.proofs.lemmas.Bool.Decides.{nat_tests}
-use Rattle.std.proofs.lemmas.Int.{ints}
-use Rattle.std.proofs.lemmas.Fmt.{decimal_by_steps, decimal_injective, signed_decimal_injective}
+use Rattle.std.{proofs.Common.{append_assoc, append-nil, get_or, codes, unwrap_or}, specs.Prelude.{find, ℤ, pos, negsuc, ◌↔◌}, specs.List.list_any}
+use Rattle.std.{specs.Str.bytes_eq, specs.Fmt.{decimal, signed_decimal}, proofs.lemmas.Bool.Decides.nat_tests, proofs.lemmas.Int.ints}
+use Rattle.std.{proofs.lemmas.Fmt.{decimal_by_steps, decimal_injective, signed_decimal_injective}, proofs.lemmas.Bool.and_parts}
 use lib.Signed.{mag}
-use Rattle.std.proofs.lemmas.Bool.{and_parts}
-use Rattle.fm_words.specs.declared.operation.Op.{Op}
-use Rattle.fm_words.specs.declared.operation.Op.TheVariants.{Move, Inc, Addc, Add, Neg, Dec, Subb, Sub, Ror, Asr, Lsr, Xor, Or, And, Not, M15}
-use Rattle.fm_words.specs.declared.condition.Cc.{Cc}
+use Rattle.fm_words.{specs.declared.operation.Op.Op, specs.declared.operation.Op.TheVariants.{Move, Inc, Addc, Add, Neg, Dec, Subb, Sub, Ror, Asr, Lsr, Xor}}
+use Rattle.fm_words.{specs.declared.operation.Op.TheVariants.{Or, And, Not, M15}, specs.declared.condition.Cc.Cc, specs.declared.condition.Flags.Flags}
+use Rattle.fm_words.{specs.declared.instruction.Mode.Mode, specs.declared.instruction.Mode.TheVariants.{Register, Indirect, PreDecrement, PostIncrement}}
+use Rattle.fm_words.{specs.declared.instruction.OperandA.OperandA, specs.declared.instruction.OperandA.TheVariants.{Immediate, Place}}
+use Rattle.fm_words.{specs.declared.instruction.Instr.Instr, specs.Code.{ops, ccs, modes, imm_of, operand_of, decode_of}, specs.Encoding.{encode_of, IsOperand}}
+use Rattle.fm_words.{specs.Encoding.{IsInstr, significant}, proofs.FieldLaws.{decode_encode, encode_decode}}
 use Rattle.fm_words.specs.declared.condition.Cc.TheVariants as cc
-use Rattle.fm_words.specs.declared.condition.Flags.{Flags}
-use Rattle.fm_words.specs.declared.instruction.Mode.{Mode}
-use Rattle.fm_words.specs.declared.instruction.Mode.TheVariants.{Register, Indirect, PreDecrement, PostIncrement}
-use Rattle.fm_words.specs.declared.instruction.OperandA.{OperandA}
-use Rattle.fm_words.specs.declared.instruction.OperandA.TheVariants.{Immediate, Place}
-use Rattle.fm_words.specs.declared.instruction.Instr.{Instr}
-use Rattle.fm_words.specs.Code.{ops, ccs, modes, imm_of, operand_of, decode_of}
-use Rattle.fm_words.specs.Encoding.{encode_of, IsOperand, IsInstr, significant}
-use Rattle.fm_words.proofs.FieldLaws.{decode_encode, encode_decode}
 use Rattle.fm_show.specs.Disassembly.{operation_name, condition_text, flags_text, register_name, place_text, operand_text, instruction_text, disassembly_text}
 
 -- each byte passes

@@ -1,6 +1,5 @@
 -- Words in hexadecimal digits.
-use Rattle.std.specs.Prelude.{ℕ, List}
-use Rattle.std.specs.Int.{w32, to_be_bytes}
+use Rattle.std.specs.{Prelude.{ℕ, List}, Int.{w32, to_be_bytes}}
 use Rattle.hex.specs.Hex.{encode_lower}
 
 -- a word in eight hexadecimal digits, with lower-case letters and the highest digit first

@@ -1,18 +1,12 @@
 -- Instructions as text.
-use Rattle.std.specs.Prelude.{ℕ, List, [], ◌++◌, Bool, if◌then◌else◌, codes}
-use Rattle.std.specs.Fmt.{decimal, signed_decimal}
-use Rattle.fm_words.specs.declared.operation.Op.{Op}
-use Rattle.fm_words.specs.declared.operation.Op.TheVariants.{Move, Inc, Addc, Add, Neg, Dec, Subb, Sub}
-use Rattle.fm_words.specs.declared.operation.Op.TheVariants.{Ror, Asr, Lsr, Xor, Or, And, Not, M15}
-use Rattle.fm_words.specs.declared.condition.Cc.{Cc}
-use Rattle.fm_words.specs.declared.condition.Cc.TheVariants as cc
-use Rattle.fm_words.specs.declared.condition.Flags.{Flags}
-use Rattle.fm_words.specs.declared.instruction.Mode.{Mode}
+use Rattle.std.specs.{Prelude.{ℕ, List, [], ◌++◌, Bool, if◌then◌else◌, codes}, Fmt.{decimal, signed_decimal}}
+use Rattle.fm_words.specs.{declared.operation.Op.{Op}, declared.operation.Op.TheVariants.{Move, Inc, Addc, Add, Neg, Dec, Subb, Sub, Ror}}
+use Rattle.fm_words.specs.{declared.operation.Op.TheVariants.{Asr, Lsr, Xor, Or, And, Not, M15}, declared.condition.Cc.{Cc}}
+use Rattle.fm_words.specs.{declared.condition.Flags.{Flags}, declared.instruction.Mode.{Mode}}
 use Rattle.fm_words.specs.declared.instruction.Mode.TheVariants.{Register, Indirect, PreDecrement, PostIncrement}
-use Rattle.fm_words.specs.declared.instruction.OperandA.{OperandA}
-use Rattle.fm_words.specs.declared.instruction.OperandA.TheVariants.{Immediate, Place}
-use Rattle.fm_words.specs.declared.instruction.Instr.{Instr}
-use Rattle.fm_words.specs.Code.{decode_of}
+use Rattle.fm_words.specs.{declared.instruction.OperandA.{OperandA}, declared.instruction.OperandA.TheVariants.{Immediate, Place}}
+use Rattle.fm_words.specs.{declared.instruction.Instr.{Instr}, Code.{decode_of}}
+use Rattle.fm_words.specs.declared.condition.Cc.TheVariants as cc
 
 -- the name of an operation
 abbrev pub operation_name : Op → List ℕ

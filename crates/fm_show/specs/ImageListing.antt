@@ -1,17 +1,10 @@
 -- An image as lines of text.
-use Rattle.std.specs.Prelude.{ℕ, List, [], ◌++◌, Option, None, Some, slice_get, codes}
-use Rattle.std.specs.Fmt.{decimal}
-use Rattle.std.specs.List.{flat_map}
-use Rattle.stack_text.specs.declared.shape.Shape.{Shape}
-use Rattle.stack_text.specs.Values.{kind_name}
-use Rattle.fm_image.specs.declared.procedure.Mark.{Mark}
-use Rattle.fm_image.specs.declared.procedure.VarInfo.{VarInfo}
-use Rattle.fm_image.specs.declared.slot.Slot.{Slot}
-use Rattle.fm_image.specs.Procedure.{ProcedureOf}
-use Rattle.fm_image.specs.Image.{ImageOf}
-use Rattle.fm_show.specs.Digits.{hex_digits}
-use Rattle.fm_show.specs.Disassembly.{disassembly_text}
-use Rattle.fm_show.specs.Listing.{line_end, numbered_lines, register_lines, flags_line}
+use Rattle.std.specs.{Prelude.{ℕ, List, [], ◌++◌, Option, None, Some, slice_get, codes}, Fmt.{decimal}, List.{flat_map}}
+use Rattle.stack_text.specs.{declared.shape.Shape.{Shape}, Values.{kind_name}}
+use Rattle.fm_image.specs.{declared.procedure.Mark.{Mark}, declared.procedure.VarInfo.{VarInfo}, declared.slot.Slot.{Slot}}
+use Rattle.fm_image.specs.{Procedure.{ProcedureOf}, Image.{ImageOf}}
+use Rattle.fm_show.specs.{Digits.{hex_digits}, Disassembly.{disassembly_text}, Listing.{line_end, numbered_lines, register_lines}}
+use Rattle.fm_show.specs.Listing.{flags_line}
 
 -- `base 00000000`, `size 11` and `final 00000007`, each on its line
 abbrev pub window_lines : ImageOf → List ℕ

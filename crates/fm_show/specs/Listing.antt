@@ -1,10 +1,8 @@
 -- A machine's registers and flags as lines of text.
-use Rattle.std.specs.Prelude.{ℕ, ◌+◌, List, [], ◌∷◌, ◌++◌, Bool, if◌then◌else◌, codes}
-use Rattle.std.specs.Fmt.{decimal}
+use Rattle.std.specs.{Prelude.{ℕ, ◌+◌, List, [], ◌∷◌, ◌++◌, Bool, if◌then◌else◌, codes}, Fmt.{decimal}}
 use Rattle.fm_words.specs.declared.condition.Flags.{Flags}
 use Rattle.fm_machine.specs.State.{Fm}
-use Rattle.fm_show.specs.Digits.{hex_digits}
-use Rattle.fm_show.specs.Disassembly.{register_name}
+use Rattle.fm_show.specs.{Digits.{hex_digits}, Disassembly.{register_name}}
 
 -- LF
 abbrev pub line_end : List ℕ

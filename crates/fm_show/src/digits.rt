@@ -1,7 +1,6 @@
 //! Pieces of text, numbers and words in digits.
 
-ghost use Rattle.std.specs.Prelude.{◌≡◌, ◌++◌};
-ghost use Rattle.std.specs.Fmt.{decimal};
+ghost use Rattle.std.specs.{Prelude.{◌≡◌, ◌++◌}, Fmt.{decimal}};
 ghost use Rattle.stack_heap.specs.Heaps.{OnOkUnless};
 ghost use Rattle.fm_show.specs.Digits.{hex_digits};
 

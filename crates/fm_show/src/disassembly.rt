@@ -3,7 +3,8 @@
 ghost use Rattle.std.specs.Prelude.{◌≡◌, ◌↔◌, ℕ, ◌++◌};
 ghost use Rattle.stack_heap.specs.Heaps.{IfOkUnless, OnOkUnless};
 ghost use Rattle.fm_words.specs.Encoding.{significant};
-ghost use Rattle.fm_show.specs.Disassembly.{operation_name, condition_name, condition_text, shown_if, flags_text, register_name, place_text, operand_text, instruction_text, disassembly_text};
+ghost use Rattle.fm_show.specs.Disassembly.{operation_name, condition_name, condition_text, shown_if, flags_text, register_name, place_text, operand_text};
+ghost use Rattle.fm_show.specs.Disassembly.{instruction_text, disassembly_text};
 
 use crate::digits::push_number;
 use fm_words::{Cc, Flags, Instr, Mode, Op, OperandA, decode};

@@ -1,10 +1,9 @@
 //! An image as lines of text.
 
-ghost use Rattle.std.specs.Prelude.{◌≡◌, ◌++◌, ◌+◌, ◌<◌, ◌^◌, length};
+ghost use Rattle.std.specs.{Prelude.{◌≡◌, ◌++◌, ◌+◌, ◌<◌, ◌^◌, length}, List.{flat_map}};
 ghost use Rattle.stack_heap.specs.Heaps.{IfOkUnless, OnOkUnless};
-ghost use Rattle.std.specs.List.{flat_map};
-ghost use Rattle.fm_show.specs.Listing.{numbered_lines};
-ghost use Rattle.fm_show.specs.ImageListing.{window_lines, condition_line, name_line, shape_text, slot_line, word_line, variable_line, procedure_lines, procedure_name, mark_line, image_listing};
+ghost use Rattle.fm_show.specs.{Listing.{numbered_lines}, ImageListing.{window_lines, condition_line, name_line, shape_text, slot_line, word_line}};
+ghost use Rattle.fm_show.specs.ImageListing.{variable_line, procedure_lines, procedure_name, mark_line, image_listing};
 
 use crate::digits::hex_digits;
 use crate::disassembly::push_instruction;

@@ -1,29 +1,18 @@
 -- A turn on the memory of all is what the task goes on with alone.
 use Rattle.std.proofs.Common.{◌≡◌, ◌≢◌, ℕ, ◌+◌, ◌-◌, ◌<◌, ◌≤◌, ◌||◌, List, [], ◌∷◌, ◌++◌, length, Bool, true, false, if◌then◌else◌, Result, Ok, Err, eqb, leb}
-use Rattle.std.proofs.Common.{ltb, refl, sym, ap, subst, ◌∙◌, arith, length-append, ⊎_elim}
-use Rattle.std.specs.Prelude.{min, sum}
-use Rattle.std.proofs.lemmas.Bool.{cases_lt, leb-false, ltb-true, ltb-false, eqb-true, eqb-false, le-leb, lt-leb, eq-eqb, ne_eqb}
-use Rattle.std.proofs.lemmas.List.Sums.{sum_by-cons, sum_by_push}
-use Rattle.fm_machine.specs.State.{Fm}
-use Rattle.fm_machine.specs.Step.{fm_step, then_on}
-use Rattle.fm_machine.specs.Run.{fm_run, Avoids, IsFirst}
-use Rattle.fm_machine.specs.Outcome.{IsOutcome, RunOutcome, outcome}
-use Rattle.fm_machine.specs.declared.fault.Outside.{Outside}
-use Rattle.fm_machine.proofs.RunLaws.{outcome_is, run_add, run_more, not_both}
-use Rattle.fm_machine.specs.declared.processor.Run.{Run}
+use Rattle.std.{proofs.Common.{ltb, refl, sym, ap, subst, ◌∙◌, arith, length-append, ⊎_elim}, specs.Prelude.{min, sum}, proofs.lemmas.Bool.cases_lt}
+use Rattle.std.{proofs.lemmas.Bool.{leb-false, ltb-true, ltb-false, eqb-true, eqb-false, le-leb, lt-leb, eq-eqb, ne_eqb}, proofs.lemmas.List.Sums.sum_by-cons}
+use Rattle.std.proofs.lemmas.List.Sums.{sum_by_push}
+use Rattle.fm_machine.{specs.State.Fm, specs.Step.{fm_step, then_on}, specs.Run.{fm_run, Avoids, IsFirst}, specs.Outcome.{IsOutcome, RunOutcome, outcome}}
+use Rattle.fm_machine.{specs.declared.fault.Outside.Outside, proofs.RunLaws.{outcome_is, run_add, run_more, not_both}, specs.declared.processor.Run.Run}
 use Rattle.fm_machine.specs.declared.processor.Run.TheVariants as run
 use Rattle.fm_image.specs.Image.{ImageOf}
-use Rattle.fm_turns.specs.declared.task.Task.{Task}
-use Rattle.fm_turns.specs.declared.task.Task.TheVariants.{Running, Ended, Spent}
-use Rattle.fm_turns.specs.declared.context.TaskContext.{TaskContext}
-use Rattle.fm_turns.specs.declared.round.Round.{Round}
-use Rattle.fm_turns.specs.Windows.{widened_words, IsBehind, IsInside, StaysInsideFrom}
-use Rattle.fm_turns.specs.Starting.{machine_of}
-use Rattle.fm_turns.specs.Turns.{turn_length, running_or_spent, state_after, AfterTurn, after_run, after_turn_in, after_turn}
-use Rattle.fm_turns.specs.Alone.{round_reaching, round_of_end, running_or_spent_alone, state_alone, context_after, count_of, alone, AloneIsCounted}
-use Rattle.fm_turns.specs.Alone.{AloneIsLeast, AloneIsWhole}
-use Rattle.fm_turns.proofs.WindowLaws.{KeepsWindow}
-use Rattle.fm_turns.proofs.OutcomeLaws.{outcome_kept, later_run, outcome_later, outcome_ended, ended_within, not_at_once, outcome_wider, stays_within}
+use Rattle.fm_turns.{specs.declared.task.Task.Task, specs.declared.task.Task.TheVariants.{Running, Ended, Spent}}
+use Rattle.fm_turns.{specs.declared.context.TaskContext.TaskContext, specs.declared.round.Round.Round, specs.Windows.{widened_words, IsBehind, IsInside}}
+use Rattle.fm_turns.{specs.Windows.StaysInsideFrom, specs.Starting.machine_of, specs.Turns.{turn_length, running_or_spent, state_after, AfterTurn, after_run}}
+use Rattle.fm_turns.{specs.Turns.{after_turn_in, after_turn}, specs.Alone.{round_reaching, round_of_end, running_or_spent_alone, state_alone, context_after}}
+use Rattle.fm_turns.{specs.Alone.{count_of, alone, AloneIsCounted, AloneIsLeast, AloneIsWhole}, proofs.WindowLaws.KeepsWindow, proofs.OutcomeLaws.outcome_kept}
+use Rattle.fm_turns.proofs.OutcomeLaws.{later_run, outcome_later, outcome_ended, ended_within, not_at_once, outcome_wider, stays_within}
 
 -- ---- the round in which turns come to so many instructions
 

@@ -1,31 +1,17 @@
 -- Turns of one length, until no task runs any more.
 use Rattle.std.proofs.Common.{◌≡◌, ◌≢◌, ◌⊎◌, inl, inr, ℕ, zero, suc, ◌+◌, ◌-◌, ◌*◌, ◌<◌, ◌≤◌, List, [], ◌∷◌, length, map, replicate, Bool, true, false}
-use Rattle.std.proofs.Common.{if◌then◌else◌, Ok, eqb, leb, refl, sym, ap, subst, ◌∙◌, arith}
-use Rattle.std.specs.Prelude.{min, sum, All, ◌^◌}
-use Rattle.std.specs.Int.{div_ceil}
-use Rattle.std.specs.List.{list_any}
-use Rattle.std.proofs.Math.Nat.{add-mul, lt_of_mul-lt-mul_right}
-use Rattle.std.proofs.lemmas.Bool.{or_parts, leb-true, leb-false, eqb-true, eqb-false, eq-eqb, ne_eqb}
-use Rattle.std.proofs.lemmas.Grind.{div_ceil_times}
-use Rattle.std.proofs.lemmas.Nat.{mul-le}
-use Rattle.std.proofs.lemmas.List.{length-replicate}
-use Rattle.std.proofs.lemmas.List.Elements.{All-head, All-tail}
-use Rattle.std.proofs.lemmas.List.Folds.{sum_by-replicate}
-use Rattle.fm_machine.specs.State.{Fm}
-use Rattle.fm_machine.specs.Outcome.{RunOutcome, outcome}
-use Rattle.fm_machine.specs.declared.processor.Run.{Run}
+use Rattle.std.{proofs.Common.{if◌then◌else◌, Ok, eqb, leb, refl, sym, ap, subst, ◌∙◌, arith}, specs.Prelude.{min, sum, All, ◌^◌}, specs.Int.div_ceil}
+use Rattle.std.{specs.List.list_any, proofs.Math.Nat.{add-mul, lt_of_mul-lt-mul_right}, proofs.lemmas.Bool.{or_parts, leb-true, leb-false, eqb-true, eqb-false}}
+use Rattle.std.{proofs.lemmas.Bool.{eq-eqb, ne_eqb}, proofs.lemmas.Grind.div_ceil_times, proofs.lemmas.Nat.mul-le, proofs.lemmas.List.length-replicate}
+use Rattle.std.{proofs.lemmas.List.Elements.{All-head, All-tail}, proofs.lemmas.List.Folds.sum_by-replicate}
+use Rattle.fm_machine.{specs.State.Fm, specs.Outcome.{RunOutcome, outcome}, specs.declared.processor.Run.Run}
 use Rattle.fm_machine.specs.declared.processor.Run.TheVariants as run
 use Rattle.display_maps.specs.Reading.{ReadingOf, reading}
-use Rattle.fm_turns.specs.declared.task.Task.{Task}
-use Rattle.fm_turns.specs.declared.task.Task.TheVariants.{Running, Ended, Spent, Outside}
-use Rattle.fm_turns.specs.Windows.{IsInside}
-use Rattle.fm_turns.specs.Turns.{TurnsOf, rounds_of}
-use Rattle.fm_turns.specs.Starting.{NewTask, machine_of, started}
-use Rattle.fm_turns.specs.Alone.{StaysInside, alone, round_reaching, round_of_end, running_or_spent_alone, state_alone}
-use Rattle.fm_turns.specs.EqualTurns.{is_running, has_running, RoundIsQuotient, whole_run, state_at_end, EndAsAlone, EachEndsAsAlone}
-use Rattle.fm_turns.proofs.OutcomeLaws.{outcome_ended, ended_within, stays_within}
-use Rattle.fm_turns.proofs.AloneLaws.{Runs, IsSpent, Short, runs, spent, short}
-use Rattle.fm_turns.proofs.OwnLaws.{each_as_alone}
+use Rattle.fm_turns.{specs.declared.task.Task.Task, specs.declared.task.Task.TheVariants.{Running, Ended, Spent, Outside}, specs.Windows.IsInside}
+use Rattle.fm_turns.{specs.Turns.{TurnsOf, rounds_of}, specs.Starting.{NewTask, machine_of, started}, specs.Alone.{StaysInside, alone, round_reaching}}
+use Rattle.fm_turns.{specs.Alone.{round_of_end, running_or_spent_alone, state_alone}, specs.EqualTurns.{is_running, has_running, RoundIsQuotient, whole_run}}
+use Rattle.fm_turns.{specs.EqualTurns.{state_at_end, EndAsAlone, EachEndsAsAlone}, proofs.OutcomeLaws.{outcome_ended, ended_within, stays_within}}
+use Rattle.fm_turns.{proofs.AloneLaws.{Runs, IsSpent, Short, runs, spent, short}, proofs.OwnLaws.each_as_alone}
 
 -- ---- the round of a count
 

@@ -1,19 +1,14 @@
 -- The memory of a machine as it is loaded, and tasks loaded side by side.
 use Rattle.std.proofs.Common.{◌≡◌, ℕ, ◌+◌, ◌-◌, ◌≤◌, ℤ, List, [], ◌∷◌, ◌++◌, length, take, drop, true, eqb, refl, sym, ap, ◌∙◌, arith, append_assoc}
-use Rattle.std.proofs.Common.{length-append}
-use Rattle.std.specs.Prelude.{flat_map, replicate, slice_set}
-use Rattle.std.proofs.lemmas.Bool.{and_parts, eqb-true}
-use Rattle.std.proofs.lemmas.List.{length-replicate, length-drop, append-nil, take_all, drop_all}
-use Rattle.std.proofs.Math.Seq.{set-append_seam}
+use Rattle.std.{proofs.Common.length-append, specs.Prelude.{flat_map, replicate, slice_set}, proofs.lemmas.Bool.{and_parts, eqb-true}}
+use Rattle.std.{proofs.lemmas.List.{length-replicate, length-drop, append-nil, take_all, drop_all}, proofs.Math.Seq.set-append_seam}
 use Rattle.std.proofs.lemmas.List.Sums.{sum_by-cons}
 use Rattle.stack_text.specs.Values.{ValueOf}
 use Rattle.fm_words.specs.Word.{word_of_int}
-use Rattle.fm_machine.specs.State.{Fm, with_word}
-use Rattle.fm_machine.proofs.WindowLaws.{length-with_word}
+use Rattle.fm_machine.{specs.State.{Fm, with_word}, proofs.WindowLaws.length-with_word}
 use Rattle.fm_image.specs.declared.slot.Slot.{Slot}
 use Rattle.fm_loader.specs.Loaded.{with_words, with_items, with_values}
-use Rattle.fm_turns.specs.Windows.{words_in}
-use Rattle.fm_turns.specs.Starting.{NewTask, machine_of, adjoin_from, total_size, with_tasks}
+use Rattle.fm_turns.{specs.Windows.words_in, specs.Starting.{NewTask, machine_of, adjoin_from, total_size, with_tasks}}
 
 -- ---- how many words a loaded machine has
 

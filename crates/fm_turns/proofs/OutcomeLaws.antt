@@ -1,15 +1,10 @@
 -- Runs in a window and in a wider one, and a run that goes on after another.
 use Rattle.std.proofs.Common.{◌≡◌, ℕ, zero, suc, ◌+◌, ◌<◌, ◌≤◌, ◌==◌, List, Bool, true, false, if◌then◌else◌, Result, Ok, Err, refl, ap, subst, ◌∙◌, arith}
-use Rattle.fm_machine.specs.State.{Fm}
-use Rattle.fm_machine.specs.Step.{fm_step, then_on}
-use Rattle.fm_machine.specs.Run.{fm_run, pc_of, Avoids}
-use Rattle.fm_machine.specs.Outcome.{IsOutcome, RunOutcome, outcome, one_later, after_one, stepped_on}
-use Rattle.fm_machine.specs.declared.fault.Outside.{Outside}
-use Rattle.fm_machine.specs.declared.processor.Run.{Run}
-use Rattle.fm_machine.specs.declared.processor.Run.TheVariants as run
+use Rattle.fm_machine.{specs.State.Fm, specs.Step.{fm_step, then_on}, specs.Run.{fm_run, pc_of, Avoids}, specs.Outcome.{IsOutcome, RunOutcome, outcome}}
+use Rattle.fm_machine.{specs.Outcome.{one_later, after_one, stepped_on}, specs.declared.fault.Outside.Outside, specs.declared.processor.Run.Run}
 use Rattle.fm_machine.proofs.RunLaws.{run_then, avoids_then, outcome_is, outcome_only}
-use Rattle.fm_turns.specs.Windows.{widened, widened_end, IsBehind, IsInside, StaysInsideFrom}
-use Rattle.fm_turns.proofs.WindowLaws.{step_wider, KeepsWindow, step_kept}
+use Rattle.fm_machine.specs.declared.processor.Run.TheVariants as run
+use Rattle.fm_turns.{specs.Windows.{widened, widened_end, IsBehind, IsInside, StaysInsideFrom}, proofs.WindowLaws.{step_wider, KeepsWindow, step_kept}}
 
 -- ---- what a run keeps
 

@@ -1,21 +1,14 @@
 -- The machine that each task has to itself, of tasks that ran alone.
 use Rattle.std.proofs.Common.{◌≡◌, ℕ, ◌+◌, ◌-◌, List, [], ◌∷◌, ◌++◌, length, take, drop, map, true, eqb, refl, sym, ap, subst, ◌∙◌, arith, append_assoc}
-use Rattle.std.proofs.Common.{length-append}
-use Rattle.std.specs.Prelude.{min, sum}
-use Rattle.std.proofs.lemmas.Bool.{and_parts, eqb-true}
-use Rattle.std.proofs.Math.Seq.{take-append_seam, drop-append_seam}
+use Rattle.std.{proofs.Common.length-append, specs.Prelude.{min, sum}, proofs.lemmas.Bool.{and_parts, eqb-true}, proofs.Math.Seq.take-append_seam}
+use Rattle.std.proofs.Math.Seq.{drop-append_seam}
 use Rattle.fm_machine.specs.State.{Fm}
 use Rattle.fm_image.specs.Image.{ImageOf}
 use Rattle.display_maps.specs.Reading.{reading}
-use Rattle.fm_turns.specs.declared.context.TaskContext.{TaskContext}
-use Rattle.fm_turns.specs.Windows.{widened_words}
-use Rattle.fm_turns.specs.Turns.{TurnsOf}
-use Rattle.fm_turns.specs.OwnMachines.{own_machine}
-use Rattle.fm_turns.specs.Starting.{NewTask, machine_of, first_base, adjoin_from, adjoin}
-use Rattle.fm_turns.specs.Alone.{alone, state_alone, context_alone, all_alone}
-use Rattle.fm_turns.specs.Readings.{IsAsAlone, EachAsAlone}
-use Rattle.fm_turns.proofs.OutcomeLaws.{outcome_kept}
-use Rattle.fm_turns.proofs.RoundsLaws.{memories, alone_size, rounds_as_alone, starts_adjoining}
+use Rattle.fm_turns.{specs.declared.context.TaskContext.TaskContext, specs.Windows.widened_words, specs.Turns.TurnsOf, specs.OwnMachines.own_machine}
+use Rattle.fm_turns.{specs.Starting.{NewTask, machine_of, first_base, adjoin_from, adjoin}, specs.Alone.{alone, state_alone, context_alone, all_alone}}
+use Rattle.fm_turns.{specs.Readings.{IsAsAlone, EachAsAlone}, proofs.OutcomeLaws.outcome_kept, proofs.RoundsLaws.{memories, alone_size, rounds_as_alone}}
+use Rattle.fm_turns.proofs.RoundsLaws.{starts_adjoining}
 
 -- the words of a window between others
 words_between : (base b size : ℕ) (before m after : List ℕ) → b ≡ base + length before → length m ≡ size

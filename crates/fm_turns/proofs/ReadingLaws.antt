@@ -1,26 +1,16 @@
 -- What is read of a task's own window.
 use Rattle.std.proofs.Common.{◌≡◌, ℕ, zero, suc, ◌+◌, ◌-◌, ◌<◌, ◌≤◌, List, [], ◌∷◌, length, take, drop, get_or, map, replicate, Some, refl, sym, ap, subst, ◌∙◌}
-use Rattle.std.proofs.Common.{arith}
-use Rattle.std.specs.Prelude.{All, slice_get, Result, Ok, Err}
-use Rattle.std.specs.Option.{option_map}
-use Rattle.std.proofs.lemmas.List.{length-replicate, length-map}
-use Rattle.std.proofs.lemmas.Option.{slice_get-map, slice_get-get_or}
+use Rattle.std.{proofs.Common.arith, specs.Prelude.{All, slice_get, Result, Ok, Err}, specs.Option.option_map, proofs.lemmas.List.length-replicate}
+use Rattle.std.{proofs.lemmas.List.length-map, proofs.lemmas.Option.{slice_get-map, slice_get-get_or}}
 use Rattle.stack_heap.specs.Heaps.{IfOkUnless}
 use Rattle.fm_words.specs.declared.condition.Flags.{Flags}
 use Rattle.fm_machine.specs.State.{Fm, zeroed}
-use Rattle.fm_image.specs.declared.slot.Slot.{Slot}
-use Rattle.fm_image.specs.Image.{ImageOf}
+use Rattle.fm_image.{specs.declared.slot.Slot.Slot, specs.Image.ImageOf}
 use Rattle.stack_text.specs.Values.{item_count}
 use Rattle.fm_loader.specs.Loaded.{with_words}
-use Rattle.display_maps.specs.Reading.{ReadingOf, word_or_zero, item_of, words_down, variable_of, reading}
-use Rattle.display_maps.specs.declared.shown.Shown.{Shown}
-use Rattle.fm_turns.specs.declared.context.TaskContext.{TaskContext}
-use Rattle.fm_turns.specs.Windows.{words_in}
-use Rattle.fm_turns.specs.Turns.{TurnsOf, IsPart}
-use Rattle.fm_turns.specs.OwnMachines.{own_machine}
-use Rattle.fm_turns.specs.Readings.{readings_of}
-use Rattle.fm_turns.proofs.CopyLaws.{length-words_in}
-use Rattle.fm_turns.proofs.LoadedLaws.{stored_whole}
+use Rattle.display_maps.{specs.Reading.{ReadingOf, word_or_zero, item_of, words_down, variable_of, reading}, specs.declared.shown.Shown.Shown}
+use Rattle.fm_turns.{specs.declared.context.TaskContext.TaskContext, specs.Windows.words_in, specs.Turns.{TurnsOf, IsPart}, specs.OwnMachines.own_machine}
+use Rattle.fm_turns.{specs.Readings.readings_of, proofs.CopyLaws.length-words_in, proofs.LoadedLaws.stored_whole}
 
 -- what is so of a result gives what follows from it
 pub unless_weaker : {X E : Type 0} (refused : Type 0) (result : Result X E) (P Q : X → Type 0) → ((x : X) → P x → Q x) → IfOkUnless refused result P

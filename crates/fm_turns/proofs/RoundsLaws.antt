@@ -1,26 +1,15 @@
 -- Rounds of tasks that keep to their own windows, beside each of them alone.
 use Rattle.std.proofs.Common.{◌≡◌, ℕ, ◌+◌, ◌<◌, ◌==◌, ◌^◌, ◌&&◌, List, [], ◌∷◌, ◌++◌, length, map, Bool, true, false, not, if◌then◌else◌, eqb, leb, ltb, Result}
-use Rattle.std.proofs.Common.{Ok, Err, refl, sym, ap, ◌∙◌, arith, append_assoc, length-append}
-use Rattle.std.specs.Prelude.{flat_map, min, sum, All}
-use Rattle.std.proofs.lemmas.Bool.{and_parts, eqb-true}
-use Rattle.std.proofs.lemmas.List.{append-nil}
-use Rattle.std.proofs.lemmas.List.Elements.{All-head, All-tail}
-use Rattle.fm_machine.specs.State.{Fm}
-use Rattle.fm_machine.specs.Run.{pc_of}
-use Rattle.fm_machine.specs.Outcome.{RunOutcome, outcome}
+use Rattle.std.{proofs.Common.{Ok, Err, refl, sym, ap, ◌∙◌, arith, append_assoc, length-append}, specs.Prelude.{flat_map, min, sum, All}}
+use Rattle.std.{proofs.lemmas.Bool.{and_parts, eqb-true}, proofs.lemmas.List.append-nil, proofs.lemmas.List.Elements.{All-head, All-tail}}
+use Rattle.fm_machine.{specs.State.Fm, specs.Run.pc_of, specs.Outcome.{RunOutcome, outcome}}
 use Rattle.fm_machine.specs.declared.processor.Run.TheVariants as run
-use Rattle.fm_turns.specs.declared.task.Task.{Task}
-use Rattle.fm_turns.specs.declared.task.Task.TheVariants.{Running, Ended}
-use Rattle.fm_turns.specs.declared.context.TaskContext.{TaskContext}
-use Rattle.fm_turns.specs.declared.fault.TurnsFault.{TurnsFault}
-use Rattle.fm_turns.specs.declared.fault.TurnsFault.TheVariants.{Count, Apart, Size}
-use Rattle.fm_turns.specs.Turns.{TurnsOf, AfterTurn, AfterTurns, in_front, after_turns, round_of, rounds_of}
-use Rattle.fm_turns.specs.Starting.{NewTask, machine_of, context_of, first_base, adjoin_from, adjoin, total_size, side_by_side, window_size, started_in}
-use Rattle.fm_turns.specs.Starting.{started}
-use Rattle.fm_turns.specs.Alone.{StaysInside, alone, state_alone, context_alone, all_alone, RoundsAsAlone}
-use Rattle.fm_turns.proofs.OutcomeLaws.{outcome_kept}
-use Rattle.fm_turns.proofs.AloneLaws.{round_after, turn_alone}
-use Rattle.fm_turns.proofs.LoadedLaws.{loaded_size}
+use Rattle.fm_turns.{specs.declared.task.Task.Task, specs.declared.task.Task.TheVariants.{Running, Ended}, specs.declared.context.TaskContext.TaskContext}
+use Rattle.fm_turns.{specs.declared.fault.TurnsFault.TurnsFault, specs.declared.fault.TurnsFault.TheVariants.{Count, Apart, Size}, specs.Turns.TurnsOf}
+use Rattle.fm_turns.{specs.Turns.{AfterTurn, AfterTurns, in_front, after_turns, round_of, rounds_of}, specs.Starting.{NewTask, machine_of, context_of}}
+use Rattle.fm_turns.{specs.Starting.{first_base, adjoin_from, adjoin, total_size, side_by_side, window_size, started_in, started}, specs.Alone.StaysInside}
+use Rattle.fm_turns.{specs.Alone.{alone, state_alone, context_alone, all_alone, RoundsAsAlone}, proofs.OutcomeLaws.outcome_kept, proofs.AloneLaws.round_after}
+use Rattle.fm_turns.{proofs.AloneLaws.turn_alone, proofs.LoadedLaws.loaded_size}
 
 -- ---- tasks that start
 

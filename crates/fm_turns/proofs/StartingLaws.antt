@@ -1,23 +1,16 @@
 -- Tasks that are loaded one after the other, and what they are then.
 use Rattle.std.proofs.Common.{if◌then◌else◌, ◌≡◌, ℕ, ◌+◌, ◌<◌, ◌≤◌, ◌==◌, List, [], ◌∷◌, ◌++◌, length, map, replicate, Bool, true, false, ltb, leb, eqb, Result}
-use Rattle.std.proofs.Common.{Ok, refl, sym, ap, subst, ◌∙◌, arith, append_assoc}
-use Rattle.std.specs.Prelude.{flat_map, All, slice_index, Some, Err}
-use Rattle.std.proofs.lemmas.Bool.{and_parts, eqb-true, ne_eqb, le-ltb, lt-leb}
-use Rattle.std.proofs.lemmas.List.{length-replicate}
-use Rattle.std.proofs.lemmas.List.Elements.{All-cons, All-nil, All-head, All-tail}
-use Rattle.std.proofs.lemmas.List.Sums.{sum_by-cons}
+use Rattle.std.{proofs.Common.{Ok, refl, sym, ap, subst, ◌∙◌, arith, append_assoc}, specs.Prelude.{flat_map, All, slice_index, Some, Err}}
+use Rattle.std.{proofs.lemmas.Bool.{and_parts, eqb-true, ne_eqb, le-ltb, lt-leb}, proofs.lemmas.List.length-replicate, proofs.lemmas.List.Elements.All-cons}
+use Rattle.std.{proofs.lemmas.List.Elements.{All-nil, All-head, All-tail}, proofs.lemmas.List.Sums.sum_by-cons}
 use Rattle.stack_text.specs.Gives.{FailsUnless}
 use Rattle.fm_machine.specs.State.{Fm, zeroed, is_refused}
 use Rattle.fm_image.specs.Image.{ImageOf}
 use Rattle.fm_loader.specs.Loaded.{with_words}
-use Rattle.fm_turns.specs.declared.context.TaskContext.{TaskContext}
-use Rattle.fm_turns.specs.declared.fault.TurnsFault.{TurnsFault}
-use Rattle.fm_turns.specs.declared.task.Task.TheVariants.{Running, Ended}
-use Rattle.fm_turns.specs.Turns.{TurnsOf, IsPart, IsWithin, AreWithin}
-use Rattle.fm_turns.specs.Starting.{NewTask, machine_of, state_at_start, context_of, first_base, adjoin_from, adjoin, total_size, window_size, started_in}
-use Rattle.fm_turns.specs.Starting.{started, with_tasks, fault_of}
-use Rattle.fm_turns.proofs.LoadedLaws.{with_tasks_laid, length-with_tasks_laid}
-use Rattle.fm_turns.proofs.RoundsLaws.{starts}
+use Rattle.fm_turns.{specs.declared.context.TaskContext.TaskContext, specs.declared.fault.TurnsFault.TurnsFault, specs.declared.task.Task.TheVariants.Running}
+use Rattle.fm_turns.{specs.declared.task.Task.TheVariants.Ended, specs.Turns.{TurnsOf, IsPart, IsWithin, AreWithin}, specs.Starting.{NewTask, machine_of}}
+use Rattle.fm_turns.specs.Starting.{state_at_start, context_of, first_base, adjoin_from, adjoin, total_size, window_size, started_in, started, with_tasks}
+use Rattle.fm_turns.{specs.Starting.fault_of, proofs.LoadedLaws.{with_tasks_laid, length-with_tasks_laid}, proofs.RoundsLaws.starts}
 
 abbrev contexts_of : List NewTask → List TaskContext
 contexts_of tasks = map (λ task. context_of task.image (machine_of task)) tasks

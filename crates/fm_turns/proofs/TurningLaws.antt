@@ -1,24 +1,16 @@
 -- Turns one after the other, and what they keep.
 use Rattle.std.proofs.Common.{◌≡◌, ℕ, suc, Bool, true, false, if◌then◌else◌, eqb, ◌+◌, ◌<◌, ◌≤◌, List, [], ◌∷◌, ◌++◌, length, take, drop, get_or, map, refl}
-use Rattle.std.proofs.Common.{sym, ap, subst, ◌∙◌, arith, append_assoc}
-use Rattle.std.specs.Prelude.{All}
-use Rattle.std.proofs.Math.ListN.{set}
-use Rattle.std.proofs.lemmas.List.{drop_more, drop-set-lt, length-drop, drop_all, take_all, append-nil}
-use Rattle.std.proofs.lemmas.List.Elements.{All-cons, All-nil, All-head, All-tail}
-use Rattle.std.proofs.lemmas.Grind.{drop_more_same}
-use Rattle.std.proofs.Math.Seq.{take-suc-set}
+use Rattle.std.{proofs.Common.{sym, ap, subst, ◌∙◌, arith, append_assoc}, specs.Prelude.All, proofs.Math.ListN.set, proofs.lemmas.List.{drop_more, drop-set-lt}}
+use Rattle.std.{proofs.lemmas.List.{length-drop, drop_all, take_all, append-nil}, proofs.lemmas.List.Elements.{All-cons, All-nil, All-head, All-tail}}
+use Rattle.std.{proofs.lemmas.Grind.drop_more_same, proofs.Math.Seq.take-suc-set}
 use Rattle.fm_words.specs.declared.condition.Flags.{Flags}
-use Rattle.fm_machine.specs.Outcome.{outcome}
-use Rattle.fm_machine.specs.declared.processor.Run.{Run}
+use Rattle.fm_machine.{specs.Outcome.outcome, specs.declared.processor.Run.Run}
 use Rattle.fm_machine.specs.declared.processor.Run.TheVariants as run
 use Rattle.fm_image.specs.Image.{ImageOf}
-use Rattle.fm_turns.specs.declared.task.Task.{Task}
-use Rattle.fm_turns.specs.declared.task.Task.TheVariants.{Running, Ended, Spent, Outside}
-use Rattle.fm_turns.specs.declared.context.TaskContext.{TaskContext}
-use Rattle.fm_turns.specs.declared.round.Round.{Round}
-use Rattle.fm_turns.specs.Turns.{machine_at_turn, turn_length, running_or_spent, state_after, AfterTurn, after_turn_in, after_turn, AfterTurns, in_front}
-use Rattle.fm_turns.specs.Turns.{after_turns, IsWithin, AreWithin, IsPart, IsOver, OverIsOver}
-use Rattle.fm_turns.proofs.OutcomeLaws.{outcome_kept}
+use Rattle.fm_turns.{specs.declared.task.Task.Task, specs.declared.task.Task.TheVariants.{Running, Ended, Spent, Outside}}
+use Rattle.fm_turns.{specs.declared.context.TaskContext.TaskContext, specs.declared.round.Round.Round, specs.Turns.{machine_at_turn, turn_length}}
+use Rattle.fm_turns.specs.Turns.{running_or_spent, state_after, AfterTurn, after_turn_in, after_turn, AfterTurns, in_front, after_turns, IsWithin, AreWithin}
+use Rattle.fm_turns.{specs.Turns.{IsPart, IsOver, OverIsOver}, proofs.OutcomeLaws.outcome_kept}
 
 -- ---- a loop over the tasks
 

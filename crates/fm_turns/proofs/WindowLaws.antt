@@ -1,18 +1,11 @@
 -- A step inside a window is the same step in a wider one, and leaves all other words.
 use Rattle.std.proofs.Common.{◌≡◌, ℕ, zero, suc, ◌+◌, ◌-◌, ◌<◌, List, [], ◌∷◌, ◌++◌, length, Bool, true, false, if◌then◌else◌, Option, Some, None, Result, Ok}
-use Rattle.std.proofs.Common.{Err, refl, ap, subst, ◌∙◌, arith}
-use Rattle.std.specs.Prelude.{slice_get, slice_set, slice_index, nat_lt, is_some}
-use Rattle.std.proofs.lemmas.Bool.{le-ltb}
-use Rattle.fm_words.specs.declared.instruction.OperandA.{OperandA}
-use Rattle.fm_words.specs.declared.instruction.OperandA.TheVariants.{Immediate, Place}
-use Rattle.fm_words.specs.declared.instruction.Instr.{Instr}
-use Rattle.fm_words.specs.Alu.{alu_of, does_hold}
-use Rattle.fm_words.specs.Code.{decode_of}
-use Rattle.fm_machine.specs.State.{Fm, word_at, with_word}
-use Rattle.fm_machine.specs.Step.{then_on, found_word, read_word, with_increment, address_of, registers_after, value_at, value_a, registers_after_a, reads_b}
-use Rattle.fm_machine.specs.Step.{value_b, flags_set, store_at_if, store_at, store_result, effect_of_values, effect_of_rest, effect_of, fm_step}
-use Rattle.fm_machine.specs.declared.fault.Outside.{Outside}
-use Rattle.fm_machine.proofs.WindowLaws.{inside, length-with_word}
+use Rattle.std.{proofs.Common.{Err, refl, ap, subst, ◌∙◌, arith}, specs.Prelude.{slice_get, slice_set, slice_index, nat_lt, is_some}, proofs.lemmas.Bool.le-ltb}
+use Rattle.fm_words.{specs.declared.instruction.OperandA.OperandA, specs.declared.instruction.OperandA.TheVariants.{Immediate, Place}}
+use Rattle.fm_words.{specs.declared.instruction.Instr.Instr, specs.Alu.{alu_of, does_hold}, specs.Code.decode_of}
+use Rattle.fm_machine.{specs.State.{Fm, word_at, with_word}, specs.Step.{then_on, found_word, read_word, with_increment, address_of, registers_after, value_at}}
+use Rattle.fm_machine.specs.Step.{value_a, registers_after_a, reads_b, value_b, flags_set, store_at_if, store_at, store_result, effect_of_values}
+use Rattle.fm_machine.{specs.Step.{effect_of_rest, effect_of, fm_step}, specs.declared.fault.Outside.Outside, proofs.WindowLaws.{inside, length-with_word}}
 use Rattle.fm_machine.proofs.StepLaws.{found_there}
 use Rattle.fm_turns.specs.Windows.{widened_words, widened, IsBehind}
 

@@ -1,17 +1,12 @@
 -- Tasks that take turns, beside each of them alone.
-use Rattle.std.specs.Prelude.{◌≡◌, ℕ, ◌+◌, ◌-◌, ◌^◌, ◌<◌, ◌==◌, ◌||◌, min, nat_le, nat_lt, if◌then◌else◌}
-use Rattle.std.specs.Prelude.{List, [], ◌∷◌, length, map, flat_map, sum, All, Ok}
-use Rattle.fm_machine.specs.State.{Fm}
-use Rattle.fm_machine.specs.Run.{fm_run, Avoids, IsFirst}
-use Rattle.fm_machine.specs.Outcome.{IsOutcome, RunOutcome, outcome}
+use Rattle.std.specs.Prelude.{◌≡◌, ℕ, ◌+◌, ◌-◌, ◌^◌, ◌<◌, ◌==◌, ◌||◌, min, nat_le, nat_lt, if◌then◌else◌, List, [], ◌∷◌, length, map}
+use Rattle.std.specs.Prelude.{flat_map, sum, All, Ok}
+use Rattle.fm_machine.specs.{State.{Fm}, Run.{fm_run, Avoids, IsFirst}, Outcome.{IsOutcome, RunOutcome, outcome}}
 use Rattle.fm_machine.specs.declared.processor.Run.{Run}
 use Rattle.fm_machine.specs.declared.processor.Run.TheVariants as run
 use Rattle.fm_image.specs.Image.{ImageOf}
-use Rattle.fm_turns.specs.declared.task.Task.{Task}
-use Rattle.fm_turns.specs.declared.task.Task.TheVariants.{Running, Ended, Spent, Outside}
-use Rattle.fm_turns.specs.declared.context.TaskContext.{TaskContext}
-use Rattle.fm_turns.specs.Windows.{StaysInsideFrom}
-use Rattle.fm_turns.specs.Turns.{TurnsOf, rounds_of}
+use Rattle.fm_turns.specs.{declared.task.Task.{Task}, declared.task.Task.TheVariants.{Running, Ended, Spent, Outside}}
+use Rattle.fm_turns.specs.{declared.context.TaskContext.{TaskContext}, Windows.{StaysInsideFrom}, Turns.{TurnsOf, rounds_of}}
 use Rattle.fm_turns.specs.Starting.{NewTask, machine_of, first_base, started}
 
 -- a task keeps to its own window: no step of its run, before the first stand at the final pc, needs an address outside it

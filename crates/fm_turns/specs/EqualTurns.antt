@@ -1,16 +1,11 @@
 -- Turns of one length, until no task runs any more.
 use Rattle.std.specs.Prelude.{◌≡◌, ◌⊎◌, ℕ, ◌+◌, ◌*◌, ◌^◌, ◌<◌, ◌≤◌, ◌==◌, if◌then◌else◌, Bool, true, false, List, map, replicate, All, Ok}
-use Rattle.std.specs.List.{list_any}
-use Rattle.std.specs.Int.{div_ceil}
-use Rattle.fm_machine.specs.Outcome.{RunOutcome, outcome}
-use Rattle.fm_machine.specs.declared.processor.Run.{Run}
+use Rattle.std.specs.{List.{list_any}, Int.{div_ceil}}
+use Rattle.fm_machine.specs.{Outcome.{RunOutcome, outcome}, declared.processor.Run.{Run}}
 use Rattle.fm_machine.specs.declared.processor.Run.TheVariants as run
 use Rattle.display_maps.specs.Reading.{reading}
-use Rattle.fm_turns.specs.declared.task.Task.{Task}
-use Rattle.fm_turns.specs.declared.task.Task.TheVariants.{Running, Ended, Spent, Outside}
-use Rattle.fm_turns.specs.Turns.{TurnsOf, states_of, rounds_of}
-use Rattle.fm_turns.specs.Readings.{readings_of}
-use Rattle.fm_turns.specs.Starting.{NewTask, machine_of, started}
+use Rattle.fm_turns.specs.{declared.task.Task.{Task}, declared.task.Task.TheVariants.{Running, Ended, Spent, Outside}, Turns.{TurnsOf}}
+use Rattle.fm_turns.specs.{Turns.{states_of, rounds_of}, Readings.{readings_of}, Starting.{NewTask, machine_of, started}}
 use Rattle.fm_turns.specs.Alone.{StaysInside, round_of_end}
 
 abbrev pub is_running : Task → Bool

@@ -1,9 +1,7 @@
 -- The machine that a task would have to itself.
 use Rattle.std.specs.Prelude.{List, map}
 use Rattle.fm_machine.specs.State.{Fm}
-use Rattle.fm_turns.specs.declared.context.TaskContext.{TaskContext}
-use Rattle.fm_turns.specs.Turns.{TurnsOf, machine_at_turn}
-use Rattle.fm_turns.specs.Windows.{words_in}
+use Rattle.fm_turns.specs.{declared.context.TaskContext.{TaskContext}, Turns.{TurnsOf, machine_at_turn}, Windows.{words_in}}
 
 -- its registers and flags, and the words of its own window
 abbrev pub own_machine : TurnsOf → TaskContext → Fm

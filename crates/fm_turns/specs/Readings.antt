@@ -1,9 +1,7 @@
 -- What the memory of all says of each task.
 use Rattle.std.specs.Prelude.{◌≡◌, ℕ, ◌^◌, ◌<◌, List, length, map, All, Ok}
 use Rattle.display_maps.specs.Reading.{ReadingOf, reading}
-use Rattle.fm_turns.specs.Turns.{TurnsOf, states_of, rounds_of}
-use Rattle.fm_turns.specs.OwnMachines.{own_machine, own_machines}
-use Rattle.fm_turns.specs.Starting.{NewTask, started}
+use Rattle.fm_turns.specs.{Turns.{TurnsOf, states_of, rounds_of}, OwnMachines.{own_machine, own_machines}, Starting.{NewTask, started}}
 use Rattle.fm_turns.specs.Alone.{StaysInside, alone, state_alone}
 
 -- what the words of each task's own window say

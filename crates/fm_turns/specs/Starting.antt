@@ -1,19 +1,14 @@
 -- Tasks as they begin.
-use Rattle.std.specs.Prelude.{ℕ, ◌+◌, ◌==◌, ◌&&◌, not, if◌then◌else◌, Bool, true, nat_le, nat_lt}
-use Rattle.std.specs.Prelude.{List, [], ◌∷◌, length, map, flat_map, sum_by, slice_index, All, Option, Some, None, Result, Ok, Err}
-use Rattle.std.specs.Global.{Vec}
+use Rattle.std.specs.Prelude.{ℕ, ◌+◌, ◌==◌, ◌&&◌, not, if◌then◌else◌, Bool, true, nat_le, nat_lt, List, [], ◌∷◌, length, map, flat_map}
+use Rattle.std.specs.{Prelude.{sum_by, slice_index, All, Option, Some, None, Result, Ok, Err}, Global.{Vec}}
 use Rattle.fm_words.specs.WindowLimit.{most_window}
-use Rattle.stack_text.specs.SharedLimits.{most_tasks}
-use Rattle.stack_text.specs.Values.{ValueOf}
+use Rattle.stack_text.specs.{SharedLimits.{most_tasks}, Values.{ValueOf}}
 use Rattle.fm_machine.specs.State.{Fm}
 use Rattle.fm_image.specs.Image.{ImageOf}
 use Rattle.fm_loader.specs.Loaded.{Fits, with_words, loaded}
-use Rattle.fm_turns.specs.declared.task.Task.{Task}
-use Rattle.fm_turns.specs.declared.task.Task.TheVariants.{Running, Ended}
-use Rattle.fm_turns.specs.declared.context.TaskContext.{TaskContext}
-use Rattle.fm_turns.specs.declared.fault.TurnsFault.{TurnsFault}
-use Rattle.fm_turns.specs.declared.fault.TurnsFault.TheVariants.{Count, Apart, Size, Memory}
-use Rattle.fm_turns.specs.Turns.{TurnsOf}
+use Rattle.fm_turns.specs.{declared.task.Task.{Task}, declared.task.Task.TheVariants.{Running, Ended}}
+use Rattle.fm_turns.specs.{declared.context.TaskContext.{TaskContext}, declared.fault.TurnsFault.{TurnsFault}}
+use Rattle.fm_turns.specs.{declared.fault.TurnsFault.TheVariants.{Count, Apart, Size, Memory}, Turns.{TurnsOf}}
 
 -- what a task is made of: an image, and a value for each of its slots
 pub record NewTask : Type 0 where

@@ -1,14 +1,10 @@
 -- Tasks that take turns in one memory.
 use Rattle.std.specs.Prelude.{◌≡◌, ℕ, ◌+◌, ◌-◌, ◌^◌, ◌==◌, ◌≤◌, min, if◌then◌else◌, List, [], ◌∷◌, length, map, All}
-use Rattle.fm_machine.specs.State.{Fm}
+use Rattle.fm_machine.specs.{State.{Fm}, Outcome.{RunOutcome, outcome}, declared.processor.Run.{Run}}
 use Rattle.fm_image.specs.Image.{ImageOf}
-use Rattle.fm_machine.specs.Outcome.{RunOutcome, outcome}
-use Rattle.fm_machine.specs.declared.processor.Run.{Run}
 use Rattle.fm_machine.specs.declared.processor.Run.TheVariants as run
-use Rattle.fm_turns.specs.declared.task.Task.{Task}
-use Rattle.fm_turns.specs.declared.task.Task.TheVariants.{Running, Ended, Spent, Outside}
-use Rattle.fm_turns.specs.declared.context.TaskContext.{TaskContext}
-use Rattle.fm_turns.specs.declared.round.Round.{Round}
+use Rattle.fm_turns.specs.{declared.task.Task.{Task}, declared.task.Task.TheVariants.{Running, Ended, Spent, Outside}}
+use Rattle.fm_turns.specs.{declared.context.TaskContext.{TaskContext}, declared.round.Round.{Round}}
 
 -- what clauses see of a `Turns`: how many rounds were made, the one memory from its base on, and what each task has to itself
 pub record TurnsOf : Type 0 where

@@ -1,11 +1,7 @@
 -- A machine's window as a part of a wider one.
 use Rattle.std.specs.Prelude.{◌≡◌, ◌≢◌, ℕ, ◌+◌, ◌-◌, List, ◌++◌, length, take, drop, Ok, Err}
-use Rattle.fm_machine.specs.State.{Fm}
-use Rattle.fm_machine.specs.Step.{fm_step}
-use Rattle.fm_machine.specs.Run.{fm_run, Avoids}
-use Rattle.fm_machine.specs.Outcome.{RunOutcome, outcome}
-use Rattle.fm_machine.specs.declared.fault.Outside.{Outside}
-use Rattle.fm_machine.specs.declared.processor.Run.{Run}
+use Rattle.fm_machine.specs.{State.{Fm}, Step.{fm_step}, Run.{fm_run, Avoids}, Outcome.{RunOutcome, outcome}}
+use Rattle.fm_machine.specs.{declared.fault.Outside.{Outside}, declared.processor.Run.{Run}}
 use Rattle.fm_machine.specs.declared.processor.Run.TheVariants as run
 
 -- no step before the first stand at pc needs an address outside the window

@@ -1,10 +1,7 @@
 //! The laws of tasks that take turns.
 
-ghost use Rattle.fm_turns.specs.Windows.{StepsAlike, RunsAlike};
-ghost use Rattle.fm_turns.specs.Turns.{OverIsOver};
-ghost use Rattle.fm_turns.specs.Alone.{AloneIsRun, AloneIsCounted, AloneIsLeast, AloneIsWhole, RoundsAsAlone};
-ghost use Rattle.fm_turns.specs.Readings.{EachAsAlone};
-ghost use Rattle.fm_turns.specs.EqualTurns.{RoundIsQuotient, EachEndsAsAlone};
+ghost use Rattle.fm_turns.specs.{Windows.{StepsAlike, RunsAlike}, Turns.{OverIsOver}, Alone.{AloneIsRun, AloneIsCounted, AloneIsLeast, AloneIsWhole}};
+ghost use Rattle.fm_turns.specs.{Alone.{RoundsAsAlone}, Readings.{EachAsAlone}, EqualTurns.{RoundIsQuotient, EachEndsAsAlone}};
 
 /// Each task that keeps to its own window is after any rounds as it is alone. The function does nothing: its clauses hold of
 /// all tasks, turns and budgets.

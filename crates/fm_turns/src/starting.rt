@@ -4,8 +4,8 @@ ghost use Rattle.std.specs.Prelude.{◌≡◌, ◌+◌, ◌≤◌, ◌<◌, ◌^
 ghost use Rattle.stack_heap.specs.Heaps.{IfOkUnless};
 ghost use Rattle.fm_machine.specs.State.{is_refused};
 ghost use Rattle.fm_loader.specs.Loaded.{Fits, with_words};
-ghost use Rattle.fm_turns.specs.Starting.{new_task, new_tasks, AllFit, machine_of, context_of, first_base, adjoin};
-ghost use Rattle.fm_turns.specs.Starting.{total_size, window_size, with_tasks, fault_of};
+ghost use Rattle.fm_turns.specs.Starting.{new_task, new_tasks, AllFit, machine_of, context_of, first_base, adjoin, total_size, window_size, with_tasks};
+ghost use Rattle.fm_turns.specs.Starting.{fault_of};
 
 use crate::context::TaskContext;
 use crate::copying::copy_window;

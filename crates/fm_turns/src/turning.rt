@@ -2,9 +2,8 @@
 
 ghost use Rattle.std.specs.Prelude.{◌≡◌, ◌≤◌, length};
 ghost use Rattle.fm_machine.specs.Outcome.{outcome};
-ghost use Rattle.fm_turns.specs.declared.task.Task.TheVariants.{Running};
-ghost use Rattle.fm_turns.specs.Turns.{turn_length, running_or_spent, state_after, after_turn_in, after_turn, after_turns};
-ghost use Rattle.fm_turns.specs.Turns.{IsWithin, AreWithin};
+ghost use Rattle.fm_turns.specs.{declared.task.Task.TheVariants.{Running}, Turns.{turn_length, running_or_spent, state_after, after_turn_in, after_turn}};
+ghost use Rattle.fm_turns.specs.Turns.{after_turns, IsWithin, AreWithin};
 
 use crate::context::TaskContext;
 use crate::round::Round;

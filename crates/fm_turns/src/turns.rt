@@ -1,16 +1,12 @@
 //! Tasks that take turns.
 
-ghost use Rattle.std.specs.Prelude.{◌≡◌, ◌≤◌, ◌<◌, ℕ, length, map, slice_get, Some, IfOk, false};
+ghost use Rattle.std.specs.{Prelude.{◌≡◌, ◌≤◌, ◌<◌, ℕ, length, map, slice_get, Some, IfOk, false}, List.{list_any}};
 ghost use Rattle.stack_heap.specs.Heaps.{IfOkUnless};
-ghost use Rattle.std.specs.List.{list_any};
 ghost use Rattle.stack_text.specs.Gives.{GivesUnless};
 ghost use Rattle.fm_machine.specs.State.{is_refused, zeroed};
 ghost use Rattle.display_maps.specs.Reading.{reading};
-ghost use Rattle.fm_turns.specs.Windows.{words_in};
-ghost use Rattle.fm_turns.specs.Turns.{round_of, AreWithin, images_of, states_of, IsPart};
-ghost use Rattle.fm_turns.specs.Readings.{readings_of};
-ghost use Rattle.fm_turns.specs.EqualTurns.{is_running, has_running};
-ghost use Rattle.fm_turns.specs.Starting.{new_tasks, started, fault_of, AllFit};
+ghost use Rattle.fm_turns.specs.{Windows.{words_in}, Turns.{round_of, AreWithin, images_of, states_of, IsPart}, Readings.{readings_of}};
+ghost use Rattle.fm_turns.specs.{EqualTurns.{is_running, has_running}, Starting.{new_tasks, started, fault_of, AllFit}};
 
 use crate::context::TaskContext;
 use crate::copying::copy_window;

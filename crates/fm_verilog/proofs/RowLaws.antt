@@ -1,6 +1,5 @@
 -- The rows of a choice, one after another.
-use Rattle.std.proofs.Common.{◌≡◌, ℕ, ◌+◌, ◌<◌, ◌≤◌, List, ◌++◌, length, drop, get_or, sym, ap, ◌∙◌, append-nil, append_assoc}
-use Rattle.std.proofs.lemmas.List.{drop_all}
+use Rattle.std.{proofs.Common.{◌≡◌, ℕ, ◌+◌, ◌<◌, ◌≤◌, List, ◌++◌, length, drop, get_or, sym, ap, ◌∙◌, append-nil, append_assoc}, proofs.lemmas.List.drop_all}
 use Rattle.fm_circuit.specs.declared.circuit.Pin.{Pin}
 use Rattle.stack_text.proofs.Loops.{drop-item}
 use Rattle.fm_verilog.specs.VerilogText.{row_text, rows_text}

@@ -1,9 +1,10 @@
 //! The text of the circuit.
 
-ghost use Rattle.std.specs.Prelude.{◌≡◌, ◌++◌, IfOk, OnOk, Some};
-ghost use Rattle.std.specs.List.{flat_map};
+ghost use Rattle.std.specs.{Prelude.{◌≡◌, ◌++◌, IfOk, OnOk, Some}, List.{flat_map}};
 ghost use Rattle.fm_circuit.specs.Widths.{width_of};
-ghost use Rattle.fm_verilog.specs.VerilogText.{constant_text, pin_text, widened_text, between, row_text, rows_text, choice_text, expression_text, clocked_text, assigned_text, target_text, kind_text, declaration_text, driving_text, at_reset_text, clock_text, head_text, tail_text, verilog_text};
+ghost use Rattle.fm_verilog.specs.VerilogText.{constant_text, pin_text, widened_text, between, row_text, rows_text, choice_text, expression_text, clocked_text};
+ghost use Rattle.fm_verilog.specs.VerilogText.{assigned_text, target_text, kind_text, declaration_text, driving_text, at_reset_text, clock_text, head_text};
+ghost use Rattle.fm_verilog.specs.VerilogText.{tail_text, verilog_text};
 
 use crate::wire_name::name;
 use fm_circuit::{Driver, Pin, Wire, driver, pin_width, width, wires};

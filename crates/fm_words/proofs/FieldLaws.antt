@@ -1,23 +1,14 @@
 -- An instruction's word gives its fields back.
-use Rattle.std.proofs.Common.{◌≡◌, ℕ, zero, suc, ◌+◌, ◌-◌, ◌*◌, ◌/◌, ◌%◌, ◌^◌, ◌<◌, eqb}
-use Rattle.std.proofs.Common.{true, arith, refl, ap, ◌∙◌, add-zero}
-use Rattle.std.proofs.lemmas.Bool.{eqb-true, agree_below_at}
-use Rattle.std.proofs.lemmas.Bool.Decides.{nat_tests}
-use Rattle.std.proofs.lemmas.Int.{ints}
-use Rattle.std.specs.Prelude.{nat_lt, ℤ, pos, negsuc}
-use Rattle.fm_words.specs.Code.{op_of, cc_of, mode_of, flags_of, imm_of, operand_of, decode_of}
-use Rattle.fm_words.specs.Encoding.{op_number, cc_number, mode_number, imm_number, operand_number, encode_of, IsOperand, IsInstr}
-use Rattle.fm_words.specs.Encoding.{significant}
-use Rattle.fm_words.proofs.FlagsLaws.{flags_of_back, flags_number_back, flags_number_below}
-use Rattle.fm_words.specs.declared.operation.Op.{Op}
-use Rattle.fm_words.specs.declared.operation.Op.TheVariants.{Move, Inc, Addc, Add, Neg, Dec, Subb, Sub, Ror, Asr, Lsr, Xor, Or, And, Not, M15}
-use Rattle.fm_words.specs.declared.condition.Cc.{Cc}
+use Rattle.std.{proofs.Common.{◌≡◌, ℕ, zero, suc, ◌+◌, ◌-◌, ◌*◌, ◌/◌, ◌%◌, ◌^◌, ◌<◌, eqb, true, arith, refl, ap, ◌∙◌, add-zero}, proofs.lemmas.Bool.eqb-true}
+use Rattle.std.{proofs.lemmas.Bool.agree_below_at, proofs.lemmas.Bool.Decides.nat_tests, proofs.lemmas.Int.ints, specs.Prelude.{nat_lt, ℤ, pos, negsuc}}
+use Rattle.fm_words.{specs.Code.{op_of, cc_of, mode_of, flags_of, imm_of, operand_of, decode_of}, specs.Encoding.{op_number, cc_number, mode_number}}
+use Rattle.fm_words.{specs.Encoding.{imm_number, operand_number, encode_of, IsOperand, IsInstr, significant}, proofs.FlagsLaws.flags_of_back}
+use Rattle.fm_words.{proofs.FlagsLaws.{flags_number_back, flags_number_below}, specs.declared.operation.Op.Op, specs.declared.operation.Op.TheVariants.Move}
+use Rattle.fm_words.specs.declared.operation.Op.TheVariants.{Inc, Addc, Add, Neg, Dec, Subb, Sub, Ror, Asr, Lsr, Xor, Or, And, Not, M15}
+use Rattle.fm_words.{specs.declared.condition.Cc.Cc, specs.declared.instruction.Mode.Mode, specs.declared.instruction.Mode.TheVariants.{Register, Indirect}}
+use Rattle.fm_words.{specs.declared.instruction.Mode.TheVariants.{PreDecrement, PostIncrement}, specs.declared.instruction.OperandA.OperandA}
+use Rattle.fm_words.{specs.declared.instruction.OperandA.TheVariants.{Immediate, Place}, specs.declared.instruction.Instr.Instr}
 use Rattle.fm_words.specs.declared.condition.Cc.TheVariants as cc
-use Rattle.fm_words.specs.declared.instruction.Mode.{Mode}
-use Rattle.fm_words.specs.declared.instruction.Mode.TheVariants.{Register, Indirect, PreDecrement, PostIncrement}
-use Rattle.fm_words.specs.declared.instruction.OperandA.{OperandA}
-use Rattle.fm_words.specs.declared.instruction.OperandA.TheVariants.{Immediate, Place}
-use Rattle.fm_words.specs.declared.instruction.Instr.{Instr}
 
 record IsOf {A : Type 0} (of : ℕ → A) (number : A → ℕ) (bound : ℕ) (x : A) : Type 0 where
   back : of (number x) ≡ x

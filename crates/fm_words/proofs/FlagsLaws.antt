@@ -1,10 +1,7 @@
 -- Flags and their number 8c + 4v + 2n + z.
-use Rattle.std.proofs.Common.{◌≡◌, ℕ, ◌<◌, ◌≤◌, eqb, Bool, true, false, arith, refl}
-use Rattle.std.proofs.lemmas.Bool.{eqb-true, agree_below_at}
+use Rattle.std.{proofs.Common.{◌≡◌, ℕ, ◌<◌, ◌≤◌, eqb, Bool, true, false, arith, refl}, proofs.lemmas.Bool.{eqb-true, agree_below_at}}
 use Rattle.std.specs.Int.{from_bool as bit_of}
-use Rattle.fm_words.specs.Code.{flags_of}
-use Rattle.fm_words.specs.Encoding.{flags_number}
-use Rattle.fm_words.specs.declared.condition.Flags.{Flags}
+use Rattle.fm_words.{specs.Code.flags_of, specs.Encoding.flags_number, specs.declared.condition.Flags.Flags}
 
 -- the flags of a number of flags are those flags
 by_flags : (c v n z : Bool) → let f : Flags = record { c = c; v = v; n = n; z = z } in flags_of (flags_number f) ≡ f

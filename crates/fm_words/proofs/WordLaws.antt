@@ -1,10 +1,6 @@
 -- Words and the integers that they are read as.
-use Rattle.std.proofs.Common.{◌≡◌, ℕ, ◌^◌, ◌<◌, true, arith}
-use Rattle.std.specs.Prelude.{ℤ, pos, negsuc, FitsSigned}
-use Rattle.std.specs.Int.{w32, cast_signed}
-use Rattle.std.proofs.lemmas.Bool.{ltb-true, lt-ltb}
-use Rattle.std.proofs.lemmas.Bool.Decides.{nat_tests}
-use Rattle.std.proofs.lemmas.Int.{ints}
+use Rattle.std.{proofs.Common.{◌≡◌, ℕ, ◌^◌, ◌<◌, true, arith}, specs.Prelude.{ℤ, pos, negsuc, FitsSigned}, specs.Int.{w32, cast_signed}}
+use Rattle.std.{proofs.lemmas.Bool.{ltb-true, lt-ltb}, proofs.lemmas.Bool.Decides.nat_tests, proofs.lemmas.Int.ints}
 use Rattle.fm_words.specs.Word.{signed_of, is_int, word_of_int, wrapped}
 
 -- the signed reading of an integer's word is the integer

@@ -1,15 +1,10 @@
 -- The operations and the store conditions, as whole-number arithmetic.
-use Rattle.std.specs.Prelude.{ℕ, ◌+◌, ◌-◌, ◌*◌, ◌/◌, ◌%◌, ◌^◌, ◌==◌, Bool, true, false, not, ◌&&◌}
-use Rattle.std.specs.Prelude.{◌||◌, nat_lt, nat_le, pos, ◌+ℤ◌, ◌-ℤ◌, bit_and, bit_or, bit_xor}
-use Rattle.std.specs.Int.{from_bool as bit_of}
-use Rattle.fm_words.specs.Word.{signed_of, is_int}
-use Rattle.fm_words.specs.declared.operation.Op.{Op}
-use Rattle.fm_words.specs.declared.operation.Op.TheVariants.{Move, Inc, Addc, Add, Neg, Dec, Subb, Sub}
-use Rattle.fm_words.specs.declared.operation.Op.TheVariants.{Ror, Asr, Lsr, Xor, Or, And, Not, M15}
-use Rattle.fm_words.specs.declared.condition.Cc.{Cc}
+use Rattle.std.specs.Prelude.{ℕ, ◌+◌, ◌-◌, ◌*◌, ◌/◌, ◌%◌, ◌^◌, ◌==◌, Bool, true, false, not, ◌&&◌, ◌||◌, nat_lt, nat_le, pos, ◌+ℤ◌, ◌-ℤ◌}
+use Rattle.std.specs.{Prelude.{bit_and, bit_or, bit_xor}, Int.{from_bool as bit_of}}
+use Rattle.fm_words.specs.{Word.{signed_of, is_int}, declared.operation.Op.{Op}, declared.operation.Op.TheVariants.{Move, Inc, Addc, Add}}
+use Rattle.fm_words.specs.declared.operation.Op.TheVariants.{Neg, Dec, Subb, Sub, Ror, Asr, Lsr, Xor, Or, And, Not, M15}
+use Rattle.fm_words.specs.{declared.condition.Cc.{Cc}, declared.operation.AluOut.{AluOut}, declared.condition.Flags.{Flags}}
 use Rattle.fm_words.specs.declared.condition.Cc.TheVariants as cc
-use Rattle.fm_words.specs.declared.operation.AluOut.{AluOut}
-use Rattle.fm_words.specs.declared.condition.Flags.{Flags}
 
 -- a result that sets neither carry nor overflow
 abbrev pub plain : ℕ → AluOut

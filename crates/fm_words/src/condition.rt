@@ -18,8 +18,7 @@ pub struct Flags {
 
 impl Flags {
     ghost use Rattle.std.specs.Prelude.{◌<◌};
-    ghost use Rattle.fm_words.specs.Code.{flags_of};
-    ghost use Rattle.fm_words.specs.Encoding.{flags_number};
+    ghost use Rattle.fm_words.specs.{Code.{flags_of}, Encoding.{flags_number}};
 
     /// Each flag clear.
     pub const NONE: Flags = Flags {

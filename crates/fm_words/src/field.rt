@@ -1,8 +1,7 @@
 //! The fields of an instruction's word, each as a number of a few bits.
 
 ghost use Rattle.std.specs.Prelude.{◌≡◌, ◌<◌, ◌^◌};
-ghost use Rattle.fm_words.specs.Code.{op_of, cc_of, mode_of, imm_of, operand_of};
-ghost use Rattle.fm_words.specs.Encoding.{op_number, cc_number, mode_number, operand_number, IsOperand};
+ghost use Rattle.fm_words.specs.{Code.{op_of, cc_of, mode_of, imm_of, operand_of}, Encoding.{op_number, cc_number, mode_number, operand_number, IsOperand}};
 
 use crate::condition::Cc;
 use crate::instruction::{Mode, OperandA};

@@ -1,8 +1,7 @@
 //! Instructions, and their words.
 
 ghost use Rattle.std.specs.Prelude.{◌≡◌};
-ghost use Rattle.fm_words.specs.Code.{decode_of};
-ghost use Rattle.fm_words.specs.Encoding.{encode_of, IsInstr, significant};
+ghost use Rattle.fm_words.specs.{Code.{decode_of}, Encoding.{encode_of, IsInstr, significant}};
 
 use crate::condition::{Cc, Flags};
 use crate::field::{

@@ -1,9 +1,7 @@
 //! The sixteen operations on words.
 
-ghost use Rattle.std.specs.Prelude.{◌≡◌, ◌+◌, ◌-◌, ◌%◌, ◌^◌, pos, ◌+ℤ◌, ◌-ℤ◌, nat_lt, not, false, FitsSigned};
-ghost use Rattle.std.specs.Int.{from_bool, int_div_euclid, w32};
-ghost use Rattle.fm_words.specs.Word.{signed_of, is_int};
-ghost use Rattle.fm_words.specs.Alu.{alu_of, plain};
+ghost use Rattle.std.specs.{Prelude.{◌≡◌, ◌+◌, ◌-◌, ◌%◌, ◌^◌, pos, ◌+ℤ◌, ◌-ℤ◌, nat_lt, not, false, FitsSigned}, Int.{from_bool, int_div_euclid, w32}};
+ghost use Rattle.fm_words.specs.{Word.{signed_of, is_int}, Alu.{alu_of, plain}};
 
 use crate::word::{is_int, signed_of};
 

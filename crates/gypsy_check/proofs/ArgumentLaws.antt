@@ -1,30 +1,17 @@
 -- The arguments of a predefined procedure that break no rule fit.
-use Rattle.std.proofs.Common.{◌≡◌, ℕ, ◌<◌, ◌≤◌, ℤ, pos, negsuc, List, [], ◌∷◌, map, length, slice_get, if◌then◌else◌}
-use Rattle.std.proofs.Common.{true, false, not, Option, Some, None, is_none, unwrap_or, refl, ap, sym, ◌∙◌, subst, arith, flat_map, eqb-true, ◌==◌}
-use Rattle.std.specs.List.{list_any}
-use Rattle.stack_text.specs.Names.{place_among}
-use Rattle.stack_text.specs.declared.shape.Kind.{Kind}
-use Rattle.stack_text.specs.declared.shape.Kind.TheVariants.{Integer}
-use Rattle.stack_text.specs.declared.shape.Shape.{Shape}
-use Rattle.gypsy_syntax.specs.declared.literal.TypeText.{TypeText}
-use Rattle.gypsy_syntax.specs.Sources.{LiteralOf, ArgOf, variable, constant, arg_place, ProcOf, SourceOf}
+use Rattle.std.proofs.Common.{◌≡◌, ℕ, ◌<◌, ◌≤◌, ℤ, pos, negsuc, List, [], ◌∷◌, map, length, slice_get, if◌then◌else◌, true, false, not, Option, Some, None}
+use Rattle.std.{proofs.Common.{is_none, unwrap_or, refl, ap, sym, ◌∙◌, subst, arith, flat_map, eqb-true, ◌==◌}, specs.List.list_any}
+use Rattle.stack_text.{specs.Names.place_among, specs.declared.shape.Kind.Kind, specs.declared.shape.Kind.TheVariants.Integer, specs.declared.shape.Shape.Shape}
+use Rattle.stack_text.{specs.Breaches.when, proofs.SharedLaws.{rule_holds, rule_fails, append_none, kind_same}}
+use Rattle.gypsy_syntax.{specs.declared.literal.TypeText.TypeText, specs.Sources.{LiteralOf, ArgOf, variable, constant, arg_place, ProcOf, SourceOf}}
 use Rattle.gypsy_syntax.specs.Resolved.{variable_names, variable_types, length_of, shape_of, literal_kind, literal_value, variable_of, argument_of}
-use Rattle.gypsy_syntax.specs.Resolved.{procedure_of}
-use Rattle.gypsy_syntax.specs.declared.slot.Form.{Form}
-use Rattle.gypsy_syntax.specs.declared.slot.Form.TheVariants.{Simple, Array, Literal}
-use Rattle.gypsy_syntax.specs.declared.slot.Slot.{Slot}
-use Rattle.gypsy_syntax.specs.Programs.{simple, shapes_of, Var, Lit}
-use Rattle.gypsy_syntax.specs.ProgramFits.{ArgFits, ArgsFit, slot_kind}
+use Rattle.gypsy_syntax.{specs.Resolved.procedure_of, specs.declared.slot.Form.Form, specs.declared.slot.Form.TheVariants.{Simple, Array, Literal}}
+use Rattle.gypsy_syntax.{specs.declared.slot.Slot.Slot, specs.Programs.{simple, shapes_of, Var, Lit}, specs.ProgramFits.{ArgFits, ArgsFit, slot_kind}}
 use Rattle.gypsy_syntax.specs.ValuesFit.{ValueFits}
-use Rattle.stack_text.specs.Breaches.{when}
-use Rattle.stack_text.proofs.SharedLaws.{rule_holds, rule_fails, append_none, kind_same}
-use Rattle.gypsy_check.specs.Declarations.{type_at, type_of}
-use Rattle.gypsy_check.specs.Types.{has_length, is_of_kind}
-use Rattle.gypsy_check.specs.Arguments.{kind_of_type, kind_of_literal, kind_of, is_wanted, settled_by, is_undeclared}
-use Rattle.gypsy_check.specs.Rules.{literal_breaches, slots_breaches, argument_breaches, declared_breaches, number_breaches, predef_breaches, type_breaches}
-use Rattle.gypsy_check.proofs.CleanLaws.{chosen, unless, at_place}
-use Rattle.gypsy_check.proofs.NameLaws.{shape_found}
-use Rattle.gypsy_check.proofs.LiteralLaws.{kind_self, literal_fits, array_length}
+use Rattle.gypsy_check.{specs.Declarations.{type_at, type_of}, specs.Types.{has_length, is_of_kind}, specs.Arguments.{kind_of_type, kind_of_literal, kind_of}}
+use Rattle.gypsy_check.{specs.Arguments.{is_wanted, settled_by, is_undeclared}, specs.Rules.{literal_breaches, slots_breaches, argument_breaches}}
+use Rattle.gypsy_check.{specs.Rules.{declared_breaches, number_breaches, predef_breaches, type_breaches}, proofs.CleanLaws.{chosen, unless, at_place}}
+use Rattle.gypsy_check.{proofs.NameLaws.shape_found, proofs.LiteralLaws.{kind_self, literal_fits, array_length}}
 
 type_kept : (types : List TypeText) (o : Option ℕ) (t : TypeText) → flat_map type_breaches types ≡ [] → type_at types o ≡ Some t → has_length t.length ≡ true
 type_kept types None t e h = cc

@@ -1,7 +1,6 @@
 -- The procedures of a source by their names, one procedure after the other.
 use Rattle.std.proofs.Common.{◌≡◌, ℕ, ◌+◌, ◌<◌, length, List, [], ◌∷◌, ◌++◌, map, get_or, take, find, Option, Some, None, Bool, true, false, cond, ◌||◌}
-use Rattle.std.proofs.Common.{is_some, option_map, bytes_eq, refl, sym, ap, ◌∙◌}
-use Rattle.std.proofs.lemmas.List.{take_more}
+use Rattle.std.{proofs.Common.{is_some, option_map, bytes_eq, refl, sym, ap, ◌∙◌}, proofs.lemmas.List.take_more}
 use Rattle.gypsy_syntax.specs.declared.proc.Proc.{Proc}
 use Rattle.gypsy_check.specs.Tables.{is_named}
 use Rattle.stack_text.specs.Options.{first_or}

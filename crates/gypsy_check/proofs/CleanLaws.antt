@@ -1,9 +1,8 @@
 -- What an empty list of violations says of its parts.
-use Rattle.std.proofs.Common.{◌≡◌, ℕ, zero, suc, List, [], ◌∷◌, ◌++◌, map, get_or, slice_get, Bool, true, false, if◌then◌else◌}
-use Rattle.std.proofs.Common.{Some, flat_map, refl, ap, sym, ◌∙◌}
+use Rattle.std.proofs.Common.{◌≡◌, ℕ, zero, suc, List, [], ◌∷◌, ◌++◌, map, get_or, slice_get, Bool, true, false, if◌then◌else◌, Some, flat_map, refl, ap, sym}
+use Rattle.std.proofs.Common.{◌∙◌}
 use Rattle.gypsy_syntax.specs.ProgramFits.{Each}
-use Rattle.stack_text.specs.declared.breach.Breach.{Breach}
-use Rattle.stack_text.proofs.SharedLaws.{append_none}
+use Rattle.stack_text.{specs.declared.breach.Breach.Breach, proofs.SharedLaws.append_none}
 
 pub three : {X : Type 0} (a b c : List X) → a ++ b ++ c ≡ [] → (a ≡ []) × (b ≡ []) × (c ≡ [])
 three a b c e = let h = append_none (a ++ b) c e in let k = append_none a b h.0 in (k.0, k.1, h.1)

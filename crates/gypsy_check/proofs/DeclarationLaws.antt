@@ -1,22 +1,11 @@
 -- Declarations: the values that suit a type, the types of variables, and the words that these take.
 use Rattle.std.proofs.Common.{◌≡◌, ℕ, ◌+◌, ℤ, pos, List, [], ◌∷◌, ◌++◌, map, length, min, nat_lt, ◌&&◌, Some, refl, ap, ap₂, sym, ◌∙◌, ⊎_elim, arith, lt-ltb}
-use Rattle.std.proofs.Common.{le-ltb}
-use Rattle.std.specs.List.{flat_map, list_all}
-use Rattle.std.specs.Ordering.{int_eq}
-use Rattle.std.proofs.lemmas.Bool.{cases_lt}
+use Rattle.std.{proofs.Common.le-ltb, specs.List.{flat_map, list_all}, specs.Ordering.int_eq, proofs.lemmas.Bool.cases_lt}
 use Rattle.stack_text.specs.declared.shape.Kind.{Kind}
-use Rattle.gypsy_syntax.specs.declared.literal.Decl.{Decl}
-use Rattle.gypsy_syntax.specs.declared.literal.Literal.{Literal}
-use Rattle.gypsy_syntax.specs.declared.literal.Local.{Local}
-use Rattle.gypsy_syntax.specs.declared.literal.TypeText.{TypeText}
-use Rattle.gypsy_syntax.specs.declared.proc.Proc.{Proc}
-use Rattle.gypsy_syntax.specs.Resolved.{literal_kind, variable_types}
-use Rattle.gypsy_syntax.specs.Sources.{LocalOf}
-use Rattle.gypsy_syntax.specs.Views.SourceView.{literal_of, local_of, proc_of, items_of_list}
-use Rattle.gypsy_syntax.proofs.ViewLaws.{literal_of-list}
-use Rattle.gypsy_check.specs.Types.{is_of_kind, are_of_kind, item_number, suits, words_of_types}
-use Rattle.gypsy_check.specs.Rules.{type_breaches}
-use Rattle.gypsy_check.proofs.NoteLaws.{flat_append}
+use Rattle.gypsy_syntax.{specs.declared.literal.Decl.Decl, specs.declared.literal.Literal.Literal, specs.declared.literal.Local.Local}
+use Rattle.gypsy_syntax.{specs.declared.literal.TypeText.TypeText, specs.declared.proc.Proc.Proc, specs.Resolved.{literal_kind, variable_types}}
+use Rattle.gypsy_syntax.{specs.Sources.LocalOf, specs.Views.SourceView.{literal_of, local_of, proc_of, items_of_list}, proofs.ViewLaws.literal_of-list}
+use Rattle.gypsy_check.{specs.Types.{is_of_kind, are_of_kind, item_number, suits, words_of_types}, specs.Rules.type_breaches, proofs.NoteLaws.flat_append}
 
 item_count_is : (ls : List Literal) → item_number (items_of_list ls) ≡ length ls
 item_count_is [] = refl

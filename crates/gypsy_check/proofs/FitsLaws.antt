@@ -1,39 +1,26 @@
 -- Statements and procedures that break no rule fit.
 use Rattle.std.proofs.Common.{◌≡◌, ℕ, zero, suc, ◌+◌, ◌<◌, ◌≤◌, ℤ, List, [], ◌∷◌, ◌++◌, map, length, get_or, slice_get, if◌then◌else◌, bytes_eq, nat_lt, ◌==◌}
 use Rattle.std.proofs.Common.{Bool, true, false, not, ◌&&◌, ◌||◌, Option, Some, None, is_none, unwrap_or, refl, ap, sym, ◌∙◌, subst, arith, flat_map, eqb-true}
-use Rattle.std.proofs.Common.{ltb-false, true≢false, length-append, codes}
-use Rattle.std.proofs.lemmas.List.{length-map}
-use Rattle.std.proofs.lemmas.Bool.{false_from_ne_true, not-true}
+use Rattle.std.{proofs.Common.{ltb-false, true≢false, length-append, codes}, proofs.lemmas.List.length-map, proofs.lemmas.Bool.{false_from_ne_true, not-true}}
 use Rattle.std.proofs.lemmas.Slice.Eq.{bytes_eq-Decides}
-use Rattle.stack_text.specs.Names.{place_among}
-use Rattle.stack_text.specs.declared.name.Named.{Named}
-use Rattle.stack_text.specs.declared.shape.Kind.{Kind}
-use Rattle.stack_text.specs.declared.shape.Kind.TheVariants.{Boolean}
-use Rattle.stack_text.specs.declared.shape.Shape.{Shape}
-use Rattle.gypsy_syntax.specs.declared.literal.TypeText.{TypeText}
-use Rattle.gypsy_syntax.specs.declared.literal.Decl.{Decl}
-use Rattle.gypsy_syntax.specs.Sources.{StmtOf, StmtsOf, no_op, signal, seq, loop, branch, begin, call, predef, no_parts, part, ProcOf, SourceOf, LocalOf}
-use Rattle.gypsy_syntax.specs.Resolved.{position_of, variable_names, variable_types, condition_names, procedure_names, shape_of, local_value}
-use Rattle.gypsy_syntax.specs.Resolved.{is_leave_name, is_routine_name, is_space_name, cond_of, variable_of, statement_of, statement_of_all, procedure_of}
-use Rattle.gypsy_syntax.specs.Resolved.{program_of}
-use Rattle.gypsy_syntax.specs.Predefined.{slots_of}
-use Rattle.gypsy_syntax.specs.Programs.{ConditionOf, Leave, Routine, Space, Declared, simple, shapes_of, words_of, Proc, Program, no_proc, proc_at}
-use Rattle.gypsy_syntax.specs.ProgramFits.{Each, CondFits, HandlerFits, ActualsFit, CallFits, StmtFits, ProcFits, ProgramFits}
-use Rattle.gypsy_syntax.specs.ValuesFit.{ValueFits}
-use Rattle.gypsy_syntax.specs.Resolved.{procedure_at, procedure_named}
-use Rattle.stack_text.specs.Breaches.{when}
-use Rattle.gypsy_check.specs.Declarations.{type_of, is_condition, variables_of, conditions_of, repeats}
-use Rattle.gypsy_check.specs.Types.{same_length, same_type, is_boolean, has_length, words_of_types}
-use Rattle.stack_text.specs.Values.{same_kind}
-use Rattle.stack_text.proofs.SharedLaws.{rule_holds, rule_fails, some_of, append_none}
-use Rattle.gypsy_check.specs.Rules.{raised_breaches, handled_breaches, handlers_breaches, undeclared, is_of_type, test_breaches, actuals_breaches}
-use Rattle.gypsy_check.specs.Rules.{data_breaches, callee_breaches, callee_name_breaches, actual_name_breaches, call_breaches, statement_breaches}
-use Rattle.gypsy_check.specs.Rules.{parts_breaches, is_reserved, condition_breaches, type_breaches, local_breaches, variable_breaches, condition_name_breaches}
-use Rattle.gypsy_check.specs.Rules.{size_breaches, procedure_breaches, name_breaches, main_breaches, violations}
-use Rattle.gypsy_check.proofs.CleanLaws.{three, four, chosen, each_of, each_map, get_or_map, each_place}
-use Rattle.gypsy_check.proofs.NameLaws.{Found, found_below, found_name, one_name, eq_self, procedure_found, distinct, shapes_are, shape_found, variable_found}
-use Rattle.gypsy_check.proofs.LiteralLaws.{type_same, local_fits, words_are, few_lengths}
-use Rattle.gypsy_check.proofs.ArgumentLaws.{predef_fits}
+use Rattle.stack_text.{specs.Names.place_among, specs.declared.name.Named.Named, specs.declared.shape.Kind.Kind, specs.declared.shape.Kind.TheVariants.Boolean}
+use Rattle.stack_text.{specs.declared.shape.Shape.Shape, specs.Breaches.when, specs.Values.same_kind, proofs.SharedLaws.{rule_holds, rule_fails, some_of}}
+use Rattle.stack_text.proofs.SharedLaws.{append_none}
+use Rattle.gypsy_syntax.{specs.declared.literal.TypeText.TypeText, specs.declared.literal.Decl.Decl, specs.Sources.{StmtOf, StmtsOf, no_op, signal, seq, loop}}
+use Rattle.gypsy_syntax.{specs.Sources.{branch, begin, call, predef, no_parts, part, ProcOf, SourceOf, LocalOf}, specs.Resolved.{position_of, variable_names}}
+use Rattle.gypsy_syntax.specs.Resolved.{variable_types, condition_names, procedure_names, shape_of, local_value, is_leave_name, is_routine_name, is_space_name}
+use Rattle.gypsy_syntax.specs.Resolved.{cond_of, variable_of, statement_of, statement_of_all, procedure_of, program_of, procedure_at, procedure_named}
+use Rattle.gypsy_syntax.{specs.Predefined.slots_of, specs.Programs.{ConditionOf, Leave, Routine, Space, Declared, simple, shapes_of, words_of, Proc, Program}}
+use Rattle.gypsy_syntax.{specs.Programs.{no_proc, proc_at}, specs.ProgramFits.{Each, CondFits, HandlerFits, ActualsFit, CallFits, StmtFits, ProcFits}}
+use Rattle.gypsy_syntax.{specs.ProgramFits.ProgramFits, specs.ValuesFit.ValueFits}
+use Rattle.gypsy_check.{specs.Declarations.{type_of, is_condition, variables_of, conditions_of, repeats}, specs.Types.{same_length, same_type, is_boolean}}
+use Rattle.gypsy_check.{specs.Types.{has_length, words_of_types}, specs.Rules.{raised_breaches, handled_breaches, handlers_breaches, undeclared, is_of_type}}
+use Rattle.gypsy_check.specs.Rules.{test_breaches, actuals_breaches, data_breaches, callee_breaches, callee_name_breaches, actual_name_breaches, call_breaches}
+use Rattle.gypsy_check.specs.Rules.{statement_breaches, parts_breaches, is_reserved, condition_breaches, type_breaches, local_breaches, variable_breaches}
+use Rattle.gypsy_check.specs.Rules.{condition_name_breaches, size_breaches, procedure_breaches, name_breaches, main_breaches, violations}
+use Rattle.gypsy_check.{proofs.CleanLaws.{three, four, chosen, each_of, each_map, get_or_map, each_place}, proofs.NameLaws.{Found, found_below, found_name}}
+use Rattle.gypsy_check.{proofs.NameLaws.{one_name, eq_self, procedure_found, distinct, shapes_are, shape_found, variable_found}, proofs.LiteralLaws.type_same}
+use Rattle.gypsy_check.{proofs.LiteralLaws.{local_fits, words_are, few_lengths}, proofs.ArgumentLaws.predef_fits}
 
 -- Conditions.
 

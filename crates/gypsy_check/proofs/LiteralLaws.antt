@@ -1,22 +1,13 @@
 -- Kinds, types and values.
-use Rattle.std.proofs.Common.{◌≡◌, ℕ, ◌<◌, ◌≤◌, ℤ, pos, negsuc, List, [], ◌∷◌, map, length, if◌then◌else◌, nat_lt, nat_le, ◌==◌}
-use Rattle.std.proofs.Common.{Bool, true, false, not, ◌&&◌, Option, Some, None, refl, ap, sym, ◌∙◌, arith, ltb-true, leb-true, ne_eqb, flat_map}
-use Rattle.std.specs.List.{list_all}
-use Rattle.std.proofs.lemmas.Bool.{and_parts, and_from}
-use Rattle.std.proofs.lemmas.Bool.Decides.{Decides-int_eq}
-use Rattle.stack_text.specs.declared.shape.Kind.{Kind}
-use Rattle.stack_text.specs.declared.shape.Kind.TheVariants.{Integer, Boolean, Character}
-use Rattle.stack_text.specs.declared.shape.Shape.{Shape}
-use Rattle.stack_text.specs.Values.{item_count, same_kind}
-use Rattle.gypsy_syntax.specs.declared.literal.TypeText.{TypeText}
-use Rattle.gypsy_syntax.specs.Sources.{LiteralOf, LiteralsOf, integer, truth, character, array, no_items, item, literal_place, LocalOf}
-use Rattle.gypsy_syntax.specs.Resolved.{length_of, shape_of, item_of, items_of_all, value_items, literal_kind, local_value}
-use Rattle.gypsy_syntax.specs.Programs.{simple, words_of}
-use Rattle.gypsy_syntax.specs.Ranges.{is_in_range}
-use Rattle.gypsy_syntax.specs.ValuesFit.{ValueFits}
+use Rattle.std.proofs.Common.{◌≡◌, ℕ, ◌<◌, ◌≤◌, ℤ, pos, negsuc, List, [], ◌∷◌, map, length, if◌then◌else◌, nat_lt, nat_le, ◌==◌, Bool, true, false, not, ◌&&◌}
+use Rattle.std.{proofs.Common.{Option, Some, None, refl, ap, sym, ◌∙◌, arith, ltb-true, leb-true, ne_eqb, flat_map}, specs.List.list_all}
+use Rattle.std.{proofs.lemmas.Bool.{and_parts, and_from}, proofs.lemmas.Bool.Decides.Decides-int_eq}
+use Rattle.stack_text.{specs.declared.shape.Kind.Kind, specs.declared.shape.Kind.TheVariants.{Integer, Boolean, Character}, specs.declared.shape.Shape.Shape}
+use Rattle.stack_text.{specs.Values.{item_count, same_kind}, specs.Breaches.when, proofs.SharedLaws.{rule_holds, append_none, kind_same}}
+use Rattle.gypsy_syntax.{specs.declared.literal.TypeText.TypeText, specs.Sources.{LiteralOf, LiteralsOf, integer, truth, character, array, no_items, item}}
+use Rattle.gypsy_syntax.{specs.Sources.{literal_place, LocalOf}, specs.Resolved.{length_of, shape_of, item_of, items_of_all, value_items, literal_kind}}
+use Rattle.gypsy_syntax.{specs.Resolved.local_value, specs.Programs.{simple, words_of}, specs.Ranges.is_in_range, specs.ValuesFit.ValueFits}
 use Rattle.gypsy_syntax.specs.Effects.{same_int}
-use Rattle.stack_text.specs.Breaches.{when}
-use Rattle.stack_text.proofs.SharedLaws.{rule_holds, append_none, kind_same}
 use Rattle.gypsy_check.specs.Types.{same_length, same_type, has_length, is_of_kind, are_of_kind, item_number, suits, words_of_length, words_of_types}
 use Rattle.gypsy_check.specs.Rules.{literal_breaches, items_breaches, type_breaches, local_breaches}
 

@@ -1,18 +1,11 @@
 -- First positions, and the first of a list that has a name.
-use Rattle.std.proofs.Common.{◌≡◌, ℕ, suc, ◌+◌, List, [], ◌∷◌, ◌++◌, map, length, find, bytes_eq, nat_lt, cond}
-use Rattle.std.proofs.Common.{Bool, true, false, not, ◌||◌, Option, Some, None, is_none, option_map, refl, ap, ◌∙◌, ⊎_elim, arith, lt-ltb, le-ltb}
-use Rattle.std.specs.List.{list_any, prefix_len}
+use Rattle.std.proofs.Common.{◌≡◌, ℕ, suc, ◌+◌, List, [], ◌∷◌, ◌++◌, map, length, find, bytes_eq, nat_lt, cond, Bool, true, false, not, ◌||◌, Option, Some}
+use Rattle.std.{proofs.Common.{None, is_none, option_map, refl, ap, ◌∙◌, ⊎_elim, arith, lt-ltb, le-ltb}, specs.List.{list_any, prefix_len}}
 use Rattle.std.proofs.lemmas.Bool.{cases_lt}
-use Rattle.stack_text.specs.Names.{place_among}
-use Rattle.gypsy_syntax.specs.declared.literal.TypeText.{TypeText}
-use Rattle.gypsy_syntax.specs.Resolved.{condition_names, procedure_at}
-use Rattle.stack_text.specs.declared.name.Named.{Named}
-use Rattle.stack_text.proofs.SharedLaws.{find_map}
-use Rattle.gypsy_syntax.specs.declared.literal.Decl.{Decl}
-use Rattle.gypsy_syntax.specs.declared.literal.Local.{Local}
-use Rattle.gypsy_syntax.specs.declared.proc.Proc.{Proc}
-use Rattle.gypsy_syntax.specs.Sources.{LocalOf, ProcOf}
-use Rattle.gypsy_syntax.specs.Views.SourceView.{local_of, proc_of}
+use Rattle.stack_text.{specs.Names.place_among, specs.declared.name.Named.Named, proofs.SharedLaws.find_map}
+use Rattle.gypsy_syntax.{specs.declared.literal.TypeText.TypeText, specs.Resolved.{condition_names, procedure_at}, specs.declared.literal.Decl.Decl}
+use Rattle.gypsy_syntax.{specs.declared.literal.Local.Local, specs.declared.proc.Proc.Proc, specs.Sources.{LocalOf, ProcOf}, specs.Views.SourceView.local_of}
+use Rattle.gypsy_syntax.specs.Views.SourceView.{proc_of}
 use Rattle.gypsy_check.specs.Declarations.{type_at, type_of, is_condition}
 
 shift : (p l : ℕ) → cond (nat_lt (1 + p) (suc l)) (Some (1 + p)) None ≡ option_map suc (cond (nat_lt p l) (Some p) None)

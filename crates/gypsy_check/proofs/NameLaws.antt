@@ -1,21 +1,13 @@
 -- Names and their first positions.
-use Rattle.std.proofs.Common.{◌≡◌, ℕ, ◌<◌, List, [], ◌∷◌, ◌++◌, map, length, get_or, slice_get, bytes_eq}
-use Rattle.std.proofs.Common.{true, false, true≢false, Option, Some, None, is_none, unwrap_or, refl, ap, sym, ◌∙◌}
-use Rattle.std.proofs.lemmas.List.Quantifiers.{position-Some}
-use Rattle.std.proofs.lemmas.Slice.Eq.{bytes_eq-Decides}
-use Rattle.stack_text.specs.Names.{is_among, place_among}
-use Rattle.stack_text.specs.declared.name.Named.{Named}
-use Rattle.gypsy_syntax.specs.declared.literal.TypeText.{TypeText}
-use Rattle.gypsy_syntax.specs.Sources.{ProcOf, SourceOf, LocalOf}
-use Rattle.gypsy_syntax.specs.declared.literal.Decl.{Decl}
-use Rattle.gypsy_syntax.specs.Resolved.{position_of, variable_names, variable_types, shape_of, local_value, procedure_of}
-use Rattle.gypsy_syntax.specs.Programs.{shapes_of}
-use Rattle.gypsy_syntax.specs.ProgramFits.{Each, Misses, Distinct}
-use Rattle.gypsy_syntax.specs.Resolved.{procedure_at}
-use Rattle.stack_text.specs.Breaches.{when}
-use Rattle.stack_text.proofs.SharedLaws.{rule_fails, append_none, get_map}
-use Rattle.gypsy_check.specs.Declarations.{type_at, type_of, repeats}
+use Rattle.std.proofs.Common.{◌≡◌, ℕ, ◌<◌, List, [], ◌∷◌, ◌++◌, map, length, get_or, slice_get, bytes_eq, true, false, true≢false, Option, Some, None, is_none}
+use Rattle.std.{proofs.Common.{unwrap_or, refl, ap, sym, ◌∙◌}, proofs.lemmas.List.Quantifiers.position-Some, proofs.lemmas.Slice.Eq.bytes_eq-Decides}
 use Rattle.std.proofs.lemmas.Bool.{or_left, or_right}
+use Rattle.stack_text.{specs.Names.{is_among, place_among}, specs.declared.name.Named.Named, specs.Breaches.when, proofs.SharedLaws.{rule_fails, append_none}}
+use Rattle.stack_text.proofs.SharedLaws.{get_map}
+use Rattle.gypsy_syntax.{specs.declared.literal.TypeText.TypeText, specs.Sources.{ProcOf, SourceOf, LocalOf}, specs.declared.literal.Decl.Decl}
+use Rattle.gypsy_syntax.specs.Resolved.{position_of, variable_names, variable_types, shape_of, local_value, procedure_of, procedure_at}
+use Rattle.gypsy_syntax.{specs.Programs.shapes_of, specs.ProgramFits.{Each, Misses, Distinct}}
+use Rattle.gypsy_check.specs.Declarations.{type_at, type_of, repeats}
 
 -- the name is among these
 abbrev pub Found : List (List ℕ) → List ℕ → Type 0

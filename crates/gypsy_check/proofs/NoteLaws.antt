@@ -1,32 +1,17 @@
 -- What was noted, and then more.
-use Rattle.std.proofs.Common.{◌≡◌, ℕ, zero, suc, ◌+◌, ◌<◌, ◌≤◌, List, [], ◌∷◌, ◌++◌, map, length, drop, get_or}
-use Rattle.std.proofs.Common.{take, Option, None, Bool, true, false, not, ◌==◌, ◌≢◌, ◌⊎◌, inl, inr, ◌||◌, if◌then◌else◌, refl, ap, ap₂, sym, ◌∙◌, append_assoc}
-use Rattle.std.specs.List.{flat_map, list_any}
-use Rattle.std.proofs.lemmas.Bool.{eq-eqb}
-use Rattle.std.proofs.lemmas.Bool.Decides.{eqb_tells}
-use Rattle.std.proofs.lemmas.List.{drop_more, drop_all, length-map, take_more}
-use Rattle.stack_text.specs.declared.breach.Breach.{Breach}
-use Rattle.stack_text.specs.declared.name.Named.{Named}
-use Rattle.stack_text.specs.declared.shape.Kind.{Kind}
-use Rattle.stack_text.specs.Breaches.{when, lesser_of, least}
-use Rattle.stack_text.proofs.BreachLaws.{notes_more, notes_none}
-use Rattle.gypsy_syntax.specs.declared.literal.Decl.{Decl}
-use Rattle.gypsy_syntax.specs.declared.literal.Literal.{Literal}
-use Rattle.gypsy_syntax.specs.declared.literal.Local.{Local}
-use Rattle.gypsy_syntax.specs.declared.proc.Proc.{Proc}
-use Rattle.gypsy_syntax.specs.declared.literal.TypeText.{TypeText}
-use Rattle.gypsy_syntax.specs.declared.slot.Slot.{Slot}
-use Rattle.gypsy_syntax.specs.declared.statement.Arg.{Arg}
-use Rattle.gypsy_syntax.specs.declared.statement.Stmt.{Stmt}
-use Rattle.gypsy_syntax.specs.Sources.{arg_place, LocalOf, ProcOf, SourceOf}
-use Rattle.gypsy_syntax.specs.Views.SourceView.{literal_of, local_of, proc_of, items_of_list, arg_of, stmt_of, parts_of_list}
-use Rattle.gypsy_syntax.proofs.ViewLaws.{literal_of-list, stmt_of-seq}
-use Rattle.gypsy_check.specs.Declarations.{type_of}
-use Rattle.gypsy_check.specs.Types.{same_type}
-use Rattle.gypsy_check.specs.Arguments.{kind_of, is_wanted, settled_by, is_undeclared}
+use Rattle.std.proofs.Common.{◌≡◌, ℕ, zero, suc, ◌+◌, ◌<◌, ◌≤◌, List, [], ◌∷◌, ◌++◌, map, length, drop, get_or, take, Option, None, Bool, true, false, not}
+use Rattle.std.{proofs.Common.{◌==◌, ◌≢◌, ◌⊎◌, inl, inr, ◌||◌, if◌then◌else◌, refl, ap, ap₂, sym, ◌∙◌, append_assoc}, specs.List.{flat_map, list_any}}
+use Rattle.std.{proofs.lemmas.Bool.eq-eqb, proofs.lemmas.Bool.Decides.eqb_tells, proofs.lemmas.List.{drop_more, drop_all, length-map, take_more}}
+use Rattle.stack_text.{specs.declared.breach.Breach.Breach, specs.declared.name.Named.Named, specs.declared.shape.Kind.Kind, specs.Breaches.{when, lesser_of}}
+use Rattle.stack_text.{specs.Breaches.least, proofs.BreachLaws.{notes_more, notes_none}, proofs.SharedLaws.any_push}
+use Rattle.gypsy_syntax.{specs.declared.literal.Decl.Decl, specs.declared.literal.Literal.Literal, specs.declared.literal.Local.Local}
+use Rattle.gypsy_syntax.{specs.declared.proc.Proc.Proc, specs.declared.literal.TypeText.TypeText, specs.declared.slot.Slot.Slot}
+use Rattle.gypsy_syntax.{specs.declared.statement.Arg.Arg, specs.declared.statement.Stmt.Stmt, specs.Sources.{arg_place, LocalOf, ProcOf, SourceOf}}
+use Rattle.gypsy_syntax.{specs.Views.SourceView.{literal_of, local_of, proc_of, items_of_list, arg_of, stmt_of, parts_of_list}, proofs.ViewLaws.literal_of-list}
+use Rattle.gypsy_syntax.proofs.ViewLaws.{stmt_of-seq}
+use Rattle.gypsy_check.{specs.Declarations.type_of, specs.Types.same_type, specs.Arguments.{kind_of, is_wanted, settled_by, is_undeclared}}
 use Rattle.gypsy_check.specs.Rules.{literal_breaches, items_breaches, is_of_type, actuals_breaches, slots_breaches, argument_breaches, statement_breaches}
 use Rattle.gypsy_check.specs.Rules.{parts_breaches, declared_breaches, predef_breaches}
-use Rattle.stack_text.proofs.SharedLaws.{any_push}
 
 -- the least with these
 abbrev pub noted : Option Breach → List Breach → Option Breach

@@ -1,18 +1,11 @@
 -- Names that stand earlier, one name after the other.
-use Rattle.std.proofs.Common.{◌≡◌, ℕ, ◌+◌, ◌<◌, length, List, [], ◌∷◌, ◌++◌, map, get_or, take, Option, Bool, true, false, cond, ◌||◌, bytes_eq, refl, ap}
-use Rattle.std.proofs.Common.{sym, ◌∙◌, append_assoc}
-use Rattle.std.specs.List.{list_any}
-use Rattle.std.proofs.lemmas.List.{append-nil, map_push, take_more}
+use Rattle.std.proofs.Common.{◌≡◌, ℕ, ◌+◌, ◌<◌, length, List, [], ◌∷◌, ◌++◌, map, get_or, take, Option, Bool, true, false, cond, ◌||◌, bytes_eq, refl, ap, sym}
+use Rattle.std.{proofs.Common.{◌∙◌, append_assoc}, specs.List.list_any, proofs.lemmas.List.{append-nil, map_push, take_more}}
 use Rattle.std.proofs.lemmas.Slice.Eq.{bytes_eq-Decides}
-use Rattle.stack_text.specs.Names.{is_among}
+use Rattle.stack_text.{specs.Names.is_among, specs.declared.breach.Breach.Breach, specs.declared.name.Named.Named, specs.Breaches.{when, lesser_of, least}}
+use Rattle.stack_text.{specs.Breaches.Notes, proofs.BreachLaws.notes_more, proofs.SharedLaws.{any_push, or_false}}
 use Rattle.name_tables.specs.Lists.{with_name}
-use Rattle.stack_text.specs.declared.breach.Breach.{Breach}
-use Rattle.stack_text.specs.declared.name.Named.{Named}
-use Rattle.stack_text.specs.Breaches.{when, lesser_of, least, Notes}
-use Rattle.stack_text.proofs.BreachLaws.{notes_more}
-use Rattle.gypsy_check.specs.Declarations.{repeats}
-use Rattle.gypsy_check.specs.Tables.{is_named, KnowsNames}
-use Rattle.stack_text.proofs.SharedLaws.{any_push, or_false}
+use Rattle.gypsy_check.{specs.Declarations.repeats, specs.Tables.{is_named, KnowsNames}}
 
 or_swap : (a b : Bool) → (a || b) ≡ (b || a)
 or_swap true true = refl

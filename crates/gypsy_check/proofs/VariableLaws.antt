@@ -1,22 +1,11 @@
 -- Variables by their names, one after the other.
 use Rattle.std.proofs.Common.{◌≡◌, ℕ, List, [], ◌∷◌, ◌++◌, map, find, Option, Some, Bool, true, false, cond, ◌||◌, is_some, option_map, bytes_eq, refl, sym, ap}
-use Rattle.std.proofs.Common.{◌∙◌}
-use Rattle.std.specs.List.{list_any}
-use Rattle.std.proofs.lemmas.List.{map_push}
-use Rattle.stack_text.specs.declared.breach.Breach.{Breach}
-use Rattle.stack_text.specs.declared.name.Named.{Named}
-use Rattle.stack_text.specs.Breaches.{when, Notes}
-use Rattle.gypsy_syntax.specs.declared.literal.Decl.{Decl}
-use Rattle.gypsy_syntax.specs.declared.literal.Local.{Local}
-use Rattle.gypsy_syntax.specs.declared.literal.TypeText.{TypeText}
-use Rattle.gypsy_syntax.specs.declared.proc.Proc.{Proc}
-use Rattle.gypsy_syntax.specs.Views.SourceView.{proc_of}
-use Rattle.gypsy_check.specs.Declarations.{type_of, is_condition, repeats}
-use Rattle.gypsy_check.specs.Tables.{is_named, first_type, declared}
-use Rattle.stack_text.specs.Options.{first_or}
-use Rattle.gypsy_check.proofs.CalleeLaws.{find-push, past_map}
-use Rattle.gypsy_check.proofs.LookupLaws.{or_else, type_is, condition_is}
-use Rattle.gypsy_check.proofs.RepeatLaws.{noted_more}
+use Rattle.std.{proofs.Common.◌∙◌, specs.List.list_any, proofs.lemmas.List.map_push}
+use Rattle.stack_text.{specs.declared.breach.Breach.Breach, specs.declared.name.Named.Named, specs.Breaches.{when, Notes}, specs.Options.first_or}
+use Rattle.gypsy_syntax.{specs.declared.literal.Decl.Decl, specs.declared.literal.Local.Local, specs.declared.literal.TypeText.TypeText}
+use Rattle.gypsy_syntax.{specs.declared.proc.Proc.Proc, specs.Views.SourceView.proc_of}
+use Rattle.gypsy_check.{specs.Declarations.{type_of, is_condition, repeats}, specs.Tables.{is_named, first_type, declared}, proofs.CalleeLaws.find-push}
+use Rattle.gypsy_check.{proofs.CalleeLaws.past_map, proofs.LookupLaws.{or_else, type_is, condition_is}, proofs.RepeatLaws.noted_more}
 
 -- ---- one more variable
 

@@ -1,13 +1,10 @@
 -- The arguments of a predefined procedure, and the kind that they share.
 use Rattle.std.specs.Prelude.{Bool, true, false, Option, Some, None, is_none, if◌then◌else◌}
-use Rattle.stack_text.specs.declared.shape.Kind.{Kind}
-use Rattle.gypsy_syntax.specs.declared.literal.TypeText.{TypeText}
-use Rattle.gypsy_syntax.specs.declared.slot.Form.{Form}
-use Rattle.gypsy_syntax.specs.declared.slot.Form.TheVariants.{Simple, Array, Literal}
-use Rattle.gypsy_syntax.specs.Resolved.{literal_kind}
-use Rattle.gypsy_syntax.specs.Sources.{LiteralOf, ArgOf, variable, constant, ProcOf}
+use Rattle.stack_text.specs.{declared.shape.Kind.{Kind}, Values.{same_kind}}
+use Rattle.gypsy_syntax.specs.{declared.literal.TypeText.{TypeText}, declared.slot.Form.{Form}, declared.slot.Form.TheVariants.{Simple}}
+use Rattle.gypsy_syntax.specs.{declared.slot.Form.TheVariants.{Array, Literal}, Resolved.{literal_kind}, Sources.{LiteralOf, ArgOf}}
+use Rattle.gypsy_syntax.specs.Sources.{variable, constant, ProcOf}
 use Rattle.gypsy_check.specs.Declarations.{type_of}
-use Rattle.stack_text.specs.Values.{same_kind}
 
 -- the kind of an argument that has the form, and none of any other
 abbrev pub kind_of_type : Form → Option TypeText → Option Kind

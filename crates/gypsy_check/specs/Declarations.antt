@@ -1,15 +1,9 @@
 -- What a source's names are declared as, and names that stand more than once.
 use Rattle.std.specs.Prelude.{ℕ, List, [], ◌∷◌, ◌++◌, map, slice_get, Bool, true, false, not, Option, Some, None, is_none}
-use Rattle.stack_text.specs.declared.breach.Breach.{Breach}
-use Rattle.stack_text.specs.declared.name.Named.{Named}
-use Rattle.stack_text.specs.Breaches.{when}
-use Rattle.stack_text.specs.Names.{is_among, place_among}
-use Rattle.gypsy_syntax.specs.declared.literal.TypeText.{TypeText}
-use Rattle.gypsy_syntax.specs.declared.keyword.Keyword.{Keyword}
-use Rattle.gypsy_syntax.specs.declared.keyword.Keyword.TheVariants.{Predef}
-use Rattle.gypsy_syntax.specs.Keywords.{keyword_named}
-use Rattle.gypsy_syntax.specs.Resolved.{variable_names, variable_types, condition_names}
-use Rattle.gypsy_syntax.specs.Sources.{ProcOf}
+use Rattle.stack_text.specs.{declared.breach.Breach.{Breach}, declared.name.Named.{Named}, Breaches.{when}, Names.{is_among, place_among}}
+use Rattle.gypsy_syntax.specs.{declared.literal.TypeText.{TypeText}, declared.keyword.Keyword.{Keyword}}
+use Rattle.gypsy_syntax.specs.{declared.keyword.Keyword.TheVariants.{Predef}, Keywords.{keyword_named}, Resolved.{variable_names}}
+use Rattle.gypsy_syntax.specs.{Resolved.{variable_types, condition_names}, Sources.{ProcOf}}
 
 -- the type of the first variable of a name, formals before locals
 abbrev pub type_at : List TypeText → Option ℕ → Option TypeText

@@ -2,8 +2,7 @@
 use Rattle.std.specs.Prelude.{◌≡◌, Some}
 use Rattle.stack_text.specs.Breaches.{least}
 use Rattle.gypsy_syntax.specs.Sources.{SourceOf}
-use Rattle.gypsy_check.specs.declared.fault.CheckFault.{CheckFault}
-use Rattle.gypsy_check.specs.declared.fault.CheckFault.TheVariants.{Violation, Memory}
+use Rattle.gypsy_check.specs.{declared.fault.CheckFault.{CheckFault}, declared.fault.CheckFault.TheVariants.{Violation, Memory}}
 use Rattle.gypsy_check.specs.Rules.{violations}
 
 -- the least of all breaches; out of memory comes only where memory was refused

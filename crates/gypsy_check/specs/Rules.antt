@@ -1,25 +1,16 @@
 -- All breaches of the static rules S1 to S24 in a source.
-use Rattle.std.specs.Prelude.{ℕ, List, [], ◌∷◌, ◌++◌, map, length, Option, Some, None, is_none, codes}
-use Rattle.std.specs.Prelude.{Bool, true, false, not, ◌==◌, ◌&&◌, ◌||◌, nat_lt, if◌then◌else◌}
-use Rattle.std.specs.List.{list_any, flat_map}
-use Rattle.std.specs.Str.{bytes_eq}
-use Rattle.stack_text.specs.SharedLimits.{most_stack}
-use Rattle.stack_text.specs.declared.breach.Breach.{Breach}
-use Rattle.stack_text.specs.declared.name.Named.{Named}
-use Rattle.stack_text.specs.declared.shape.Kind.{Kind}
-use Rattle.stack_text.specs.declared.shape.Kind.TheVariants.{Integer, Character}
-use Rattle.stack_text.specs.Breaches.{when}
-use Rattle.gypsy_syntax.specs.declared.literal.TypeText.{TypeText}
-use Rattle.gypsy_syntax.specs.declared.slot.Slot.{Slot}
-use Rattle.gypsy_syntax.specs.Ranges.{is_in_range}
-use Rattle.gypsy_syntax.specs.Predefined.{slots_of}
+use Rattle.std.specs.Prelude.{ℕ, List, [], ◌∷◌, ◌++◌, map, length, Option, Some, None, is_none, codes, Bool, true, false, not, ◌==◌, ◌&&◌}
+use Rattle.std.specs.{Prelude.{◌||◌, nat_lt, if◌then◌else◌}, List.{list_any, flat_map}, Str.{bytes_eq}}
+use Rattle.stack_text.specs.{SharedLimits.{most_stack}, declared.breach.Breach.{Breach}, declared.name.Named.{Named}}
+use Rattle.stack_text.specs.{declared.shape.Kind.{Kind}, declared.shape.Kind.TheVariants.{Integer, Character}, Breaches.{when}}
+use Rattle.gypsy_syntax.specs.{declared.literal.TypeText.{TypeText}, declared.slot.Slot.{Slot}, Ranges.{is_in_range}, Predefined.{slots_of}}
 use Rattle.gypsy_syntax.specs.Resolved.{variable_types, is_leave_name, is_routine_name, is_space_name, procedure_named}
-use Rattle.gypsy_syntax.specs.Sources.{LiteralOf, LiteralsOf, integer, truth, character, array, no_items, item, literal_place}
-use Rattle.gypsy_syntax.specs.Sources.{ArgOf, variable, constant, arg_place, LocalOf, ProcOf, SourceOf}
-use Rattle.gypsy_syntax.specs.Sources.{StmtOf, StmtsOf, no_op, signal, seq, loop, branch, begin, call, predef, no_parts, part}
-use Rattle.gypsy_check.specs.Arguments.{kind_of, is_wanted, settled_by, is_undeclared}
-use Rattle.gypsy_check.specs.Declarations.{type_of, is_condition, is_predefined, variables_of, conditions_of, repeats}
-use Rattle.gypsy_check.specs.Types.{same_type, is_boolean, has_length, suits, words_of_types}
+use Rattle.gypsy_syntax.specs.Sources.{LiteralOf, LiteralsOf, integer, truth, character, array, no_items, item, literal_place, ArgOf}
+use Rattle.gypsy_syntax.specs.Sources.{variable, constant, arg_place, LocalOf, ProcOf, SourceOf, StmtOf, StmtsOf, no_op, signal, seq, loop}
+use Rattle.gypsy_syntax.specs.Sources.{branch, begin, call, predef, no_parts, part}
+use Rattle.gypsy_check.specs.{Arguments.{kind_of, is_wanted, settled_by, is_undeclared}, Declarations.{type_of, is_condition}}
+use Rattle.gypsy_check.specs.{Declarations.{is_predefined, variables_of, conditions_of, repeats}, Types.{same_type, is_boolean, has_length}}
+use Rattle.gypsy_check.specs.Types.{suits, words_of_types}
 
 -- S9: a number is out of the range of its kind
 abbrev mutual

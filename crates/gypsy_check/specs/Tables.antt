@@ -1,14 +1,8 @@
 -- Tables of names.
-use Rattle.std.specs.Prelude.{◌≡◌, ℕ, List, ◌++◌, map, find, Bool, Option, option_map}
-use Rattle.std.specs.Borrow.{Bor}
-use Rattle.std.specs.List.{list_any}
-use Rattle.std.specs.Str.{bytes_eq}
-use Rattle.stack_text.specs.Names.{is_among}
+use Rattle.std.specs.{Prelude.{◌≡◌, ℕ, List, ◌++◌, map, find, Bool, Option, option_map}, Borrow.{Bor}, List.{list_any}, Str.{bytes_eq}}
+use Rattle.stack_text.specs.{Names.{is_among}, declared.name.Named.{Named}}
 use Rattle.name_tables.specs.Entries.{Entries, look_up}
-use Rattle.stack_text.specs.declared.name.Named.{Named}
-use Rattle.gypsy_syntax.specs.declared.literal.Decl.{Decl}
-use Rattle.gypsy_syntax.specs.declared.literal.TypeText.{TypeText}
-use Rattle.gypsy_syntax.specs.declared.proc.Proc.{Proc}
+use Rattle.gypsy_syntax.specs.{declared.literal.Decl.{Decl}, declared.literal.TypeText.{TypeText}, declared.proc.Proc.{Proc}}
 use Rattle.gypsy_check.specs.declared.callees.Callees.{Callees}
 
 -- a name of these

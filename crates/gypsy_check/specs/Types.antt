@@ -1,14 +1,10 @@
 -- Kinds and types, the values that suit a type, and the words that variables take.
-use Rattle.std.specs.Prelude.{ℕ, ◌+◌, ℤ, pos, negsuc, List, [], ◌∷◌, Option, Some, None, is_none}
-use Rattle.std.specs.Prelude.{Bool, true, false, ◌&&◌, nat_lt, nat_le, if◌then◌else◌}
-use Rattle.stack_text.specs.Values.{same_kind}
-use Rattle.stack_text.specs.SharedLimits.{most_array}
-use Rattle.stack_text.specs.declared.shape.Kind.{Kind}
+use Rattle.std.specs.Prelude.{ℕ, ◌+◌, ℤ, pos, negsuc, List, [], ◌∷◌, Option, Some, None, is_none, Bool, true, false, ◌&&◌, nat_lt, nat_le}
+use Rattle.std.specs.Prelude.{if◌then◌else◌}
+use Rattle.stack_text.specs.{Values.{same_kind}, SharedLimits.{most_array}, declared.shape.Kind.{Kind}}
 use Rattle.stack_text.specs.declared.shape.Kind.TheVariants.{Boolean}
-use Rattle.gypsy_syntax.specs.declared.literal.TypeText.{TypeText}
-use Rattle.gypsy_syntax.specs.Effects.{same_int}
-use Rattle.gypsy_syntax.specs.Resolved.{literal_kind}
-use Rattle.gypsy_syntax.specs.Sources.{LiteralOf, LiteralsOf, array, no_items, item}
+use Rattle.gypsy_syntax.specs.{declared.literal.TypeText.{TypeText}, Effects.{same_int}, Resolved.{literal_kind}, Sources.{LiteralOf}}
+use Rattle.gypsy_syntax.specs.Sources.{LiteralsOf, array, no_items, item}
 
 abbrev pub same_length : Option ℤ → Option ℤ → Bool
 same_length None None = true

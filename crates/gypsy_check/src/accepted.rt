@@ -1,10 +1,8 @@
 //! Accepted sources.
 
 ghost use Rattle.std.specs.Prelude.{◌≡◌, IfErr, IfOk};
-ghost use Rattle.gypsy_syntax.specs.GypsyReading.{KeepsForm};
-ghost use Rattle.gypsy_syntax.specs.Views.SourceView.{source_of};
-ghost use Rattle.gypsy_check.specs.Accepted.{IsAccepted};
-ghost use Rattle.gypsy_check.specs.GypsyChecking.{IsLeastUnless};
+ghost use Rattle.gypsy_syntax.specs.{GypsyReading.{KeepsForm}, Views.SourceView.{source_of}};
+ghost use Rattle.gypsy_check.specs.{Accepted.{IsAccepted}, GypsyChecking.{IsLeastUnless}};
 
 use crate::fault::CheckFault;
 use crate::procedures::check_source;
@@ -22,8 +20,7 @@ pub struct Accepted {
 }
 
 impl Model for Accepted {
-    ghost use Rattle.gypsy_syntax.specs.Views.SourceView.{source_of};
-    ghost use Rattle.gypsy_syntax.specs.declared.proc.Source.{Source};
+    ghost use Rattle.gypsy_syntax.specs.{Views.SourceView.{source_of}, declared.proc.Source.{Source}};
     ghost use Rattle.gypsy_check.specs.Accepted.{IsAccepted};
     ghost use Rattle.gypsy_syntax.specs.contracts.literal.Literal as literal;
     ghost use Rattle.gypsy_syntax.specs.contracts.statement.Stmt as statement;

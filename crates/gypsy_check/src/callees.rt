@@ -1,14 +1,10 @@
 //! The procedures of a source by their names.
 
-ghost use Rattle.std.specs.Prelude.{◌≡◌, ℕ, List, [], map, is_some, IfOk, OnOk, option_map};
+ghost use Rattle.std.specs.{Prelude.{◌≡◌, ℕ, List, [], map, is_some, IfOk, OnOk, option_map}, Str.{bytes_eq}};
 ghost use Rattle.stack_heap.specs.Heaps.{IfOkUnless, OnOkUnless};
-ghost use Rattle.std.specs.Str.{bytes_eq};
-ghost use Rattle.stack_text.specs.Breaches.{when, Notes};
-ghost use Rattle.gypsy_syntax.specs.Views.SourceView.{proc_of, source_of};
-ghost use Rattle.gypsy_syntax.specs.Resolved.{procedure_named};
-ghost use Rattle.gypsy_check.specs.Declarations.{repeats};
-ghost use Rattle.gypsy_check.specs.Tables.{procedure_in, KnowsCallees, KnowsProcs};
-ghost use Rattle.stack_text.specs.Options.{first_or};
+ghost use Rattle.stack_text.specs.{Breaches.{when, Notes}, Options.{first_or}};
+ghost use Rattle.gypsy_syntax.specs.{Views.SourceView.{proc_of, source_of}, Resolved.{procedure_named}};
+ghost use Rattle.gypsy_check.specs.{Declarations.{repeats}, Tables.{procedure_in, KnowsCallees, KnowsProcs}};
 
 use gypsy_syntax::{Proc, Source};
 use name_tables::NameTable;

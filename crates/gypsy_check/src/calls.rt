@@ -3,10 +3,8 @@
 ghost use Rattle.std.specs.Prelude.{◌≡◌, is_none, Some};
 ghost use Rattle.stack_heap.specs.Heaps.{OnOkUnless};
 ghost use Rattle.stack_text.specs.Breaches.{Notes};
-ghost use Rattle.gypsy_syntax.specs.Views.SourceView.{proc_of, source_of};
-ghost use Rattle.gypsy_syntax.specs.Resolved.{procedure_named};
-ghost use Rattle.gypsy_check.specs.Rules.{actual_name_breaches, call_breaches, callee_breaches, callee_name_breaches, data_breaches};
-ghost use Rattle.gypsy_check.specs.Tables.{KnowsCallees};
+ghost use Rattle.gypsy_syntax.specs.{Views.SourceView.{proc_of, source_of}, Resolved.{procedure_named}};
+ghost use Rattle.gypsy_check.specs.{Rules.{actual_name_breaches, call_breaches, callee_breaches, callee_name_breaches, data_breaches}, Tables.{KnowsCallees}};
 
 use crate::callees::Callees;
 use crate::conditions::check_all_raised;

@@ -1,11 +1,9 @@
 //! Conditions: those that are declared, signalled, given and handled.
 
-ghost use Rattle.std.specs.Prelude.{◌≡◌};
+ghost use Rattle.std.specs.{Prelude.{◌≡◌}, List.{flat_map}};
 ghost use Rattle.stack_heap.specs.Heaps.{OnOkUnless};
-ghost use Rattle.std.specs.List.{flat_map};
 ghost use Rattle.stack_text.specs.Breaches.{Notes};
-ghost use Rattle.gypsy_syntax.specs.Resolved.{is_leave_name, is_routine_name, is_space_name};
-ghost use Rattle.gypsy_syntax.specs.Views.SourceView.{proc_of};
+ghost use Rattle.gypsy_syntax.specs.{Resolved.{is_leave_name, is_routine_name, is_space_name}, Views.SourceView.{proc_of}};
 ghost use Rattle.gypsy_check.specs.Rules.{condition_breaches, handled_breaches, handlers_breaches, is_reserved, raised_breaches};
 
 use crate::names::check_repeats;

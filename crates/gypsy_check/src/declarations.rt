@@ -1,15 +1,11 @@
 //! What a procedure declares.
 
-ghost use Rattle.std.specs.Prelude.{◌≡◌, ◌+◌, ◌≤◌, ◌++◌, nat_lt, map, min, OnOk};
+ghost use Rattle.std.specs.{Prelude.{◌≡◌, ◌+◌, ◌≤◌, ◌++◌, nat_lt, map, min, OnOk}, List.{flat_map}};
 ghost use Rattle.stack_heap.specs.Heaps.{IfOkUnless};
-ghost use Rattle.std.specs.List.{flat_map};
 ghost use Rattle.stack_text.specs.Breaches.{Notes};
-ghost use Rattle.gypsy_syntax.specs.Resolved.{variable_types};
-ghost use Rattle.gypsy_syntax.specs.Views.SourceView.{proc_of};
-ghost use Rattle.gypsy_check.specs.Declarations.{conditions_of};
-ghost use Rattle.gypsy_check.specs.Rules.{condition_breaches, condition_name_breaches, size_breaches, type_breaches, variable_breaches};
-ghost use Rattle.gypsy_check.specs.Tables.{KnowsNames, KnowsTypes, declared};
-ghost use Rattle.gypsy_check.specs.Types.{words_of_types};
+ghost use Rattle.gypsy_syntax.specs.{Resolved.{variable_types}, Views.SourceView.{proc_of}};
+ghost use Rattle.gypsy_check.specs.{Declarations.{conditions_of}, Rules.{condition_breaches, condition_name_breaches, size_breaches, type_breaches}};
+ghost use Rattle.gypsy_check.specs.{Rules.{variable_breaches}, Tables.{KnowsNames, KnowsTypes, declared}, Types.{words_of_types}};
 
 use crate::conditions::check_conditions;
 use crate::names::{conditions_of, variables_of};

@@ -1,13 +1,8 @@
 //! Literals: their kinds, their places, and numbers that are out of range.
 
-ghost use Rattle.std.specs.Prelude.{◌≡◌};
-ghost use Rattle.std.specs.List.{flat_map};
-ghost use Rattle.stack_text.specs.declared.shape.Kind.TheVariants.{Integer, Character};
-ghost use Rattle.stack_text.specs.Breaches.{Notes};
-ghost use Rattle.gypsy_syntax.specs.Ranges.{is_in_range};
-ghost use Rattle.gypsy_syntax.specs.Resolved.{literal_kind};
-ghost use Rattle.gypsy_syntax.specs.Sources.{literal_place};
-ghost use Rattle.gypsy_syntax.specs.Views.SourceView.{literal_of};
+ghost use Rattle.std.specs.{Prelude.{◌≡◌}, List.{flat_map}};
+ghost use Rattle.stack_text.specs.{declared.shape.Kind.TheVariants.{Integer, Character}, Breaches.{Notes}};
+ghost use Rattle.gypsy_syntax.specs.{Ranges.{is_in_range}, Resolved.{literal_kind}, Sources.{literal_place}, Views.SourceView.{literal_of}};
 ghost use Rattle.gypsy_check.specs.Rules.{literal_breaches};
 
 use gypsy_syntax::Literal;

@@ -1,14 +1,10 @@
 //! Tables of names, and names that stand more than once.
 
-ghost use Rattle.std.specs.Prelude.{◌≡◌, ℕ, List, [], ◌++◌, ◌||◌, map, is_some, OnOk};
+ghost use Rattle.std.specs.{Prelude.{◌≡◌, ℕ, List, [], ◌++◌, ◌||◌, map, is_some, OnOk}, Str.{bytes_eq}};
 ghost use Rattle.stack_heap.specs.Heaps.{IfOkUnless, OnOkUnless};
-ghost use Rattle.std.specs.Str.{bytes_eq};
-ghost use Rattle.stack_text.specs.Names.{is_among};
-ghost use Rattle.stack_text.specs.Breaches.{when, Notes};
-ghost use Rattle.gypsy_check.specs.Declarations.{repeats};
+ghost use Rattle.stack_text.specs.{Names.{is_among}, Breaches.{when, Notes}, Options.{first_or}};
+ghost use Rattle.gypsy_check.specs.{Declarations.{repeats}, Tables.{KnowsNames, KnowsTypes}};
 ghost use Rattle.name_tables.specs.Entries.{look_up};
-ghost use Rattle.gypsy_check.specs.Tables.{KnowsNames, KnowsTypes};
-ghost use Rattle.stack_text.specs.Options.{first_or};
 
 use gypsy_syntax::{Decl, Local, TypeText};
 use name_tables::{NameList, NameTable};

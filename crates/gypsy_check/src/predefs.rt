@@ -1,13 +1,10 @@
 //! Calls of predefined procedures.
 
-ghost use Rattle.std.specs.Prelude.{◌≡◌, ◌<◌, ◌++◌, true, get_or, length, map};
-ghost use Rattle.std.specs.List.{flat_map};
+ghost use Rattle.std.specs.{Prelude.{◌≡◌, ◌<◌, ◌++◌, true, get_or, length, map}, List.{flat_map}};
 ghost use Rattle.stack_text.specs.Breaches.{Notes, lesser_of, when};
-ghost use Rattle.gypsy_syntax.specs.Predefined.{slots_of};
-ghost use Rattle.gypsy_syntax.specs.Sources.{arg_place};
-ghost use Rattle.gypsy_syntax.specs.Views.SourceView.{arg_of, literal_of, proc_of};
-ghost use Rattle.gypsy_check.specs.Arguments.{is_undeclared, is_wanted, kind_of, kind_of_literal, kind_of_type, settled_by};
-ghost use Rattle.gypsy_check.specs.Rules.{argument_breaches, declared_breaches, predef_breaches};
+ghost use Rattle.gypsy_syntax.specs.{Predefined.{slots_of}, Sources.{arg_place}, Views.SourceView.{arg_of, literal_of, proc_of}};
+ghost use Rattle.gypsy_check.specs.{Arguments.{is_undeclared, is_wanted, kind_of, kind_of_literal, kind_of_type, settled_by}, Rules.{argument_breaches}};
+ghost use Rattle.gypsy_check.specs.Rules.{declared_breaches, predef_breaches};
 
 use crate::literals::{check_literal, literal_kind, literal_place};
 use crate::scope::Scope;

@@ -1,13 +1,10 @@
 //! Procedures and sources.
 
-ghost use Rattle.std.specs.Prelude.{◌≡◌};
+ghost use Rattle.std.specs.{Prelude.{◌≡◌}, List.{flat_map}};
 ghost use Rattle.stack_heap.specs.Heaps.{OnOkUnless};
-ghost use Rattle.std.specs.List.{flat_map};
 ghost use Rattle.stack_text.specs.Breaches.{Notes};
 ghost use Rattle.gypsy_syntax.specs.Views.SourceView.{proc_of, source_of};
-ghost use Rattle.gypsy_check.specs.Declarations.{is_predefined};
-ghost use Rattle.gypsy_check.specs.Rules.{main_breaches, name_breaches, procedure_breaches, violations};
-ghost use Rattle.gypsy_check.specs.Tables.{KnowsCallees};
+ghost use Rattle.gypsy_check.specs.{Declarations.{is_predefined}, Rules.{main_breaches, name_breaches, procedure_breaches, violations}, Tables.{KnowsCallees}};
 
 use crate::callees::{Callees, callees_of};
 use crate::calls::is_missing;

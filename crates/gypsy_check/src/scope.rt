@@ -2,8 +2,7 @@
 
 ghost use Rattle.std.specs.Prelude.{◌≡◌, ◌++◌};
 ghost use Rattle.gypsy_syntax.specs.Views.SourceView.{proc_of};
-ghost use Rattle.gypsy_check.specs.Declarations.{is_condition, type_of};
-ghost use Rattle.gypsy_check.specs.Tables.{KnowsNames, KnowsTypes, declared};
+ghost use Rattle.gypsy_check.specs.{Declarations.{is_condition, type_of}, Tables.{KnowsNames, KnowsTypes, declared}};
 
 use gypsy_syntax::{Proc, TypeText};
 use name_tables::{NameList, NameTable};
@@ -21,12 +20,11 @@ pub(crate) struct Scope<'a> {
 }
 
 impl<'a> Model for Scope<'a> {
-    ghost use Rattle.std.specs.Prelude.{◌++◌};
+    ghost use Rattle.std.specs.{Prelude.{◌++◌}, Coded.{codes}};
     ghost use Rattle.gypsy_syntax.specs.declared.proc.Proc.{Proc};
     ghost use Rattle.gypsy_check.specs.Tables.{KnowsNames, KnowsTypes, declared};
     ghost use Rattle.gypsy_syntax.specs.contracts.literal.Literal as literal;
     ghost use Rattle.gypsy_syntax.specs.contracts.statement.Stmt as statement;
-    ghost use Rattle.std.specs.Coded.{codes};
 
     ghost Value = { Proc };
 

@@ -4,8 +4,7 @@ ghost use Rattle.stack_heap.specs.Heaps.{OnOkUnless};
 ghost use Rattle.std.specs.List.{flat_map};
 ghost use Rattle.stack_text.specs.Breaches.{Notes};
 ghost use Rattle.gypsy_syntax.specs.Views.SourceView.{proc_of, source_of, stmt_of};
-ghost use Rattle.gypsy_check.specs.Rules.{statement_breaches};
-ghost use Rattle.gypsy_check.specs.Tables.{KnowsCallees};
+ghost use Rattle.gypsy_check.specs.{Rules.{statement_breaches}, Tables.{KnowsCallees}};
 
 use crate::callees::Callees;
 use crate::calls::{CallText, check_call};

@@ -2,8 +2,7 @@
 
 ghost use Rattle.std.specs.Prelude.{◌≡◌, ◌≤◌};
 ghost use Rattle.stack_text.specs.Breaches.{Notes};
-ghost use Rattle.gypsy_check.specs.Rules.{is_of_type, type_breaches};
-ghost use Rattle.gypsy_check.specs.Types.{has_length, is_boolean, same_length, same_type, words_of_length};
+ghost use Rattle.gypsy_check.specs.{Rules.{is_of_type, type_breaches}, Types.{has_length, is_boolean, same_length, same_type, words_of_length}};
 
 use gypsy_syntax::TypeText;
 use stack_text::{Breach, Kind, MOST_ARRAY, note_if};

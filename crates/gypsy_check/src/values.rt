@@ -1,13 +1,9 @@
 //! Initial values.
 
-ghost use Rattle.std.specs.Prelude.{◌≡◌, ◌&&◌, length, pos};
-ghost use Rattle.std.specs.List.{flat_map, list_all};
-ghost use Rattle.std.specs.Ordering.{int_eq};
+ghost use Rattle.std.specs.{Prelude.{◌≡◌, ◌&&◌, length, pos}, List.{flat_map, list_all}, Ordering.{int_eq}};
 ghost use Rattle.stack_text.specs.Breaches.{Notes};
-ghost use Rattle.gypsy_syntax.specs.Resolved.{literal_kind};
-ghost use Rattle.gypsy_syntax.specs.Views.SourceView.{literal_of, local_of};
-ghost use Rattle.gypsy_check.specs.Rules.{local_breaches};
-ghost use Rattle.gypsy_check.specs.Types.{is_of_kind, suits};
+ghost use Rattle.gypsy_syntax.specs.{Resolved.{literal_kind}, Views.SourceView.{literal_of, local_of}};
+ghost use Rattle.gypsy_check.specs.{Rules.{local_breaches}, Types.{is_of_kind, suits}};
 
 use crate::literals::{check_literal, literal_kind, literal_place};
 use gypsy_syntax::{Literal, Local, TypeText};

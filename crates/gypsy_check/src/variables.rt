@@ -1,7 +1,6 @@
 //! Variables that are used.
 
-ghost use Rattle.std.specs.Prelude.{◌≡◌, length, map};
-ghost use Rattle.std.specs.List.{flat_map};
+ghost use Rattle.std.specs.{Prelude.{◌≡◌, length, map}, List.{flat_map}};
 ghost use Rattle.stack_text.specs.Breaches.{Notes};
 ghost use Rattle.gypsy_syntax.specs.Views.SourceView.{proc_of};
 ghost use Rattle.gypsy_check.specs.Rules.{actuals_breaches, test_breaches, undeclared};

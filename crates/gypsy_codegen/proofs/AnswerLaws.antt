@@ -1,41 +1,23 @@
 -- What is generated where no limit is passed.
 use Rattle.std.proofs.Common.{◌≡◌, ℕ, suc, ◌+◌, ◌<◌, ◌≤◌, ◌^◌, List, [], ◌∷◌, length, Bool, true, false, cond, Some, None, Option, refl, sym, ap, subst, ◌∙◌}
-use Rattle.std.proofs.Common.{arith}
-use Rattle.std.specs.Prelude.{not, nat_lt, nat_le, ◌&&◌, if◌then◌else◌, IfSome, Ok, Err}
-use Rattle.std.proofs.lemmas.Bool.{leb-true, ltb-true, ltb-false, lt-ltb, and_parts}
-use Rattle.std.proofs.lemmas.List.{length-map}
-use Rattle.piton_check.specs.PitonChecking.{CheckedOf, IsChecked}
-use Rattle.piton_check.specs.Instruction.{SystemView, system_view}
-use Rattle.piton_check.specs.Resolved.{resolved}
+use Rattle.std.{proofs.Common.arith, specs.Prelude.{not, nat_lt, nat_le, ◌&&◌, if◌then◌else◌, IfSome, Ok, Err}, proofs.lemmas.Bool.{leb-true, ltb-true}}
+use Rattle.std.{proofs.lemmas.Bool.{ltb-false, lt-ltb, and_parts}, proofs.lemmas.List.length-map}
+use Rattle.piton_check.{specs.PitonChecking.{CheckedOf, IsChecked}, specs.Instruction.{SystemView, system_view}, specs.Resolved.resolved}
 use Rattle.piton_syntax.specs.Systems.{SystemOf}
 use Rattle.piton_semantics.specs.State as state
-use Rattle.piton_semantics.specs.Placed.{program_size}
-use Rattle.piton_semantics.specs.Fits.{system_in}
-use Rattle.piton_semantics.specs.StateView.{started}
-use Rattle.gypsy_syntax.specs.Programs.{Program}
-use Rattle.gypsy_syntax.specs.Resolved.{procedure_of, program_of}
-use Rattle.gypsy_syntax.specs.Sources.{SourceOf}
-use Rattle.gypsy_syntax.proofs.FitsLaws.{keeps_fits}
+use Rattle.piton_semantics.{specs.Placed.program_size, specs.Fits.system_in, specs.StateView.started}
+use Rattle.gypsy_syntax.{specs.Programs.Program, specs.Resolved.{procedure_of, program_of}, specs.Sources.SourceOf, proofs.FitsLaws.keeps_fits}
 use Rattle.gypsy_check.specs.Accepted.{IsAccepted}
-use Rattle.gypsy_space.specs.declared.need.Need.{Need}
-use Rattle.gypsy_space.specs.Events.{AreNeeds, need_at, need_of}
-use Rattle.gypsy_space.specs.Needs.{StackSizes, code_words, main_need}
+use Rattle.gypsy_space.{specs.declared.need.Need.Need, specs.Events.{AreNeeds, need_at, need_of}, specs.Needs.{StackSizes, code_words, main_need}}
 use Rattle.gypsy_space.proofs.SmallLaws.{code_modest}
 use Rattle.gypsy_semantics.specs.Calls.{main_start}
-use Rattle.gypsy_codegen.specs.declared.fault.GenFault.{GenFault}
-use Rattle.gypsy_codegen.specs.declared.fault.GenFault.TheVariants.{Control, Temporary, Size, Words as TooManyWords}
-use Rattle.gypsy_codegen.specs.Acceptable.{code_words_of, total_words, LimitsFit, GeneratedIsAcceptable, SourceRuns}
-use Rattle.gypsy_codegen.specs.Generation.{are_sizes, fault_of, size_fault, generation, SystemImplements, TakesCodeWords}
+use Rattle.gypsy_codegen.{specs.declared.fault.GenFault.GenFault, specs.declared.fault.GenFault.TheVariants.{Control, Temporary, Size, Words as TooManyWords}}
+use Rattle.gypsy_codegen.{specs.Acceptable.{code_words_of, total_words, LimitsFit, GeneratedIsAcceptable, SourceRuns}, specs.Generation.{are_sizes, fault_of}}
+use Rattle.gypsy_codegen.{specs.Generation.{size_fault, generation, SystemImplements, TakesCodeWords}, specs.Generated.{count_from, generated_view}}
+use Rattle.gypsy_codegen.{specs.Sizes.ProceduresTakeWords, specs.Text.generated, specs.Internal.Views.{AreModest, words_together}, specs.Whole.RunsTo}
+use Rattle.gypsy_codegen.{specs.Moments.{moment_from, HasMoment, EachMomentIsReached}, specs.WordsOf.words_of_values}
 use Rattle.fm_words.specs.WindowLimit.{most_window}
-use Rattle.stack_text.specs.Gives.{FailsUnless}
-use Rattle.stack_text.specs.Results.{unless_fault}
-use Rattle.gypsy_codegen.specs.Generated.{count_from, generated_view}
-use Rattle.gypsy_codegen.specs.Sizes.{ProceduresTakeWords}
-use Rattle.gypsy_codegen.specs.Text.{generated}
-use Rattle.gypsy_codegen.specs.Internal.Views.{AreModest, words_together}
-use Rattle.gypsy_codegen.specs.Whole.{RunsTo}
-use Rattle.gypsy_codegen.specs.Moments.{moment_from, HasMoment, EachMomentIsReached}
-use Rattle.gypsy_codegen.specs.WordsOf.{words_of_values}
+use Rattle.stack_text.{specs.Gives.FailsUnless, specs.Results.unless_fault}
 
 -- ---- words of code
 

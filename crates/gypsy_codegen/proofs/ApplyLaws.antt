@@ -1,48 +1,30 @@
 -- A predefined call, by the law of the predefined programs.
 use Rattle.std.proofs.Common.{◌≡◌, ℕ, zero, suc, ◌+◌, ◌<◌, ◌≤◌, Bool, true, false, List, [], ◌∷◌, ◌++◌, length, map, Some, refl, sym, ap, ◌∙◌, subst, arith}
-use Rattle.std.specs.Prelude.{slice_get, slice_set, get_or, pos, ◌==◌}
-use Rattle.std.proofs.lemmas.Bool.{ne_eqb, cond-false}
-use Rattle.std.proofs.lemmas.List.{get_or-set_same}
+use Rattle.std.{specs.Prelude.{slice_get, slice_set, get_or, pos, ◌==◌}, proofs.lemmas.Bool.{ne_eqb, cond-false}, proofs.lemmas.List.get_or-set_same}
 use Rattle.std.proofs.lemmas.Option.{get_or_from_slice_get, slice_get_within}
-use Rattle.stack_text.specs.declared.shape.Kind.{Kind}
-use Rattle.stack_text.specs.declared.shape.Kind.TheVariants.{Integer}
-use Rattle.stack_text.specs.declared.shape.Shape.{Shape}
-use Rattle.stack_text.specs.Values.{ValueOf, item_count}
-use Rattle.piton_words.specs.declared.word.Word.{Word}
-use Rattle.piton_words.specs.declared.word.Word.TheVariants.{Int}
+use Rattle.stack_text.{specs.declared.shape.Kind.Kind, specs.declared.shape.Kind.TheVariants.Integer, specs.declared.shape.Shape.Shape, specs.Values.ValueOf}
+use Rattle.stack_text.specs.Values.{item_count}
+use Rattle.piton_words.{specs.declared.word.Word.Word, specs.declared.word.Word.TheVariants.Int}
 use Rattle.piton_check.specs.Instruction as i
 use Rattle.piton_check.specs.Instruction.{Instruction, ProgramView}
 use Rattle.piton_semantics.specs.State as piton
-use Rattle.piton_semantics.specs.State.{element, program_of}
-use Rattle.piton_semantics.specs.Law.{Steps}
-use Rattle.gypsy_syntax.specs.declared.predef.Predef.{Predef}
+use Rattle.piton_semantics.{specs.State.{element, program_of}, specs.Law.Steps}
+use Rattle.gypsy_syntax.{specs.declared.predef.Predef.Predef, specs.declared.slot.Form.Form, specs.declared.slot.Form.TheVariants.{Simple, Array, Literal}}
+use Rattle.gypsy_syntax.{specs.declared.slot.Slot.Slot, specs.Predefined.{slots_of, shared, integer_slot, predef_effect, predef_cost, predef_temp, predef_ctrl}}
+use Rattle.gypsy_syntax.{specs.Programs.{Routine, Arg, Var, Lit, Program, proc_at, body_of, shapes_of, simple, Apply}, specs.ProgramFits.{ArgFits, ArgsFit}}
+use Rattle.gypsy_syntax.{specs.ProgramFits.slot_kind, specs.ValuesFit.{ValueFits, VarsFit}, specs.Effects.{Effect, Normal, Fault, Beyond, value_at, no_value}}
 use Rattle.gypsy_syntax.specs.declared.predef.Predef.TheVariants as row
-use Rattle.gypsy_syntax.specs.declared.slot.Form.{Form}
-use Rattle.gypsy_syntax.specs.declared.slot.Form.TheVariants.{Simple, Array, Literal}
-use Rattle.gypsy_syntax.specs.declared.slot.Slot.{Slot}
-use Rattle.gypsy_syntax.specs.Predefined.{slots_of, shared, integer_slot, predef_effect, predef_cost, predef_temp, predef_ctrl}
-use Rattle.gypsy_syntax.specs.Programs.{Routine, Arg, Var, Lit, Program, proc_at, body_of, shapes_of, simple, Apply}
-use Rattle.gypsy_syntax.specs.ProgramFits.{ArgFits, ArgsFit, slot_kind}
-use Rattle.gypsy_syntax.specs.ValuesFit.{ValueFits, VarsFit}
-use Rattle.gypsy_syntax.specs.Effects.{Effect, Normal, Fault, Beyond, value_at, no_value}
-use Rattle.gypsy_space.specs.Costs.{Tally, spend, predef_spend}
-use Rattle.gypsy_space.specs.Needs.{StackSizes, temp_need, ctrl_need}
-use Rattle.gypsy_semantics.specs.Calls.{value_of, values_of, target_of}
-use Rattle.gypsy_semantics.specs.Machine.{Item, Do, Frame, apply_step, settle, raise}
+use Rattle.gypsy_space.{specs.Costs.{Tally, spend, predef_spend}, specs.Needs.{StackSizes, temp_need, ctrl_need}}
+use Rattle.gypsy_semantics.{specs.Calls.{value_of, values_of, target_of}, specs.Machine.{Item, Do, Frame, apply_step, settle, raise}}
 use Rattle.gypsy_semantics.proofs.EffectLaws.{value_fits, apply_fits}
-use Rattle.gypsy_predef.specs.Bodies.{lengths_of}
+use Rattle.gypsy_predef.{specs.Bodies.lengths_of, specs.Runs.{Argument, length_words, words_of_value, with_elements}, specs.Calls.argument_code}
+use Rattle.gypsy_predef.specs.Calls.{arguments_code, test_code, predef_code, argument_of, VariableHolds, IsAtCode, after_code}
 use Rattle.gypsy_predef.specs.Runs as runs
-use Rattle.gypsy_predef.specs.Runs.{Argument, length_words, words_of_value, with_elements}
-use Rattle.gypsy_predef.specs.Calls.{argument_code, arguments_code, test_code, predef_code, argument_of, VariableHolds, IsAtCode, after_code}
 use Rattle.gypsy_codegen.specs.Generated.{Scope, target, offset, push_args, length_code, test_size, predef_position, size, code_of, generated_program}
-use Rattle.gypsy_codegen.specs.Generated.{generated_view}
-use Rattle.gypsy_codegen.specs.Memory.{stack_of, index_of, frame_of, index_words}
-use Rattle.gypsy_codegen.specs.Showing.{HasAt, Stands}
-use Rattle.gypsy_codegen.specs.Law.{Follows}
-use Rattle.gypsy_codegen.proofs.LayoutLaws.{reads_at, writes_at, frame_at}
-use Rattle.gypsy_codegen.proofs.StepLaws.{Pt, state, state_at, Goes, predef_there, program_is}
-use Rattle.gypsy_codegen.proofs.PushLaws.{Live, free_temp, free_ctrl, here, top}
-use Rattle.gypsy_codegen.proofs.StandLaws.{settle_stands, Comes, comes_on, leads, lands, raise_leads, apply_size}
+use Rattle.gypsy_codegen.{specs.Generated.generated_view, specs.Memory.{stack_of, index_of, frame_of, index_words}, specs.Showing.{HasAt, Stands}}
+use Rattle.gypsy_codegen.{specs.Law.Follows, proofs.LayoutLaws.{reads_at, writes_at, frame_at}, proofs.StepLaws.{Pt, state, state_at, Goes, predef_there}}
+use Rattle.gypsy_codegen.{proofs.StepLaws.program_is, proofs.PushLaws.{Live, free_temp, free_ctrl, here, top}, proofs.StandLaws.{settle_stands, Comes}}
+use Rattle.gypsy_codegen.proofs.StandLaws.{comes_on, leads, lands, raise_leads, apply_size}
 
 -- Arguments.
 

@@ -1,14 +1,10 @@
 -- What is known of a system and its names, whichever the program.
-use Rattle.std.proofs.Common.{◌≡◌, ℕ, List, [], ◌∷◌, ◌++◌, length, get_or, Some, refl, ap, ◌∙◌}
-use Rattle.std.specs.Prelude.{IsTrue}
-use Rattle.stack_text.specs.Names.{is_name}
-use Rattle.stack_text.specs.Grammar.Printed.{unplaced}
+use Rattle.std.{proofs.Common.{◌≡◌, ℕ, List, [], ◌∷◌, ◌++◌, length, get_or, Some, refl, ap, ◌∙◌}, specs.Prelude.IsTrue}
+use Rattle.stack_text.{specs.Names.is_name, specs.Grammar.Printed.unplaced}
 use Rattle.piton_syntax.specs.Systems.{ProgramOf, SystemOf}
 use Rattle.piton_check.specs.Declarations.{local_names, first_of}
 use Rattle.gypsy_syntax.specs.ProgramFits.{Each}
-use Rattle.gypsy_codegen.specs.Written.{Names}
-use Rattle.gypsy_codegen.proofs.InstructionLaws.{Base, World}
-use Rattle.gypsy_codegen.proofs.DeclareLaws.{declarations, Differ, found_at}
+use Rattle.gypsy_codegen.{specs.Written.Names, proofs.InstructionLaws.{Base, World}, proofs.DeclareLaws.{declarations, Differ, found_at}}
 use Rattle.gypsy_codegen.proofs.SourceLaws.{named_at}
 
 pub world_of : (s : SystemOf) (t : ProgramOf) (n : Names) (programs : ℕ) → Base s n programs → local_names t ≡ declarations n.locals → Differ n.locals →

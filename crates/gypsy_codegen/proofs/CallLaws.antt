@@ -1,48 +1,33 @@
 -- A call, with room and without, and what follows its callee.
 use Rattle.std.proofs.Common.{◌≡◌, ℕ, zero, suc, ◌+◌, ◌-◌, ◌*◌, ◌<◌, ◌≤◌, List, [], ◌∷◌, ◌++◌, length, map, drop, take, max, Bool, true, false, Some, None}
-use Rattle.std.proofs.Common.{refl, sym, ap, ◌∙◌, subst, arith, length-append, leb-true, ltb-true}
-use Rattle.std.specs.Prelude.{slice_get, get_or, if◌then◌else◌, ◌==◌, nat_lt, not, reverse}
-use Rattle.std.proofs.lemmas.Bool.{ne_eqb, leb-false, cond-false}
-use Rattle.std.proofs.lemmas.List.{length-map, append-nil, take-append-drop}
-use Rattle.std.proofs.Math.Seq.{drop-append_seam}
+use Rattle.std.{proofs.Common.{refl, sym, ap, ◌∙◌, subst, arith, length-append, leb-true, ltb-true}, specs.Prelude.{slice_get, get_or, if◌then◌else◌, ◌==◌}}
+use Rattle.std.{specs.Prelude.{nat_lt, not, reverse}, proofs.lemmas.Bool.{ne_eqb, leb-false, cond-false}, proofs.lemmas.List.{length-map, append-nil}}
+use Rattle.std.{proofs.lemmas.List.take-append-drop, proofs.Math.Seq.drop-append_seam}
 use Rattle.stack_text.specs.Values.{ValueOf}
-use Rattle.piton_words.specs.declared.word.Word.{Word}
-use Rattle.piton_words.specs.declared.word.Word.TheVariants.{Nat}
+use Rattle.piton_words.{specs.declared.word.Word.Word, specs.declared.word.Word.TheVariants.Nat}
 use Rattle.piton_check.specs.Instruction as i
 use Rattle.piton_check.specs.Instruction.{Instruction}
 use Rattle.piton_semantics.specs.State as piton
 use Rattle.gypsy_syntax.specs.Programs.{ConditionOf, Leave, Routine, Space, Declared, Program, proc_at, body_of, shapes_of, conds_of, Call}
-use Rattle.gypsy_syntax.specs.ProgramFits.{CallFits}
-use Rattle.gypsy_syntax.specs.Effects.{value_at}
-use Rattle.gypsy_syntax.specs.ValuesFit.{VarsFit}
-use Rattle.gypsy_space.specs.Costs.{Tally, spend, out_spend, main_spend}
-use Rattle.gypsy_space.specs.Needs.{StackSizes, temp_need, local_words, vars_of, with_call, call_need, has_temp_room, has_ctrl_room, lack_of, call_spend}
-use Rattle.gypsy_space.specs.declared.need.Lack.{Lack}
-use Rattle.gypsy_space.specs.declared.need.Lack.TheVariants.{Nothing, Temporary, Control}
-use Rattle.gypsy_space.proofs.SpendLaws.{spend_two}
-use Rattle.gypsy_semantics.specs.Calls.{CurrentCondition, copied_in, copied_out, is_passed_on, matching, main_way, main_formals}
-use Rattle.gypsy_semantics.specs.Machine.{Item, Do, Frame, Held, At, open_on, settle, raise, used}
-use Rattle.gypsy_semantics.specs.Kept.{in_loop, WorkFits}
-use Rattle.gypsy_semantics.specs.Room.{HasWords, CoversWork}
+use Rattle.gypsy_syntax.{specs.ProgramFits.CallFits, specs.Effects.value_at, specs.ValuesFit.VarsFit}
+use Rattle.gypsy_space.{specs.Costs.{Tally, spend, out_spend, main_spend}, specs.Needs.{StackSizes, temp_need, local_words, vars_of, with_call, call_need}}
+use Rattle.gypsy_space.{specs.Needs.{has_temp_room, has_ctrl_room, lack_of, call_spend}, specs.declared.need.Lack.Lack}
+use Rattle.gypsy_space.{specs.declared.need.Lack.TheVariants.{Nothing, Temporary, Control}, proofs.SpendLaws.spend_two}
+use Rattle.gypsy_semantics.{specs.Calls.{CurrentCondition, copied_in, copied_out, is_passed_on, matching, main_way, main_formals}, specs.Machine.{Item, Do}}
+use Rattle.gypsy_semantics.{specs.Machine.{Frame, Held, At, open_on, settle, raise, used}, specs.Kept.{in_loop, WorkFits}, specs.Room.{HasWords, CoversWork}}
+use Rattle.gypsy_semantics.{proofs.Keeping.locals_fit, proofs.LendingLaws.actuals_length}
 use Rattle.gypsy_predef.specs.Runs.{push_all}
-use Rattle.gypsy_codegen.specs.WordsOf.{words_of_values, starts, local_shapes, number_of, number_of_way}
-use Rattle.gypsy_codegen.specs.Guard.{guard_code, guard_size}
+use Rattle.gypsy_codegen.{specs.WordsOf.{words_of_values, starts, local_shapes, number_of, number_of_way}, specs.Guard.{guard_code, guard_size}}
 use Rattle.gypsy_codegen.specs.Generated.{Scope, out_place, raise_code, raises, raise_places, after_size, after_code, push_words, push_indices, push_actuals}
-use Rattle.gypsy_codegen.specs.Generated.{before_size, size, code_of, generated_view, generated_program}
-use Rattle.gypsy_codegen.specs.Memory.{stack_of, base_of, index_of, index_words}
-use Rattle.gypsy_codegen.specs.Showing.{HasAt, IsBehindCall, gen_in, Stands, Waits, frame_with}
-use Rattle.gypsy_codegen.specs.Law.{Halts}
-use Rattle.gypsy_semantics.proofs.Keeping.{locals_fit}
-use Rattle.gypsy_semantics.proofs.LendingLaws.{actuals_length}
-use Rattle.gypsy_codegen.proofs.CopyLaws.{copied_back, actuals_below}
-use Rattle.gypsy_codegen.proofs.StackLaws.{push_all-length, push_all-append, values_words, starts-length}
-use Rattle.gypsy_codegen.proofs.LayoutLaws.{height, low_fits, ctrl_is, newest}
-use Rattle.gypsy_codegen.proofs.StepLaws as go
-use Rattle.gypsy_codegen.proofs.StepLaws.{P, Pt, state, spent, Goes, steps_on, stay, lands_at, spend_as, three, pushed_dropped, pushed_reverse, program_there}
-use Rattle.gypsy_codegen.proofs.PushLaws.{has_front, has_back, size_words, size_indices, size_actuals, Live, free_temp, here, top, passes, jumps, sets_cc}
-use Rattle.gypsy_codegen.proofs.PushLaws.{words_go, indices_go, actuals_go}
-use Rattle.gypsy_codegen.proofs.GuardLaws as guard
+use Rattle.gypsy_codegen.{specs.Generated.{before_size, size, code_of, generated_view, generated_program}, specs.Memory.{stack_of, base_of, index_of}}
+use Rattle.gypsy_codegen.{specs.Memory.index_words, specs.Showing.{HasAt, IsBehindCall, gen_in, Stands, Waits, frame_with}, specs.Law.Halts}
+use Rattle.gypsy_codegen.{proofs.CopyLaws.{copied_back, actuals_below}, proofs.StackLaws.{push_all-length, push_all-append, values_words, starts-length}}
+use Rattle.gypsy_codegen.{proofs.LayoutLaws.{height, low_fits, ctrl_is, newest}, proofs.StepLaws.{P, Pt, state, spent, Goes, steps_on, stay, lands_at}}
+use Rattle.gypsy_codegen.{proofs.StepLaws.{spend_as, three, pushed_dropped, pushed_reverse, program_there}, proofs.PushLaws.{has_front, has_back, size_words}}
+use Rattle.gypsy_codegen.proofs.PushLaws.{size_indices, size_actuals, Live, free_temp, here, top, passes, jumps, sets_cc, words_go, indices_go, actuals_go}
 use Rattle.gypsy_codegen.proofs.StandLaws.{size_raises, tail_at, ret_at, moved, settle_stands, body_stands, Comes, comes_on, lands, raises_leads}
+use Rattle.gypsy_codegen.proofs.StepLaws as go
+use Rattle.gypsy_codegen.proofs.GuardLaws as guard
 
 -- what a call's room says
 pub record Room (q : Program) (sizes : StackSizes) (p : ℕ) (u : StackSizes) : Type 0 where

@@ -1,33 +1,20 @@
 -- The code of parts, put together.
 use Rattle.std.proofs.Common.{◌≡◌, ℕ, ◌+◌, ◌-◌, List, [], ◌∷◌, ◌++◌, map, length, max, sym, refl, ap, ◌∙◌, arith, append_assoc, subst, Bool, cond}
-use Rattle.std.proofs.lemmas.List.{map-append}
-use Rattle.stack_text.specs.declared.shape.Kind.{Kind}
-use Rattle.stack_text.specs.declared.shape.Kind.TheVariants.{Integer, Boolean, Character}
-use Rattle.stack_text.specs.declared.shape.Shape.{Shape}
-use Rattle.stack_text.specs.Values.{ValueOf, item_count}
-use Rattle.std.specs.Prelude.{ℤ, ◌==◌}
-use Rattle.stack_text.specs.declared.name.Named.{Named}
-use Rattle.stack_text.specs.Grammar.Printed.{unplaced}
-use Rattle.piton_words.specs.declared.word.Word.TheVariants.{Nat}
+use Rattle.std.{proofs.lemmas.List.map-append, specs.Prelude.{ℤ, ◌==◌}}
+use Rattle.stack_text.{specs.declared.shape.Kind.Kind, specs.declared.shape.Kind.TheVariants.{Integer, Boolean, Character}, specs.declared.shape.Shape.Shape}
+use Rattle.stack_text.{specs.Values.{ValueOf, item_count}, specs.declared.name.Named.Named, specs.Grammar.Printed.unplaced}
+use Rattle.piton_words.{specs.declared.word.Word.TheVariants.Nat, specs.declared.word.Word.Word}
 use Rattle.piton_syntax.specs.declared.op.PitonOp.TheVariants as op
-use Rattle.piton_syntax.specs.declared.word_text.WordText.{WordText}
-use Rattle.gypsy_syntax.specs.Sources.{ProcOf}
-use Rattle.gypsy_codegen.specs.Text.{area_texts, frame_texts, procedure_with, temporaries_of}
-use Rattle.piton_words.specs.declared.word.Word.{Word}
+use Rattle.piton_syntax.{specs.declared.word_text.WordText.WordText, specs.Systems.{InstrOf, new_program}}
+use Rattle.gypsy_syntax.{specs.Sources.ProcOf, specs.Programs.{Program, Proc, proc_at, shapes_of}}
+use Rattle.gypsy_codegen.{specs.Text.{area_texts, frame_texts, procedure_with, temporaries_of}, specs.WordsOf.{words_of_values, local_shapes, starts}}
+use Rattle.gypsy_codegen.{specs.Guard.guard_code, specs.Generated.{push_words, push_indices, push_actuals}, specs.Lines.{unmarked, before_code, lines_of}}
+use Rattle.gypsy_codegen.{specs.Internal.Views.{nameless, half_guard, word_constant, local_constants, index_text}, specs.Written.{Names, Line, Plain, Marked}}
+use Rattle.gypsy_codegen.specs.Written.{written, written_word}
 use Rattle.piton_check.specs.Instruction as i
 use Rattle.piton_check.specs.Instruction.{Instruction}
-use Rattle.piton_syntax.specs.Systems.{InstrOf, new_program}
-use Rattle.gypsy_syntax.specs.Programs.{Program, Proc, proc_at, shapes_of}
-use Rattle.gypsy_space.specs.declared.need.Need.{Need}
-use Rattle.gypsy_space.specs.Events.{need_of}
-use Rattle.gypsy_space.specs.Needs.{StackSizes, temp_need, local_words, vars_of, call_need}
+use Rattle.gypsy_space.{specs.declared.need.Need.Need, specs.Events.need_of, specs.Needs.{StackSizes, temp_need, local_words, vars_of, call_need}}
 use Rattle.gypsy_predef.specs.Runs.{word_of_item, words_of_value}
-use Rattle.gypsy_codegen.specs.WordsOf.{words_of_values, local_shapes, starts}
-use Rattle.gypsy_codegen.specs.Guard.{guard_code}
-use Rattle.gypsy_codegen.specs.Generated.{push_words, push_indices, push_actuals}
-use Rattle.gypsy_codegen.specs.Lines.{unmarked, before_code, lines_of}
-use Rattle.gypsy_codegen.specs.Internal.Views.{nameless, half_guard, word_constant, local_constants, index_text}
-use Rattle.gypsy_codegen.specs.Written.{Names, Line, Plain, Marked, written, written_word}
 
 pub plain_both : (n : Names) (a b : List Instruction) → map (written n) (unmarked (a ++ b)) ≡ map (written n) (unmarked a) ++ map (written n) (unmarked b)
 plain_both n [] b = refl

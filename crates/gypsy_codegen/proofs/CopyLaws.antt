@@ -1,15 +1,10 @@
 -- Copying a callee's formals back into the caller's variables.
 use Rattle.std.proofs.Common.{◌≡◌, ℕ, zero, suc, ◌<◌, ◌≤◌, List, [], ◌∷◌, ◌++◌, length, map, drop, refl, sym, ap, ◌∙◌, subst, arith}
-use Rattle.std.specs.Prelude.{slice_index, slice_set, slice_get}
-use Rattle.std.proofs.lemmas.List.{length-set, get_or-set_same, set-get_or, set_comm}
+use Rattle.std.{specs.Prelude.{slice_index, slice_set, slice_get}, proofs.lemmas.List.{length-set, get_or-set_same, set-get_or, set_comm}}
 use Rattle.std.proofs.lemmas.Option.{slice_get_within}
-use Rattle.stack_text.specs.declared.shape.Shape.{Shape}
-use Rattle.stack_text.specs.Values.{ValueOf}
-use Rattle.gypsy_syntax.specs.ProgramFits.{Misses, Distinct, ActualsFit, Each}
-use Rattle.gypsy_syntax.specs.Effects.{value_at, no_value}
-use Rattle.gypsy_syntax.specs.ValuesFit.{VarsFit}
-use Rattle.gypsy_semantics.specs.Calls.{copied_out}
-use Rattle.gypsy_semantics.proofs.LendingLaws.{copied_miss}
+use Rattle.stack_text.{specs.declared.shape.Shape.Shape, specs.Values.ValueOf}
+use Rattle.gypsy_syntax.{specs.ProgramFits.{Misses, Distinct, ActualsFit, Each}, specs.Effects.{value_at, no_value}, specs.ValuesFit.VarsFit}
+use Rattle.gypsy_semantics.{specs.Calls.copied_out, proofs.LendingLaws.copied_miss}
 
 -- each is below n
 abbrev pub Below : ℕ → List ℕ → Type 0

@@ -1,20 +1,15 @@
 -- How many lines and labels the code of a source has at most.
-use Rattle.std.proofs.Common.{◌≡◌, ℕ, zero, suc, ◌+◌, ◌*◌, ◌<◌, ◌≤◌, ◌^◌, List, [], ◌∷◌, length, Bool, true, false, ap, arith}
-use Rattle.std.specs.Prelude.{◌==◌, if◌then◌else◌}
+use Rattle.std.{proofs.Common.{◌≡◌, ℕ, zero, suc, ◌+◌, ◌*◌, ◌<◌, ◌≤◌, ◌^◌, List, [], ◌∷◌, length, Bool, true, false, ap, arith}, specs.Prelude.◌==◌}
+use Rattle.std.specs.Prelude.{if◌then◌else◌}
 use Rattle.gypsy_semantics.proofs.LendingLaws.{actuals_length}
 use Rattle.stack_text.specs.declared.shape.Shape.{Shape}
-use Rattle.gypsy_syntax.specs.declared.predef.Predef.{Predef}
+use Rattle.gypsy_syntax.{specs.declared.predef.Predef.Predef, specs.Programs.{Arg, Var, Lit, Program, proc_at, body_of, shapes_of, Stmt, Skip, NoOp, Signal}}
+use Rattle.gypsy_syntax.{specs.Programs.{Seq, Loop, If, Begin, Call, Apply}, specs.ProgramFits.{StmtFits, ProgramFits}, specs.Predefined.predef_words}
 use Rattle.gypsy_syntax.specs.declared.predef.Predef.TheVariants as row
-use Rattle.gypsy_syntax.specs.Programs.{Arg, Var, Lit, Program, proc_at, body_of, shapes_of}
-use Rattle.gypsy_syntax.specs.Programs.{Stmt, Skip, NoOp, Signal, Seq, Loop, If, Begin, Call, Apply}
-use Rattle.gypsy_syntax.specs.ProgramFits.{StmtFits, ProgramFits}
-use Rattle.gypsy_syntax.specs.Predefined.{predef_words}
 use Rattle.gypsy_space.specs.Needs.{vars_of, args_words, statement_words, code_words}
 use Rattle.gypsy_predef.specs.Bodies.{lengths_of}
-use Rattle.gypsy_codegen.specs.Generated.{size, test_size, count_from}
-use Rattle.gypsy_codegen.specs.Lines.{labels}
-use Rattle.gypsy_codegen.proofs.FineLaws.{words_sized}
-use Rattle.gypsy_codegen.specs.Acceptable.{code_words_of, total_words}
+use Rattle.gypsy_codegen.{specs.Generated.{size, test_size, count_from}, specs.Lines.labels, proofs.FineLaws.words_sized, specs.Acceptable.code_words_of}
+use Rattle.gypsy_codegen.specs.Acceptable.{total_words}
 
 args_least : (args : List Arg) → length args ≤ args_words args
 args_least [] = omega arith

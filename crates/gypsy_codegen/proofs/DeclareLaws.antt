@@ -1,22 +1,13 @@
 -- Declarations that differ: none repeats another, and each is found where it stands.
-use Rattle.std.proofs.Common.{◌≡◌, ℕ, zero, suc, ◌+◌, ◌<◌, ◌≤◌, ◌^◌, List, [], ◌∷◌, ◌++◌, map, length, get_or, bytes_eq}
-use Rattle.std.proofs.Common.{false, cond, Some, None, is_some, refl, ap, ◌∙◌, arith}
-use Rattle.std.specs.List.{position_from}
-use Rattle.std.proofs.lemmas.Slice.Eq.{bytes_eq-Decides}
-use Rattle.std.proofs.lemmas.Iterator.Adapters.{position_from-zero}
-use Rattle.std.proofs.lemmas.Bool.{or_parts}
-use Rattle.stack_text.specs.Names.{is_among}
-use Rattle.stack_text.specs.declared.name.Named.{Named}
-use Rattle.stack_text.specs.Breaches.{when}
-use Rattle.stack_text.specs.Grammar.Printed.{unplaced}
-use Rattle.piton_check.specs.Declarations.{Declaration, is_named, first_of, repeats}
-use Rattle.stack_text.specs.Options.{first_or}
+use Rattle.std.proofs.Common.{◌≡◌, ℕ, zero, suc, ◌+◌, ◌<◌, ◌≤◌, ◌^◌, List, [], ◌∷◌, ◌++◌, map, length, get_or, bytes_eq, false, cond, Some, None, is_some, refl}
+use Rattle.std.{proofs.Common.{ap, ◌∙◌, arith}, specs.List.position_from, proofs.lemmas.Slice.Eq.bytes_eq-Decides}
+use Rattle.std.{proofs.lemmas.Iterator.Adapters.position_from-zero, proofs.lemmas.Bool.or_parts}
+use Rattle.stack_text.{specs.Names.is_among, specs.declared.name.Named.Named, specs.Breaches.when, specs.Grammar.Printed.unplaced, specs.Options.first_or}
 use Rattle.stack_text.proofs.SharedLaws.{rule_fails, append_none, bytes_apart}
-use Rattle.piton_check.proofs.TableLaws.{position-push}
+use Rattle.piton_check.{specs.Declarations.{Declaration, is_named, first_of, repeats}, proofs.TableLaws.position-push}
 use Rattle.gypsy_syntax.specs.ProgramFits.{Each}
 use Rattle.gypsy_check.specs.Declarations.{repeats as repetitions}
-use Rattle.gypsy_codegen.specs.Written.{Names, Line, Plain, Marked, label_text}
-use Rattle.gypsy_codegen.proofs.LabelLaws.{Misses, Distinct, Ranged, declared, label_differs}
+use Rattle.gypsy_codegen.{specs.Written.{Names, Line, Plain, Marked, label_text}, proofs.LabelLaws.{Misses, Distinct, Ranged, declared, label_differs}}
 
 -- no declaration is of this name
 abbrev pub Absent : List ℕ → List Declaration → Type 0

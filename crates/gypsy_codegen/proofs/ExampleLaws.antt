@@ -1,7 +1,6 @@
 -- The closed programs compute.
 use Rattle.std.proofs.Common.{refl}
-use Rattle.piton_semantics.specs.Views.{then_on, where_true}
-use Rattle.piton_semantics.specs.Step.{piton_run, run_cost, cost_after}
+use Rattle.piton_semantics.{specs.Views.{then_on, where_true}, specs.Step.{piton_run, run_cost, cost_after}}
 use Rattle.gypsy_space.specs.Needs.{call_need}
 use Rattle.gypsy_semantics.specs.Calls.{main_start, is_passed_on}
 use Rattle.gypsy_codegen.specs.Examples.{ExamplesEnd}

@@ -1,53 +1,32 @@
 -- What the lines of a statement that fits name is there.
-use Rattle.std.proofs.Common.{◌≡◌, ℕ, zero, suc, ◌+◌, ◌-◌, ◌<◌, ◌≤◌, ◌^◌, List, [], ◌∷◌, ◌++◌, map, length, get_or, slice_get, Bool, true, false, cond}
-use Rattle.std.proofs.Common.{Some, refl, ap, ◌∙◌, arith, length-append}
-use Rattle.std.specs.Prelude.{ℤ, pos, negsuc, ◌==◌, nat_lt}
-use Rattle.std.specs.List.{list_all}
-use Rattle.std.proofs.lemmas.List.{length-map}
-use Rattle.std.proofs.lemmas.Bool.{ltb-true, leb-true, lt-ltb}
-use Rattle.stack_text.specs.declared.shape.Kind.{Kind}
-use Rattle.stack_text.specs.declared.shape.Kind.TheVariants.{Integer, Boolean, Character}
-use Rattle.stack_text.specs.declared.shape.Shape.{Shape}
+use Rattle.std.proofs.Common.{◌≡◌, ℕ, zero, suc, ◌+◌, ◌-◌, ◌<◌, ◌≤◌, ◌^◌, List, [], ◌∷◌, ◌++◌, map, length, get_or, slice_get, Bool, true, false, cond, Some}
+use Rattle.std.{proofs.Common.{refl, ap, ◌∙◌, arith, length-append}, specs.Prelude.{ℤ, pos, negsuc, ◌==◌, nat_lt}, specs.List.list_all}
+use Rattle.std.{proofs.lemmas.List.length-map, proofs.lemmas.Bool.{ltb-true, leb-true, lt-ltb, and_parts}, proofs.lemmas.Option.slice_get_within}
+use Rattle.stack_text.{specs.declared.shape.Kind.Kind, specs.declared.shape.Kind.TheVariants.{Integer, Boolean, Character}, specs.declared.shape.Shape.Shape}
 use Rattle.stack_text.specs.Values.{ValueOf, item_count}
-use Rattle.std.proofs.lemmas.Option.{slice_get_within}
-use Rattle.std.proofs.lemmas.Bool.{and_parts}
-use Rattle.piton_words.specs.declared.word.Word.{Word}
-use Rattle.piton_words.specs.declared.word.Word.TheVariants.{Int}
+use Rattle.piton_words.{specs.declared.word.Word.Word, specs.declared.word.Word.TheVariants.Int}
 use Rattle.piton_words.specs.declared.op.WordOp.TheVariants as op
 use Rattle.piton_syntax.specs.declared.test_kind.TestFamily.TheVariants as family
 use Rattle.piton_syntax.specs.declared.test_kind.TestKind.TheVariants as test
 use Rattle.piton_syntax.specs.Systems.{ProgramOf as TextProgram}
 use Rattle.piton_check.specs.Instruction as i
 use Rattle.piton_check.specs.Instruction.{Instruction}
-use Rattle.gypsy_syntax.specs.declared.predef.Predef.{Predef}
+use Rattle.gypsy_syntax.{specs.declared.predef.Predef.Predef, specs.declared.slot.Form.Form, specs.declared.slot.Form.TheVariants.{Simple, Array, Literal}}
+use Rattle.gypsy_syntax.{specs.declared.slot.Slot.Slot, proofs.PredefLaws.{number_below, low_temp, low_ctrl}, specs.Predefined.{predefs, slots_of, predef_temp}}
+use Rattle.gypsy_syntax.{specs.Predefined.{predef_ctrl, can_fail}, specs.Effects.item_of_value, specs.Programs.{ConditionOf, Leave, Routine, Space, Declared}}
+use Rattle.gypsy_syntax.specs.Programs.{Arg, Var, Lit, Proc, Program, simple, proc_at, body_of, shapes_of, conds_of, words_of, Stmt, Skip, NoOp, Signal, Seq}
+use Rattle.gypsy_syntax.{specs.Programs.{Loop, If, Begin, Call, Apply}, specs.ProgramFits.{Each, CondFits, ActualsFit, ArgFits, ArgsFit, slot_kind, StmtFits}}
+use Rattle.gypsy_syntax.{specs.ProgramFits.ProgramFits, specs.Ranges.is_in_range, specs.ValuesFit.ValueFits}
 use Rattle.gypsy_syntax.specs.declared.predef.Predef.TheVariants as row
-use Rattle.gypsy_syntax.specs.declared.slot.Form.{Form}
-use Rattle.gypsy_syntax.specs.declared.slot.Form.TheVariants.{Simple, Array, Literal}
-use Rattle.gypsy_syntax.specs.declared.slot.Slot.{Slot}
-use Rattle.gypsy_syntax.proofs.PredefLaws.{number_below, low_temp, low_ctrl}
-use Rattle.gypsy_syntax.specs.Predefined.{predefs, slots_of, predef_temp, predef_ctrl, can_fail}
-use Rattle.gypsy_syntax.specs.Effects.{item_of_value}
-use Rattle.gypsy_syntax.specs.Programs.{ConditionOf, Leave, Routine, Space, Declared, Arg, Var, Lit, Proc, Program, simple, proc_at, body_of, shapes_of}
-use Rattle.gypsy_syntax.specs.Programs.{conds_of, words_of}
-use Rattle.gypsy_syntax.specs.Programs.{Stmt, Skip, NoOp, Signal, Seq, Loop, If, Begin, Call, Apply}
-use Rattle.gypsy_syntax.specs.ProgramFits.{Each, CondFits, ActualsFit, ArgFits, ArgsFit, slot_kind, StmtFits, ProgramFits}
-use Rattle.gypsy_syntax.specs.Ranges.{is_in_range}
-use Rattle.gypsy_syntax.specs.ValuesFit.{ValueFits}
-use Rattle.gypsy_space.specs.Needs.{statement_temp, statement_ctrl, local_words, vars_of, call_need}
-use Rattle.gypsy_space.proofs.SmallLaws.{length-words_of, item_count-positive, words_of-append, greatest_within}
-use Rattle.gypsy_semantics.specs.Calls.{has_cond, is_leave, is_passed_on}
+use Rattle.gypsy_space.{specs.Needs.{statement_temp, statement_ctrl, local_words, vars_of, call_need}, proofs.SmallLaws.{length-words_of, item_count-positive}}
+use Rattle.gypsy_space.proofs.SmallLaws.{words_of-append, greatest_within}
+use Rattle.gypsy_semantics.{specs.Calls.{has_cond, is_leave, is_passed_on}, proofs.Keeping.locals_fit}
 use Rattle.gypsy_predef.specs.Runs.{word_of_item, words_of_value}
-use Rattle.gypsy_codegen.specs.WordsOf.{words_of_values, local_shapes, number_of}
-use Rattle.gypsy_codegen.specs.Guard.{guard_code}
-use Rattle.gypsy_codegen.specs.Generated.{Scope, InLoop, InBegin, push_words, push_indices, push_actuals, push_args, length_code}
-use Rattle.gypsy_codegen.specs.Generated.{arg_length, offset}
-use Rattle.gypsy_codegen.specs.Written.{Line, Plain, Marked}
-use Rattle.gypsy_codegen.specs.Lines.{labels, label_to, unmarked, marked_raises, raise_labels}
-use Rattle.gypsy_codegen.specs.Lines.{before_code, after_lines, apply_code, lines, tail_lines, lines_of}
-use Rattle.gypsy_semantics.proofs.Keeping.{locals_fit}
-use Rattle.gypsy_codegen.proofs.CopyLaws.{each_both}
-use Rattle.gypsy_codegen.proofs.StackLaws.{values_words}
-use Rattle.gypsy_codegen.proofs.InstructionLaws.{InRange, Known, Fine}
+use Rattle.gypsy_codegen.{specs.WordsOf.{words_of_values, local_shapes, number_of}, specs.Guard.guard_code, specs.Generated.{Scope, InLoop, InBegin}}
+use Rattle.gypsy_codegen.{specs.Generated.{push_words, push_indices, push_actuals, push_args, length_code, arg_length, offset}, specs.Written.{Line, Plain}}
+use Rattle.gypsy_codegen.{specs.Written.Marked, specs.Lines.{labels, label_to, unmarked, marked_raises, raise_labels, before_code, after_lines, apply_code}}
+use Rattle.gypsy_codegen.{specs.Lines.{lines, tail_lines, lines_of}, proofs.CopyLaws.each_both, proofs.StackLaws.values_words, proofs.InstructionLaws.InRange}
+use Rattle.gypsy_codegen.proofs.InstructionLaws.{Known, Fine}
 
 -- ---- words
 

@@ -1,14 +1,9 @@
 -- The name that is written for a variable is the variable's.
-use Rattle.std.proofs.Common.{◌≡◌, ℕ, zero, suc, ◌+◌, ◌-◌, ◌<◌, List, [], ◌∷◌, ◌++◌, map, length, get_or}
-use Rattle.std.proofs.Common.{Bool, true, false, cond, refl, sym, ap, ◌∙◌, arith, length-append}
-use Rattle.std.specs.Prelude.{◌==◌, nat_lt}
-use Rattle.std.proofs.lemmas.List.{length-map}
-use Rattle.std.proofs.lemmas.Bool.{ltb-true, ltb-false}
-use Rattle.gypsy_syntax.specs.Sources.{ProcOf, SourceOf}
-use Rattle.gypsy_syntax.specs.Programs.{Program, proc_at}
-use Rattle.gypsy_syntax.specs.Resolved.{variable_names, shape_of, local_value, procedure_of}
-use Rattle.gypsy_codegen.specs.Generated.{offset}
-use Rattle.gypsy_codegen.specs.Text.{frame_texts}
+use Rattle.std.proofs.Common.{◌≡◌, ℕ, zero, suc, ◌+◌, ◌-◌, ◌<◌, List, [], ◌∷◌, ◌++◌, map, length, get_or, Bool, true, false, cond, refl, sym, ap, ◌∙◌, arith}
+use Rattle.std.{proofs.Common.length-append, specs.Prelude.{◌==◌, nat_lt}, proofs.lemmas.List.length-map, proofs.lemmas.Bool.{ltb-true, ltb-false}}
+use Rattle.gypsy_syntax.{specs.Sources.{ProcOf, SourceOf}, specs.Programs.{Program, proc_at}, specs.Resolved.{variable_names, shape_of, local_value}}
+use Rattle.gypsy_syntax.specs.Resolved.{procedure_of}
+use Rattle.gypsy_codegen.{specs.Generated.offset, specs.Text.frame_texts}
 
 pub front_at : (a b : List (List ℕ)) (k : ℕ) → k < length a → get_or (a ++ b) k [] ≡ get_or a k []
 front_at [] b k lt = absurd (omega (arith, lt))

@@ -1,9 +1,7 @@
 -- The guard of a call goes to its place where a stack lacks room, and else falls through.
 use Rattle.std.proofs.Common.{◌≡◌, ℕ, ◌+◌, ◌-◌, ◌<◌, ◌≤◌, List, ◌∷◌, ◌++◌, length, Result, Bool, true, false, Some, Ok, Err, refl, sym, ap, ◌∙◌, subst, arith}
-use Rattle.std.specs.Prelude.{nat_lt, if◌then◌else◌}
-use Rattle.std.proofs.lemmas.Bool.{lt-ltb, le-ltb}
-use Rattle.piton_words.specs.declared.word.Word.{Word}
-use Rattle.piton_words.specs.declared.word.Word.TheVariants.{Nat, Bool as Truth}
+use Rattle.std.{specs.Prelude.{nat_lt, if◌then◌else◌}, proofs.lemmas.Bool.{lt-ltb, le-ltb}}
+use Rattle.piton_words.{specs.declared.word.Word.Word, specs.declared.word.Word.TheVariants.{Nat, Bool as Truth}}
 use Rattle.piton_words.specs.declared.op.WordOp.TheVariants as op
 use Rattle.piton_words.specs.declared.outcome.Outcome.TheVariants as outcome
 use Rattle.piton_syntax.specs.declared.test_kind.TestFamily.TheVariants as family
@@ -11,28 +9,18 @@ use Rattle.piton_syntax.specs.declared.test_kind.TestKind.TheVariants as test
 use Rattle.piton_check.specs.Instruction as i
 use Rattle.piton_check.specs.Instruction.{Instruction, ProgramView, SystemView}
 use Rattle.stack_text.specs.Values.{ValueOf}
-use Rattle.piton_semantics.specs.declared.error_kind.ErrorKind.{ErrorKind}
-use Rattle.piton_semantics.specs.declared.error_kind.ErrorKind.TheVariants.{TempFull}
+use Rattle.piton_semantics.{specs.declared.error_kind.ErrorKind.ErrorKind, specs.declared.error_kind.ErrorKind.TheVariants.TempFull, specs.State.Frame}
+use Rattle.piton_semantics.{specs.State.{PitonState, program_of, instruction_at, ctrl_used}, specs.Views.{◌>>=◌, test_of, then_on, where_true, Operands}}
+use Rattle.piton_semantics.{specs.InstructionRows.{row_of, to_next}, specs.Step.{piton_step, piton_run, cost_of, cost_from, cost_at, step_cost}}
+use Rattle.piton_semantics.{specs.Law.{Steps, none, more}, proofs.RowLaws.{step_is, does_push, does_test_and_jump, does_apply}}
 use Rattle.piton_semantics.specs.State as piton
-use Rattle.piton_semantics.specs.State.{Frame, PitonState, program_of, instruction_at, ctrl_used}
-use Rattle.piton_semantics.specs.Views.{◌>>=◌, test_of, then_on, where_true, Operands}
-use Rattle.piton_semantics.specs.InstructionRows.{row_of, to_next}
-use Rattle.piton_semantics.specs.Step.{piton_step, piton_run, cost_of, cost_from, cost_at, step_cost}
-use Rattle.piton_semantics.specs.Law.{Steps, none, more}
-use Rattle.piton_semantics.proofs.RowLaws.{step_is, does_push, does_test_and_jump, does_apply}
-use Rattle.gypsy_syntax.specs.Programs.{Program, proc_at, shapes_of}
-use Rattle.gypsy_syntax.specs.ValuesFit.{VarsFit}
-use Rattle.gypsy_space.specs.Costs.{Tally, spend}
-use Rattle.gypsy_space.specs.Needs.{StackSizes, temp_need}
+use Rattle.gypsy_syntax.{specs.Programs.{Program, proc_at, shapes_of}, specs.ValuesFit.VarsFit}
+use Rattle.gypsy_space.{specs.Costs.{Tally, spend}, specs.Needs.{StackSizes, temp_need}}
 use Rattle.gypsy_semantics.specs.Machine as machine
-use Rattle.gypsy_codegen.specs.Guard.{below_code, temp_guard, ctrl_guard, guard_code}
-use Rattle.gypsy_codegen.specs.Showing.{HasAt}
-use Rattle.gypsy_codegen.specs.Generated.{generated_view, code_of}
-use Rattle.gypsy_codegen.specs.Memory.{stack_of}
-use Rattle.gypsy_codegen.specs.GuardLaw.{IsAtGuard, moved_to, Guards, GuardsCalls, GuardWantsTwo, CallsHaveTwo, FreeIsBefore}
-use Rattle.gypsy_codegen.proofs.LayoutLaws.{height}
-use Rattle.gypsy_codegen.proofs.StepLaws.{Pt, state_at, Goes, steps_append, program_is}
-use Rattle.gypsy_codegen.proofs.PushLaws.{has_front, has_back, has_words, Live, free_temp, free_ctrl, here, top}
+use Rattle.gypsy_codegen.{specs.Guard.{below_code, temp_guard, ctrl_guard, guard_code}, specs.Showing.HasAt, specs.Generated.{generated_view, code_of}}
+use Rattle.gypsy_codegen.{specs.Memory.stack_of, specs.GuardLaw.{IsAtGuard, moved_to, Guards, GuardsCalls, GuardWantsTwo, CallsHaveTwo, FreeIsBefore}}
+use Rattle.gypsy_codegen.{proofs.LayoutLaws.height, proofs.StepLaws.{Pt, state_at, Goes, steps_append, program_is}, proofs.PushLaws.{has_front, has_back}}
+use Rattle.gypsy_codegen.proofs.PushLaws.{has_words, Live, free_temp, free_ctrl, here, top}
 
 test_true : (b : Bool) → test_of family.Bool test.T (Truth b) ≡ Ok b
 unfolding then_on

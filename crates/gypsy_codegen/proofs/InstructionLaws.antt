@@ -1,32 +1,22 @@
 -- What is written means what it was written for: each instruction keeps the form, breaks no rule, and resolves to itself.
-use Rattle.std.proofs.Common.{◌≡◌, ℕ, ◌<◌, ◌≤◌, ◌^◌, List, [], ◌∷◌, ◌++◌, map, length, get_or, true, false, cond}
-use Rattle.std.proofs.Common.{Option, Some, None, is_none, unwrap_or, refl, ap, sym, ◌∙◌, arith, ltb, subst, All, Contains, flat_map}
-use Rattle.std.specs.Prelude.{ℤ, pos, negsuc, option_map, IsTrue}
-use Rattle.std.proofs.lemmas.Bool.{lt-ltb, le-leb, ltb-true}
-use Rattle.std.proofs.lemmas.List.Elements.{All-nil, All-cons}
+use Rattle.std.proofs.Common.{◌≡◌, ℕ, ◌<◌, ◌≤◌, ◌^◌, List, [], ◌∷◌, ◌++◌, map, length, get_or, true, false, cond, Option, Some, None, is_none, unwrap_or, refl}
+use Rattle.std.{proofs.Common.{ap, sym, ◌∙◌, arith, ltb, subst, All, Contains, flat_map}, specs.Prelude.{ℤ, pos, negsuc, option_map, IsTrue}}
+use Rattle.std.{proofs.lemmas.Bool.{lt-ltb, le-leb, ltb-true}, proofs.lemmas.List.Elements.{All-nil, All-cons}}
 use Rattle.fm_words.specs.Word.{is_int, unsigned_32}
-use Rattle.piton_words.specs.declared.word.Word.{Word}
+use Rattle.piton_words.{specs.declared.word.Word.Word, specs.declared.op.WordOp.WordOp}
 use Rattle.piton_words.specs.declared.word.Word.TheVariants as word
-use Rattle.piton_words.specs.declared.op.WordOp.{WordOp}
 use Rattle.piton_words.specs.declared.op.WordOp.TheVariants as word_op
-use Rattle.stack_text.specs.Names.{is_name}
-use Rattle.stack_text.specs.Numerals.{fits_128_bits}
+use Rattle.stack_text.{specs.Names.is_name, specs.Numerals.fits_128_bits, specs.Breaches.when}
 use Rattle.piton_syntax.specs.declared.argument.ArgKind.TheVariants as kind
-use Rattle.piton_syntax.specs.declared.test_kind.TestFamily.{TestFamily}
+use Rattle.piton_syntax.{specs.declared.test_kind.TestFamily.TestFamily, specs.declared.test_kind.TestKind.TestKind, specs.Systems.{InstrOf, ProgramOf}}
+use Rattle.piton_syntax.{specs.Systems.SystemOf, specs.Operations.{op_arguments, tests_of, row_of}, specs.Fits.{FitsWord, FitsArgument, FitsArguments}}
 use Rattle.piton_syntax.specs.declared.test_kind.TestFamily.TheVariants as family
-use Rattle.piton_syntax.specs.declared.test_kind.TestKind.{TestKind}
-use Rattle.piton_syntax.specs.Systems.{InstrOf, ProgramOf, SystemOf}
-use Rattle.piton_syntax.specs.Operations.{op_arguments, tests_of, row_of}
-use Rattle.piton_syntax.specs.Fits.{FitsWord, FitsArgument, FitsArguments}
-use Rattle.piton_check.specs.declared.resolved.ResolvedArg.{ResolvedArg}
+use Rattle.piton_check.{specs.declared.resolved.ResolvedArg.ResolvedArg, specs.Declarations.{local_names, label_names, program_names, area_names, first_of}}
+use Rattle.piton_check.{specs.Meaning.{word_of, count_of}, specs.Violations.{word_breaches, argument_breaches, instruction_breaches}}
+use Rattle.piton_check.{specs.Resolved.{resolved_word, resolved_argument, resolved_instruction}, specs.Instruction.{Instruction, instruction_view, with_local}}
+use Rattle.piton_check.specs.Instruction.{with_area, with_place, with_program, with_test, place_of}
 use Rattle.piton_check.specs.declared.resolved.ResolvedArg.TheVariants as arg
-use Rattle.stack_text.specs.Breaches.{when}
-use Rattle.piton_check.specs.Declarations.{local_names, label_names, program_names, area_names, first_of}
-use Rattle.piton_check.specs.Meaning.{word_of, count_of}
-use Rattle.piton_check.specs.Violations.{word_breaches, argument_breaches, instruction_breaches}
-use Rattle.piton_check.specs.Resolved.{resolved_word, resolved_argument, resolved_instruction}
 use Rattle.piton_check.specs.Instruction as i
-use Rattle.piton_check.specs.Instruction.{Instruction, instruction_view, with_local, with_area, with_place, with_program, with_test, place_of}
 use Rattle.gypsy_syntax.specs.ProgramFits.{Each}
 use Rattle.gypsy_codegen.specs.Written.{Names, Plain, label_text, label_arg, written_word, written, with_places}
 

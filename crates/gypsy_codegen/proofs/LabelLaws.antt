@@ -1,14 +1,8 @@
 -- Labels: their names, how they differ, and where they stand.
-use Rattle.std.proofs.Common.{◌≡◌, ◌≢◌, ℕ, ◌+◌, ◌<◌, ◌≤◌, ◌^◌, List, [], ◌∷◌, ◌++◌, length, map, take, bytes_eq}
-use Rattle.std.proofs.Math.Seq.{take-append_seam}
-use Rattle.std.proofs.Common.{true, false, cond, Option, Some, refl, ap, ◌∙◌, arith}
-use Rattle.std.specs.Prelude.{IsTrue}
-use Rattle.std.specs.Fmt.{decimal}
-use Rattle.std.specs.List.{position_from}
-use Rattle.std.proofs.lemmas.Slice.Eq.{bytes_eq-Decides}
-use Rattle.std.proofs.lemmas.Iterator.Adapters.{position_from-zero}
-use Rattle.stack_text.specs.Names.{is_name}
-use Rattle.stack_text.proofs.NumberedNameLaws.{numbered_named, numbered_differs}
+use Rattle.std.proofs.Common.{◌≡◌, ◌≢◌, ℕ, ◌+◌, ◌<◌, ◌≤◌, ◌^◌, List, [], ◌∷◌, ◌++◌, length, map, take, bytes_eq, true, false, cond, Option, Some, refl, ap, ◌∙◌}
+use Rattle.std.{proofs.Common.arith, proofs.Math.Seq.take-append_seam, specs.Prelude.IsTrue, specs.Fmt.decimal, specs.List.position_from}
+use Rattle.std.{proofs.lemmas.Slice.Eq.bytes_eq-Decides, proofs.lemmas.Iterator.Adapters.position_from-zero}
+use Rattle.stack_text.{specs.Names.is_name, proofs.NumberedNameLaws.{numbered_named, numbered_differs}}
 use Rattle.piton_check.specs.Declarations.{Declaration, is_named, label_name as label_of, first_of}
 use Rattle.gypsy_codegen.specs.Written.{Names, Line, Plain, Marked, label_text, written}
 

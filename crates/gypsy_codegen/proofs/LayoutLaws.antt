@@ -1,36 +1,23 @@
 -- Where variables stand on the stack, read and written, and where their indices stand in the frames.
-use Rattle.std.proofs.Common.{◌≡◌, ℕ, ◌+◌, ◌-◌, ◌<◌, ◌≤◌, List, [], ◌∷◌, ◌++◌, length, map, drop, Some, refl, sym, ap, ◌∙◌, subst, ⊎_elim}
-use Rattle.std.proofs.Common.{arith, length-append}
-use Rattle.std.specs.Prelude.{slice_index, slice_set, slice_get, nat_lt, ◌==◌, if◌then◌else◌}
-use Rattle.std.proofs.lemmas.Bool.{cases_lt, lt-ltb, le-ltb, eq-eqb, ne_eqb, cond-true, cond-false}
-use Rattle.std.proofs.lemmas.List.{length-map, get_or-drop, drop-set-lt, drop-set-add}
+use Rattle.std.proofs.Common.{◌≡◌, ℕ, ◌+◌, ◌-◌, ◌<◌, ◌≤◌, List, [], ◌∷◌, ◌++◌, length, map, drop, Some, refl, sym, ap, ◌∙◌, subst, ⊎_elim, arith, length-append}
+use Rattle.std.{specs.Prelude.{slice_index, slice_set, slice_get, nat_lt, ◌==◌, if◌then◌else◌}, proofs.lemmas.Bool.{cases_lt, lt-ltb, le-ltb, eq-eqb, ne_eqb}}
+use Rattle.std.{proofs.lemmas.Bool.{cond-true, cond-false}, proofs.lemmas.List.{length-map, get_or-drop, drop-set-lt, drop-set-add}}
 use Rattle.std.proofs.lemmas.Option.{slice_get-get_or, slice_get_within}
-use Rattle.stack_text.specs.declared.shape.Shape.{Shape}
-use Rattle.stack_text.specs.Values.{ValueOf, item_count}
-use Rattle.stack_text.proofs.SharedLaws.{get_front, get_after, get_map}
-use Rattle.piton_words.specs.declared.word.Word.{Word}
-use Rattle.piton_words.specs.declared.word.Word.TheVariants.{Nat}
+use Rattle.stack_text.{specs.declared.shape.Shape.Shape, specs.Values.{ValueOf, item_count}, proofs.SharedLaws.{get_front, get_after, get_map}}
+use Rattle.piton_words.{specs.declared.word.Word.Word, specs.declared.word.Word.TheVariants.Nat}
 use Rattle.piton_semantics.specs.State as piton
 use Rattle.piton_semantics.specs.State.{element, ctrl_used}
-use Rattle.gypsy_syntax.specs.Programs.{Program, Proc, proc_at, shapes_of, words_of}
-use Rattle.gypsy_syntax.specs.ProgramFits.{ProgramFits}
-use Rattle.gypsy_syntax.specs.ValuesFit.{ValueFits, VarsFit}
+use Rattle.gypsy_syntax.{specs.Programs.{Program, Proc, proc_at, shapes_of, words_of}, specs.ProgramFits.ProgramFits, specs.ValuesFit.{ValueFits, VarsFit}}
 use Rattle.gypsy_syntax.specs.Effects.{value_at, no_value}
 use Rattle.gypsy_space.specs.Needs.{main_used, with_call, vars_of}
-use Rattle.gypsy_semantics.specs.Calls.{copied_out}
-use Rattle.gypsy_semantics.specs.Machine.{Frame, Held, used}
-use Rattle.gypsy_semantics.specs.Kept.{FramesFit}
-use Rattle.gypsy_semantics.proofs.EffectLaws.{value_fits}
+use Rattle.gypsy_semantics.{specs.Calls.copied_out, specs.Machine.{Frame, Held, used}, specs.Kept.FramesFit, proofs.EffectLaws.value_fits}
+use Rattle.gypsy_semantics.{proofs.Keeping.copies_back, proofs.LendingLaws.actuals_length}
 use Rattle.gypsy_predef.specs.Runs.{words_of_value, push_all, with_elements}
-use Rattle.gypsy_codegen.specs.WordsOf.{words_of_values, words_before, starts, local_shapes}
-use Rattle.gypsy_codegen.specs.Generated.{offset}
-use Rattle.gypsy_codegen.specs.Memory.{stack_of, base_of, index_of, frame_of, index_words}
-use Rattle.gypsy_codegen.specs.Showing.{Waits, frame_with}
-use Rattle.gypsy_codegen.proofs.CopyLaws.{copied_at, copied_set, copied_past, actuals_below, actual_shape, vars_number, vars_behind}
-use Rattle.gypsy_semantics.proofs.Keeping.{copies_back}
-use Rattle.gypsy_semantics.proofs.LendingLaws.{actuals_length}
-use Rattle.gypsy_codegen.proofs.StackLaws.{push_all-length, below_pushed, element_of, words_below, words_from, value_words, values_words, read_word}
-use Rattle.gypsy_codegen.proofs.StackLaws.{write_words, words_fit, starts_at, starts-length}
+use Rattle.gypsy_codegen.{specs.WordsOf.{words_of_values, words_before, starts, local_shapes}, specs.Generated.offset, specs.Memory.{stack_of, base_of}}
+use Rattle.gypsy_codegen.{specs.Memory.{index_of, frame_of, index_words}, specs.Showing.{Waits, frame_with}, proofs.CopyLaws.{copied_at, copied_set}}
+use Rattle.gypsy_codegen.{proofs.CopyLaws.{copied_past, actuals_below, actual_shape, vars_number, vars_behind}, proofs.StackLaws.push_all-length}
+use Rattle.gypsy_codegen.proofs.StackLaws.{below_pushed, element_of, words_below, words_from, value_words, values_words, read_word, write_words, words_fit}
+use Rattle.gypsy_codegen.proofs.StackLaws.{starts_at, starts-length}
 
 pub local_number : (p : Proc) → length (local_shapes p) ≡ length p.locals
 local_number p = length-map p.locals (λ (v : ValueOf). v.shape)

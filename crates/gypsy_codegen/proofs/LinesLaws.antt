@@ -1,16 +1,10 @@
 -- The lines of a statement: its labels are its own and stand once, and with places for labels the lines are the code by places.
-use Rattle.std.proofs.Common.{◌≢◌, ℕ, suc, ◌+◌, ◌<◌, ◌≤◌, List, [], ◌∷◌, ◌++◌, length}
-use Rattle.std.proofs.Common.{arith}
+use Rattle.std.proofs.Common.{◌≢◌, ℕ, suc, ◌+◌, ◌<◌, ◌≤◌, List, [], ◌∷◌, ◌++◌, length, arith}
 use Rattle.piton_check.specs.Instruction.{Instruction}
-use Rattle.gypsy_syntax.specs.Programs.{ConditionOf, Program, proc_at, body_of}
-use Rattle.gypsy_syntax.specs.Programs.{Stmt, Skip, NoOp, Signal, Seq, Loop, If, Begin, Call, Apply}
+use Rattle.gypsy_syntax.specs.Programs.{ConditionOf, Program, proc_at, body_of, Stmt, Skip, NoOp, Signal, Seq, Loop, If, Begin, Call, Apply}
 use Rattle.gypsy_space.specs.Needs.{local_words, call_need}
-use Rattle.gypsy_codegen.specs.Guard.{guard_code}
-use Rattle.gypsy_codegen.specs.Generated.{Scope, InLoop, InBegin}
-use Rattle.gypsy_codegen.specs.Written.{Line, Plain, Marked}
-use Rattle.gypsy_codegen.specs.Lines.{labels, unmarked, marked_raises}
-use Rattle.gypsy_codegen.specs.Lines.{before_code, after_lines, apply_code, lines, lines_of}
-use Rattle.gypsy_codegen.proofs.LabelLaws.{Misses, Distinct, Ranged}
+use Rattle.gypsy_codegen.{specs.Guard.guard_code, specs.Generated.{Scope, InLoop, InBegin}, specs.Written.{Line, Plain, Marked}, specs.Lines.{labels, unmarked}}
+use Rattle.gypsy_codegen.{specs.Lines.{marked_raises, before_code, after_lines, apply_code, lines, lines_of}, proofs.LabelLaws.{Misses, Distinct, Ranged}}
 
 -- ---- ranges of labels
 

@@ -1,31 +1,18 @@
 -- Each mark of the step machine is among the marks of the generated program.
 use Rattle.std.proofs.Common.{◌≡◌, ℕ, zero, suc, ◌+◌, ◌-◌, ◌<◌, List, [], ◌∷◌, ◌++◌, length, flat_map, Bool, true, false, refl, subst, arith, append_assoc}
-use Rattle.std.specs.Prelude.{if◌then◌else◌}
-use Rattle.std.specs.List.{Contains}
-use Rattle.std.proofs.lemmas.List.Elements.{Contains-append_left, Contains-append_right}
+use Rattle.std.{specs.Prelude.if◌then◌else◌, specs.List.Contains, proofs.lemmas.List.Elements.{Contains-append_left, Contains-append_right}}
 use Rattle.stack_text.specs.Values.{ValueOf}
-use Rattle.gypsy_syntax.specs.declared.predef.Predef.{Predef}
-use Rattle.gypsy_syntax.specs.Programs.{ConditionOf, Routine, Space, Arg, Program, proc_at, body_of}
-use Rattle.gypsy_syntax.specs.Programs.{Stmt, Skip, NoOp, Signal, Seq, Loop, If, Begin, Call, Apply}
-use Rattle.gypsy_syntax.specs.ProgramFits.{Each, ProgramFits}
-use Rattle.gypsy_syntax.specs.Predefined.{predef_effect}
+use Rattle.gypsy_syntax.{specs.declared.predef.Predef.Predef, specs.Programs.{ConditionOf, Routine, Space, Arg, Program, proc_at, body_of, Stmt, Skip, NoOp}}
+use Rattle.gypsy_syntax.{specs.Programs.{Signal, Seq, Loop, If, Begin, Call, Apply}, specs.ProgramFits.{Each, ProgramFits}, specs.Predefined.predef_effect}
 use Rattle.gypsy_syntax.specs.Effects.{Effect, Normal, Fault, Beyond, value_at, is_true_value}
-use Rattle.gypsy_space.specs.Costs.{Tally, spend, predef_spend, out_spend}
-use Rattle.gypsy_space.specs.Needs.{StackSizes, lack_of}
-use Rattle.gypsy_space.specs.declared.need.Lack.{Lack}
+use Rattle.gypsy_space.{specs.Costs.{Tally, spend, predef_spend, out_spend}, specs.Needs.{StackSizes, lack_of}, specs.declared.need.Lack.Lack}
 use Rattle.gypsy_space.specs.declared.need.Lack.TheVariants.{Nothing, Temporary, Control}
-use Rattle.gypsy_semantics.specs.Calls.{has_cond, is_leave, is_passed_on, matching, values_of, copied_out}
-use Rattle.gypsy_semantics.specs.Machine.{Item, Do, Back, JoinThen, JoinOne, Guard, Out, Frame, Held, State, At, Move, Next, Ended}
-use Rattle.gypsy_semantics.specs.Machine.{opens, settle, open_on, stop_if, raise, either_move, apply_step, call_step, do_step, gypsy_step, used, start}
-use Rattle.gypsy_semantics.specs.Machine.{place_of}
-use Rattle.gypsy_semantics.specs.Kept.{StateFits}
-use Rattle.gypsy_codegen.specs.declared.marking.MarkAt.{MarkAt}
-use Rattle.gypsy_codegen.specs.Generated.{size, count_from}
-use Rattle.gypsy_codegen.specs.Showing.{rest_size, mark_of}
-use Rattle.gypsy_codegen.specs.Moments.{moved_on, moment}
-use Rattle.gypsy_codegen.specs.Marks.{mark_at, statement_marks, tail_marks, procedure_marks, marks_of, top_mark, EachMomentIsMarked}
-use Rattle.gypsy_codegen.proofs.LayoutLaws.{proc_there}
-use Rattle.gypsy_codegen.proofs.MomentLaws.{IsOpened, StateOpened, from_opened, moment_fits}
+use Rattle.gypsy_semantics.{specs.Calls.{has_cond, is_leave, is_passed_on, matching, values_of, copied_out}, specs.Machine.{Item, Do, Back, JoinThen, JoinOne}}
+use Rattle.gypsy_semantics.specs.Machine.{Guard, Out, Frame, Held, State, At, Move, Next, Ended, opens, settle, open_on, stop_if, raise, either_move}
+use Rattle.gypsy_semantics.{specs.Machine.{apply_step, call_step, do_step, gypsy_step, used, start, place_of}, specs.Kept.StateFits}
+use Rattle.gypsy_codegen.{specs.declared.marking.MarkAt.MarkAt, specs.Generated.{size, count_from}, specs.Showing.{rest_size, mark_of}, specs.Moments.moved_on}
+use Rattle.gypsy_codegen.{specs.Moments.moment, specs.Marks.{mark_at, statement_marks, tail_marks, procedure_marks, marks_of, top_mark, EachMomentIsMarked}}
+use Rattle.gypsy_codegen.{proofs.LayoutLaws.proc_there, proofs.MomentLaws.{IsOpened, StateOpened, from_opened, moment_fits}}
 
 -- ---- lists of marks
 

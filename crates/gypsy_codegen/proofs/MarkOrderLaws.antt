@@ -2,19 +2,12 @@
 use Rattle.std.proofs.Common.{◌≡◌, ℕ, zero, suc, ◌+◌, ◌<◌, ◌≤◌, List, [], ◌∷◌, ◌++◌, ◌⊎◌, length, flat_map, refl, sym, ap, ◌∙◌, subst, inl, inr, ⊎_elim, arith}
 use Rattle.std.proofs.Common.{length-append}
 use Rattle.piton_check.specs.Instruction.{ProgramView}
-use Rattle.piton_semantics.specs.State.{program_of}
-use Rattle.piton_semantics.specs.Fits.{IsPlace}
-use Rattle.gypsy_syntax.specs.Programs.{Program, proc_at, body_of}
-use Rattle.gypsy_syntax.specs.Programs.{Stmt, Skip, NoOp, Signal, Seq, Loop, If, Begin, Call, Apply}
-use Rattle.gypsy_syntax.specs.ProgramFits.{Each}
+use Rattle.piton_semantics.{specs.State.program_of, specs.Fits.IsPlace}
+use Rattle.gypsy_syntax.{specs.Programs.{Program, proc_at, body_of, Stmt, Skip, NoOp, Signal, Seq, Loop, If, Begin, Call, Apply}, specs.ProgramFits.Each}
 use Rattle.gypsy_space.specs.Needs.{StackSizes}
-use Rattle.gypsy_codegen.specs.declared.marking.MarkAt.{MarkAt}
-use Rattle.gypsy_codegen.specs.Generated.{size, gen, tail_code, count_from, generated_view}
-use Rattle.gypsy_codegen.specs.Marks.{mark_at, statement_marks, tail_marks, procedure_marks, marks_of, IsBefore, Ascend, MarksAscend, IsMarkPlace}
-use Rattle.gypsy_codegen.specs.Marks.{MarksArePlaces}
-use Rattle.gypsy_codegen.proofs.CopyLaws.{each_both}
-use Rattle.gypsy_codegen.proofs.StepLaws.{program_is}
-use Rattle.gypsy_codegen.proofs.StandLaws.{size_gen}
+use Rattle.gypsy_codegen.{specs.declared.marking.MarkAt.MarkAt, specs.Generated.{size, gen, tail_code, count_from, generated_view}, specs.Marks.mark_at}
+use Rattle.gypsy_codegen.specs.Marks.{statement_marks, tail_marks, procedure_marks, marks_of, IsBefore, Ascend, MarksAscend, IsMarkPlace, MarksArePlaces}
+use Rattle.gypsy_codegen.{proofs.CopyLaws.each_both, proofs.StepLaws.program_is, proofs.StandLaws.size_gen}
 
 -- marks of program p, each behind the one before, from a place on and below another
 abbrev Climb : ℕ → ℕ → ℕ → List MarkAt → Type 0

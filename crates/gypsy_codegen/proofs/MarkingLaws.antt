@@ -1,19 +1,11 @@
 -- The marks of a program, listed procedure by procedure.
 use Rattle.std.proofs.Common.{◌≡◌, ℕ, suc, ◌+◌, ◌-◌, ◌<◌, ◌≤◌, ◌^◌, List, ◌++◌, length, flat_map, sym, ap, ◌∙◌, arith, append_assoc}
 use Rattle.std.proofs.lemmas.List.{append-nil}
-use Rattle.gypsy_syntax.specs.Programs.{Program, proc_at, body_of, conds_of}
-use Rattle.gypsy_syntax.specs.ProgramFits.{ProgramFits}
-use Rattle.gypsy_space.specs.Events.{AreNeeds, need_at}
-use Rattle.gypsy_space.specs.declared.need.Need.{Need}
-use Rattle.gypsy_codegen.specs.declared.marking.MarkAt.{MarkAt}
-use Rattle.gypsy_codegen.specs.Acceptable.{total_words}
-use Rattle.gypsy_codegen.specs.Generated.{size, count_from}
-use Rattle.gypsy_codegen.specs.Marks.{procedure_marks, marks_of}
-use Rattle.gypsy_codegen.specs.Internal.Views.{NamesAreThere}
-use Rattle.gypsy_codegen.specs.WordsOf.{words_of_values}
-use Rattle.gypsy_codegen.proofs.CountLaws.{code_few}
-use Rattle.gypsy_codegen.proofs.FineLaws.{words_sized}
-use Rattle.gypsy_codegen.proofs.WritableLaws.{names_there}
+use Rattle.gypsy_syntax.{specs.Programs.{Program, proc_at, body_of, conds_of}, specs.ProgramFits.ProgramFits}
+use Rattle.gypsy_space.{specs.Events.{AreNeeds, need_at}, specs.declared.need.Need.Need}
+use Rattle.gypsy_codegen.{specs.declared.marking.MarkAt.MarkAt, specs.Acceptable.total_words, specs.Generated.{size, count_from}, specs.Marks.procedure_marks}
+use Rattle.gypsy_codegen.{specs.Marks.marks_of, specs.Internal.Views.NamesAreThere, specs.WordsOf.words_of_values, proofs.CountLaws.code_few}
+use Rattle.gypsy_codegen.{proofs.FineLaws.words_sized, proofs.WritableLaws.names_there}
 
 -- one procedure more
 pub marks_next : (q : Program) (old new : List MarkAt) (k : ℕ) → k < length q.procs → new ≡ old ++ procedure_marks q k →

@@ -1,49 +1,27 @@
 -- Every moment of the step machine is one of the generated system, and costs an instruction at least.
 use Rattle.std.proofs.Common.{◌≡◌, ℕ, zero, suc, ◌+◌, ◌<◌, ◌≤◌, List, [], ◌∷◌, ◌++◌, length, map, Bool, true, false, refl, sym, ap, ◌∙◌, subst, arith}
-use Rattle.std.proofs.Common.{length-append}
-use Rattle.std.specs.Prelude.{slice_get}
-use Rattle.std.proofs.lemmas.List.{length-map}
-use Rattle.std.proofs.lemmas.Option.{slice_get_within}
+use Rattle.std.{proofs.Common.length-append, specs.Prelude.slice_get, proofs.lemmas.List.length-map, proofs.lemmas.Option.slice_get_within}
 use Rattle.stack_text.specs.Values.{ValueOf}
-use Rattle.piton_words.specs.declared.word.Word.{Word}
-use Rattle.piton_words.specs.declared.word.Word.TheVariants.{Nat}
+use Rattle.piton_words.{specs.declared.word.Word.Word, specs.declared.word.Word.TheVariants.Nat}
 use Rattle.piton_check.specs.Instruction.{SystemView}
 use Rattle.piton_semantics.specs.State as piton
-use Rattle.piton_semantics.specs.State.{PitonState, locals_of}
-use Rattle.piton_semantics.specs.Law.{Steps}
-use Rattle.gypsy_syntax.specs.declared.predef.Predef.{Predef}
-use Rattle.gypsy_syntax.specs.Programs.{ConditionOf, Routine, Space, Arg, Program, proc_at, shapes_of, body_of}
-use Rattle.gypsy_syntax.specs.Programs.{Stmt, Skip, NoOp, Signal, Seq, Loop, If, Begin, Call, Apply}
-use Rattle.gypsy_syntax.specs.ProgramFits.{ProgramFits}
-use Rattle.gypsy_syntax.proofs.PredefLaws.{costs_some}
-use Rattle.gypsy_syntax.specs.Predefined.{predef_effect}
-use Rattle.gypsy_syntax.specs.Effects.{Effect, Normal, Fault, Beyond, value_at, is_true_value}
-use Rattle.gypsy_syntax.specs.ValuesFit.{VarsFit}
-use Rattle.gypsy_space.specs.Costs.{Tally, spend, predef_spend, out_spend, main_spend}
-use Rattle.gypsy_space.specs.Needs.{StackSizes, vars_of, lack_of, call_spend}
-use Rattle.gypsy_space.specs.declared.need.Lack.{Lack}
-use Rattle.gypsy_space.specs.declared.need.Lack.TheVariants.{Nothing, Temporary, Control}
-use Rattle.gypsy_semantics.specs.Calls.{CurrentCondition, has_cond, is_leave, is_passed_on, matching, values_of, copied_out}
-use Rattle.gypsy_semantics.specs.Machine.{Item, Do, Back, JoinThen, JoinOne, Guard, Out, Frame, Held, State, At, Move, Next, Ended}
-use Rattle.gypsy_semantics.specs.Machine.{opens, settle, open_on, stop_if, raise, either_move, apply_step, call_step, do_step}
-use Rattle.gypsy_semantics.specs.Machine.{gypsy_step, used, Ending, Over, Going, run, go_on, start}
-use Rattle.gypsy_semantics.specs.Kept.{FramesFit, StateFits, MoveFits}
-use Rattle.gypsy_semantics.specs.Views.RunView.{spent_at, top_way}
-use Rattle.gypsy_semantics.proofs.Keeping.{step_keeps, start_fits}
-use Rattle.gypsy_semantics.proofs.Runs.{agree}
-use Rattle.gypsy_semantics.proofs.LendingLaws.{actuals_length}
-use Rattle.gypsy_codegen.specs.WordsOf.{starts, local_shapes, number_of_way}
-use Rattle.gypsy_codegen.specs.Generated.{offset, generated_view}
-use Rattle.gypsy_codegen.specs.Memory.{base_of, index_of, frame_of, index_words}
-use Rattle.gypsy_codegen.specs.Showing.{cc_of, Waits, StandsAs}
-use Rattle.gypsy_codegen.specs.Law.{Leads, tally_of}
-use Rattle.gypsy_codegen.specs.Whole.{opened, Reached, same, later}
-use Rattle.gypsy_codegen.specs.Moments.{moved_on, moment, moment_from, AreActivations, ReadsAs, HasMoment}
-use Rattle.gypsy_codegen.specs.Moments.{EachMomentIsReached, CostsSome, EachStepCosts, CountsGrow}
-use Rattle.gypsy_codegen.proofs.StackLaws.{starts-length}
-use Rattle.gypsy_codegen.proofs.LayoutLaws.{frame_at, newest, local_number}
-use Rattle.gypsy_codegen.proofs.PushLaws.{PredefsRun}
-use Rattle.gypsy_codegen.proofs.RunLaws.{counts, counted_runs, each_is_shown, place_is_mark, variables_stand}
+use Rattle.piton_semantics.{specs.State.{PitonState, locals_of}, specs.Law.Steps}
+use Rattle.gypsy_syntax.{specs.declared.predef.Predef.Predef, specs.Programs.{ConditionOf, Routine, Space, Arg, Program, proc_at, shapes_of, body_of, Stmt}}
+use Rattle.gypsy_syntax.{specs.Programs.{Skip, NoOp, Signal, Seq, Loop, If, Begin, Call, Apply}, specs.ProgramFits.ProgramFits, proofs.PredefLaws.costs_some}
+use Rattle.gypsy_syntax.{specs.Predefined.predef_effect, specs.Effects.{Effect, Normal, Fault, Beyond, value_at, is_true_value}, specs.ValuesFit.VarsFit}
+use Rattle.gypsy_space.{specs.Costs.{Tally, spend, predef_spend, out_spend, main_spend}, specs.Needs.{StackSizes, vars_of, lack_of, call_spend}}
+use Rattle.gypsy_space.{specs.declared.need.Lack.Lack, specs.declared.need.Lack.TheVariants.{Nothing, Temporary, Control}}
+use Rattle.gypsy_semantics.{specs.Calls.{CurrentCondition, has_cond, is_leave, is_passed_on, matching, values_of, copied_out}, specs.Machine.{Item, Do, Back}}
+use Rattle.gypsy_semantics.specs.Machine.{JoinThen, JoinOne, Guard, Out, Frame, Held, State, At, Move, Next, Ended, opens, settle, open_on, stop_if, raise}
+use Rattle.gypsy_semantics.specs.Machine.{either_move, apply_step, call_step, do_step, gypsy_step, used, Ending, Over, Going, run, go_on, start}
+use Rattle.gypsy_semantics.{specs.Kept.{FramesFit, StateFits, MoveFits}, specs.Views.RunView.{spent_at, top_way}, proofs.Keeping.{step_keeps, start_fits}}
+use Rattle.gypsy_semantics.{proofs.Runs.agree, proofs.LendingLaws.actuals_length}
+use Rattle.gypsy_codegen.{specs.WordsOf.{starts, local_shapes, number_of_way}, specs.Generated.{offset, generated_view}, specs.Memory.{base_of, index_of}}
+use Rattle.gypsy_codegen.{specs.Memory.{frame_of, index_words}, specs.Showing.{cc_of, Waits, StandsAs}, specs.Law.{Leads, tally_of}, specs.Whole.opened}
+use Rattle.gypsy_codegen.{specs.Whole.{Reached, same, later}, specs.Moments.{moved_on, moment, moment_from, AreActivations, ReadsAs, HasMoment}}
+use Rattle.gypsy_codegen.{specs.Moments.{EachMomentIsReached, CostsSome, EachStepCosts, CountsGrow}, proofs.StackLaws.starts-length, proofs.LayoutLaws.frame_at}
+use Rattle.gypsy_codegen.{proofs.LayoutLaws.{newest, local_number}, proofs.PushLaws.PredefsRun, proofs.RunLaws.{counts, counted_runs, each_is_shown}}
+use Rattle.gypsy_codegen.proofs.RunLaws.{place_is_mark, variables_stand}
 
 -- ---- the step machine
 

@@ -1,44 +1,28 @@
 -- How many atoms and lists the tree of the generated system has at most.
 use Rattle.std.proofs.Common.{◌≡◌, ℕ, suc, ◌+◌, ◌*◌, ◌≤◌, ◌^◌, List, [], ◌∷◌, ◌++◌, map, length, Bool, true, false, cond, leb, refl, ap, ◌∙◌, arith}
-use Rattle.std.specs.Prelude.{◌==◌}
-use Rattle.std.proofs.lemmas.Bool.{leb-true}
-use Rattle.std.proofs.lemmas.List.{map-append}
-use Rattle.stack_text.specs.declared.shape.Shape.{Shape}
-use Rattle.stack_text.specs.Values.{item_count}
-use Rattle.stack_text.specs.Trees.{Node, atom, node_count, node_counts}
-use Rattle.stack_text.specs.Views.TreeView.{nodes}
+use Rattle.std.{specs.Prelude.◌==◌, proofs.lemmas.Bool.leb-true, proofs.lemmas.List.map-append}
+use Rattle.stack_text.{specs.declared.shape.Shape.Shape, specs.Values.item_count, specs.Trees.{Node, atom, node_count, node_counts}, specs.Views.TreeView.nodes}
+use Rattle.stack_text.specs.Grammar.Printed.{tree_of_all, name_tree, unplaced}
 use Rattle.piton_words.specs.declared.word.Word.{Word}
 use Rattle.piton_words.specs.declared.word.Word.TheVariants as word
 use Rattle.piton_words.specs.declared.op.WordOp.TheVariants as op
 use Rattle.piton_syntax.specs.declared.test_kind.TestFamily.TheVariants as family
 use Rattle.piton_syntax.specs.declared.test_kind.TestKind.TheVariants as test
-use Rattle.piton_syntax.specs.Operations.{op_name}
-use Rattle.stack_text.specs.Grammar.Printed.{tree_of_all, name_tree, unplaced}
-use Rattle.piton_syntax.specs.Printed.{word_tree, argument_tree, instruction_tree, temporary_tree, program_tree, tree_of}
+use Rattle.piton_syntax.{specs.Operations.op_name, specs.Printed.{word_tree, argument_tree, instruction_tree, temporary_tree, program_tree, tree_of}}
 use Rattle.piton_check.specs.Instruction as i
 use Rattle.piton_check.specs.Instruction.{Instruction}
-use Rattle.gypsy_syntax.specs.declared.predef.Predef.{Predef}
+use Rattle.gypsy_syntax.{specs.declared.predef.Predef.Predef, specs.Sources.{ProcOf, SourceOf}, specs.Programs.{ConditionOf, Routine, Arg, Var, Lit, Program}}
+use Rattle.gypsy_syntax.{specs.Programs.{proc_at, body_of, shapes_of, Stmt, Skip, NoOp, Signal, Seq, Loop, If, Begin, Call, Apply}, specs.Resolved.program_of}
+use Rattle.gypsy_syntax.{specs.ProgramFits.{Each, ProgramFits}, specs.Predefined.can_fail}
 use Rattle.gypsy_syntax.specs.declared.predef.Predef.TheVariants as row
-use Rattle.gypsy_syntax.specs.Sources.{ProcOf, SourceOf}
-use Rattle.gypsy_syntax.specs.Programs.{ConditionOf, Routine, Arg, Var, Lit, Program, proc_at, body_of, shapes_of}
-use Rattle.gypsy_syntax.specs.Programs.{Stmt, Skip, NoOp, Signal, Seq, Loop, If, Begin, Call, Apply}
-use Rattle.gypsy_syntax.specs.Resolved.{program_of}
-use Rattle.gypsy_syntax.specs.ProgramFits.{Each, ProgramFits}
 use Rattle.gypsy_space.specs.Needs.{StackSizes, local_words, code_words}
-use Rattle.gypsy_codegen.specs.WordsOf.{starts, words_of_values, local_shapes}
-use Rattle.gypsy_syntax.specs.Predefined.{can_fail}
-use Rattle.gypsy_predef.specs.Calls.{test_code}
-use Rattle.gypsy_predef.specs.Texts.{body_texts}
-use Rattle.gypsy_codegen.specs.Generated.{Scope, InLoop, InBegin, push_words, push_indices, push_actuals, push_args, length_code}
-use Rattle.gypsy_codegen.specs.Generated.{predef_position, size, opening_words, count_from}
-use Rattle.gypsy_codegen.specs.Written.{Names, Line, Plain, Marked, written_word, label_arg, written, op_of, args_of}
-use Rattle.gypsy_codegen.specs.Lines.{labels, label_to, unmarked, marked_raises, raise_labels, before_code, after_lines, lines, tail_lines, lines_of}
-use Rattle.gypsy_codegen.specs.Text.{frame_texts, names_with, temporaries_of, written_procedure, written_procedures, generated}
-use Rattle.gypsy_codegen.specs.Acceptable.{code_words_of}
-use Rattle.gypsy_codegen.proofs.SourceLaws.{ProcForm}
-use Rattle.gypsy_codegen.proofs.ResolveLaws.{procedure_count}
-use Rattle.gypsy_codegen.proofs.SourceLaws.{frame_count}
-use Rattle.gypsy_codegen.proofs.CountLaws.{code_least}
+use Rattle.gypsy_codegen.{specs.WordsOf.{starts, words_of_values, local_shapes}, specs.Generated.{Scope, InLoop, InBegin, push_words, push_indices}}
+use Rattle.gypsy_codegen.{specs.Generated.{push_actuals, push_args, length_code, predef_position, size, opening_words, count_from}, specs.Written.{Names, Line}}
+use Rattle.gypsy_codegen.{specs.Written.{Plain, Marked, written_word, label_arg, written, op_of, args_of}, specs.Lines.{labels, label_to, unmarked}}
+use Rattle.gypsy_codegen.{specs.Lines.{marked_raises, raise_labels, before_code, after_lines, lines, tail_lines, lines_of}, specs.Text.frame_texts}
+use Rattle.gypsy_codegen.{specs.Text.{names_with, temporaries_of, written_procedure, written_procedures, generated}, specs.Acceptable.code_words_of}
+use Rattle.gypsy_codegen.{proofs.SourceLaws.{ProcForm, frame_count}, proofs.ResolveLaws.procedure_count, proofs.CountLaws.code_least}
+use Rattle.gypsy_predef.{specs.Calls.test_code, specs.Texts.body_texts}
 
 counts_both : (a b : List Node) → node_counts (nodes (a ++ b)) ≡ node_counts (nodes a) + node_counts (nodes b)
 counts_both [] b = omega arith

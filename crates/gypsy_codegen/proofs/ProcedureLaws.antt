@@ -1,49 +1,25 @@
 -- The program of a procedure.
-use Rattle.std.proofs.Common.{◌≡◌, ℕ, ◌+◌, ◌<◌, ◌≤◌, ◌^◌, List, [], ◌∷◌, ◌++◌, map, length, slice_get, All}
-use Rattle.std.proofs.Common.{Bool, true, false, cond, Some, refl, sym, ap, subst, ◌∙◌, arith, length-append, flat_map}
-use Rattle.std.specs.Prelude.{IsTrue, ◌==◌}
-use Rattle.std.proofs.lemmas.List.{length-map, append-nil}
+use Rattle.std.proofs.Common.{◌≡◌, ℕ, ◌+◌, ◌<◌, ◌≤◌, ◌^◌, List, [], ◌∷◌, ◌++◌, map, length, slice_get, All, Bool, true, false, cond, Some, refl, sym, ap, subst}
+use Rattle.std.{proofs.Common.{◌∙◌, arith, length-append, flat_map}, specs.Prelude.{IsTrue, ◌==◌}, proofs.lemmas.List.{length-map, append-nil}}
 use Rattle.std.proofs.lemmas.List.Elements.{All-nil}
-use Rattle.stack_text.specs.declared.shape.Shape.{Shape}
-use Rattle.stack_text.specs.Values.{item_count}
-use Rattle.stack_text.specs.Names.{is_name}
-use Rattle.piton_words.specs.declared.word.Word.{Word}
-use Rattle.piton_words.specs.declared.word.Word.TheVariants.{Nat}
-use Rattle.piton_syntax.specs.Systems.{SystemOf}
-use Rattle.stack_text.specs.Grammar.Parts.{IsNamed}
+use Rattle.stack_text.{specs.declared.shape.Shape.Shape, specs.Values.item_count, specs.Names.is_name, specs.Grammar.Parts.IsNamed}
 use Rattle.stack_text.specs.Grammar.Printed.{unplaced}
-use Rattle.piton_syntax.specs.Fits.{FitsTemporary}
-use Rattle.piton_check.specs.Declarations.{formal_name, temporary_name}
-use Rattle.piton_check.specs.Violations.{temporary_breaches}
-use Rattle.piton_check.specs.Resolved.{resolved_temporary}
+use Rattle.piton_words.{specs.declared.word.Word.Word, specs.declared.word.Word.TheVariants.Nat}
+use Rattle.piton_syntax.{specs.Systems.SystemOf, specs.Fits.FitsTemporary}
+use Rattle.piton_check.{specs.Declarations.{formal_name, temporary_name}, specs.Violations.temporary_breaches, specs.Resolved.resolved_temporary}
 use Rattle.piton_check.specs.Instruction as i
-use Rattle.gypsy_syntax.specs.Sources.{ProcOf, SourceOf}
-use Rattle.gypsy_syntax.specs.Predefined.{predefs}
-use Rattle.gypsy_syntax.specs.Programs.{Program, no_proc, proc_at, body_of, shapes_of, conds_of, words_of}
-use Rattle.gypsy_syntax.specs.Resolved.{shape_of, local_value, procedure_of, program_of}
-use Rattle.gypsy_syntax.specs.ProgramFits.{Each, ProgramFits}
+use Rattle.gypsy_syntax.{specs.Sources.{ProcOf, SourceOf}, specs.Predefined.predefs, specs.Programs.{Program, no_proc, proc_at, body_of, shapes_of, conds_of}}
+use Rattle.gypsy_syntax.{specs.Programs.words_of, specs.Resolved.{shape_of, local_value, procedure_of, program_of}, specs.ProgramFits.{Each, ProgramFits}}
 use Rattle.gypsy_space.specs.Needs.{vars_of}
-use Rattle.gypsy_check.specs.Rules.{procedure_breaches}
-use Rattle.gypsy_check.proofs.CleanLaws.{get_or_map}
-use Rattle.gypsy_codegen.specs.WordsOf.{starts}
-use Rattle.gypsy_codegen.specs.Generated.{size, generated_program}
-use Rattle.gypsy_codegen.specs.Written.{Names, Line, Plain, Marked}
-use Rattle.gypsy_codegen.specs.Lines.{labels, lines, tail_lines, lines_of}
-use Rattle.gypsy_codegen.specs.Text.{frame_texts, names_with, temporaries_of, written_procedure}
-use Rattle.gypsy_codegen.specs.Acceptable.{total_words}
-use Rattle.gypsy_codegen.proofs.SourceLaws.{ProcForm}
-use Rattle.gypsy_codegen.proofs.InstructionLaws.{InRange, Known, Base}
-use Rattle.gypsy_codegen.proofs.StackLaws.{starts-length}
-use Rattle.gypsy_codegen.proofs.DeclareLaws.{declarations}
-use Rattle.gypsy_codegen.proofs.LinesLaws.{procedure_distinct, procedure_ranged}
-use Rattle.gypsy_codegen.proofs.ResolveLaws.{found, procedure_resolves, procedure_count}
-use Rattle.gypsy_codegen.proofs.FineLaws.{Marks, FineLine, procedure_sure}
-use Rattle.gypsy_codegen.proofs.ProgramLaws.{formals_fit, temporaries_fit, temporaries_clean, temporaries_view, temporaries_count, formals_declared}
-use Rattle.gypsy_codegen.proofs.ProgramLaws.{temporaries_declared}
-use Rattle.gypsy_codegen.proofs.ProgramLaws.{Clean, Made, places, last_part, made_good, made_marks, made_clean}
-use Rattle.gypsy_codegen.proofs.BaseLaws.{world_of}
-use Rattle.gypsy_codegen.proofs.SourceLaws.{frame_differs, frame_named, frame_count}
-use Rattle.gypsy_codegen.proofs.CountLaws.{labels_least, code_few}
+use Rattle.gypsy_check.{specs.Rules.procedure_breaches, proofs.CleanLaws.get_or_map}
+use Rattle.gypsy_codegen.{specs.WordsOf.starts, specs.Generated.{size, generated_program}, specs.Written.{Names, Line, Plain, Marked}, specs.Lines.labels}
+use Rattle.gypsy_codegen.{specs.Lines.{lines, tail_lines, lines_of}, specs.Text.{frame_texts, names_with, temporaries_of, written_procedure}}
+use Rattle.gypsy_codegen.{specs.Acceptable.total_words, proofs.SourceLaws.{ProcForm, frame_differs, frame_named, frame_count}, proofs.InstructionLaws.InRange}
+use Rattle.gypsy_codegen.{proofs.InstructionLaws.{Known, Base}, proofs.StackLaws.starts-length, proofs.DeclareLaws.declarations}
+use Rattle.gypsy_codegen.{proofs.LinesLaws.{procedure_distinct, procedure_ranged}, proofs.ResolveLaws.{found, procedure_resolves, procedure_count}}
+use Rattle.gypsy_codegen.{proofs.FineLaws.{Marks, FineLine, procedure_sure}, proofs.ProgramLaws.{formals_fit, temporaries_fit, temporaries_clean}}
+use Rattle.gypsy_codegen.proofs.ProgramLaws.{temporaries_view, temporaries_count, formals_declared, temporaries_declared, Clean, Made, places, last_part}
+use Rattle.gypsy_codegen.{proofs.ProgramLaws.{made_good, made_marks, made_clean}, proofs.BaseLaws.world_of, proofs.CountLaws.{labels_least, code_few}}
 
 starts_in_range : (at : ℕ) (shapes : List Shape) → at + words_of shapes ≤ 65536 → Each InRange (map (λ k. Nat k) (starts at shapes))
 starts_in_range at [] le = tt

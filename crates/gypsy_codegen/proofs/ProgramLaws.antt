@@ -1,30 +1,21 @@
 -- A program of lines that name what is there: it keeps the form, breaks no rule, and is seen as the code by places.
-use Rattle.std.proofs.Common.{◌≡◌, ℕ, suc, ◌+◌, ◌-◌, ◌<◌, ◌≤◌, ◌^◌, List, [], ◌∷◌, ◌++◌, map, length, slice_get, All}
-use Rattle.std.proofs.Common.{true, Option, Some, unwrap_or, refl, sym, ap, subst, ◌∙◌, arith, flat_map, length-append}
-use Rattle.std.specs.Prelude.{IsTrue, not}
-use Rattle.std.proofs.lemmas.List.{length-map}
+use Rattle.std.proofs.Common.{◌≡◌, ℕ, suc, ◌+◌, ◌-◌, ◌<◌, ◌≤◌, ◌^◌, List, [], ◌∷◌, ◌++◌, map, length, slice_get, All, true, Option, Some, unwrap_or, refl, sym}
+use Rattle.std.{proofs.Common.{ap, subst, ◌∙◌, arith, flat_map, length-append}, specs.Prelude.{IsTrue, not}, proofs.lemmas.List.length-map}
 use Rattle.std.proofs.lemmas.List.Elements.{All-nil, All-cons}
-use Rattle.stack_text.specs.Names.{is_name}
+use Rattle.stack_text.{specs.Names.is_name, specs.Grammar.Parts.IsNamed, specs.Breaches.when, specs.Grammar.Printed.unplaced, proofs.SharedLaws.both_none}
+use Rattle.stack_text.proofs.SharedLaws.{get_map}
 use Rattle.piton_words.specs.declared.word.Word.{Word}
-use Rattle.piton_syntax.specs.Systems.{ProgramOf, SystemOf}
-use Rattle.stack_text.specs.Grammar.Parts.{IsNamed}
-use Rattle.piton_syntax.specs.Fits.{FitsInstruction, FitsTemporary, FitsProgram}
-use Rattle.stack_text.specs.Breaches.{when}
-use Rattle.stack_text.specs.Grammar.Printed.{unplaced}
-use Rattle.stack_text.proofs.SharedLaws.{both_none, get_map}
+use Rattle.piton_syntax.{specs.Systems.{ProgramOf, SystemOf}, specs.Fits.{FitsInstruction, FitsTemporary, FitsProgram}}
 use Rattle.piton_check.specs.Declarations.{label_name as label_of, local_names, label_names, formal_name, temporary_name, first_of, repeats}
 use Rattle.piton_check.specs.Violations.{temporary_breaches, instruction_breaches, end_breaches, program_breaches, is_end}
-use Rattle.piton_check.specs.Resolved.{resolved_instruction, resolved_temporary, resolved_program}
+use Rattle.piton_check.{specs.Resolved.{resolved_instruction, resolved_temporary, resolved_program}, specs.Instruction.{Instruction, instruction_view}}
+use Rattle.piton_check.specs.Instruction.{program_view}
 use Rattle.piton_check.specs.Instruction as i
-use Rattle.piton_check.specs.Instruction.{Instruction, instruction_view, program_view}
 use Rattle.gypsy_syntax.specs.ProgramFits.{Each}
-use Rattle.gypsy_codegen.specs.Written.{Names, Line, Plain, Marked, label_text, written_word, written, line_with_places}
-use Rattle.gypsy_codegen.specs.Text.{temporaries_of}
-use Rattle.gypsy_codegen.proofs.InstructionLaws.{InRange, World, Known, says, word_clean, word_fits, word_resolves}
-use Rattle.gypsy_codegen.proofs.LabelLaws.{Distinct, Ranged, Good, declared, good_all, label_named}
-use Rattle.gypsy_codegen.proofs.DeclareLaws.{Apart, no_repeats, labels_apart, declarations, Differ, names_apart}
-use Rattle.gypsy_codegen.proofs.ResolveLaws.{found}
-use Rattle.gypsy_codegen.proofs.FineLaws.{Marks, FineLine}
+use Rattle.gypsy_codegen.{specs.Written.{Names, Line, Plain, Marked, label_text, written_word, written, line_with_places}, specs.Text.temporaries_of}
+use Rattle.gypsy_codegen.{proofs.InstructionLaws.{InRange, World, Known, says, word_clean, word_fits, word_resolves}, proofs.LabelLaws.{Distinct, Ranged, Good}}
+use Rattle.gypsy_codegen.{proofs.LabelLaws.{declared, good_all, label_named}, proofs.DeclareLaws.{Apart, no_repeats, labels_apart, declarations, Differ}}
+use Rattle.gypsy_codegen.{proofs.DeclareLaws.names_apart, proofs.ResolveLaws.found, proofs.FineLaws.{Marks, FineLine}}
 
 -- ---- lists
 

@@ -1,37 +1,21 @@
 -- The pushes before a call, and steps in an activation.
 use Rattle.std.proofs.Common.{◌≡◌, ℕ, zero, suc, ◌+◌, ◌-◌, ◌*◌, ◌<◌, ◌≤◌, ◌^◌, List, [], ◌∷◌, ◌++◌, length, map, Some, refl, ap, ◌∙◌, subst, arith}
-use Rattle.std.proofs.Common.{append_assoc, length-append}
-use Rattle.std.specs.Prelude.{slice_get, if◌then◌else◌, ◌==◌}
-use Rattle.std.proofs.Math.Seq.{get_or-append_seam}
-use Rattle.std.proofs.lemmas.Option.{slice_get-get_or}
-use Rattle.stack_text.specs.declared.shape.Shape.{Shape}
-use Rattle.stack_text.specs.Values.{ValueOf, item_count}
-use Rattle.piton_words.specs.declared.word.Word.{Word}
-use Rattle.piton_words.specs.declared.word.Word.TheVariants.{Nat}
+use Rattle.std.{proofs.Common.{append_assoc, length-append}, specs.Prelude.{slice_get, if◌then◌else◌, ◌==◌}, proofs.Math.Seq.get_or-append_seam}
+use Rattle.std.{proofs.lemmas.Option.slice_get-get_or, proofs.lemmas.Bool.{ne_eqb, cond-false}}
+use Rattle.stack_text.{specs.declared.shape.Shape.Shape, specs.Values.{ValueOf, item_count}}
+use Rattle.piton_words.{specs.declared.word.Word.Word, specs.declared.word.Word.TheVariants.Nat}
 use Rattle.piton_check.specs.Instruction as i
 use Rattle.piton_check.specs.Instruction.{Instruction}
 use Rattle.piton_semantics.specs.State as piton
 use Rattle.piton_semantics.specs.State.{locals_of}
-use Rattle.gypsy_syntax.specs.Programs.{Program, proc_at, shapes_of, words_of, Arg, Var, Lit}
-use Rattle.gypsy_syntax.specs.ProgramFits.{ProgramFits}
-use Rattle.gypsy_syntax.specs.ValuesFit.{VarsFit}
-use Rattle.gypsy_space.specs.Costs.{Tally, spend}
-use Rattle.gypsy_space.specs.Needs.{StackSizes, temp_need, ctrl_need}
-use Rattle.gypsy_space.proofs.SpendLaws.{spend_two, spend_none}
-use Rattle.gypsy_semantics.specs.Machine.{Frame, Held, used}
-use Rattle.gypsy_semantics.specs.Kept.{FramesFit}
-use Rattle.gypsy_semantics.specs.Room.{HasWords, HaveWords}
-use Rattle.gypsy_predef.specs.Runs.{push_all}
-use Rattle.gypsy_predef.specs.Calls.{PredefCallRuns, ArgumentsHold, ValuesKept}
-use Rattle.gypsy_codegen.specs.WordsOf.{starts}
-use Rattle.gypsy_codegen.specs.Generated.{generated_view, code_of, offset, push_words, push_indices, push_actuals, push_args}
-use Rattle.gypsy_codegen.specs.Memory.{stack_of, index_of, index_words}
-use Rattle.gypsy_codegen.specs.Showing.{HasAt, Waits}
-use Rattle.gypsy_codegen.proofs.CopyLaws.{Below}
-use Rattle.gypsy_codegen.proofs.LayoutLaws.{height, frame_at, proc_there, Newest, newest}
-use Rattle.std.proofs.lemmas.Bool.{ne_eqb, cond-false}
+use Rattle.gypsy_syntax.{specs.Programs.{Program, proc_at, shapes_of, words_of, Arg, Var, Lit}, specs.ProgramFits.ProgramFits, specs.ValuesFit.VarsFit}
+use Rattle.gypsy_space.{specs.Costs.{Tally, spend}, specs.Needs.{StackSizes, temp_need, ctrl_need}, proofs.SpendLaws.{spend_two, spend_none}}
+use Rattle.gypsy_semantics.{specs.Machine.{Frame, Held, used}, specs.Kept.FramesFit, specs.Room.{HasWords, HaveWords}}
+use Rattle.gypsy_predef.{specs.Runs.push_all, specs.Calls.{PredefCallRuns, ArgumentsHold, ValuesKept}}
+use Rattle.gypsy_codegen.{specs.WordsOf.starts, specs.Generated.{generated_view, code_of, offset, push_words, push_indices, push_actuals, push_args}}
+use Rattle.gypsy_codegen.{specs.Memory.{stack_of, index_of, index_words}, specs.Showing.{HasAt, Waits}, proofs.CopyLaws.Below, proofs.LayoutLaws.height}
+use Rattle.gypsy_codegen.{proofs.LayoutLaws.{frame_at, proc_there, Newest, newest}, proofs.StepLaws.{P, Pt, Goes, steps_on, stay, lands_at, spend_as}}
 use Rattle.gypsy_codegen.proofs.StepLaws as go
-use Rattle.gypsy_codegen.proofs.StepLaws.{P, Pt, Goes, steps_on, stay, lands_at, spend_as}
 
 pub has_front : (code : List Instruction) (at : ℕ) (a b : List Instruction) → HasAt code at (a ++ b) → HasAt code at a
 has_front code at [] b h = tt

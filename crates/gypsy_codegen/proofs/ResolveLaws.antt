@@ -1,38 +1,25 @@
 -- With places for its labels, the lines of a statement are its code by places.
-use Rattle.std.proofs.Common.{◌≡◌, ℕ, suc, ◌+◌, ◌*◌, ◌-◌, List, [], ◌∷◌, ◌++◌, map, length, Bool, true, false, cond}
-use Rattle.std.proofs.Common.{Option, Some, unwrap_or, refl, ap, subst, ◌∙◌, arith, append_assoc, length-append}
-use Rattle.std.proofs.lemmas.List.{length-map}
-use Rattle.stack_text.specs.declared.shape.Shape.{Shape}
-use Rattle.stack_text.specs.Values.{item_count}
-use Rattle.piton_words.specs.declared.word.Word.{Word}
-use Rattle.piton_words.specs.declared.word.Word.TheVariants.{Nat}
+use Rattle.std.proofs.Common.{◌≡◌, ℕ, suc, ◌+◌, ◌*◌, ◌-◌, List, [], ◌∷◌, ◌++◌, map, length, Bool, true, false, cond, Option, Some, unwrap_or, refl, ap, subst}
+use Rattle.std.{proofs.Common.{◌∙◌, arith, append_assoc, length-append}, proofs.lemmas.List.length-map}
+use Rattle.stack_text.{specs.declared.shape.Shape.Shape, specs.Values.item_count}
+use Rattle.piton_words.{specs.declared.word.Word.Word, specs.declared.word.Word.TheVariants.Nat}
 use Rattle.piton_words.specs.declared.op.WordOp.TheVariants as op
 use Rattle.piton_syntax.specs.declared.test_kind.TestFamily.TheVariants as family
 use Rattle.piton_syntax.specs.declared.test_kind.TestKind.TheVariants as test
 use Rattle.piton_check.specs.Instruction as i
 use Rattle.piton_check.specs.Instruction.{Instruction}
-use Rattle.gypsy_syntax.specs.declared.predef.Predef.{Predef}
+use Rattle.gypsy_syntax.{specs.declared.predef.Predef.Predef, specs.Programs.{ConditionOf, Routine, Space, Arg, Var, Lit, Program, proc_at, body_of, shapes_of}}
+use Rattle.gypsy_syntax.{specs.Programs.{Stmt, Skip, NoOp, Signal, Seq, Loop, If, Begin, Call, Apply}, specs.Effects.item_of_value, specs.Predefined.can_fail}
 use Rattle.gypsy_syntax.specs.declared.predef.Predef.TheVariants as row
-use Rattle.gypsy_syntax.specs.Programs.{ConditionOf, Routine, Space, Arg, Var, Lit, Program, proc_at, body_of, shapes_of}
-use Rattle.gypsy_syntax.specs.Programs.{Stmt, Skip, NoOp, Signal, Seq, Loop, If, Begin, Call, Apply}
-use Rattle.gypsy_syntax.specs.Effects.{item_of_value}
 use Rattle.gypsy_space.specs.Needs.{StackSizes, local_words, call_need}
 use Rattle.gypsy_semantics.specs.Calls.{has_cond, is_leave, is_passed_on}
-use Rattle.gypsy_syntax.specs.Predefined.{can_fail}
-use Rattle.gypsy_predef.specs.Runs.{word_of_item}
-use Rattle.gypsy_predef.specs.Bodies.{lengths_of}
-use Rattle.gypsy_predef.specs.Calls.{test_code}
-use Rattle.gypsy_codegen.specs.WordsOf.{words_of_values, local_shapes, number_of}
-use Rattle.gypsy_codegen.specs.Guard.{guard_code, guard_size}
-use Rattle.gypsy_codegen.specs.Generated.{Scope, InLoop, InBegin, target, raise_code, back_code, raises, raise_places}
-use Rattle.gypsy_codegen.specs.Generated.{after_code, push_words, push_indices, push_actuals, push_args, before_size, length_code}
-use Rattle.gypsy_codegen.specs.Generated.{predef_position, offset, size, gen, code_of}
-use Rattle.gypsy_codegen.specs.Written.{Line, Plain, Marked, line_with_places}
-use Rattle.gypsy_codegen.specs.Lines.{labels, label_to, unmarked, marked_raise, marked_raises, raise_labels}
-use Rattle.gypsy_codegen.specs.Lines.{before_code, after_lines, apply_code, lines, tail_lines, lines_of}
-use Rattle.gypsy_codegen.proofs.PushLaws.{size_words, size_indices, size_actuals, size_args}
-use Rattle.gypsy_codegen.proofs.StandLaws.{size_length, size_check}
-use Rattle.gypsy_codegen.proofs.LabelLaws.{Good}
+use Rattle.gypsy_predef.{specs.Runs.word_of_item, specs.Bodies.lengths_of, specs.Calls.test_code}
+use Rattle.gypsy_codegen.{specs.WordsOf.{words_of_values, local_shapes, number_of}, specs.Guard.{guard_code, guard_size}, specs.Generated.{Scope, InLoop}}
+use Rattle.gypsy_codegen.specs.Generated.{InBegin, target, raise_code, back_code, raises, raise_places, after_code, push_words, push_indices, push_actuals}
+use Rattle.gypsy_codegen.{specs.Generated.{push_args, before_size, length_code, predef_position, offset, size, gen, code_of}, specs.Written.{Line, Plain}}
+use Rattle.gypsy_codegen.{specs.Written.{Marked, line_with_places}, specs.Lines.{labels, label_to, unmarked, marked_raise, marked_raises, raise_labels}}
+use Rattle.gypsy_codegen.{specs.Lines.{before_code, after_lines, apply_code, lines, tail_lines, lines_of}, proofs.PushLaws.{size_words, size_indices}}
+use Rattle.gypsy_codegen.{proofs.PushLaws.{size_actuals, size_args}, proofs.StandLaws.{size_length, size_check}, proofs.LabelLaws.Good}
 
 -- ---- how many lines
 

@@ -1,19 +1,13 @@
 -- The rows of the step machine, one by one.
 use Rattle.std.proofs.Common.{◌≡◌, ℕ, List, [], ◌∷◌, subst}
 use Rattle.gypsy_syntax.specs.Programs.{ConditionOf, NoOp, Signal, Loop, If, Call, Apply}
-use Rattle.gypsy_space.specs.Costs.{spend}
-use Rattle.gypsy_space.specs.Needs.{lack_of}
-use Rattle.gypsy_space.specs.declared.need.Lack.{Lack}
-use Rattle.gypsy_space.specs.declared.need.Lack.TheVariants.{Nothing, Temporary, Control}
+use Rattle.gypsy_space.{specs.Costs.spend, specs.Needs.lack_of, specs.declared.need.Lack.Lack, specs.declared.need.Lack.TheVariants.{Nothing, Temporary}}
+use Rattle.gypsy_space.specs.declared.need.Lack.TheVariants.{Control}
 use Rattle.gypsy_semantics.specs.Machine.{Item, Do, Back, JoinThen, JoinOne, Guard, Out, At, Next, used, either_move, call_step, apply_step, end_step, out_step}
-use Rattle.gypsy_semantics.specs.Machine.{open_on, gypsy_step}
-use Rattle.gypsy_semantics.proofs.Rooms.{nothing_lacks}
-use Rattle.gypsy_codegen.specs.Generated.{generated_view}
-use Rattle.gypsy_codegen.specs.Law.{Follows}
-use Rattle.gypsy_codegen.specs.StepRows.{Top, IsShown, at_work, NoOpRow, SignalRow, LoopRow, BackRow, ThenRow, ElseRow, JoinThenRow, JoinOneRow, GuardRow}
-use Rattle.gypsy_codegen.specs.StepRows.{CallRow, LackTemporaryRow, LackControlRow, WriteRow, FaultRow, BeyondRow, ReturnRow, OutRow, EndRow, MainOutRow}
-use Rattle.gypsy_codegen.proofs.PushLaws.{PredefsRun}
-use Rattle.gypsy_codegen.proofs.RowLaws.{steps_follow}
+use Rattle.gypsy_semantics.{specs.Machine.{open_on, gypsy_step}, proofs.Rooms.nothing_lacks}
+use Rattle.gypsy_codegen.{specs.Generated.generated_view, specs.Law.Follows, specs.StepRows.{Top, IsShown, at_work, NoOpRow, SignalRow, LoopRow, BackRow}}
+use Rattle.gypsy_codegen.specs.StepRows.{ThenRow, ElseRow, JoinThenRow, JoinOneRow, GuardRow, CallRow, LackTemporaryRow, LackControlRow, WriteRow, FaultRow}
+use Rattle.gypsy_codegen.{specs.StepRows.{BeyondRow, ReturnRow, OutRow, EndRow, MainOutRow}, proofs.PushLaws.PredefsRun, proofs.RowLaws.steps_follow}
 
 module _ (predefs : PredefsRun) where
   follows : (s : Top) (w : List Item) → IsShown s (at_work s w) → Follows s.source (generated_view s.source s.sizes s.base) s.piton s.spent

@@ -1,49 +1,30 @@
 -- Each step of the step machine is so many steps of the generated system.
-use Rattle.std.proofs.Common.{◌≡◌, ℕ, ◌+◌, List, [], ◌∷◌, ◌++◌, length, Bool, true, false, Some, refl, sym, ap, ◌∙◌, subst, arith}
-use Rattle.std.specs.Prelude.{slice_get, pos}
-use Rattle.std.proofs.lemmas.Option.{slice_get_within, slice_get-get_or}
-use Rattle.stack_text.specs.declared.shape.Kind.{Kind}
-use Rattle.stack_text.specs.declared.shape.Kind.TheVariants.{Boolean}
-use Rattle.stack_text.specs.declared.shape.Shape.{Shape}
-use Rattle.stack_text.specs.Values.{ValueOf, item_count}
-use Rattle.stack_text.proofs.SharedLaws.{get_map}
-use Rattle.piton_words.specs.declared.word.Word.{Word}
-use Rattle.piton_words.specs.declared.word.Word.TheVariants.{Bool as Truth}
+use Rattle.std.{proofs.Common.{◌≡◌, ℕ, ◌+◌, List, [], ◌∷◌, ◌++◌, length, Bool, true, false, Some, refl, sym, ap, ◌∙◌, subst, arith}, specs.Prelude.slice_get}
+use Rattle.std.{specs.Prelude.pos, proofs.lemmas.Option.{slice_get_within, slice_get-get_or}}
+use Rattle.stack_text.{specs.declared.shape.Kind.Kind, specs.declared.shape.Kind.TheVariants.Boolean, specs.declared.shape.Shape.Shape, specs.Values.ValueOf}
+use Rattle.stack_text.{specs.Values.item_count, proofs.SharedLaws.get_map}
+use Rattle.piton_words.{specs.declared.word.Word.Word, specs.declared.word.Word.TheVariants.Bool as Truth}
 use Rattle.piton_syntax.specs.declared.test_kind.TestFamily.TheVariants as family
 use Rattle.piton_syntax.specs.declared.test_kind.TestKind.TheVariants as test
 use Rattle.piton_check.specs.Instruction as i
 use Rattle.piton_semantics.specs.State as piton
 use Rattle.piton_semantics.specs.State.{PitonState, element}
-use Rattle.gypsy_syntax.specs.Programs.{ConditionOf, Program, proc_at, body_of, shapes_of, conds_of, simple}
-use Rattle.gypsy_syntax.specs.Programs.{Stmt, Skip, NoOp, Signal, Seq, Loop, If, Begin, Call, Apply}
-use Rattle.gypsy_syntax.specs.ProgramFits.{StmtFits}
-use Rattle.gypsy_syntax.specs.ValuesFit.{ValueFits, VarsFit}
-use Rattle.gypsy_syntax.specs.Predefined.{predef_effect}
+use Rattle.gypsy_syntax.specs.Programs.{ConditionOf, Program, proc_at, body_of, shapes_of, conds_of, simple, Stmt, Skip, NoOp, Signal, Seq, Loop, If, Begin}
+use Rattle.gypsy_syntax.{specs.Programs.{Call, Apply}, specs.ProgramFits.StmtFits, specs.ValuesFit.{ValueFits, VarsFit}, specs.Predefined.predef_effect}
 use Rattle.gypsy_syntax.specs.Effects.{value_at, is_true_value, item_of_value}
-use Rattle.gypsy_space.specs.Costs.{Tally, spend}
-use Rattle.gypsy_space.specs.Needs.{StackSizes, lack_of}
-use Rattle.gypsy_space.specs.declared.need.Lack.{Lack}
-use Rattle.gypsy_space.specs.declared.need.Lack.TheVariants.{Nothing, Temporary, Control}
-use Rattle.gypsy_space.proofs.SpendLaws.{spend_two}
-use Rattle.gypsy_semantics.specs.Calls.{values_of}
-use Rattle.gypsy_semantics.specs.Machine.{Item, Do, Back, JoinThen, JoinOne, Guard, Out, Frame, Held, State, At, Next, open_on, settle, either_move, call_step}
-use Rattle.gypsy_semantics.specs.Machine.{used, do_step, end_step, out_step, gypsy_step}
-use Rattle.gypsy_semantics.specs.Kept.{in_loop, WorkFits}
-use Rattle.gypsy_semantics.specs.Room.{Covers, CoversWork}
-use Rattle.gypsy_semantics.proofs.EffectLaws.{value_fits}
+use Rattle.gypsy_space.{specs.Costs.{Tally, spend}, specs.Needs.{StackSizes, lack_of}, specs.declared.need.Lack.Lack}
+use Rattle.gypsy_space.{specs.declared.need.Lack.TheVariants.{Nothing, Temporary, Control}, proofs.SpendLaws.spend_two}
+use Rattle.gypsy_semantics.{specs.Calls.values_of, specs.Machine.{Item, Do, Back, JoinThen, JoinOne, Guard, Out, Frame, Held, State, At, Next, open_on, settle}}
+use Rattle.gypsy_semantics.{specs.Machine.{either_move, call_step, used, do_step, end_step, out_step, gypsy_step}, specs.Kept.{in_loop, WorkFits}}
+use Rattle.gypsy_semantics.{specs.Room.{Covers, CoversWork}, proofs.EffectLaws.value_fits}
 use Rattle.gypsy_predef.specs.Runs.{word_of_item, words_of_value}
-use Rattle.gypsy_codegen.specs.WordsOf.{number_of}
-use Rattle.gypsy_codegen.specs.Generated.{Scope, InLoop, back_code, size, code_of, generated_view}
-use Rattle.gypsy_codegen.specs.Memory.{stack_of, index_of}
-use Rattle.gypsy_codegen.specs.Showing.{HasAt, gen_in, Stands, Tops, cc_of}
-use Rattle.gypsy_codegen.specs.Law.{Follows, StepsFollow}
-use Rattle.gypsy_codegen.proofs.LayoutLaws.{reads_at}
+use Rattle.gypsy_codegen.{specs.WordsOf.number_of, specs.Generated.{Scope, InLoop, back_code, size, code_of, generated_view}, specs.Memory.{stack_of, index_of}}
+use Rattle.gypsy_codegen.{specs.Showing.{HasAt, gen_in, Stands, Tops, cc_of}, specs.Law.{Follows, StepsFollow}, proofs.LayoutLaws.reads_at, proofs.StepLaws.P}
+use Rattle.gypsy_codegen.{proofs.StepLaws.{Pt, state, spent, Goes, steps_on, three}, proofs.PushLaws.{PredefsRun, Live, free_temp, here, top, passes, jumps}}
+use Rattle.gypsy_codegen.{proofs.PushLaws.pushes_local, proofs.StandLaws.{Opened, moved, after_gen, front_gen, settle_stands, open_stands, Comes, comes_on}}
+use Rattle.gypsy_codegen.{proofs.StandLaws.{leads, lands, raises_leads}, proofs.CallLaws.{Lacks, lacks, call_leads, lack_temporary_leads, lack_control_leads}}
+use Rattle.gypsy_codegen.{proofs.CallLaws.{normal_leads, out_leads, end_halts, out_halts}, proofs.ApplyLaws.apply_follows}
 use Rattle.gypsy_codegen.proofs.StepLaws as go
-use Rattle.gypsy_codegen.proofs.StepLaws.{P, Pt, state, spent, Goes, steps_on, three}
-use Rattle.gypsy_codegen.proofs.PushLaws.{PredefsRun, Live, free_temp, here, top, passes, jumps, pushes_local}
-use Rattle.gypsy_codegen.proofs.StandLaws.{Opened, moved, after_gen, front_gen, settle_stands, open_stands, Comes, comes_on, leads, lands, raises_leads}
-use Rattle.gypsy_codegen.proofs.CallLaws.{Lacks, lacks, call_leads, lack_temporary_leads, lack_control_leads, normal_leads, out_leads, end_halts, out_halts}
-use Rattle.gypsy_codegen.proofs.ApplyLaws.{apply_follows}
 
 -- the word of a simple variable
 simple_word : (k : Kind) (v : ValueOf) → v.shape ≡ simple k → ValueFits v → slice_get (words_of_value v) 0 ≡ Some (word_of_item k (item_of_value v))

@@ -1,62 +1,28 @@
 -- The start, each reached state, and a whole run.
-use Rattle.std.proofs.Common.{◌≡◌, ℕ, zero, suc, ◌+◌, ◌-◌, List, [], ◌∷◌, length, map, refl, sym, ap, ◌∙◌, subst, arith}
-use Rattle.std.specs.Prelude.{reverse, ◌==◌}
-use Rattle.std.proofs.lemmas.Bool.{eq-eqb, cond-true}
-use Rattle.std.proofs.lemmas.List.{append-nil}
+use Rattle.std.{proofs.Common.{◌≡◌, ℕ, zero, suc, ◌+◌, ◌-◌, List, [], ◌∷◌, length, map, refl, sym, ap, ◌∙◌, subst, arith, ◌<◌, drop}, specs.Prelude.reverse}
+use Rattle.std.{specs.Prelude.{◌==◌, slice_get, slice_index, nat_lt}, proofs.lemmas.Bool.{eq-eqb, cond-true, lt-ltb}, proofs.lemmas.List.append-nil}
 use Rattle.std.proofs.lemmas.Option.{slice_get_within}
 use Rattle.stack_text.specs.Values.{ValueOf, item_count}
-use Rattle.piton_words.specs.declared.word.Word.TheVariants.{Nat}
+use Rattle.piton_words.{specs.declared.word.Word.TheVariants.Nat, specs.declared.word.Word.Word}
 use Rattle.piton_check.specs.Instruction.{SystemView, ProgramView}
 use Rattle.piton_semantics.specs.State as piton
-use Rattle.piton_semantics.specs.State.{PitonState, program_of, element}
-use Rattle.piton_semantics.specs.StateView.{opening}
-use Rattle.piton_semantics.proofs.RunLaws.{halts}
-use Rattle.piton_semantics.specs.Law.{Steps}
-use Rattle.gypsy_syntax.specs.Programs.{Program, proc_at, body_of, shapes_of}
-use Rattle.gypsy_syntax.specs.ProgramFits.{ProgramFits}
-use Rattle.gypsy_space.specs.Costs.{Tally, spend, start_tally}
-use Rattle.gypsy_space.specs.Needs.{StackSizes}
-use Rattle.gypsy_space.proofs.SpendLaws.{spend_two, spend_none}
-use Rattle.gypsy_semantics.specs.Calls.{CurrentCondition, main_start}
-use Rattle.gypsy_semantics.specs.Machine.{Item, Do, Back, JoinThen, JoinOne, Guard, Out, Frame, State, At, Move, Next, Ended, Ending, Over, Going, go_on, run}
-use Rattle.gypsy_semantics.specs.Machine.{gypsy_step, start, open_on}
-use Rattle.gypsy_semantics.specs.Kept.{StateFits, MoveFits}
-use Rattle.gypsy_semantics.specs.Room.{StateRoom, MoveRoom}
-use Rattle.gypsy_semantics.specs.Counted.{counted_meaning}
-use Rattle.gypsy_semantics.proofs.CountLaws.{meaning-uncounted}
-use Rattle.gypsy_semantics.proofs.Runs.{agree}
-use Rattle.gypsy_semantics.proofs.Keeping.{step_keeps, start_fits}
-use Rattle.gypsy_semantics.proofs.Rooms.{step_room, start_room}
-use Rattle.gypsy_codegen.specs.WordsOf.{words_of_values, starts}
-use Rattle.gypsy_codegen.specs.Generated.{Scope, size, generated_view}
-use Rattle.gypsy_codegen.specs.Memory.{stack_of, index_of}
-use Rattle.gypsy_codegen.proofs.PushLaws.{PredefsRun}
-use Rattle.gypsy_codegen.specs.Showing.{Stands, Tops, StandsAs, rest_size, mark_of}
-use Rattle.gypsy_codegen.specs.Law.{Leads, Halts, Follows, tally_of}
-use Rattle.gypsy_codegen.specs.Whole.{opened, SizesFit, CountedRuns, MeaningRuns, LimitedRunHalts, StartShows, Reached, same, later, EachIsShown, PlaceIsMark}
-use Rattle.gypsy_codegen.specs.Whole.{VariablesStand, WaitingStand, WaitingVariablesStand, ActualsShare, RaiseFollows}
-use Rattle.std.proofs.Common.{◌<◌, drop}
-use Rattle.std.specs.Prelude.{slice_get, slice_index, nat_lt}
-use Rattle.std.proofs.lemmas.Bool.{lt-ltb}
-use Rattle.piton_words.specs.declared.word.Word.{Word}
-use Rattle.gypsy_syntax.specs.Programs.{ConditionOf}
-use Rattle.gypsy_syntax.specs.Effects.{value_at}
+use Rattle.piton_semantics.{specs.State.{PitonState, program_of, element}, specs.StateView.opening, proofs.RunLaws.halts, specs.Law.Steps}
+use Rattle.gypsy_syntax.{specs.Programs.{Program, proc_at, body_of, shapes_of, ConditionOf}, specs.ProgramFits.ProgramFits, specs.Effects.value_at}
 use Rattle.gypsy_syntax.specs.ValuesFit.{VarsFit}
-use Rattle.gypsy_semantics.specs.Calls.{copied_out}
-use Rattle.gypsy_semantics.specs.Machine.{Held, used}
-use Rattle.gypsy_semantics.specs.Kept.{FramesFit}
-use Rattle.gypsy_semantics.proofs.EffectLaws.{value_fits}
-use Rattle.gypsy_semantics.proofs.ReachLaws.{counted_too}
-use Rattle.gypsy_semantics.proofs.LendingLaws.{copied_miss}
+use Rattle.gypsy_space.{specs.Costs.{Tally, spend, start_tally}, specs.Needs.StackSizes, proofs.SpendLaws.{spend_two, spend_none}}
+use Rattle.gypsy_semantics.{specs.Calls.{CurrentCondition, main_start, copied_out}, specs.Machine.{Item, Do, Back, JoinThen, JoinOne, Guard, Out, Frame, State}}
+use Rattle.gypsy_semantics.specs.Machine.{At, Move, Next, Ended, Ending, Over, Going, go_on, run, gypsy_step, start, open_on, Held, used}
+use Rattle.gypsy_semantics.{specs.Kept.{StateFits, MoveFits, FramesFit}, specs.Room.{StateRoom, MoveRoom}, specs.Counted.counted_meaning}
+use Rattle.gypsy_semantics.{proofs.CountLaws.meaning-uncounted, proofs.Runs.agree, proofs.Keeping.{step_keeps, start_fits}, proofs.Rooms.step_room}
+use Rattle.gypsy_semantics.{proofs.Rooms.start_room, proofs.EffectLaws.value_fits, proofs.ReachLaws.counted_too, proofs.LendingLaws.copied_miss}
+use Rattle.gypsy_codegen.{specs.WordsOf.{words_of_values, starts, words_before, local_shapes}, specs.Generated.{Scope, size, generated_view}}
+use Rattle.gypsy_codegen.{specs.Memory.{stack_of, index_of, base_of}, proofs.PushLaws.{PredefsRun, Live}, specs.Showing.{Stands, Tops, StandsAs, rest_size}}
+use Rattle.gypsy_codegen.{specs.Showing.mark_of, specs.Law.{Leads, Halts, Follows, tally_of}, specs.Whole.{opened, SizesFit, CountedRuns, MeaningRuns}}
+use Rattle.gypsy_codegen.specs.Whole.{LimitedRunHalts, StartShows, Reached, same, later, EachIsShown, PlaceIsMark, VariablesStand, WaitingStand}
+use Rattle.gypsy_codegen.{specs.Whole.{WaitingVariablesStand, ActualsShare, RaiseFollows}, proofs.StackLaws.{push_all-length, below_pushed, value_words}}
+use Rattle.gypsy_codegen.{proofs.LayoutLaws.{height, low_fits, index_fits, reads_at}, proofs.StepLaws.{steps_append, pushed_reverse, program_is}}
+use Rattle.gypsy_codegen.{proofs.StandLaws.{body_stands, tops, leads, raise_leads}, proofs.RowLaws.steps_follow}
 use Rattle.gypsy_predef.specs.Runs.{words_of_value}
-use Rattle.gypsy_codegen.specs.WordsOf.{words_before, local_shapes}
-use Rattle.gypsy_codegen.specs.Memory.{base_of}
-use Rattle.gypsy_codegen.proofs.StackLaws.{push_all-length, below_pushed, value_words}
-use Rattle.gypsy_codegen.proofs.LayoutLaws.{height, low_fits, index_fits, reads_at}
-use Rattle.gypsy_codegen.proofs.StepLaws.{steps_append, pushed_reverse, program_is}
-use Rattle.gypsy_codegen.proofs.PushLaws.{Live}
-use Rattle.gypsy_codegen.proofs.StandLaws.{body_stands, tops, leads, raise_leads}
-use Rattle.gypsy_codegen.proofs.RowLaws.{steps_follow}
 
 -- The start.
 

@@ -1,31 +1,22 @@
 -- The words of the generated code, counted.
 use Rattle.std.proofs.Common.{◌≡◌, ℕ, suc, ◌+◌, ◌*◌, List, [], ◌∷◌, ◌++◌, length, map, Bool, true, false, refl, ap, ◌∙◌, arith, length-append}
-use Rattle.std.specs.Prelude.{if◌then◌else◌, ◌==◌}
-use Rattle.std.proofs.lemmas.List.{length-map}
-use Rattle.stack_text.specs.declared.shape.Shape.{Shape}
-use Rattle.stack_text.specs.Values.{ValueOf, item_count}
-use Rattle.piton_words.specs.declared.word.Word.{Word}
-use Rattle.piton_words.specs.declared.word.Word.TheVariants.{Nat}
+use Rattle.std.{specs.Prelude.{if◌then◌else◌, ◌==◌}, proofs.lemmas.List.length-map}
+use Rattle.stack_text.{specs.declared.shape.Shape.Shape, specs.Values.{ValueOf, item_count}}
+use Rattle.piton_words.{specs.declared.word.Word.Word, specs.declared.word.Word.TheVariants.Nat}
 use Rattle.piton_check.specs.Instruction as i
 use Rattle.piton_check.specs.Instruction.{Instruction, ProgramView}
 use Rattle.piton_semantics.specs.Placed.{instructions_size, program_size}
-use Rattle.gypsy_syntax.specs.declared.predef.Predef.{Predef}
-use Rattle.gypsy_syntax.specs.declared.predef.Predef.TheVariants as row
-use Rattle.gypsy_syntax.specs.Programs.{ConditionOf, Routine, Space, Arg, Var, Lit, Program, proc_at, body_of, shapes_of}
-use Rattle.gypsy_syntax.specs.Programs.{Stmt, Skip, NoOp, Signal, Seq, Loop, If, Begin, Call, Apply}
-use Rattle.gypsy_syntax.specs.ProgramFits.{ProgramFits, StmtFits}
+use Rattle.gypsy_syntax.{specs.declared.predef.Predef.Predef, specs.Programs.{ConditionOf, Routine, Space, Arg, Var, Lit, Program, proc_at, body_of, shapes_of}}
+use Rattle.gypsy_syntax.{specs.Programs.{Stmt, Skip, NoOp, Signal, Seq, Loop, If, Begin, Call, Apply}, specs.ProgramFits.{ProgramFits, StmtFits}}
 use Rattle.gypsy_syntax.specs.Predefined.{predef_words}
+use Rattle.gypsy_syntax.specs.declared.predef.Predef.TheVariants as row
 use Rattle.gypsy_space.specs.Needs.{local_words, vars_of, call_need, args_words, statement_words, code_words}
-use Rattle.gypsy_codegen.specs.WordsOf.{words_of_values, starts, local_shapes}
-use Rattle.gypsy_codegen.specs.Guard.{guard_code, guard_size}
-use Rattle.gypsy_codegen.specs.Generated.{Scope, InLoop, InBegin, target, raise_code, back_code, raises, raise_places, after_code, push_words, push_indices}
-use Rattle.gypsy_codegen.specs.Generated.{push_actuals, push_args, before_size, length_code, predef_position, size, gen, tail_code}
+use Rattle.gypsy_codegen.{specs.WordsOf.{words_of_values, starts, local_shapes}, specs.Guard.{guard_code, guard_size}, specs.Generated.{Scope, InLoop, InBegin}}
+use Rattle.gypsy_codegen.specs.Generated.{target, raise_code, back_code, raises, raise_places, after_code, push_words, push_indices, push_actuals, push_args}
+use Rattle.gypsy_codegen.{specs.Generated.{before_size, length_code, predef_position, size, gen, tail_code}, specs.Sizes.ProceduresTakeWords}
+use Rattle.gypsy_codegen.{proofs.StackLaws.{values_words, starts-length}, proofs.StepLaws.program_is}
 use Rattle.gypsy_predef.specs.Calls.{test_code}
-use Rattle.gypsy_codegen.specs.Sizes.{ProceduresTakeWords}
-use Rattle.gypsy_semantics.proofs.Keeping.{locals_fit}
-use Rattle.gypsy_semantics.proofs.LendingLaws.{actuals_length}
-use Rattle.gypsy_codegen.proofs.StackLaws.{values_words, starts-length}
-use Rattle.gypsy_codegen.proofs.StepLaws.{program_is}
+use Rattle.gypsy_semantics.{proofs.Keeping.locals_fit, proofs.LendingLaws.actuals_length}
 
 sum-append : (a b : List Instruction) → instructions_size (a ++ b) ≡ instructions_size a + instructions_size b
 sum-append [] b = omega arith

@@ -1,33 +1,19 @@
 -- What a source without violations says of its names: they differ, and none is predefined.
-use Rattle.std.proofs.Common.{◌≡◌, ℕ, zero, suc, ◌+◌, ◌<◌, List, [], ◌∷◌, ◌++◌, map, length, get_or, bytes_eq}
-use Rattle.std.proofs.Common.{Bool, true, false, cond, ◌&&◌, not, is_none, true≢false, refl, ap, sym, subst, ◌∙◌, arith, flat_map, length-append}
-use Rattle.std.specs.Prelude.{IsTrue, ◌==◌, ◌≤◌, All}
-use Rattle.gypsy_syntax.specs.Fits.{FitsDecl, FitsLocal, FitsProcedure}
-use Rattle.std.specs.List.{list_all}
-use Rattle.std.proofs.lemmas.List.{length-map}
-use Rattle.std.proofs.lemmas.List.Elements.{All-head, All-tail}
-use Rattle.std.proofs.lemmas.Slice.Eq.{bytes_eq-Decides}
+use Rattle.std.proofs.Common.{◌≡◌, ℕ, zero, suc, ◌+◌, ◌<◌, List, [], ◌∷◌, ◌++◌, map, length, get_or, bytes_eq, Bool, true, false, cond, ◌&&◌, not, is_none}
+use Rattle.std.{proofs.Common.{true≢false, refl, ap, sym, subst, ◌∙◌, arith, flat_map, length-append}, specs.Prelude.{IsTrue, ◌==◌, ◌≤◌, All}}
+use Rattle.std.{specs.List.list_all, proofs.lemmas.List.length-map, proofs.lemmas.List.Elements.{All-head, All-tail}, proofs.lemmas.Slice.Eq.bytes_eq-Decides}
 use Rattle.std.proofs.lemmas.Bool.{and_parts, not-true}
-use Rattle.stack_text.specs.Names.{is_name}
-use Rattle.stack_text.specs.declared.name.Named.{Named}
-use Rattle.stack_text.proofs.SharedLaws.{rule_fails, append_none}
-use Rattle.gypsy_syntax.specs.declared.literal.Decl.{Decl}
-use Rattle.gypsy_syntax.specs.declared.predef.Predef.{Predef}
-use Rattle.gypsy_syntax.specs.declared.predef.Predef.TheVariants as row
-use Rattle.gypsy_syntax.specs.Keywords.{keyword_name, form_named, predef_named}
-use Rattle.gypsy_syntax.specs.Sources.{LocalOf, ProcOf, SourceOf}
-use Rattle.gypsy_syntax.specs.Programs.{Program}
-use Rattle.gypsy_syntax.specs.Predefined.{predefs, predef_name}
-use Rattle.gypsy_syntax.specs.Resolved.{variable_names, variable_types, procedure_names, procedure_named}
+use Rattle.gypsy_syntax.{specs.Fits.{FitsDecl, FitsLocal, FitsProcedure}, specs.declared.literal.Decl.Decl, specs.declared.predef.Predef.Predef}
+use Rattle.gypsy_syntax.{specs.Keywords.{keyword_name, form_named, predef_named}, specs.Sources.{LocalOf, ProcOf, SourceOf}, specs.Programs.Program}
+use Rattle.gypsy_syntax.{specs.Predefined.{predefs, predef_name}, specs.Resolved.{variable_names, variable_types, procedure_names, procedure_named}}
 use Rattle.gypsy_syntax.specs.ProgramFits.{Each}
-use Rattle.gypsy_check.specs.Declarations.{is_predefined, variables_of, repeats}
-use Rattle.gypsy_check.specs.Rules.{type_breaches, local_breaches, condition_name_breaches, size_breaches, statement_breaches}
-use Rattle.gypsy_check.specs.Rules.{variable_breaches, procedure_breaches, name_breaches, main_breaches, violations}
-use Rattle.gypsy_check.proofs.CleanLaws.{three, four}
-use Rattle.gypsy_check.proofs.NameLaws.{Found, procedure_found}
-use Rattle.gypsy_codegen.specs.Text.{program_texts, frame_texts}
-use Rattle.gypsy_codegen.proofs.CopyLaws.{each_both}
-use Rattle.gypsy_codegen.proofs.DeclareLaws.{Differ, Unlike, Cross, differ_both, differ_swap, differ_source}
+use Rattle.stack_text.{specs.Names.is_name, specs.declared.name.Named.Named, proofs.SharedLaws.{rule_fails, append_none}}
+use Rattle.gypsy_syntax.specs.declared.predef.Predef.TheVariants as row
+use Rattle.gypsy_check.{specs.Declarations.{is_predefined, variables_of, repeats}, specs.Rules.{type_breaches, local_breaches, condition_name_breaches}}
+use Rattle.gypsy_check.specs.Rules.{size_breaches, statement_breaches, variable_breaches, procedure_breaches, name_breaches, main_breaches, violations}
+use Rattle.gypsy_check.{proofs.CleanLaws.{three, four}, proofs.NameLaws.{Found, procedure_found}}
+use Rattle.gypsy_codegen.{specs.Text.{program_texts, frame_texts}, proofs.CopyLaws.each_both, proofs.DeclareLaws.{Differ, Unlike, Cross, differ_both}}
+use Rattle.gypsy_codegen.proofs.DeclareLaws.{differ_swap, differ_source}
 
 -- closed lists by computing
 abbrev pub differ_all : List (List ℕ) → Bool

@@ -1,16 +1,10 @@
 -- Words on a stack, counted from the bottom.
 use Rattle.std.proofs.Common.{◌≡◌, ℕ, zero, suc, ◌+◌, ◌<◌, ◌≤◌, List, [], ◌∷◌, ◌++◌, length, Some, refl, ap, ◌∙◌, arith, length-append}
-use Rattle.std.proofs.lemmas.List.{length-map}
-use Rattle.std.specs.Prelude.{slice_set, slice_get}
-use Rattle.stack_text.specs.declared.shape.Shape.{Shape}
-use Rattle.stack_text.specs.Values.{ValueOf, item_count}
-use Rattle.stack_text.proofs.SharedLaws.{get_front, get_after}
+use Rattle.std.{proofs.lemmas.List.length-map, specs.Prelude.{slice_set, slice_get}}
+use Rattle.stack_text.{specs.declared.shape.Shape.Shape, specs.Values.{ValueOf, item_count}, proofs.SharedLaws.{get_front, get_after}}
 use Rattle.piton_words.specs.declared.word.Word.{Word}
-use Rattle.piton_semantics.specs.State.{element, with_element}
-use Rattle.piton_semantics.proofs.ElementLaws.{element_top, element_below, with_element_top, with_element_below}
-use Rattle.gypsy_syntax.specs.Programs.{words_of}
-use Rattle.gypsy_syntax.specs.ValuesFit.{ValueFits, VarsFit}
-use Rattle.gypsy_syntax.specs.Effects.{value_at}
+use Rattle.piton_semantics.{specs.State.{element, with_element}, proofs.ElementLaws.{element_top, element_below, with_element_top, with_element_below}}
+use Rattle.gypsy_syntax.{specs.Programs.words_of, specs.ValuesFit.{ValueFits, VarsFit}, specs.Effects.value_at}
 use Rattle.gypsy_predef.specs.Runs.{word_of_item, words_of_value, push_all, with_elements}
 use Rattle.gypsy_codegen.specs.WordsOf.{words_of_values, words_before, starts}
 

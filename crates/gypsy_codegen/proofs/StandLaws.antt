@@ -1,40 +1,27 @@
 -- Where code stands, and raising.
 use Rattle.std.proofs.Common.{◌≡◌, ℕ, ◌+◌, ◌*◌, ◌≤◌, List, [], ◌∷◌, ◌++◌, length, Bool, true, false, Some, refl, sym, ap, ◌∙◌, subst, arith, length-append}
-use Rattle.std.specs.Prelude.{slice_get, if◌then◌else◌}
-use Rattle.std.proofs.lemmas.List.{length-map}
-use Rattle.stack_text.specs.declared.shape.Shape.{Shape}
-use Rattle.stack_text.specs.Values.{ValueOf}
-use Rattle.piton_words.specs.declared.word.Word.{Word}
-use Rattle.piton_words.specs.declared.word.Word.TheVariants.{Nat}
+use Rattle.std.{specs.Prelude.{slice_get, if◌then◌else◌}, proofs.lemmas.List.length-map}
+use Rattle.stack_text.{specs.declared.shape.Shape.Shape, specs.Values.ValueOf}
+use Rattle.piton_words.{specs.declared.word.Word.Word, specs.declared.word.Word.TheVariants.Nat}
 use Rattle.piton_words.specs.declared.op.WordOp.TheVariants as op
 use Rattle.piton_syntax.specs.declared.test_kind.TestFamily.TheVariants as family
 use Rattle.piton_syntax.specs.declared.test_kind.TestKind.TheVariants as test
 use Rattle.piton_check.specs.Instruction as i
 use Rattle.piton_check.specs.Instruction.{Instruction, SystemView}
 use Rattle.piton_semantics.specs.State as piton
-use Rattle.gypsy_syntax.specs.declared.predef.Predef.{Predef}
+use Rattle.gypsy_syntax.{specs.declared.predef.Predef.Predef, specs.Programs.{ConditionOf, Arg, Routine, Space, Program, proc_at, body_of, shapes_of, Stmt}}
+use Rattle.gypsy_syntax.{specs.Programs.{Skip, NoOp, Signal, Seq, Loop, If, Begin, Call, Apply}, specs.Predefined.can_fail, specs.ValuesFit.VarsFit}
 use Rattle.gypsy_syntax.specs.declared.predef.Predef.TheVariants as row
-use Rattle.gypsy_syntax.specs.Programs.{ConditionOf, Arg, Routine, Space, Program, proc_at, body_of, shapes_of}
-use Rattle.gypsy_syntax.specs.Programs.{Stmt, Skip, NoOp, Signal, Seq, Loop, If, Begin, Call, Apply}
-use Rattle.gypsy_space.specs.Costs.{Tally, spend}
-use Rattle.gypsy_space.specs.Needs.{StackSizes, temp_need, local_words, call_need}
-use Rattle.gypsy_space.proofs.SpendLaws.{spend_two}
-use Rattle.gypsy_semantics.specs.Calls.{has_cond, is_leave}
-use Rattle.gypsy_semantics.specs.Machine.{Item, Do, Back, JoinThen, JoinOne, Guard, Out, Frame, State, At, opens, open_on, settle, stop_if, raise}
-use Rattle.gypsy_codegen.specs.WordsOf.{number_of, words_of_values, local_shapes}
-use Rattle.gypsy_predef.specs.Bodies.{lengths_of}
-use Rattle.gypsy_syntax.specs.Predefined.{can_fail}
-use Rattle.gypsy_syntax.specs.ValuesFit.{VarsFit}
-use Rattle.gypsy_predef.specs.Calls.{test_code}
-use Rattle.gypsy_codegen.specs.Guard.{guard_code, guard_size}
-use Rattle.gypsy_codegen.specs.Generated.{Scope, InLoop, InBegin, target, raise_code, back_code, raises, after_size, after_code, push_words, push_indices}
-use Rattle.gypsy_codegen.specs.Generated.{push_actuals, push_args, before_size, length_code, predef_position, test_size, size, gen, tail_code, code_of}
-use Rattle.gypsy_codegen.specs.Generated.{generated_view}
-use Rattle.gypsy_codegen.specs.Memory.{stack_of}
-use Rattle.gypsy_codegen.specs.Showing.{HasAt, gen_in, Stands, Tops, cc_of, StandsAs}
-use Rattle.gypsy_codegen.specs.Law.{tally_of, Leads}
-use Rattle.gypsy_codegen.proofs.StepLaws.{P, Pt, state, spent, Goes, steps_on, stay}
-use Rattle.gypsy_codegen.proofs.PushLaws.{has_front, has_back, has_all, size_words, size_indices, size_actuals, size_args, Live, free_temp, jumps, sets_cc}
+use Rattle.gypsy_space.{specs.Costs.{Tally, spend}, specs.Needs.{StackSizes, temp_need, local_words, call_need}, proofs.SpendLaws.spend_two}
+use Rattle.gypsy_semantics.{specs.Calls.{has_cond, is_leave}, specs.Machine.{Item, Do, Back, JoinThen, JoinOne, Guard, Out, Frame, State, At, opens, open_on}}
+use Rattle.gypsy_semantics.specs.Machine.{settle, stop_if, raise}
+use Rattle.gypsy_codegen.{specs.WordsOf.{number_of, words_of_values, local_shapes}, specs.Guard.{guard_code, guard_size}, specs.Generated.{Scope, InLoop}}
+use Rattle.gypsy_codegen.specs.Generated.{InBegin, target, raise_code, back_code, raises, after_size, after_code, push_words, push_indices, push_actuals}
+use Rattle.gypsy_codegen.specs.Generated.{push_args, before_size, length_code, predef_position, test_size, size, gen, tail_code, code_of, generated_view}
+use Rattle.gypsy_codegen.{specs.Memory.stack_of, specs.Showing.{HasAt, gen_in, Stands, Tops, cc_of, StandsAs}, specs.Law.{tally_of, Leads}, proofs.StepLaws.P}
+use Rattle.gypsy_codegen.{proofs.StepLaws.{Pt, state, spent, Goes, steps_on, stay}, proofs.PushLaws.{has_front, has_back, has_all, size_words, size_indices}}
+use Rattle.gypsy_codegen.proofs.PushLaws.{size_actuals, size_args, Live, free_temp, jumps, sets_cc}
+use Rattle.gypsy_predef.{specs.Bodies.lengths_of, specs.Calls.test_code}
 
 pub size_raises : (q : Program) (p n : ℕ) (env : List Scope) (cs : List ConditionOf) → length (raises q p n env cs) ≡ 3 * length cs
 size_raises q p n env [] = refl

@@ -1,13 +1,10 @@
 -- Steps of the generated system, each from its instruction.
 use Rattle.std.proofs.Common.{◌≡◌, ℕ, zero, suc, ◌+◌, ◌-◌, ◌<◌, ◌≤◌, List, [], ◌∷◌, ◌++◌, length, map, drop, take, Bool, not, Some, Ok, refl, sym, ap, ◌∙◌}
-use Rattle.std.proofs.Common.{subst, arith, append_assoc}
-use Rattle.std.specs.Prelude.{slice_get, reverse, if◌then◌else◌, ◌==◌}
-use Rattle.std.proofs.lemmas.List.{length-map, length-reverse, reverse-append, reverse-reverse}
-use Rattle.std.proofs.lemmas.Option.{get_or_from_slice_get}
+use Rattle.std.{proofs.Common.{subst, arith, append_assoc}, specs.Prelude.{slice_get, reverse, if◌then◌else◌, ◌==◌}, proofs.lemmas.List.length-map}
+use Rattle.std.{proofs.lemmas.List.{length-reverse, reverse-append, reverse-reverse}, proofs.lemmas.Option.get_or_from_slice_get}
 use Rattle.std.proofs.Math.Seq.{take-append_seam, drop-append_seam}
 use Rattle.stack_text.proofs.SharedLaws.{get_front, get_after, get_map}
-use Rattle.piton_words.specs.declared.word.Word.{Word}
-use Rattle.piton_words.specs.declared.word.Word.TheVariants.{Nat, Bool as Truth}
+use Rattle.piton_words.{specs.declared.word.Word.Word, specs.declared.word.Word.TheVariants.{Nat, Bool as Truth}}
 use Rattle.piton_words.specs.declared.op.WordOp.TheVariants as op
 use Rattle.piton_words.specs.declared.outcome.Outcome.TheVariants as outcome
 use Rattle.piton_syntax.specs.declared.test_kind.TestFamily.TheVariants as family
@@ -15,23 +12,15 @@ use Rattle.piton_syntax.specs.declared.test_kind.TestKind.TheVariants as test
 use Rattle.piton_check.specs.Instruction as i
 use Rattle.piton_check.specs.Instruction.{Instruction, ProgramView, SystemView}
 use Rattle.piton_semantics.specs.State as piton
-use Rattle.piton_semantics.specs.State.{PitonState, program_of, instruction_at, locals_of, element, ctrl_used}
-use Rattle.piton_semantics.specs.Views.{test_of, then_on, Operands}
-use Rattle.piton_semantics.specs.InstructionRows.{row_of, ret}
-use Rattle.piton_semantics.specs.Step.{cost_of, cost_from, cost_at, step_cost}
-use Rattle.piton_semantics.specs.Law.{Steps, none, more}
+use Rattle.piton_semantics.{specs.State.{PitonState, program_of, instruction_at, locals_of, element, ctrl_used}, specs.Views.{test_of, then_on, Operands}}
+use Rattle.piton_semantics.{specs.InstructionRows.{row_of, ret}, specs.Step.{cost_of, cost_from, cost_at, step_cost}, specs.Law.{Steps, none, more}}
 use Rattle.piton_semantics.proofs.RowLaws.{step_is, does_push, does_push_local, does_push_global, does_pop_global, does_push_temp_stk_index}
 use Rattle.piton_semantics.proofs.RowLaws.{does_fetch_temp_stk, does_pop_star, does_jump_case, does_test_and_jump, does_call, does_apply}
-use Rattle.gypsy_syntax.specs.declared.predef.Predef.{Predef}
+use Rattle.gypsy_syntax.{specs.declared.predef.Predef.Predef, specs.Programs.Program, specs.Predefined.predef_number}
 use Rattle.gypsy_syntax.specs.declared.predef.Predef.TheVariants as row
-use Rattle.gypsy_syntax.specs.Programs.{Program}
-use Rattle.gypsy_space.specs.Costs.{Tally, spend}
-use Rattle.gypsy_space.specs.Needs.{StackSizes}
-use Rattle.gypsy_space.proofs.SpendLaws.{spend_two, spend_none}
-use Rattle.gypsy_predef.specs.Runs.{push_all}
+use Rattle.gypsy_space.{specs.Costs.{Tally, spend}, specs.Needs.StackSizes, proofs.SpendLaws.{spend_two, spend_none}}
+use Rattle.gypsy_predef.{specs.Runs.push_all, specs.Bodies.bodies}
 use Rattle.gypsy_predef.specs.Bodies as predefined
-use Rattle.gypsy_syntax.specs.Predefined.{predef_number}
-use Rattle.gypsy_predef.specs.Bodies.{bodies}
 use Rattle.gypsy_codegen.specs.Generated.{generated_view, generated_program, count_from, code_of}
 
 -- Tallies.

@@ -1,78 +1,39 @@
 -- The generated system keeps the form, breaks no rule, and is seen as the system by places.
-use Rattle.std.proofs.Common.{◌≡◌, ℕ, zero, suc, ◌+◌, ◌<◌, ◌≤◌, ◌^◌, max, List, [], ◌∷◌, ◌++◌, map, length, get_or, slice_get, replicate, All}
-use Rattle.std.proofs.Common.{Bool, true, cond, ltb, not, Some, unwrap_or, refl, sym, ap, subst, ◌∙◌, arith, length-append, flat_map}
-use Rattle.std.specs.Prelude.{pos, IsTrue}
-use Rattle.std.specs.List.{list_all}
-use Rattle.std.proofs.lemmas.List.{length-map, length-replicate}
-use Rattle.std.proofs.lemmas.List.Elements.{All-nil, All-cons}
-use Rattle.std.proofs.lemmas.Bool.{le-leb, eq-eqb}
-use Rattle.std.proofs.lemmas.Option.{slice_get_within}
-use Rattle.stack_text.specs.declared.shape.Kind.{Kind}
-use Rattle.stack_text.specs.declared.shape.Kind.TheVariants.{Integer, Boolean, Character}
-use Rattle.stack_text.specs.declared.shape.Shape.{Shape}
-use Rattle.stack_text.specs.Values.{ValueOf, item_count}
-use Rattle.stack_text.specs.Names.{is_name}
-use Rattle.piton_words.specs.declared.word.Word.{Word}
-use Rattle.piton_words.specs.declared.word.Word.TheVariants.{Nat}
-use Rattle.piton_syntax.specs.Systems.{ProgramOf, SystemOf}
-use Rattle.piton_syntax.specs.Fits.{FitsWord, FitsProgram, FitsArea, FitsForm as TextForm}
-use Rattle.stack_text.specs.Breaches.{when}
-use Rattle.piton_check.specs.Declarations.{area_names, program_names, program_name, first_of}
-use Rattle.stack_text.specs.Options.{◌>>=◌}
-use Rattle.piton_check.specs.Violations.{word_breaches, area_breaches, program_breaches, main_of, main_breaches, is_within, first_frame, size_breaches}
-use Rattle.piton_check.specs.Violations.{name_breaches, violations}
-use Rattle.piton_check.specs.Resolved.{resolved_word, resolved_area, resolved_program, resolved_number, resolved}
+use Rattle.std.proofs.Common.{◌≡◌, ℕ, zero, suc, ◌+◌, ◌<◌, ◌≤◌, ◌^◌, max, List, [], ◌∷◌, ◌++◌, map, length, get_or, slice_get, replicate, All, Bool, true, cond}
+use Rattle.std.{proofs.Common.{ltb, not, Some, unwrap_or, refl, sym, ap, subst, ◌∙◌, arith, length-append, flat_map}, specs.Prelude.{pos, IsTrue}}
+use Rattle.std.{specs.List.list_all, proofs.lemmas.List.{length-map, length-replicate}, proofs.lemmas.List.Elements.{All-nil, All-cons}}
+use Rattle.std.{proofs.lemmas.Bool.{le-leb, eq-eqb}, proofs.lemmas.Option.slice_get_within}
+use Rattle.stack_text.{specs.declared.shape.Kind.Kind, specs.declared.shape.Kind.TheVariants.{Integer, Boolean, Character}, specs.declared.shape.Shape.Shape}
+use Rattle.stack_text.{specs.Values.{ValueOf, item_count}, specs.Names.is_name, specs.Breaches.when, specs.Options.◌>>=◌, specs.Trees.node_count}
+use Rattle.stack_text.{specs.Grammar.Printed.unplaced, proofs.SharedLaws.{both_none, get_some}}
+use Rattle.piton_words.{specs.declared.word.Word.Word, specs.declared.word.Word.TheVariants.Nat}
+use Rattle.piton_syntax.{specs.Systems.{ProgramOf, SystemOf}, specs.Fits.{FitsWord, FitsProgram, FitsArea, FitsForm as TextForm}, specs.Printed.tree_of}
+use Rattle.piton_syntax.proofs.MadeLaws.{fits_keeps}
+use Rattle.piton_check.{specs.Declarations.{area_names, program_names, program_name, first_of}, specs.Violations.{word_breaches, area_breaches}}
+use Rattle.piton_check.specs.Violations.{program_breaches, main_of, main_breaches, is_within, first_frame, size_breaches, name_breaches, violations}
+use Rattle.piton_check.{specs.Resolved.{resolved_word, resolved_area, resolved_program, resolved_number, resolved}, specs.Instruction.program_view}
+use Rattle.piton_check.{specs.Instruction.system_view, specs.Sound.IsSound, proofs.SoundLaws.is_sound}
 use Rattle.piton_check.specs.Instruction as i
-use Rattle.piton_check.specs.Instruction.{program_view, system_view}
-use Rattle.gypsy_syntax.specs.declared.predef.Predef.{Predef}
-use Rattle.gypsy_syntax.specs.Sources.{ProcOf, SourceOf}
-use Rattle.gypsy_syntax.specs.Predefined.{predefs, predef_name}
-use Rattle.gypsy_syntax.specs.Programs.{Program, proc_at, shapes_of, words_of}
-use Rattle.gypsy_syntax.specs.Resolved.{procedure_of, program_of, procedure_names}
-use Rattle.gypsy_syntax.specs.ProgramFits.{Each, ProgramFits}
-use Rattle.gypsy_syntax.specs.Ranges.{is_in_range}
-use Rattle.gypsy_syntax.specs.ValuesFit.{ValueFits}
-use Rattle.gypsy_space.specs.Needs.{StackSizes, vars_of, frame_of, temp_need, ctrl_need, main_used, main_need}
-use Rattle.gypsy_check.specs.Rules.{procedure_breaches, violations as source_violations}
-use Rattle.gypsy_check.proofs.CleanLaws.{at_place}
-use Rattle.gypsy_check.proofs.NameLaws.{found_below, found_name}
-use Rattle.gypsy_syntax.specs.Fits.{FitsForm}
+use Rattle.gypsy_syntax.{specs.declared.predef.Predef.Predef, specs.Sources.{ProcOf, SourceOf}, specs.Predefined.{predefs, predef_name}, specs.Programs.Program}
+use Rattle.gypsy_syntax.{specs.Programs.{proc_at, shapes_of, words_of}, specs.Resolved.{procedure_of, program_of, procedure_names}, specs.ProgramFits.Each}
+use Rattle.gypsy_syntax.{specs.ProgramFits.ProgramFits, specs.Ranges.is_in_range, specs.ValuesFit.ValueFits, specs.Fits.FitsForm}
 use Rattle.gypsy_syntax.proofs.FitsLaws.{keeps_fits as source_form}
+use Rattle.gypsy_space.specs.Needs.{StackSizes, vars_of, frame_of, temp_need, ctrl_need, main_used, main_need}
+use Rattle.gypsy_check.{specs.Rules.{procedure_breaches, violations as source_violations}, proofs.CleanLaws.at_place, proofs.NameLaws.{found_below, found_name}}
 use Rattle.gypsy_check.specs.Accepted.{IsAccepted}
-use Rattle.gypsy_codegen.proofs.SourceLaws.{procs_form}
-use Rattle.gypsy_codegen.specs.WordsOf.{zero_value}
-use Rattle.gypsy_predef.specs.Bodies.{bodies}
-use Rattle.gypsy_predef.specs.Bodies as predefined
-use Rattle.gypsy_predef.specs.Texts.{condition_area, body_text, body_texts}
-use Rattle.gypsy_predef.specs.Resolving.{BodiesFit, BodiesKeepRules, BodiesResolve}
-use Rattle.gypsy_codegen.specs.Generated.{generated_program, count_from, opening_words, generated_view}
-use Rattle.gypsy_codegen.specs.Written.{Names, written_word}
+use Rattle.gypsy_codegen.{proofs.SourceLaws.{procs_form, ProcForm, Kept, kept, named_at}, specs.WordsOf.{zero_value, words_of_values}}
+use Rattle.gypsy_codegen.{specs.Generated.{generated_program, count_from, opening_words, generated_view}, specs.Written.{Names, written_word}}
 use Rattle.gypsy_codegen.specs.Text.{program_texts, area_texts, frame_texts, names_with, written_procedure, written_procedures, written_area, generated}
+use Rattle.gypsy_codegen.{specs.Whole.RunsTo, proofs.PushLaws.PredefsRun, proofs.RunLaws.meaning_runs, specs.Acceptable.{SourceRuns, code_words_of, LimitsFit}}
+use Rattle.gypsy_codegen.{specs.Acceptable.IsAcceptable, proofs.InstructionLaws.{InRange, natural_is, word_clean, word_fits, word_resolves, Base}}
+use Rattle.gypsy_codegen.{proofs.DeclareLaws.{declarations, found_at, names_apart, no_repeats, Apart}, proofs.FineLaws.{values_in_range, all_words}}
+use Rattle.gypsy_codegen.{proofs.ProgramLaws.Clean, proofs.NodeLaws.system_nodes, proofs.BaseLaws.declared_both, proofs.FrameLaws.front_at}
+use Rattle.gypsy_codegen.proofs.ProcedureLaws.{procedure_clean, procedure_total}
+use Rattle.gypsy_predef.{specs.Bodies.bodies, specs.Texts.{condition_area, body_text, body_texts}, specs.Resolving.{BodiesFit, BodiesKeepRules, BodiesResolve}}
+use Rattle.gypsy_predef.proofs.FormLaws.{predef_named}
+use Rattle.gypsy_predef.specs.Bodies as predefined
 use Rattle.piton_semantics.specs.StateView.{started}
 use Rattle.gypsy_semantics.specs.Calls.{main_start}
-use Rattle.gypsy_codegen.specs.WordsOf.{words_of_values}
-use Rattle.gypsy_codegen.specs.Whole.{RunsTo}
-use Rattle.gypsy_codegen.proofs.PushLaws.{PredefsRun}
-use Rattle.gypsy_codegen.proofs.RunLaws.{meaning_runs}
-use Rattle.gypsy_codegen.specs.Acceptable.{SourceRuns, code_words_of, LimitsFit, IsAcceptable}
-use Rattle.gypsy_codegen.proofs.SourceLaws.{ProcForm}
-use Rattle.gypsy_codegen.proofs.InstructionLaws.{InRange, natural_is, word_clean, word_fits, word_resolves, Base}
-use Rattle.gypsy_codegen.proofs.DeclareLaws.{declarations, found_at, names_apart, no_repeats, Apart}
-use Rattle.gypsy_codegen.proofs.FineLaws.{values_in_range, all_words}
-use Rattle.gypsy_codegen.proofs.ProgramLaws.{Clean}
-use Rattle.stack_text.specs.Trees.{node_count}
-use Rattle.stack_text.specs.Grammar.Printed.{unplaced}
-use Rattle.stack_text.proofs.SharedLaws.{both_none, get_some}
-use Rattle.piton_syntax.specs.Printed.{tree_of}
-use Rattle.piton_syntax.proofs.MadeLaws.{fits_keeps}
-use Rattle.piton_check.specs.Sound.{IsSound}
-use Rattle.piton_check.proofs.SoundLaws.{is_sound}
-use Rattle.gypsy_codegen.proofs.NodeLaws.{system_nodes}
-use Rattle.gypsy_codegen.proofs.SourceLaws.{Kept, kept, named_at}
-use Rattle.gypsy_predef.proofs.FormLaws.{predef_named}
-use Rattle.gypsy_codegen.proofs.BaseLaws.{declared_both}
-use Rattle.gypsy_codegen.proofs.FrameLaws.{front_at}
-use Rattle.gypsy_codegen.proofs.ProcedureLaws.{procedure_clean, procedure_total}
 
 -- ---- lists
 

@@ -1,36 +1,20 @@
 -- At every moment all activations stand in the frames, each with what it would get back now.
-use Rattle.std.proofs.Common.{◌≡◌, ℕ, ◌+◌, ◌<◌, List, [], ◌∷◌, length, refl, sym, ap, ◌∙◌, subst, drop, Some, arith}
-use Rattle.std.specs.Prelude.{slice_get}
+use Rattle.std.{proofs.Common.{◌≡◌, ℕ, ◌+◌, ◌<◌, List, [], ◌∷◌, length, refl, sym, ap, ◌∙◌, subst, drop, Some, arith}, specs.Prelude.slice_get}
 use Rattle.std.proofs.lemmas.Option.{slice_get_within}
-use Rattle.stack_text.specs.declared.shape.Shape.{Shape}
-use Rattle.stack_text.specs.Values.{ValueOf, item_count}
+use Rattle.stack_text.{specs.declared.shape.Shape.Shape, specs.Values.{ValueOf, item_count}}
 use Rattle.piton_words.specs.declared.word.Word.{Word}
 use Rattle.piton_check.specs.Instruction.{SystemView}
 use Rattle.piton_semantics.specs.State as piton
-use Rattle.piton_semantics.specs.State.{element}
-use Rattle.piton_semantics.specs.Law.{Steps}
-use Rattle.gypsy_syntax.specs.Programs.{Program, proc_at, shapes_of}
-use Rattle.gypsy_syntax.specs.Effects.{value_at}
-use Rattle.gypsy_syntax.specs.ValuesFit.{VarsFit}
-use Rattle.gypsy_semantics.specs.Calls.{copied_out}
-use Rattle.gypsy_semantics.specs.Kept.{FramesFit}
-use Rattle.gypsy_semantics.specs.Machine.{Frame, Held, At, Move, Next, Ended, start, used}
-use Rattle.gypsy_semantics.specs.Views.RunView.{handed_back}
-use Rattle.gypsy_semantics.proofs.EffectLaws.{value_fits}
+use Rattle.piton_semantics.{specs.State.element, specs.Law.Steps}
+use Rattle.gypsy_syntax.{specs.Programs.{Program, proc_at, shapes_of}, specs.Effects.value_at, specs.ValuesFit.VarsFit}
+use Rattle.gypsy_semantics.{specs.Calls.copied_out, specs.Kept.FramesFit, specs.Machine.{Frame, Held, At, Move, Next, Ended, start, used}}
+use Rattle.gypsy_semantics.{specs.Views.RunView.handed_back, proofs.EffectLaws.value_fits}
 use Rattle.gypsy_predef.specs.Runs.{Holds, words_of_value}
-use Rattle.gypsy_codegen.specs.Generated.{generated_view}
-use Rattle.gypsy_codegen.specs.Law.{Leads, tally_of}
-use Rattle.gypsy_codegen.specs.Memory.{stack_of, index_of, frame_of, index_words}
-use Rattle.gypsy_codegen.specs.Moments.{moment_from}
-use Rattle.gypsy_codegen.specs.Showing.{Waits}
-use Rattle.gypsy_codegen.specs.Traces.{FrameStands, FramesStand, HasFrames, EachMomentHasFrames}
-use Rattle.gypsy_codegen.specs.Whole.{opened}
-use Rattle.gypsy_codegen.specs.WordsOf.{words_of_values}
-use Rattle.gypsy_codegen.proofs.LayoutLaws.{frame_at, height, low_fits, index_fits, reads_at}
-use Rattle.gypsy_codegen.proofs.MomentLaws.{frame_number, moment_fits, moment_reached}
-use Rattle.gypsy_codegen.proofs.PushLaws.{PredefsRun}
-use Rattle.gypsy_codegen.proofs.RunLaws.{counts, each_is_shown, stack_grows}
-use Rattle.gypsy_codegen.proofs.StackLaws.{push_all-length, value_words}
+use Rattle.gypsy_codegen.{specs.Generated.generated_view, specs.Law.{Leads, tally_of}, specs.Memory.{stack_of, index_of, frame_of, index_words}}
+use Rattle.gypsy_codegen.{specs.Moments.moment_from, specs.Showing.Waits, specs.Traces.{FrameStands, FramesStand, HasFrames, EachMomentHasFrames}}
+use Rattle.gypsy_codegen.{specs.Whole.opened, specs.WordsOf.words_of_values, proofs.LayoutLaws.{frame_at, height, low_fits, index_fits, reads_at}}
+use Rattle.gypsy_codegen.{proofs.MomentLaws.{frame_number, moment_fits, moment_reached}, proofs.PushLaws.PredefsRun, proofs.RunLaws.{counts, each_is_shown}}
+use Rattle.gypsy_codegen.{proofs.RunLaws.stack_grows, proofs.StackLaws.{push_all-length, value_words}}
 
 module _ (q : Program) (stack : List Word) where
   -- the stack is that of these activations, as far as that goes

@@ -1,44 +1,23 @@
 -- All that the code of an accepted source names is there.
 use Rattle.std.proofs.Common.{◌≡◌, ℕ, suc, ◌+◌, ◌<◌, ◌≤◌, ◌^◌, List, [], ◌∷◌, ◌++◌, map, length, drop, get_or, slice_get, append_assoc, Some, refl, sym, ap}
-use Rattle.std.proofs.Common.{◌∙◌, arith, subst, length-append}
-use Rattle.std.specs.Prelude.{pos}
-use Rattle.std.proofs.lemmas.List.{length-map, map-append}
+use Rattle.std.{proofs.Common.{◌∙◌, arith, subst, length-append}, specs.Prelude.pos, proofs.lemmas.List.{length-map, map-append}}
 use Rattle.std.proofs.lemmas.Option.{slice_get_within}
-use Rattle.stack_text.specs.declared.name.Named.{Named}
-use Rattle.stack_text.specs.declared.shape.Kind.{Kind}
-use Rattle.stack_text.specs.declared.shape.Kind.TheVariants.{Boolean}
-use Rattle.stack_text.specs.declared.shape.Shape.{Shape}
-use Rattle.stack_text.specs.Values.{ValueOf}
-use Rattle.piton_syntax.specs.declared.word_text.Number.{Number}
-use Rattle.piton_syntax.specs.declared.word_text.WordText.{WordText}
-use Rattle.piton_syntax.specs.Systems.{AreaOf, ProgramOf, new_system}
-use Rattle.gypsy_syntax.specs.declared.slot.Form.{Form}
-use Rattle.gypsy_syntax.specs.declared.slot.Form.TheVariants.{Simple, Array, Literal}
-use Rattle.gypsy_syntax.specs.declared.slot.Slot.{Slot}
-use Rattle.gypsy_syntax.specs.Predefined.{predefs, predef_name, slots_of}
-use Rattle.gypsy_syntax.specs.Programs.{Proc as Main}
-use Rattle.gypsy_syntax.specs.declared.proc.Proc.{Proc}
-use Rattle.gypsy_syntax.specs.Views.SourceView.{proc_of}
-use Rattle.stack_text.proofs.Loops.{drop-item}
-use Rattle.stack_text.specs.Grammar.Printed.{unplaced}
-use Rattle.gypsy_syntax.specs.Programs.{Arg, Var, Lit, Program, no_proc, simple, proc_at, body_of, shapes_of, conds_of}
-use Rattle.gypsy_syntax.specs.Programs.{Stmt, Skip, NoOp, Signal, Seq, Loop, If, Begin, Call, Apply}
-use Rattle.gypsy_syntax.specs.ProgramFits.{Each, ActualsFit, ArgFits, ArgsFit, slot_kind, StmtFits, ProgramFits}
-use Rattle.gypsy_syntax.specs.Resolved.{shape_of, local_value, procedure_of, procedure_names, program_of}
+use Rattle.stack_text.{specs.declared.name.Named.Named, specs.declared.shape.Kind.Kind, specs.declared.shape.Kind.TheVariants.Boolean}
+use Rattle.stack_text.{specs.declared.shape.Shape.Shape, specs.Values.ValueOf, proofs.Loops.drop-item, specs.Grammar.Printed.unplaced}
+use Rattle.piton_syntax.{specs.declared.word_text.Number.Number, specs.declared.word_text.WordText.WordText, specs.Systems.{AreaOf, ProgramOf, new_system}}
+use Rattle.gypsy_syntax.{specs.declared.slot.Form.Form, specs.declared.slot.Form.TheVariants.{Simple, Array, Literal}, specs.declared.slot.Slot.Slot}
+use Rattle.gypsy_syntax.{specs.Predefined.{predefs, predef_name, slots_of}, specs.Programs.{Proc as Main, Arg, Var, Lit, Program, no_proc, simple, proc_at}}
+use Rattle.gypsy_syntax.specs.Programs.{body_of, shapes_of, conds_of, Stmt, Skip, NoOp, Signal, Seq, Loop, If, Begin, Call, Apply}
+use Rattle.gypsy_syntax.{specs.declared.proc.Proc.Proc, specs.Views.SourceView.proc_of, specs.ProgramFits.{Each, ActualsFit, ArgFits, ArgsFit, slot_kind}}
+use Rattle.gypsy_syntax.{specs.ProgramFits.{StmtFits, ProgramFits}, specs.Resolved.{shape_of, local_value, procedure_of, procedure_names, program_of}}
 use Rattle.gypsy_syntax.specs.Sources.{ProcOf, SourceOf}
 use Rattle.gypsy_space.specs.Needs.{StackSizes, vars_of}
 use Rattle.gypsy_check.proofs.CleanLaws.{get_or_map}
 use Rattle.gypsy_predef.specs.Texts.{body_texts, number}
-use Rattle.gypsy_codegen.specs.Acceptable.{total_words}
-use Rattle.gypsy_codegen.specs.Generated.{opening_words}
-use Rattle.gypsy_codegen.specs.Text.{procedure_with, procedures_with, program_texts, names_with, written_procedures, generated}
-use Rattle.gypsy_codegen.specs.Internal.Views.{HasWord, ArgHasWord, NamesAreThere, IsWritable, AreWritable, nameless, opening_text, area_text}
-use Rattle.gypsy_codegen.specs.WordsOf.{words_of_values, zero_value}
-use Rattle.gypsy_codegen.specs.Written.{written_word}
-use Rattle.gypsy_codegen.proofs.CallLaws.{values-split}
-use Rattle.gypsy_codegen.proofs.CodeLaws.{words_nameless}
-use Rattle.gypsy_codegen.proofs.CountLaws.{labels_least, code_few}
-use Rattle.gypsy_codegen.proofs.FineLaws.{offset_below}
+use Rattle.gypsy_codegen.{specs.Acceptable.total_words, specs.Generated.opening_words, specs.Text.{procedure_with, procedures_with, program_texts, names_with}}
+use Rattle.gypsy_codegen.{specs.Text.{written_procedures, generated}, specs.Internal.Views.{HasWord, ArgHasWord, NamesAreThere, IsWritable, AreWritable}}
+use Rattle.gypsy_codegen.{specs.Internal.Views.{nameless, opening_text, area_text}, specs.WordsOf.{words_of_values, zero_value}, specs.Written.written_word}
+use Rattle.gypsy_codegen.{proofs.CallLaws.values-split, proofs.CodeLaws.words_nameless, proofs.CountLaws.{labels_least, code_few}, proofs.FineLaws.offset_below}
 use Rattle.gypsy_codegen.proofs.SourceLaws.{frame_count}
 
 -- ---- statements

@@ -1,27 +1,16 @@
 -- What is known of the generated system as a text.
 use Rattle.std.specs.Prelude.{◌≡◌, ◌<◌, get_or, ℕ, ◌+◌, ◌≤◌, ◌^◌, List, [], ◌∷◌, length}
 use Rattle.fm_words.specs.WindowLimit.{most_window}
-use Rattle.stack_text.specs.SharedLimits.{most_stack}
-use Rattle.stack_text.specs.Values.{ValueOf}
+use Rattle.stack_text.specs.{SharedLimits.{most_stack}, Values.{ValueOf}}
 use Rattle.piton_semantics.specs.StateView.{started}
 use Rattle.piton_syntax.specs.PitonReading.{KeepsForm}
-use Rattle.piton_check.specs.Violations.{violations}
-use Rattle.piton_check.specs.Resolved.{resolved}
-use Rattle.piton_check.specs.Instruction.{system_view}
-use Rattle.piton_check.specs.Sound.{IsSound}
-use Rattle.gypsy_syntax.specs.Sources.{ProcOf, SourceOf}
-use Rattle.gypsy_syntax.specs.Programs.{Program, proc_at}
-use Rattle.gypsy_syntax.specs.Resolved.{variable_names, procedure_of, program_of}
+use Rattle.piton_check.specs.{Violations.{violations}, Resolved.{resolved}, Instruction.{system_view}, Sound.{IsSound}}
+use Rattle.gypsy_syntax.specs.{Sources.{ProcOf, SourceOf}, Programs.{Program, proc_at}, Resolved.{variable_names, procedure_of, program_of}}
 use Rattle.gypsy_syntax.specs.ValuesFit.{VarsFit}
 use Rattle.gypsy_check.specs.Accepted.{IsAccepted}
-use Rattle.gypsy_space.specs.Costs.{Tally}
-use Rattle.gypsy_space.specs.Needs.{StackSizes, code_words}
-use Rattle.gypsy_semantics.specs.Calls.{CurrentCondition, main_start}
-use Rattle.gypsy_semantics.specs.Meaning.{Done, meaning}
-use Rattle.gypsy_semantics.specs.Counted.{CountedDone, counted_meaning}
-use Rattle.gypsy_codegen.specs.Generated.{generated_view, count_from, offset}
-use Rattle.gypsy_codegen.specs.Text.{frame_texts, generated}
-use Rattle.gypsy_codegen.specs.WordsOf.{words_of_values}
+use Rattle.gypsy_space.specs.{Costs.{Tally}, Needs.{StackSizes, code_words}}
+use Rattle.gypsy_semantics.specs.{Calls.{CurrentCondition, main_start}, Meaning.{Done, meaning}, Counted.{CountedDone, counted_meaning}}
+use Rattle.gypsy_codegen.specs.{Generated.{generated_view, count_from, offset}, Text.{frame_texts, generated}, WordsOf.{words_of_values}}
 use Rattle.gypsy_codegen.specs.Whole.{SizesFit, RunsTo}
 
 -- the words of code of procedures together

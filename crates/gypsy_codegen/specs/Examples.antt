@@ -1,21 +1,14 @@
 -- Closed programs: the generated system computes, so that runs are seen whole.
 use Rattle.std.specs.Prelude.{◌≡◌, ℕ, ℤ, pos, negsuc, List, [], ◌∷◌, true, false, Option, Some, None, Ok, Err}
-use Rattle.stack_text.specs.declared.shape.Kind.TheVariants.{Integer, Boolean}
-use Rattle.stack_text.specs.declared.shape.Shape.{Shape}
-use Rattle.stack_text.specs.Values.{ValueOf}
-use Rattle.piton_words.specs.declared.word.Word.{Word}
-use Rattle.piton_words.specs.declared.word.Word.TheVariants.{Int, Nat, Bool as Truth}
+use Rattle.stack_text.specs.{declared.shape.Kind.TheVariants.{Integer, Boolean}, declared.shape.Shape.{Shape}, Values.{ValueOf}}
+use Rattle.piton_words.specs.{declared.word.Word.{Word}, declared.word.Word.TheVariants.{Int, Nat, Bool as Truth}}
 use Rattle.piton_semantics.specs.State as piton
-use Rattle.piton_semantics.specs.State.{PitonState}
-use Rattle.piton_semantics.specs.InstructionRows.{Row}
-use Rattle.piton_semantics.specs.Step.{piton_run, run_cost}
+use Rattle.piton_semantics.specs.{State.{PitonState}, InstructionRows.{Row}, Step.{piton_run, run_cost}}
 use Rattle.gypsy_syntax.specs.declared.predef.Predef.TheVariants as row
-use Rattle.gypsy_syntax.specs.Programs.{Leave, Routine, Declared, Var, Lit, Proc, Program, simple}
-use Rattle.gypsy_syntax.specs.Programs.{Stmt, NoOp, Signal, Seq, Loop, If, Begin, Call, Apply}
-use Rattle.gypsy_syntax.specs.Effects.{integer_value, truth_value}
+use Rattle.gypsy_syntax.specs.Programs.{Leave, Routine, Declared, Var, Lit, Proc, Program, simple, Stmt, NoOp, Signal, Seq, Loop, If, Begin}
+use Rattle.gypsy_syntax.specs.{Programs.{Call, Apply}, Effects.{integer_value, truth_value}}
 use Rattle.gypsy_space.specs.Needs.{StackSizes}
-use Rattle.gypsy_codegen.specs.Generated.{generated_view}
-use Rattle.gypsy_codegen.specs.Whole.{opened}
+use Rattle.gypsy_codegen.specs.{Generated.{generated_view}, Whole.{opened}}
 
 abbrev pub ample : StackSizes
 ample = record { temp = 100; ctrl = 100 }

@@ -1,27 +1,20 @@
 -- The generated system. A label is the place that it stands for.
 use Rattle.std.specs.Prelude.{ℕ, zero, suc, ◌+◌, ◌*◌, ◌-◌, ◌==◌, pos, List, [], ◌∷◌, ◌++◌, map, length, get_or, nat_lt, if◌then◌else◌, None}
-use Rattle.stack_text.specs.declared.shape.Shape.{Shape}
-use Rattle.stack_text.specs.declared.shape.Kind.TheVariants.{Integer}
-use Rattle.stack_text.specs.Values.{item_count}
-use Rattle.piton_words.specs.declared.word.Word.{Word}
-use Rattle.piton_words.specs.declared.word.Word.TheVariants.{Int, Nat}
+use Rattle.stack_text.specs.{declared.shape.Shape.{Shape}, declared.shape.Kind.TheVariants.{Integer}, Values.{item_count}}
+use Rattle.piton_words.specs.{declared.word.Word.{Word}, declared.word.Word.TheVariants.{Int, Nat}}
 use Rattle.piton_syntax.specs.declared.test_kind.TestFamily.TheVariants as family
 use Rattle.piton_syntax.specs.declared.test_kind.TestKind.TheVariants as test
 use Rattle.piton_check.specs.Instruction as i
 use Rattle.piton_check.specs.Instruction.{Instruction, ProgramView, SystemView}
-use Rattle.gypsy_syntax.specs.declared.predef.Predef.{Predef}
+use Rattle.gypsy_syntax.specs.{declared.predef.Predef.{Predef}, Programs.{ConditionOf, Routine, Space, Arg, Var, Lit, Program, simple}}
+use Rattle.gypsy_syntax.specs.Programs.{proc_at, body_of, shapes_of, Stmt, Skip, NoOp, Signal, Seq, Loop, If, Begin, Call, Apply}
+use Rattle.gypsy_syntax.specs.{Effects.{item_of_value}, Predefined.{predef_number, can_fail}}
 use Rattle.gypsy_syntax.specs.declared.predef.Predef.TheVariants as row
-use Rattle.gypsy_syntax.specs.Programs.{ConditionOf, Routine, Space, Arg, Var, Lit, Program, simple, proc_at, body_of, shapes_of}
-use Rattle.gypsy_syntax.specs.Programs.{Stmt, Skip, NoOp, Signal, Seq, Loop, If, Begin, Call, Apply}
-use Rattle.gypsy_syntax.specs.Effects.{item_of_value}
 use Rattle.gypsy_space.specs.Needs.{StackSizes, local_words, vars_of, call_need}
 use Rattle.gypsy_semantics.specs.Calls.{has_cond, is_leave, is_passed_on}
-use Rattle.gypsy_syntax.specs.Predefined.{predef_number, can_fail}
-use Rattle.gypsy_predef.specs.Bodies.{bodies, lengths_of}
-use Rattle.gypsy_predef.specs.Runs.{word_of_item}
-use Rattle.gypsy_predef.specs.Calls.{test_code}
-use Rattle.gypsy_codegen.specs.WordsOf.{words_of_values, zero_value, starts, local_shapes, number_of, number_of_way}
-use Rattle.gypsy_codegen.specs.Guard.{guard_code, guard_size}
+use Rattle.gypsy_predef.specs.{Bodies.{bodies, lengths_of}, Runs.{word_of_item}, Calls.{test_code}}
+use Rattle.gypsy_codegen.specs.{WordsOf.{words_of_values, zero_value, starts, local_shapes, number_of, number_of_way}, Guard.{guard_code}}
+use Rattle.gypsy_codegen.specs.Guard.{guard_size}
 
 -- what stands round a statement, the nearest first: a loop by the place of its b, a begin by its list and the place of its a
 pub data Scope : Type 0 where

@@ -1,33 +1,18 @@
 -- What generating returns, and what is known of a generated system.
-use Rattle.std.specs.Prelude.{◌≡◌, ℕ, ◌<◌, List, length, Bool, not, ◌&&◌, nat_le, nat_lt, if◌then◌else◌}
-use Rattle.std.specs.Prelude.{Option, Some, None, Result}
-use Rattle.stack_text.specs.Results.{unless_fault}
+use Rattle.std.specs.Prelude.{◌≡◌, ℕ, ◌<◌, List, length, Bool, not, ◌&&◌, nat_le, nat_lt, if◌then◌else◌, Option, Some, None, Result}
+use Rattle.stack_text.specs.{Results.{unless_fault}, SharedLimits.{most_stack}, Values.{ValueOf}}
 use Rattle.fm_words.specs.WindowLimit.{most_window}
-use Rattle.stack_text.specs.SharedLimits.{most_stack}
 use Rattle.stack_text.specs.Gives as common
-use Rattle.stack_text.specs.Values.{ValueOf}
 use Rattle.piton_syntax.specs.Systems.{SystemOf}
 use Rattle.piton_check.specs.PitonChecking.{CheckedOf}
 use Rattle.piton_semantics.specs.State as state
-use Rattle.piton_semantics.specs.Placed.{program_size}
-use Rattle.piton_semantics.specs.Fits.{system_in}
-use Rattle.piton_semantics.specs.StateView.{started}
-use Rattle.gypsy_syntax.specs.Sources.{SourceOf}
-use Rattle.gypsy_syntax.specs.Programs.{Program, proc_at}
-use Rattle.gypsy_syntax.specs.Resolved.{program_of}
-use Rattle.gypsy_syntax.specs.ValuesFit.{VarsFit}
-use Rattle.gypsy_space.specs.Costs.{Tally}
-use Rattle.gypsy_space.specs.Needs.{StackSizes, code_words, main_need}
-use Rattle.gypsy_semantics.specs.Calls.{CurrentCondition, main_start}
-use Rattle.gypsy_semantics.specs.Meaning.{Done, meaning}
-use Rattle.gypsy_semantics.specs.Counted.{CountedDone, counted_meaning}
-use Rattle.gypsy_codegen.specs.declared.fault.GenFault.{GenFault}
-use Rattle.gypsy_codegen.specs.declared.fault.GenFault.TheVariants.{Control, Temporary, Size, Words as TooManyWords, Memory}
-use Rattle.gypsy_codegen.specs.WordsOf.{words_of_values}
-use Rattle.gypsy_codegen.specs.Generated.{generated_view}
-use Rattle.gypsy_codegen.specs.Text.{generated}
-use Rattle.gypsy_codegen.specs.Whole.{RunsTo}
-use Rattle.gypsy_codegen.specs.Moments.{moment_from, HasMoment}
+use Rattle.piton_semantics.specs.{Placed.{program_size}, Fits.{system_in}, StateView.{started}}
+use Rattle.gypsy_syntax.specs.{Sources.{SourceOf}, Programs.{Program, proc_at}, Resolved.{program_of}, ValuesFit.{VarsFit}}
+use Rattle.gypsy_space.specs.{Costs.{Tally}, Needs.{StackSizes, code_words, main_need}}
+use Rattle.gypsy_semantics.specs.{Calls.{CurrentCondition, main_start}, Meaning.{Done, meaning}, Counted.{CountedDone, counted_meaning}}
+use Rattle.gypsy_codegen.specs.{declared.fault.GenFault.{GenFault}, declared.fault.GenFault.TheVariants.{Control, Temporary, Size}}
+use Rattle.gypsy_codegen.specs.{declared.fault.GenFault.TheVariants.{Words as TooManyWords, Memory}, WordsOf.{words_of_values}}
+use Rattle.gypsy_codegen.specs.{Generated.{generated_view}, Text.{generated}, Whole.{RunsTo}, Moments.{moment_from, HasMoment}}
 use Rattle.gypsy_codegen.specs.Acceptable.{total_words, LimitsFit}
 
 -- out of memory is no fault of a source

@@ -3,21 +3,14 @@ use Rattle.std.specs.Prelude.{◌≡◌, ℕ, ◌+◌, ◌-◌, ◌<◌, ◌≤�
 use Rattle.piton_words.specs.declared.word.Word.TheVariants.{Nat}
 use Rattle.piton_check.specs.Instruction as i
 use Rattle.piton_check.specs.Instruction.{SystemView}
-use Rattle.piton_semantics.specs.declared.error_kind.ErrorKind.TheVariants.{TempFull}
-use Rattle.piton_semantics.specs.State.{Frame, PitonState, program_of, ctrl_used}
-use Rattle.piton_semantics.specs.InstructionRows.{row_of, to_next}
-use Rattle.piton_semantics.specs.Step.{piton_run}
-use Rattle.piton_semantics.specs.Law.{Steps}
+use Rattle.piton_semantics.specs.{declared.error_kind.ErrorKind.TheVariants.{TempFull}, State.{Frame, PitonState, program_of, ctrl_used}}
+use Rattle.piton_semantics.specs.{InstructionRows.{row_of, to_next}, Step.{piton_run}, Law.{Steps}}
 use Rattle.stack_text.specs.Values.{ValueOf}
 use Rattle.gypsy_syntax.specs.Programs.{ConditionOf, Program, Call}
-use Rattle.gypsy_space.specs.Costs.{Tally}
-use Rattle.gypsy_space.specs.Needs.{StackSizes}
+use Rattle.gypsy_space.specs.{Costs.{Tally}, Needs.{StackSizes}}
 use Rattle.gypsy_semantics.specs.Machine as machine
-use Rattle.gypsy_semantics.specs.Machine.{Item, Do, State, At}
-use Rattle.gypsy_semantics.specs.Kept.{StateFits}
-use Rattle.gypsy_semantics.specs.Room.{StateRoom}
-use Rattle.gypsy_codegen.specs.Guard.{guard_code, guard_size}
-use Rattle.gypsy_codegen.specs.Showing.{HasAt, StandsAs}
+use Rattle.gypsy_semantics.specs.{Machine.{Item, Do, State, At}, Kept.{StateFits}, Room.{StateRoom}}
+use Rattle.gypsy_codegen.specs.{Guard.{guard_code, guard_size}, Showing.{HasAt, StandsAs}}
 
 -- a state with a frame, at the guard of a call that needs these words and goes to this place without them
 pub record IsAtGuard (s : SystemView) (need : StackSizes) (to : ℕ) (p : PitonState) : Type 0 where

@@ -1,23 +1,14 @@
 -- One step of the step machine is so many steps of the generated system.
 use Rattle.std.specs.Prelude.{◌≡◌, ℕ, ◌≤◌, List, [], ◌∷◌, ◌++◌, reverse}
-use Rattle.stack_text.specs.SharedLimits.{most_stack}
-use Rattle.stack_text.specs.Values.{ValueOf}
-use Rattle.piton_words.specs.declared.word.Word.{Word}
-use Rattle.piton_words.specs.declared.word.Word.TheVariants.{Nat}
+use Rattle.stack_text.specs.{SharedLimits.{most_stack}, Values.{ValueOf}}
+use Rattle.piton_words.specs.{declared.word.Word.{Word}, declared.word.Word.TheVariants.{Nat}}
 use Rattle.piton_check.specs.Instruction.{SystemView}
-use Rattle.piton_semantics.specs.State.{PitonState}
-use Rattle.piton_semantics.specs.Law.{Steps}
-use Rattle.gypsy_syntax.specs.Programs.{Program}
-use Rattle.gypsy_syntax.specs.ProgramFits.{ProgramFits}
-use Rattle.gypsy_space.specs.Costs.{Tally, spend}
-use Rattle.gypsy_space.specs.Needs.{StackSizes}
-use Rattle.gypsy_semantics.specs.Calls.{CurrentCondition}
-use Rattle.gypsy_semantics.specs.Machine.{State, At, Move, Next, Ended, gypsy_step}
-use Rattle.gypsy_semantics.specs.Kept.{StateFits}
+use Rattle.piton_semantics.specs.{State.{PitonState}, Law.{Steps}}
+use Rattle.gypsy_syntax.specs.{Programs.{Program}, ProgramFits.{ProgramFits}}
+use Rattle.gypsy_space.specs.{Costs.{Tally, spend}, Needs.{StackSizes}}
+use Rattle.gypsy_semantics.specs.{Calls.{CurrentCondition}, Machine.{State, At, Move, Next, Ended, gypsy_step}, Kept.{StateFits}}
 use Rattle.gypsy_semantics.specs.Room.{StateRoom}
-use Rattle.gypsy_codegen.specs.WordsOf.{words_of_values, number_of_way}
-use Rattle.gypsy_codegen.specs.Generated.{generated_view}
-use Rattle.gypsy_codegen.specs.Showing.{StandsAs}
+use Rattle.gypsy_codegen.specs.{WordsOf.{words_of_values, number_of_way}, Generated.{generated_view}, Showing.{StandsAs}}
 
 abbrev pub tally_of : State → Tally
 tally_of (At p x w fs t) = t

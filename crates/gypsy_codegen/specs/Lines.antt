@@ -5,16 +5,14 @@ use Rattle.piton_syntax.specs.declared.test_kind.TestFamily.TheVariants as famil
 use Rattle.piton_syntax.specs.declared.test_kind.TestKind.TheVariants as test
 use Rattle.piton_check.specs.Instruction as i
 use Rattle.piton_check.specs.Instruction.{Instruction}
-use Rattle.gypsy_syntax.specs.Programs.{ConditionOf, Routine, Space, Program, proc_at, body_of, shapes_of}
-use Rattle.gypsy_syntax.specs.Programs.{Stmt, Skip, NoOp, Signal, Seq, Loop, If, Begin, Call, Apply}
+use Rattle.gypsy_syntax.specs.Programs.{ConditionOf, Routine, Space, Program, proc_at, body_of, shapes_of, Stmt, Skip, NoOp, Signal, Seq}
+use Rattle.gypsy_syntax.specs.Programs.{Loop, If, Begin, Call, Apply}
 use Rattle.gypsy_space.specs.Needs.{local_words, call_need}
 use Rattle.gypsy_semantics.specs.Calls.{has_cond, is_leave, is_passed_on}
 use Rattle.gypsy_predef.specs.Calls.{test_code}
-use Rattle.gypsy_codegen.specs.WordsOf.{words_of_values, local_shapes, number_of, number_of_way}
-use Rattle.gypsy_codegen.specs.Guard.{guard_code}
-use Rattle.gypsy_codegen.specs.Generated.{Scope, InLoop, InBegin, push_words, push_indices, push_actuals, push_args}
-use Rattle.gypsy_codegen.specs.Generated.{length_code, offset, predef_position}
-use Rattle.gypsy_codegen.specs.Written.{Line, Plain, Marked}
+use Rattle.gypsy_codegen.specs.{WordsOf.{words_of_values, local_shapes, number_of, number_of_way}, Guard.{guard_code}, Generated.{Scope}}
+use Rattle.gypsy_codegen.specs.Generated.{InLoop, InBegin, push_words, push_indices, push_actuals, push_args, length_code, offset}
+use Rattle.gypsy_codegen.specs.{Generated.{predef_position}, Written.{Line, Plain, Marked}}
 
 -- how many labels a statement takes
 abbrev pub labels : Stmt → ℕ

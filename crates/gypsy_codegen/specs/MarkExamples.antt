@@ -3,14 +3,10 @@ use Rattle.std.specs.Prelude.{◌≡◌, ℕ, pos, List, [], ◌∷◌, map, Non
 use Rattle.stack_text.specs.declared.shape.Kind.TheVariants.{Integer, Boolean}
 use Rattle.piton_semantics.specs.Placed.{address_of_place}
 use Rattle.gypsy_syntax.specs.declared.predef.Predef.TheVariants as row
-use Rattle.gypsy_syntax.specs.Programs.{Leave, Routine, Var, Lit, Program, simple}
-use Rattle.gypsy_syntax.specs.Programs.{NoOp, Signal, Seq, Loop, If, Begin, Call, Apply}
+use Rattle.gypsy_syntax.specs.Programs.{Leave, Routine, Var, Lit, Program, simple, NoOp, Signal, Seq, Loop, If, Begin, Call, Apply}
 use Rattle.gypsy_syntax.specs.Effects.{integer_value}
 use Rattle.gypsy_semantics.specs.Machine.{At, Next, Ended}
-use Rattle.gypsy_codegen.specs.declared.marking.MarkAt.{MarkAt}
-use Rattle.gypsy_codegen.specs.Examples.{ample}
-use Rattle.gypsy_codegen.specs.Generated.{generated_view}
-use Rattle.gypsy_codegen.specs.Marks.{mark_at, marks_of}
+use Rattle.gypsy_codegen.specs.{declared.marking.MarkAt.{MarkAt}, Examples.{ample}, Generated.{generated_view}, Marks.{mark_at, marks_of}}
 use Rattle.gypsy_codegen.specs.Moments.{moment_from}
 
 -- `(program main (proc main ((x integer)) () () () (mg-simple-constant-assignment x 7)))`, with the places of its text

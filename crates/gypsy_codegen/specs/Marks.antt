@@ -1,18 +1,13 @@
 -- The marks of a generated program: the places of its code at which a state of the step machine may stand, with what they are in
 -- the source.
-use Rattle.std.specs.Prelude.{◌≡◌, ℕ, ◌+◌, ◌<◌, List, [], ◌∷◌, ◌++◌, ◌⊎◌, length, flat_map}
-use Rattle.std.specs.List.{Contains}
+use Rattle.std.specs.{Prelude.{◌≡◌, ℕ, ◌+◌, ◌<◌, List, [], ◌∷◌, ◌++◌, ◌⊎◌, length, flat_map}, List.{Contains}}
 use Rattle.stack_text.specs.Values.{ValueOf}
 use Rattle.piton_semantics.specs.Fits.{IsPlace}
-use Rattle.gypsy_syntax.specs.Programs.{Program, proc_at, body_of}
-use Rattle.gypsy_syntax.specs.Programs.{Stmt, Skip, NoOp, Signal, Seq, Loop, If, Begin, Call, Apply}
-use Rattle.gypsy_syntax.specs.ProgramFits.{Each, ProgramFits}
-use Rattle.gypsy_syntax.specs.ValuesFit.{VarsFit}
+use Rattle.gypsy_syntax.specs.Programs.{Program, proc_at, body_of, Stmt, Skip, NoOp, Signal, Seq, Loop, If, Begin, Call, Apply}
+use Rattle.gypsy_syntax.specs.{ProgramFits.{Each, ProgramFits}, ValuesFit.{VarsFit}}
 use Rattle.gypsy_space.specs.Needs.{StackSizes}
 use Rattle.gypsy_semantics.specs.Machine.{State, At, Next, place_of}
-use Rattle.gypsy_codegen.specs.declared.marking.MarkAt.{MarkAt}
-use Rattle.gypsy_codegen.specs.Generated.{size, count_from, generated_view}
-use Rattle.gypsy_codegen.specs.Showing.{mark_of}
+use Rattle.gypsy_codegen.specs.{declared.marking.MarkAt.{MarkAt}, Generated.{size, count_from, generated_view}, Showing.{mark_of}}
 use Rattle.gypsy_codegen.specs.Moments.{moment_from}
 
 -- a place of a program's code, and the place in the source

@@ -1,11 +1,9 @@
 -- The temporary stack and the frames, by the activations of the step machine.
 use Rattle.std.specs.Prelude.{ℕ, ◌+◌, ◌-◌, List, [], ◌∷◌, ◌++◌, length, map, drop, nat_lt, if◌then◌else◌, slice_index}
 use Rattle.stack_text.specs.Values.{ValueOf}
-use Rattle.piton_words.specs.declared.word.Word.{Word}
-use Rattle.piton_words.specs.declared.word.Word.TheVariants.{Nat}
+use Rattle.piton_words.specs.{declared.word.Word.{Word}, declared.word.Word.TheVariants.{Nat}}
 use Rattle.gypsy_syntax.specs.Programs.{Program, proc_at, shapes_of}
-use Rattle.gypsy_semantics.specs.Calls.{copied_out}
-use Rattle.gypsy_semantics.specs.Machine.{Frame, Held, used}
+use Rattle.gypsy_semantics.specs.{Calls.{copied_out}, Machine.{Frame, Held, used}}
 use Rattle.gypsy_predef.specs.Runs.{push_all}
 use Rattle.gypsy_codegen.specs.WordsOf.{words_of_values, words_before, starts, local_shapes}
 

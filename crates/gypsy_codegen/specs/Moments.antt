@@ -1,26 +1,17 @@
 -- Every moment of a run: where the step machine stands after so many steps, and what the generated system has there.
 use Rattle.std.specs.Prelude.{◌≡◌, ℕ, ◌<◌, ◌≤◌, List, [], ◌∷◌, length, Some, slice_get}
-use Rattle.stack_text.specs.declared.shape.Shape.{Shape}
-use Rattle.stack_text.specs.Values.{ValueOf}
+use Rattle.stack_text.specs.{declared.shape.Shape.{Shape}, Values.{ValueOf}}
 use Rattle.piton_words.specs.declared.word.Word.TheVariants.{Nat}
 use Rattle.piton_check.specs.Instruction.{SystemView}
 use Rattle.piton_semantics.specs.State as piton
-use Rattle.piton_semantics.specs.State.{PitonState, locals_of}
-use Rattle.piton_semantics.specs.Law.{Steps}
-use Rattle.gypsy_syntax.specs.Programs.{Program, proc_at, shapes_of}
-use Rattle.gypsy_syntax.specs.ProgramFits.{ProgramFits}
-use Rattle.gypsy_syntax.specs.Effects.{value_at}
-use Rattle.gypsy_syntax.specs.ValuesFit.{VarsFit}
-use Rattle.gypsy_space.specs.Costs.{Tally}
-use Rattle.gypsy_space.specs.Needs.{StackSizes, vars_of}
-use Rattle.gypsy_semantics.specs.Machine.{Item, Frame, Held, State, At, Move, Next, Ended, gypsy_step}
+use Rattle.piton_semantics.specs.{State.{PitonState, locals_of}, Law.{Steps}}
+use Rattle.gypsy_syntax.specs.{Programs.{Program, proc_at, shapes_of}, ProgramFits.{ProgramFits}, Effects.{value_at}, ValuesFit.{VarsFit}}
+use Rattle.gypsy_space.specs.{Costs.{Tally}, Needs.{StackSizes, vars_of}}
+use Rattle.gypsy_semantics.specs.{Machine.{Item, Frame, Held, State, At, Move, Next, Ended, gypsy_step}, Views.RunView.{spent_at, top_way}}
 pub use Rattle.gypsy_semantics.specs.Views.Moments.{moment, moment_from, moved_on}
-use Rattle.gypsy_semantics.specs.Views.RunView.{spent_at, top_way}
 use Rattle.gypsy_predef.specs.Runs.{Holds, words_of_value}
-use Rattle.gypsy_codegen.specs.WordsOf.{number_of_way}
-use Rattle.gypsy_codegen.specs.Generated.{offset, generated_view}
-use Rattle.gypsy_codegen.specs.Showing.{mark_of}
-use Rattle.gypsy_codegen.specs.Whole.{SizesFit, RunsTo, opened}
+use Rattle.gypsy_codegen.specs.{WordsOf.{number_of_way}, Generated.{offset, generated_view}, Showing.{mark_of}, Whole.{SizesFit, RunsTo}}
+use Rattle.gypsy_codegen.specs.Whole.{opened}
 
 -- 1. The generated system.
 

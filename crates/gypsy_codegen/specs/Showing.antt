@@ -9,9 +9,8 @@ use Rattle.piton_semantics.specs.State.{PitonState}
 use Rattle.gypsy_syntax.specs.Programs.{Program, proc_at, body_of, Stmt, Loop}
 use Rattle.gypsy_space.specs.Needs.{local_words}
 use Rattle.gypsy_semantics.specs.Machine.{Item, Do, Back, JoinThen, JoinOne, Guard, Out, Frame, Held, State, At}
-use Rattle.gypsy_codegen.specs.WordsOf.{number_of, number_of_way}
-use Rattle.gypsy_codegen.specs.Generated.{Scope, InLoop, InBegin, out_place, normal_code, after_code, after_size, size, gen, code_of}
-use Rattle.gypsy_codegen.specs.Memory.{stack_of, frame_of, index_words}
+use Rattle.gypsy_codegen.specs.{WordsOf.{number_of, number_of_way}, Generated.{Scope, InLoop, InBegin, out_place, normal_code, after_code}}
+use Rattle.gypsy_codegen.specs.{Generated.{after_size, size, gen, code_of}, Memory.{stack_of, frame_of, index_words}}
 
 -- the instructions stand in the code at this place
 abbrev pub HasAt : List Instruction → ℕ → List Instruction → Type 0

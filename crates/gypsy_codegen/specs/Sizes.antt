@@ -1,9 +1,7 @@
 -- The words of the generated code on the processor.
 use Rattle.std.specs.Prelude.{◌≡◌, ℕ, ◌<◌, length}
-use Rattle.piton_semantics.specs.State.{program_of}
-use Rattle.piton_semantics.specs.Placed.{program_size}
-use Rattle.gypsy_syntax.specs.Programs.{Program}
-use Rattle.gypsy_syntax.specs.ProgramFits.{ProgramFits}
+use Rattle.piton_semantics.specs.{State.{program_of}, Placed.{program_size}}
+use Rattle.gypsy_syntax.specs.{Programs.{Program}, ProgramFits.{ProgramFits}}
 use Rattle.gypsy_space.specs.Needs.{StackSizes, code_words}
 use Rattle.gypsy_codegen.specs.Generated.{generated_view}
 

@@ -1,27 +1,17 @@
 -- What the generated system does at each row of the step machine, in the row's steps of Piton and at the row's cost.
 use Rattle.std.specs.Prelude.{◌≡◌, ℕ, ◌≤◌, List, [], ◌∷◌, true, false, Some, None, slice_set}
-use Rattle.stack_text.specs.SharedLimits.{most_stack}
-use Rattle.stack_text.specs.Values.{ValueOf}
+use Rattle.stack_text.specs.{SharedLimits.{most_stack}, Values.{ValueOf}}
 use Rattle.piton_semantics.specs.State.{PitonState}
-use Rattle.gypsy_syntax.specs.declared.predef.Predef.{Predef}
-use Rattle.gypsy_syntax.specs.Programs.{ConditionOf, Routine, Space, Arg, Program, body_of}
-use Rattle.gypsy_syntax.specs.Programs.{Stmt, NoOp, Signal, Loop, If, Call, Apply}
-use Rattle.gypsy_syntax.specs.ProgramFits.{ProgramFits}
-use Rattle.gypsy_syntax.specs.Predefined.{predef_effect}
+use Rattle.gypsy_syntax.specs.{declared.predef.Predef.{Predef}, Programs.{ConditionOf, Routine, Space, Arg, Program, body_of, Stmt, NoOp}}
+use Rattle.gypsy_syntax.specs.{Programs.{Signal, Loop, If, Call, Apply}, ProgramFits.{ProgramFits}, Predefined.{predef_effect}}
 use Rattle.gypsy_syntax.specs.Effects.{Normal, Fault, Beyond, value_at, is_true_value}
-use Rattle.gypsy_space.specs.Costs.{Tally, pay, predef_spend, out_spend, main_spend}
-use Rattle.gypsy_space.specs.Needs.{StackSizes, has_room, lack_of, call_spend}
-use Rattle.gypsy_space.specs.declared.event.CostEvent.{CostEvent}
+use Rattle.gypsy_space.specs.{Costs.{Tally, pay, predef_spend, out_spend, main_spend}, Needs.{StackSizes, has_room, lack_of, call_spend}}
+use Rattle.gypsy_space.specs.{declared.event.CostEvent.{CostEvent}, declared.need.Lack.TheVariants.{Temporary, Control}}
 use Rattle.gypsy_space.specs.declared.event.CostEvent.TheVariants as event
-use Rattle.gypsy_space.specs.declared.need.Lack.TheVariants.{Temporary, Control}
 use Rattle.gypsy_semantics.specs.Calls.{is_passed_on, matching, main_way, main_formals, values_of, target_of, copied_in, copied_out}
-use Rattle.gypsy_semantics.specs.Machine.{Item, Do, Back, JoinThen, JoinOne, Guard, Out, Frame, Held, State, At}
-use Rattle.gypsy_semantics.specs.Machine.{open_on, settle, raise, used}
-use Rattle.gypsy_semantics.specs.Kept.{StateFits}
-use Rattle.gypsy_semantics.specs.Room.{StateRoom}
-use Rattle.gypsy_codegen.specs.Generated.{generated_view}
-use Rattle.gypsy_codegen.specs.Showing.{StandsAs}
-use Rattle.gypsy_codegen.specs.Law.{Leads, Halts}
+use Rattle.gypsy_semantics.specs.Machine.{Item, Do, Back, JoinThen, JoinOne, Guard, Out, Frame, Held, State, At, open_on, settle, raise}
+use Rattle.gypsy_semantics.specs.{Machine.{used}, Kept.{StateFits}, Room.{StateRoom}}
+use Rattle.gypsy_codegen.specs.{Generated.{generated_view}, Showing.{StandsAs}, Law.{Leads, Halts}}
 
 -- a program with the sizes and the base of its system, a state of Piton, and the activation on top: its procedure, its variables,
 -- its work behind the item that is on top, the activations that wait, and what was spent

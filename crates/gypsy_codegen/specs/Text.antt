@@ -1,20 +1,14 @@
 -- The generated system, as a text has it.
 use Rattle.std.specs.Prelude.{ℕ, suc, ◌==◌, pos, List, [], ◌∷◌, ◌++◌, map, if◌then◌else◌, None}
-use Rattle.stack_text.specs.declared.name.Named.{Named}
-use Rattle.stack_text.specs.Grammar.Printed.{unplaced}
-use Rattle.piton_words.specs.declared.word.Word.{Word}
-use Rattle.piton_words.specs.declared.word.Word.TheVariants.{Nat}
-use Rattle.piton_syntax.specs.declared.word_text.WordText.{WordText}
-use Rattle.piton_syntax.specs.Systems.{ProgramOf, AreaOf, SystemOf, new_program, new_area, new_system}
-use Rattle.gypsy_syntax.specs.Sources.{ProcOf, SourceOf}
-use Rattle.gypsy_syntax.specs.Programs.{Program, proc_at, shapes_of}
-use Rattle.gypsy_syntax.specs.Predefined.{predefs, predef_name}
+use Rattle.stack_text.specs.{declared.name.Named.{Named}, Grammar.Printed.{unplaced}}
+use Rattle.piton_words.specs.{declared.word.Word.{Word}, declared.word.Word.TheVariants.{Nat}}
+use Rattle.piton_syntax.specs.{declared.word_text.WordText.{WordText}, Systems.{ProgramOf, AreaOf, SystemOf, new_program, new_area}}
+use Rattle.piton_syntax.specs.Systems.{new_system}
+use Rattle.gypsy_syntax.specs.{Sources.{ProcOf, SourceOf}, Programs.{Program, proc_at, shapes_of}, Predefined.{predefs, predef_name}}
 use Rattle.gypsy_syntax.specs.Resolved.{variable_names, procedure_names, program_of}
 use Rattle.gypsy_space.specs.Needs.{StackSizes}
 use Rattle.gypsy_predef.specs.Texts.{condition_area, body_texts, number}
-use Rattle.gypsy_codegen.specs.WordsOf.{starts, number_of_way}
-use Rattle.gypsy_codegen.specs.Generated.{opening_words}
-use Rattle.gypsy_codegen.specs.Written.{Names, written_word, written}
+use Rattle.gypsy_codegen.specs.{WordsOf.{starts, number_of_way}, Generated.{opening_words}, Written.{Names, written_word, written}}
 use Rattle.gypsy_codegen.specs.Lines.{lines_of}
 
 -- the names of the programs, and of the one area

@@ -1,17 +1,14 @@
 -- Closed sources: the text of their generated procedures, line by line.
 use Rattle.std.specs.Prelude.{◌≡◌, ℕ, pos, List, [], ◌∷◌, ◌++◌, map, Option, Some, None, codes}
-use Rattle.stack_text.specs.declared.name.Named.{Named}
-use Rattle.stack_text.specs.declared.shape.Kind.TheVariants.{Integer}
-use Rattle.stack_text.specs.Grammar.Printed.{unplaced}
+use Rattle.stack_text.specs.{declared.name.Named.{Named}, declared.shape.Kind.TheVariants.{Integer}, Grammar.Printed.{unplaced}}
 use Rattle.piton_syntax.specs.declared.op.PitonOp.TheVariants as op
 use Rattle.piton_syntax.specs.declared.test_kind.TestKind.TheVariants as test
-use Rattle.piton_syntax.specs.declared.argument.ArgText.{ArgText}
+use Rattle.piton_syntax.specs.{declared.argument.ArgText.{ArgText}, Systems.{InstrOf}}
 use Rattle.piton_syntax.specs.declared.argument.ArgText.TheVariants as arg
 use Rattle.piton_syntax.specs.declared.word_text.WordItem.TheVariants as item
-use Rattle.piton_syntax.specs.Systems.{InstrOf}
-use Rattle.gypsy_syntax.specs.declared.literal.Decl.{Decl}
+use Rattle.gypsy_syntax.specs.{declared.literal.Decl.{Decl}, Sources.{StmtOf, loop, signal, begin, call, predef, variable, constant}}
+use Rattle.gypsy_syntax.specs.Sources.{integer, ProcOf, SourceOf}
 use Rattle.gypsy_syntax.specs.declared.predef.Predef.TheVariants as row
-use Rattle.gypsy_syntax.specs.Sources.{StmtOf, loop, signal, begin, call, predef, variable, constant, integer, ProcOf, SourceOf}
 use Rattle.gypsy_predef.specs.Texts.{instruction, of_name, condition_area, number}
 use Rattle.gypsy_predef.specs.Texts as predefined
 use Rattle.gypsy_codegen.specs.Text.{written_procedures}

@@ -1,25 +1,15 @@
 -- Every moment with all its activations: those that wait, too, each with the variables that it would get back now.
 use Rattle.std.specs.Prelude.{◌≡◌, ℕ, List, [], ◌∷◌, length, Some, slice_get}
-use Rattle.stack_text.specs.declared.shape.Shape.{Shape}
-use Rattle.stack_text.specs.Values.{ValueOf}
-use Rattle.piton_words.specs.declared.word.Word.{Word}
-use Rattle.piton_words.specs.declared.word.Word.TheVariants.{Nat}
+use Rattle.stack_text.specs.{declared.shape.Shape.{Shape}, Values.{ValueOf}}
+use Rattle.piton_words.specs.{declared.word.Word.{Word}, declared.word.Word.TheVariants.{Nat}}
 use Rattle.piton_check.specs.Instruction.{SystemView}
 use Rattle.piton_semantics.specs.State as piton
-use Rattle.piton_semantics.specs.State.{PitonState}
-use Rattle.piton_semantics.specs.Law.{Steps}
-use Rattle.gypsy_syntax.specs.Programs.{Program, proc_at, shapes_of}
-use Rattle.gypsy_syntax.specs.ProgramFits.{ProgramFits}
-use Rattle.gypsy_syntax.specs.Effects.{value_at}
-use Rattle.gypsy_syntax.specs.ValuesFit.{VarsFit}
-use Rattle.gypsy_space.specs.Costs.{Tally}
-use Rattle.gypsy_space.specs.Needs.{StackSizes, vars_of}
-use Rattle.gypsy_semantics.specs.Machine.{Frame, Held, Move, At, Next, Ended}
-use Rattle.gypsy_semantics.specs.Views.RunView.{handed_back}
+use Rattle.piton_semantics.specs.{State.{PitonState}, Law.{Steps}}
+use Rattle.gypsy_syntax.specs.{Programs.{Program, proc_at, shapes_of}, ProgramFits.{ProgramFits}, Effects.{value_at}, ValuesFit.{VarsFit}}
+use Rattle.gypsy_space.specs.{Costs.{Tally}, Needs.{StackSizes, vars_of}}
+use Rattle.gypsy_semantics.specs.{Machine.{Frame, Held, Move, At, Next, Ended}, Views.RunView.{handed_back}}
 use Rattle.gypsy_predef.specs.Runs.{Holds, words_of_value}
-use Rattle.gypsy_codegen.specs.Generated.{offset, generated_view}
-use Rattle.gypsy_codegen.specs.Moments.{moment_from}
-use Rattle.gypsy_codegen.specs.Whole.{SizesFit, opened}
+use Rattle.gypsy_codegen.specs.{Generated.{offset, generated_view}, Moments.{moment_from}, Whole.{SizesFit, opened}}
 
 -- the frame has the index of variable b, and the elements of the stack from there on are the words of the value's items
 pub record StandsIn (q : Program) (stack : List Word) (frame : piton.Frame) (p b : ℕ) (v : ValueOf) : Type 0 where

@@ -1,36 +1,20 @@
 -- A whole run of the generated system, and what each of its states shows.
 use Rattle.std.specs.Prelude.{◌≡◌, ℕ, ◌+◌, ◌<◌, ◌≤◌, List, [], ◌∷◌, ◌++◌, length, reverse, Some, slice_get, slice_index}
-use Rattle.stack_text.specs.SharedLimits.{most_stack}
-use Rattle.stack_text.specs.declared.shape.Shape.{Shape}
-use Rattle.stack_text.specs.Values.{ValueOf}
-use Rattle.piton_words.specs.declared.word.Word.{Word}
-use Rattle.piton_words.specs.declared.word.Word.TheVariants.{Nat}
+use Rattle.stack_text.specs.{SharedLimits.{most_stack}, declared.shape.Shape.{Shape}, Values.{ValueOf}}
+use Rattle.piton_words.specs.{declared.word.Word.{Word}, declared.word.Word.TheVariants.{Nat}}
 use Rattle.piton_check.specs.Instruction.{SystemView}
 use Rattle.piton_semantics.specs.State as piton
-use Rattle.piton_semantics.specs.State.{PitonState}
-use Rattle.piton_semantics.specs.declared.stepped.PitonRun.TheVariants.{Halted}
-use Rattle.piton_semantics.specs.StateView.{started, opening, state_run}
-use Rattle.piton_semantics.specs.Law.{Steps, advanced}
-use Rattle.gypsy_syntax.specs.Programs.{ConditionOf, Program, proc_at, shapes_of, body_of}
-use Rattle.gypsy_syntax.specs.ProgramFits.{ProgramFits, Misses}
-use Rattle.gypsy_syntax.specs.Effects.{value_at}
-use Rattle.gypsy_syntax.specs.ValuesFit.{VarsFit}
-use Rattle.gypsy_space.specs.Costs.{Tally}
-use Rattle.gypsy_space.specs.Needs.{StackSizes}
-use Rattle.gypsy_semantics.specs.Room.{Suffices}
-use Rattle.gypsy_semantics.specs.Calls.{CurrentCondition, main_start}
-use Rattle.gypsy_semantics.specs.Meaning.{Done, meaning}
-use Rattle.gypsy_semantics.specs.Counted.{CountedDone, counted_meaning}
-use Rattle.gypsy_semantics.specs.Machine.{Item, Frame, Held, State, At, Next, raise, gypsy_step, start}
-use Rattle.gypsy_semantics.specs.Kept.{StateFits}
-use Rattle.gypsy_semantics.specs.Room.{HaveWords}
-use Rattle.gypsy_semantics.specs.Kept.{FramesFit}
-use Rattle.gypsy_codegen.specs.WordsOf.{words_of_values, number_of, number_of_way}
-use Rattle.gypsy_codegen.specs.Generated.{Scope, target, size, generated_view}
-use Rattle.gypsy_codegen.specs.Memory.{stack_of, index_of}
+use Rattle.piton_semantics.specs.{State.{PitonState}, declared.stepped.PitonRun.TheVariants.{Halted}, StateView.{started, opening}}
+use Rattle.piton_semantics.specs.{StateView.{state_run}, Law.{Steps, advanced}}
+use Rattle.gypsy_syntax.specs.{Programs.{ConditionOf, Program, proc_at, shapes_of, body_of}, ProgramFits.{ProgramFits, Misses}}
+use Rattle.gypsy_syntax.specs.{Effects.{value_at}, ValuesFit.{VarsFit}}
+use Rattle.gypsy_space.specs.{Costs.{Tally}, Needs.{StackSizes}}
+use Rattle.gypsy_semantics.specs.{Room.{Suffices, HaveWords}, Calls.{CurrentCondition, main_start}, Meaning.{Done, meaning}}
+use Rattle.gypsy_semantics.specs.{Counted.{CountedDone, counted_meaning}, Machine.{Item, Frame, Held, State, At, Next, raise, gypsy_step}}
+use Rattle.gypsy_semantics.specs.{Machine.{start}, Kept.{StateFits, FramesFit}}
+use Rattle.gypsy_codegen.specs.{WordsOf.{words_of_values, number_of, number_of_way}, Generated.{Scope, target, size, generated_view}}
+use Rattle.gypsy_codegen.specs.{Memory.{stack_of, index_of}, Showing.{Stands, Waits, StandsAs, mark}, Law.{Leads, tally_of}}
 use Rattle.gypsy_predef.specs.Runs.{Holds, words_of_value}
-use Rattle.gypsy_codegen.specs.Showing.{Stands, Waits, StandsAs, mark}
-use Rattle.gypsy_codegen.specs.Law.{Leads, tally_of}
 
 -- the opening state, with these values of main's formals
 abbrev pub opened : Program → StackSizes → ℕ → List ValueOf → PitonState

@@ -1,7 +1,6 @@
 -- The words of values and conditions, and where the words of variables begin.
 use Rattle.std.specs.Prelude.{ℕ, suc, ◌+◌, pos, List, [], ◌∷◌, ◌++◌, map, replicate, take, Some, None}
-use Rattle.stack_text.specs.declared.shape.Shape.{Shape}
-use Rattle.stack_text.specs.Values.{ValueOf, item_count}
+use Rattle.stack_text.specs.{declared.shape.Shape.{Shape}, Values.{ValueOf, item_count}}
 use Rattle.piton_words.specs.declared.word.Word.{Word}
 use Rattle.gypsy_syntax.specs.Programs.{ConditionOf, Leave, Routine, Space, Declared, Proc, words_of}
 use Rattle.gypsy_semantics.specs.Calls.{CurrentCondition}

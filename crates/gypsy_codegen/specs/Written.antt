@@ -1,22 +1,16 @@
 -- Instructions as a text has them: with names in place of positions. A place in a jump is the number of a label.
-use Rattle.std.specs.Prelude.{ℕ, pos, List, [], ◌∷◌, map, get_or, Some, None}
-use Rattle.std.specs.Fmt.{decimal}
-use Rattle.stack_text.specs.declared.name.Named.{Named}
-use Rattle.stack_text.specs.Grammar.Printed.{unplaced}
-use Rattle.piton_words.specs.declared.word.Word.{Word}
+use Rattle.std.specs.{Prelude.{ℕ, pos, List, [], ◌∷◌, map, get_or, Some, None}, Fmt.{decimal}}
+use Rattle.stack_text.specs.{declared.name.Named.{Named}, Grammar.Printed.{unplaced}}
+use Rattle.piton_words.specs.{declared.word.Word.{Word}, declared.op.WordOp.{WordOp}}
 use Rattle.piton_words.specs.declared.word.Word.TheVariants as word
-use Rattle.piton_words.specs.declared.op.WordOp.{WordOp}
 use Rattle.piton_words.specs.declared.op.WordOp.TheVariants as word_op
-use Rattle.piton_syntax.specs.declared.op.PitonOp.{PitonOp}
+use Rattle.piton_syntax.specs.{declared.op.PitonOp.{PitonOp}, declared.test_kind.TestFamily.{TestFamily}}
+use Rattle.piton_syntax.specs.{declared.argument.ArgText.{ArgText}, declared.word_text.WordText.{WordText}}
+use Rattle.piton_syntax.specs.{declared.word_text.WordItem.{WordItem}, Systems.{InstrOf, new_word, new_instruction}}
 use Rattle.piton_syntax.specs.declared.op.PitonOp.TheVariants as op
-use Rattle.piton_syntax.specs.declared.test_kind.TestFamily.{TestFamily}
 use Rattle.piton_syntax.specs.declared.test_kind.TestFamily.TheVariants as family
-use Rattle.piton_syntax.specs.declared.argument.ArgText.{ArgText}
 use Rattle.piton_syntax.specs.declared.argument.ArgText.TheVariants as text
-use Rattle.piton_syntax.specs.declared.word_text.WordText.{WordText}
-use Rattle.piton_syntax.specs.declared.word_text.WordItem.{WordItem}
 use Rattle.piton_syntax.specs.declared.word_text.WordItem.TheVariants as item
-use Rattle.piton_syntax.specs.Systems.{InstrOf, new_word, new_instruction}
 use Rattle.gypsy_predef.specs.Texts.{number}
 use Rattle.piton_check.specs.Instruction as i
 use Rattle.piton_check.specs.Instruction.{Instruction}

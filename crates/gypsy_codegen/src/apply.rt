@@ -2,14 +2,11 @@
 
 ghost use Rattle.std.specs.Prelude.{◌≡◌, ◌++◌, ◌∷◌, [], map, get_or};
 ghost use Rattle.stack_heap.specs.Heaps.{OnOkUnless};
-ghost use Rattle.gypsy_syntax.specs.Programs.{Var, Apply};
-ghost use Rattle.gypsy_syntax.specs.ProgramFits.{Each};
+ghost use Rattle.gypsy_syntax.specs.{Programs.{Var, Apply}, ProgramFits.{Each}, Predefined.{predef_number, can_fail}};
 ghost use Rattle.gypsy_space.specs.Nodes.{seen_arg};
-ghost use Rattle.gypsy_syntax.specs.Predefined.{predef_number, can_fail};
 ghost use Rattle.gypsy_predef.specs.Calls.{test_code};
-ghost use Rattle.gypsy_codegen.specs.Generated.{arg_length, length_code, push_args};
-ghost use Rattle.gypsy_codegen.specs.Lines.{apply_code};
-ghost use Rattle.gypsy_codegen.specs.Internal.Views.{ArgHasWord, code_in, env, IsReady, program_in};
+ghost use Rattle.gypsy_codegen.specs.{Generated.{arg_length, length_code, push_args}, Lines.{apply_code}, Internal.Views.{ArgHasWord, code_in, env, IsReady}};
+ghost use Rattle.gypsy_codegen.specs.Internal.Views.{program_in};
 
 use crate::calls::{call_program, push_local};
 use crate::context::{Context, Scopes, label_to, shape_at};

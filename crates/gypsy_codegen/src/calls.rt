@@ -4,18 +4,12 @@ ghost use Rattle.std.specs.Prelude.{◌≡◌, ◌+◌, ◌^◌, ◌++◌, ◌�
 ghost use Rattle.stack_heap.specs.Heaps.{OnOkUnless};
 ghost use Rattle.piton_syntax.specs.declared.op.PitonOp.TheVariants as op;
 ghost use Rattle.piton_check.specs.Instruction as i;
-ghost use Rattle.gypsy_syntax.specs.Programs.{proc_at, words_of};
-ghost use Rattle.gypsy_syntax.specs.ProgramFits.{Each};
-ghost use Rattle.gypsy_space.specs.Nodes.{held_values, seen_cond, seen_proc};
-ghost use Rattle.gypsy_space.specs.Needs.{call_need, local_words};
+ghost use Rattle.gypsy_syntax.specs.{Programs.{proc_at, words_of}, ProgramFits.{Each}};
+ghost use Rattle.gypsy_space.specs.{Nodes.{held_values, seen_cond, seen_proc}, Needs.{call_need, local_words}};
 ghost use Rattle.gypsy_predef.specs.Texts.{instruction};
-ghost use Rattle.gypsy_codegen.specs.Guard.{guard_code};
-ghost use Rattle.gypsy_codegen.specs.Generated.{offset, push_actuals};
-ghost use Rattle.gypsy_codegen.specs.Lines.{after_lines, before_code, label_to, marked_raises, raise_labels};
-ghost use Rattle.gypsy_codegen.specs.Internal.Views.{code_in, env, half_guard, HasWord, index_text, IsReady, local_constants, names_of};
-ghost use Rattle.gypsy_codegen.specs.Internal.Views.{program_in, raise_text, word_constant};
-ghost use Rattle.gypsy_codegen.specs.WordsOf.{local_shapes, number_of};
-ghost use Rattle.gypsy_codegen.specs.Written.{label_arg, written};
+ghost use Rattle.gypsy_codegen.specs.{Guard.{guard_code}, Generated.{offset, push_actuals}, Lines.{after_lines, before_code, label_to, marked_raises}};
+ghost use Rattle.gypsy_codegen.specs.{Lines.{raise_labels}, Internal.Views.{code_in, env, half_guard, HasWord, index_text, IsReady, local_constants, names_of}};
+ghost use Rattle.gypsy_codegen.specs.{Internal.Views.{program_in, raise_text, word_constant}, WordsOf.{local_shapes, number_of}, Written.{label_arg, written}};
 
 use crate::context::{
     Context, Scopes, control_call_need, label_to, number_of, offset, procedure_at,

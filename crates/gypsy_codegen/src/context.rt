@@ -3,12 +3,8 @@
 ghost use Rattle.std.specs.Prelude.{◌≡◌, ◌+◌, ◌<◌, ◌^◌, length, get_or};
 ghost use Rattle.stack_text.specs.declared.shape.Kind.TheVariants.{Integer};
 ghost use Rattle.gypsy_syntax.specs.Programs.{proc_at, simple};
-ghost use Rattle.gypsy_space.specs.Needs.{call_need};
-ghost use Rattle.gypsy_space.specs.Nodes.{seen_cond, seen_proc, seen_program};
-ghost use Rattle.gypsy_codegen.specs.Generated.{offset};
-ghost use Rattle.gypsy_codegen.specs.Lines.{label_to};
-ghost use Rattle.gypsy_codegen.specs.Internal.Views.{env, IsReady, program_in};
-ghost use Rattle.gypsy_codegen.specs.WordsOf.{number_of};
+ghost use Rattle.gypsy_space.specs.{Needs.{call_need}, Nodes.{seen_cond, seen_proc, seen_program}};
+ghost use Rattle.gypsy_codegen.specs.{Generated.{offset}, Lines.{label_to}, Internal.Views.{env, IsReady, program_in}, WordsOf.{number_of}};
 
 use crate::handled::Handled;
 use gypsy_semantics::{is_leave, is_passed_on};

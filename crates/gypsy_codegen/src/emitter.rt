@@ -5,8 +5,7 @@ ghost use Rattle.stack_heap.specs.Heaps.{IfOkUnless, OnOkUnless};
 ghost use Rattle.piton_syntax.specs.declared.argument.ArgText.TheVariants as arg;
 ghost use Rattle.piton_syntax.specs.declared.op.PitonOp.TheVariants as op;
 ghost use Rattle.gypsy_predef.specs.Texts.{instruction, constant, of_name, condition_area, number};
-ghost use Rattle.gypsy_codegen.specs.Internal.Views.{labelled};
-ghost use Rattle.gypsy_codegen.specs.Written.{label_name, label_arg};
+ghost use Rattle.gypsy_codegen.specs.{Internal.Views.{labelled}, Written.{label_name, label_arg}};
 
 use crate::lines::label_named;
 use gypsy_predef::instruction_text;

@@ -3,17 +3,11 @@
 ghost use Rattle.std.specs.Prelude.{◌≡◌, ◌≤◌, ◌<◌, ◌^◌, [], length, IfOk};
 ghost use Rattle.stack_heap.specs.Heaps.{IfOkUnless};
 ghost use Rattle.piton_syntax.specs.PitonReading.{KeepsForm};
-ghost use Rattle.piton_check.specs.PitonChecking.{IsChecked};
-ghost use Rattle.piton_check.specs.Violations.{violations};
-ghost use Rattle.gypsy_syntax.specs.ProgramFits.{ProgramFits};
-ghost use Rattle.gypsy_syntax.specs.Resolved.{program_of};
-ghost use Rattle.gypsy_syntax.specs.Views.SourceView.{source_of};
+ghost use Rattle.piton_check.specs.{PitonChecking.{IsChecked}, Violations.{violations}};
+ghost use Rattle.gypsy_syntax.specs.{ProgramFits.{ProgramFits}, Resolved.{program_of}, Views.SourceView.{source_of}};
 ghost use Rattle.gypsy_check.specs.Accepted.{IsAccepted};
-ghost use Rattle.gypsy_space.specs.Events.{AreNeeds, AreSmall};
-ghost use Rattle.gypsy_space.specs.Needs.{stack_sizes};
-ghost use Rattle.gypsy_space.specs.Nodes.{seen_program};
-ghost use Rattle.gypsy_codegen.specs.Generation.{GivesGeneratedUnless, SystemImplements, TakesCodeWords};
-ghost use Rattle.gypsy_codegen.specs.Generation.{are_sizes, generation, size_fault};
+ghost use Rattle.gypsy_space.specs.{Events.{AreNeeds, AreSmall}, Needs.{stack_sizes}, Nodes.{seen_program}};
+ghost use Rattle.gypsy_codegen.specs.Generation.{GivesGeneratedUnless, SystemImplements, TakesCodeWords, are_sizes, generation, size_fault};
 ghost use Rattle.gypsy_codegen.specs.Internal.Views.{AreModest, words_together};
 
 use crate::fault::GenFault;

@@ -1,19 +1,13 @@
 //! Laws of the generated system. The functions do nothing: their clauses hold of all programs that fit, and of all sizes and states.
 
-ghost use Rattle.gypsy_codegen.specs.Acceptable.{GeneratedIsAcceptable, VariablesKeepNames, SourceRuns};
-ghost use Rattle.gypsy_codegen.specs.Examples.{ExamplesEnd};
-ghost use Rattle.gypsy_codegen.specs.GuardLaw.{GuardsCalls, GuardWantsTwo, CallsHaveTwo, FreeIsBefore};
-ghost use Rattle.gypsy_codegen.specs.Law.{StepsFollow};
-ghost use Rattle.gypsy_codegen.specs.MarkExamples.{MarksAre};
-ghost use Rattle.gypsy_codegen.specs.Marks.{EachMomentIsMarked, MarksAscend, MarksArePlaces};
-ghost use Rattle.gypsy_codegen.specs.Moments.{EachMomentIsReached, EachStepCosts, CountsGrow};
-ghost use Rattle.gypsy_codegen.specs.StepRows.{NoOpRow, SignalRow, LoopRow, BackRow, ThenRow, ElseRow, JoinThenRow, JoinOneRow};
-ghost use Rattle.gypsy_codegen.specs.StepRows.{GuardRow, CallRow, LackTemporaryRow, LackControlRow, WriteRow, FaultRow, BeyondRow, ReturnRow, OutRow, EndRow, MainOutRow};
-ghost use Rattle.gypsy_codegen.specs.Sizes.{ProceduresTakeWords};
-ghost use Rattle.gypsy_codegen.specs.Traces.{EachMomentHasFrames};
-ghost use Rattle.gypsy_codegen.specs.TextExamples.{TextsAre};
-ghost use Rattle.gypsy_codegen.specs.Whole.{StartShows, EachIsShown, CountedRuns, MeaningRuns, LimitedRunHalts, RaiseFollows};
-ghost use Rattle.gypsy_codegen.specs.Whole.{PlaceIsMark, VariablesStand, WaitingVariablesStand, ActualsShare};
+ghost use Rattle.gypsy_codegen.specs.{Acceptable.{GeneratedIsAcceptable, VariablesKeepNames, SourceRuns}, Examples.{ExamplesEnd}, GuardLaw.{GuardsCalls}};
+ghost use Rattle.gypsy_codegen.specs.{GuardLaw.{GuardWantsTwo, CallsHaveTwo, FreeIsBefore}, Law.{StepsFollow}, MarkExamples.{MarksAre}};
+ghost use Rattle.gypsy_codegen.specs.{Marks.{EachMomentIsMarked, MarksAscend, MarksArePlaces}, Moments.{EachMomentIsReached, EachStepCosts, CountsGrow}};
+ghost use Rattle.gypsy_codegen.specs.StepRows.{NoOpRow, SignalRow, LoopRow, BackRow, ThenRow, ElseRow, JoinThenRow, JoinOneRow, GuardRow, CallRow};
+ghost use Rattle.gypsy_codegen.specs.StepRows.{LackTemporaryRow, LackControlRow, WriteRow, FaultRow, BeyondRow, ReturnRow, OutRow, EndRow, MainOutRow};
+ghost use Rattle.gypsy_codegen.specs.{Sizes.{ProceduresTakeWords}, Traces.{EachMomentHasFrames}, TextExamples.{TextsAre}, Whole.{StartShows, EachIsShown}};
+ghost use Rattle.gypsy_codegen.specs.Whole.{CountedRuns, MeaningRuns, LimitedRunHalts, RaiseFollows, PlaceIsMark, VariablesStand, WaitingVariablesStand};
+ghost use Rattle.gypsy_codegen.specs.Whole.{ActualsShare};
 
 /// The guard of a call, in any system and any state that has two words free: it goes to its place exactly where a stack has
 /// fewer words free than the call needs, and else falls through, and changes nothing. With one word free its second step is

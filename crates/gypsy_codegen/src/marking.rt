@@ -2,19 +2,13 @@
 
 ghost use Rattle.std.specs.Prelude.{◌≡◌, ◌+◌, ◌^◌, ◌++◌, ◌∷◌, [], ◌<◌, ◌≤◌, length, IfOk};
 ghost use Rattle.stack_heap.specs.Heaps.{IfOkUnless, OnOkUnless};
-ghost use Rattle.gypsy_syntax.specs.Programs.{body_of, proc_at};
-ghost use Rattle.gypsy_syntax.specs.Resolved.{program_of};
-ghost use Rattle.gypsy_syntax.specs.Views.SourceView.{source_of};
+ghost use Rattle.gypsy_syntax.specs.{Programs.{body_of, proc_at}, Resolved.{program_of}, Views.SourceView.{source_of}};
 ghost use Rattle.gypsy_check.specs.Accepted.{IsAccepted};
-ghost use Rattle.gypsy_space.specs.Events.{AreNeeds};
-ghost use Rattle.gypsy_space.specs.Nodes.{seen_program, seen_statement, seen_statements};
+ghost use Rattle.gypsy_space.specs.{Events.{AreNeeds}, Nodes.{seen_program, seen_statement, seen_statements}};
 ghost use Rattle.gypsy_predef.specs.Bodies.{lengths_of};
-ghost use Rattle.gypsy_codegen.specs.Acceptable.{total_words};
-ghost use Rattle.gypsy_codegen.specs.Generated.{size, test_size};
-ghost use Rattle.gypsy_codegen.specs.Internal.Listing.{IsKnown, application_of, call_of, marked_program};
-ghost use Rattle.gypsy_codegen.specs.Marks.{mark_at, marks_of, procedure_marks, statement_marks, tail_marks};
-ghost use Rattle.gypsy_codegen.specs.Internal.Views.{NamesAreThere};
-ghost use Rattle.gypsy_codegen.specs.WordsOf.{words_of_values};
+ghost use Rattle.gypsy_codegen.specs.{Acceptable.{total_words}, Generated.{size, test_size}, Internal.Listing.{IsKnown, application_of, call_of}};
+ghost use Rattle.gypsy_codegen.specs.{Internal.Listing.{marked_program}, Marks.{mark_at, marks_of, procedure_marks, statement_marks, tail_marks}};
+ghost use Rattle.gypsy_codegen.specs.{Internal.Views.{NamesAreThere}, WordsOf.{words_of_values}};
 
 use crate::apply::can_fail;
 use crate::context::procedure_at;

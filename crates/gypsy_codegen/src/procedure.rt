@@ -3,17 +3,11 @@
 ghost use Rattle.std.specs.Prelude.{◌≡◌, ◌+◌, ◌^◌, ◌++◌, ◌<◌, ◌≤◌, length, map, [], if◌then◌else◌};
 ghost use Rattle.stack_heap.specs.Heaps.{IfOkUnless, OnOkUnless};
 ghost use Rattle.piton_words.specs.declared.word.Word.TheVariants.{Nat};
-ghost use Rattle.gypsy_syntax.specs.Programs.{body_of, shapes_of, words_of};
-ghost use Rattle.gypsy_syntax.specs.Views.SourceView.{local_of, proc_of};
-ghost use Rattle.gypsy_space.specs.Events.{AreNeeds, AreSmall};
-ghost use Rattle.gypsy_space.specs.Nodes.{held_shapes, held_values, seen_proc, seen_program};
+ghost use Rattle.gypsy_syntax.specs.{Programs.{body_of, shapes_of, words_of}, Views.SourceView.{local_of, proc_of}};
+ghost use Rattle.gypsy_space.specs.{Events.{AreNeeds, AreSmall}, Nodes.{held_shapes, held_values, seen_proc, seen_program}};
 ghost use Rattle.stack_text.specs.Grammar.Printed.{unplaced};
-ghost use Rattle.gypsy_codegen.specs.Lines.{labels, lines_of, tail_lines};
-ghost use Rattle.gypsy_codegen.specs.Text.{frame_texts, procedure_with, temporaries_of};
-ghost use Rattle.gypsy_codegen.specs.Internal.Views.{IsReady, IsWritable, NamesAreThere, names_of, nameless};
-ghost use Rattle.gypsy_codegen.specs.Internal.Views.{program_in};
-ghost use Rattle.gypsy_codegen.specs.WordsOf.{starts};
-ghost use Rattle.gypsy_codegen.specs.Written.{written};
+ghost use Rattle.gypsy_codegen.specs.{Lines.{labels, lines_of, tail_lines}, Text.{frame_texts, procedure_with, temporaries_of}, Internal.Views.{IsReady}};
+ghost use Rattle.gypsy_codegen.specs.{Internal.Views.{IsWritable, NamesAreThere, names_of, nameless, program_in}, WordsOf.{starts}, Written.{written}};
 
 use crate::context::{Context, Scopes, number_of, procedure_at};
 use crate::emitter::Emitter;

@@ -6,15 +6,11 @@ ghost use Rattle.piton_syntax.specs.declared.op.PitonOp.TheVariants as op;
 ghost use Rattle.piton_syntax.specs.declared.test_kind.TestFamily.TheVariants as family;
 ghost use Rattle.piton_syntax.specs.declared.test_kind.TestKind.TheVariants as test;
 ghost use Rattle.piton_check.specs.Instruction as i;
-ghost use Rattle.gypsy_syntax.specs.Programs.{Call, Loop};
-ghost use Rattle.gypsy_syntax.specs.ProgramFits.{Each};
+ghost use Rattle.gypsy_syntax.specs.{Programs.{Call, Loop}, ProgramFits.{Each}};
 ghost use Rattle.gypsy_space.specs.Nodes.{seen_cond, seen_statement, seen_statements};
 ghost use Rattle.gypsy_predef.specs.Texts.{instruction};
-ghost use Rattle.gypsy_codegen.specs.Generated.{InBegin, offset};
-ghost use Rattle.gypsy_codegen.specs.Lines.{labels, lines};
-ghost use Rattle.gypsy_codegen.specs.Internal.Views.{code_in, env, HasWord, IsReady, labelled, NamesAreThere, names_of};
-ghost use Rattle.gypsy_codegen.specs.Internal.Views.{normal_text, program_in, statement_text};
-ghost use Rattle.gypsy_codegen.specs.Written.{label_arg, Marked, written};
+ghost use Rattle.gypsy_codegen.specs.{Generated.{InBegin, offset}, Lines.{labels, lines}, Internal.Views.{code_in, env, HasWord, IsReady, labelled}};
+ghost use Rattle.gypsy_codegen.specs.{Internal.Views.{NamesAreThere, names_of, normal_text, program_in, statement_text}, Written.{label_arg, Marked, written}};
 
 use crate::apply::apply;
 use crate::calls::{after_call, before_call, guard_call, push_local, raise};

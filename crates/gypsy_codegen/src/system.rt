@@ -3,15 +3,11 @@
 ghost use Rattle.std.specs.Prelude.{◌≡◌, ◌^◌, ◌++◌, ◌∷◌, [], ◌≤◌, length, map, pos};
 ghost use Rattle.stack_heap.specs.Heaps.{IfOkUnless, OnOkUnless};
 ghost use Rattle.gypsy_check.specs.Accepted.{IsAccepted};
-ghost use Rattle.gypsy_syntax.specs.Resolved.{program_of};
-ghost use Rattle.gypsy_syntax.specs.Views.SourceView.{proc_of, source_of};
-ghost use Rattle.gypsy_space.specs.Events.{AreNeeds, AreSmall};
-ghost use Rattle.gypsy_space.specs.Needs.{stack_sizes};
-ghost use Rattle.gypsy_space.specs.Nodes.{seen_proc, seen_program};
+ghost use Rattle.gypsy_syntax.specs.{Resolved.{program_of}, Views.SourceView.{proc_of, source_of}};
+ghost use Rattle.gypsy_space.specs.{Events.{AreNeeds, AreSmall}, Needs.{stack_sizes}, Nodes.{seen_proc, seen_program}};
 ghost use Rattle.gypsy_predef.specs.Texts.{body_texts, number};
-ghost use Rattle.gypsy_codegen.specs.Acceptable.{total_words};
-ghost use Rattle.gypsy_codegen.specs.Text.{generated, procedures_with, program_texts};
-ghost use Rattle.gypsy_codegen.specs.Internal.Views.{AreWritable, area_text, opening_text};
+ghost use Rattle.gypsy_codegen.specs.{Acceptable.{total_words}, Text.{generated, procedures_with, program_texts}, Internal.Views.{AreWritable, area_text}};
+ghost use Rattle.gypsy_codegen.specs.Internal.Views.{opening_text};
 
 use crate::context::{NORMAL, procedure_at};
 use crate::procedure::procedure;

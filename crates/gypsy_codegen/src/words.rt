@@ -2,13 +2,10 @@
 
 ghost use Rattle.std.specs.Prelude.{◌≡◌, ◌++◌, ◌≤◌, map};
 ghost use Rattle.stack_heap.specs.Heaps.{OnOkUnless};
-ghost use Rattle.gypsy_syntax.specs.Effects.{item_of_value};
-ghost use Rattle.gypsy_syntax.specs.Programs.{words_of};
+ghost use Rattle.gypsy_syntax.specs.{Effects.{item_of_value}, Programs.{words_of}};
 ghost use Rattle.gypsy_space.specs.Nodes.{held_shapes, held_values};
 ghost use Rattle.gypsy_predef.specs.Runs.{word_of_item, words_of_value};
-ghost use Rattle.gypsy_codegen.specs.Internal.Views.{nameless, word_texts};
-ghost use Rattle.gypsy_codegen.specs.WordsOf.{words_of_values, zero_value};
-ghost use Rattle.gypsy_codegen.specs.Written.{item_text};
+ghost use Rattle.gypsy_codegen.specs.{Internal.Views.{nameless, word_texts}, WordsOf.{words_of_values, zero_value}, Written.{item_text}};
 
 use gypsy_predef::instruction_text::number;
 use piton_syntax::{WordItem, WordText};

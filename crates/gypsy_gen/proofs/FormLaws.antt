@@ -1,22 +1,12 @@
 -- A large source keeps the form.
-use Rattle.std.proofs.Common.{◌≡◌, ◌+◌, ◌*◌, ◌<◌, ◌≤◌, ◌^◌, ◌%◌, ℕ, zero, suc, [], ◌∷◌, length, refl, arith}
-use Rattle.std.specs.Prelude.{All, codes}
-use Rattle.std.specs.List.{sum_by}
-use Rattle.std.proofs.lemmas.Bool.{lt-ltb}
-use Rattle.std.proofs.lemmas.List.Sums.{sum_by-cons}
-use Rattle.std.proofs.lemmas.List.Elements.{All-nil, All-cons}
-use Rattle.stack_text.specs.Grammar.Printed.{unplaced}
-use Rattle.stack_text.specs.Grammar.Parts.{IsNamed}
-use Rattle.gypsy_syntax.specs.Fits.{FitsDecl, FitsLocal, FitsStatement, FitsStatements, FitsProcedure, FitsForm}
-use Rattle.gypsy_syntax.proofs.FitsLaws.{two_fit, three_fit}
-use Rattle.gypsy_syntax.specs.Made.{statements}
-use Rattle.gypsy_syntax.specs.Sizes.{nesting, deepest, statement_size, parts_size, procedure_size, text_size}
-use Rattle.gypsy_gen.specs.declared.body.Body.{Body}
-use Rattle.gypsy_gen.specs.declared.body.Body.TheVariants.{Add, Subtract, Minus, Assign}
-use Rattle.gypsy_gen.specs.declared.parts.Variable.TheVariants.{X, C}
-use Rattle.gypsy_gen.specs.Parts.{argument, formal, local, body_of, body}
-use Rattle.gypsy_gen.specs.Large.{next_state, procedure, procedures_from, calls_from, main_procedure, large_of}
-use Rattle.gypsy_gen.proofs.NameLaws.{procedure_named}
+use Rattle.std.{proofs.Common.{◌≡◌, ◌+◌, ◌*◌, ◌<◌, ◌≤◌, ◌^◌, ◌%◌, ℕ, zero, suc, [], ◌∷◌, length, refl, arith}, specs.Prelude.{All, codes}, specs.List.sum_by}
+use Rattle.std.{proofs.lemmas.Bool.lt-ltb, proofs.lemmas.List.Sums.sum_by-cons, proofs.lemmas.List.Elements.{All-nil, All-cons}}
+use Rattle.stack_text.{specs.Grammar.Printed.unplaced, specs.Grammar.Parts.IsNamed}
+use Rattle.gypsy_syntax.{specs.Fits.{FitsDecl, FitsLocal, FitsStatement, FitsStatements, FitsProcedure, FitsForm}, proofs.FitsLaws.{two_fit, three_fit}}
+use Rattle.gypsy_syntax.{specs.Made.statements, specs.Sizes.{nesting, deepest, statement_size, parts_size, procedure_size, text_size}}
+use Rattle.gypsy_gen.{specs.declared.body.Body.Body, specs.declared.body.Body.TheVariants.{Add, Subtract, Minus, Assign}}
+use Rattle.gypsy_gen.{specs.declared.parts.Variable.TheVariants.{X, C}, specs.Parts.{argument, formal, local, body_of, body}, specs.Large.next_state}
+use Rattle.gypsy_gen.{specs.Large.{procedure, procedures_from, calls_from, main_procedure, large_of}, proofs.NameLaws.procedure_named}
 
 -- ---- each procedure
 

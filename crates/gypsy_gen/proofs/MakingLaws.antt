@@ -2,8 +2,7 @@
 use Rattle.std.proofs.Common.{◌≡◌, ◌+◌, ◌-◌, ◌<◌, ◌≤◌, ℕ, suc, List, [], ◌∷◌, ◌++◌, map, sym, ap, ◌∙◌, append-nil, arith}
 use Rattle.stack_text.proofs.SharedLaws.{seen_more}
 use Rattle.gypsy_syntax.specs.Sources.{StmtOf, ProcOf}
-use Rattle.gypsy_gen.specs.Parts.{call_of}
-use Rattle.gypsy_gen.specs.Large.{next_state, procedure, procedures_from, calls_from}
+use Rattle.gypsy_gen.{specs.Parts.call_of, specs.Large.{next_state, procedure, procedures_from, calls_from}}
 
 pub call_more : {X : Type 0} (see : X → StmtOf) (items new : List X) (x : X) (index size : ℕ) (all : List StmtOf) → index < size + 1
     → new ≡ items ++ x ∷ [] → see x ≡ call_of index → map see items ++ calls_from index (size + 1 - index) ≡ all

@@ -1,9 +1,6 @@
 -- The names of procedures.
-use Rattle.std.proofs.Common.{◌≡◌, ◌≢◌, ℕ, ◌<◌, ◌^◌, bytes_eq, true, false, refl}
-use Rattle.std.specs.Prelude.{IsTrue}
-use Rattle.std.proofs.lemmas.Slice.Eq.{bytes_eq-Decides}
-use Rattle.stack_text.specs.Names.{is_name}
-use Rattle.stack_text.proofs.NumberedNameLaws.{numbered_named, numbered_differs}
+use Rattle.std.{proofs.Common.{◌≡◌, ◌≢◌, ℕ, ◌<◌, ◌^◌, bytes_eq, true, false, refl}, specs.Prelude.IsTrue, proofs.lemmas.Slice.Eq.bytes_eq-Decides}
+use Rattle.stack_text.{specs.Names.is_name, proofs.NumberedNameLaws.{numbered_named, numbered_differs}}
 use Rattle.gypsy_gen.specs.Parts.{procedure_name}
 
 pub procedure_named : (index : ℕ) → index < 2 ^ 32 → IsTrue (is_name (procedure_name index))

@@ -1,24 +1,14 @@
 -- A large source breaks no static rule.
 use Rattle.std.proofs.Common.{◌≡◌, ◌≢◌, ◌+◌, ◌<◌, ◌≤◌, ◌^◌, ◌%◌, ℕ, zero, suc, Bool, true, false, cond, List, [], ◌∷◌, map, Option, Some, refl, sym, ap, ◌∙◌}
-use Rattle.std.proofs.Common.{bytes_eq, arith, ◌⊎◌, inl, inr, ◌==◌}
-use Rattle.std.specs.Prelude.{codes, is_none, slice_get}
-use Rattle.std.specs.List.{flat_map, position_from}
-use Rattle.std.proofs.lemmas.Bool.{lt-ltb}
-use Rattle.std.proofs.lemmas.Bool.Decides.{eqb_tells}
-use Rattle.std.proofs.lemmas.Iterator.Adapters.{position_from-zero}
-use Rattle.stack_text.specs.Names.{is_among, place_among}
-use Rattle.stack_text.specs.Breaches.{when}
-use Rattle.stack_text.specs.Grammar.Printed.{unplaced}
-use Rattle.gypsy_syntax.specs.Made.{statements, new_proc}
-use Rattle.gypsy_syntax.specs.Keywords.{keyword_name, form_named, predef_named}
-use Rattle.gypsy_syntax.specs.Resolved.{procedure_names, procedure_at, procedure_named}
-use Rattle.gypsy_syntax.specs.Sources.{ProcOf, SourceOf}
-use Rattle.gypsy_check.specs.Declarations.{repeats, is_predefined}
-use Rattle.gypsy_check.specs.Rules.{violations, name_breaches, procedure_breaches, statement_breaches, parts_breaches, main_breaches}
-use Rattle.gypsy_gen.specs.declared.body.Body.{Body}
-use Rattle.gypsy_gen.specs.declared.body.Body.TheVariants.{Add, Subtract, Minus, Assign}
-use Rattle.gypsy_gen.specs.Parts.{procedure_name, formal, local, call_of, body_of, body}
-use Rattle.gypsy_gen.specs.Large.{next_state, procedure, procedures_from, calls_from, main_procedure, large_of}
+use Rattle.std.{proofs.Common.{bytes_eq, arith, ◌⊎◌, inl, inr, ◌==◌}, specs.Prelude.{codes, is_none, slice_get}, specs.List.{flat_map, position_from}}
+use Rattle.std.{proofs.lemmas.Bool.lt-ltb, proofs.lemmas.Bool.Decides.eqb_tells, proofs.lemmas.Iterator.Adapters.position_from-zero}
+use Rattle.stack_text.{specs.Names.{is_among, place_among}, specs.Breaches.when, specs.Grammar.Printed.unplaced}
+use Rattle.gypsy_syntax.{specs.Made.{statements, new_proc}, specs.Keywords.{keyword_name, form_named, predef_named}, specs.Resolved.procedure_names}
+use Rattle.gypsy_syntax.{specs.Resolved.{procedure_at, procedure_named}, specs.Sources.{ProcOf, SourceOf}}
+use Rattle.gypsy_check.{specs.Declarations.{repeats, is_predefined}, specs.Rules.{violations, name_breaches, procedure_breaches, statement_breaches}}
+use Rattle.gypsy_check.specs.Rules.{parts_breaches, main_breaches}
+use Rattle.gypsy_gen.{specs.declared.body.Body.Body, specs.declared.body.Body.TheVariants.{Add, Subtract, Minus, Assign}, specs.Parts.{procedure_name, formal}}
+use Rattle.gypsy_gen.{specs.Parts.{local, call_of, body_of, body}, specs.Large.{next_state, procedure, procedures_from, calls_from, main_procedure, large_of}}
 use Rattle.gypsy_gen.proofs.NameLaws.{name_itself, name_differs}
 
 -- ---- names

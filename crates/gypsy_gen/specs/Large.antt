@@ -1,8 +1,7 @@
 -- Large sources.
 use Rattle.std.specs.Prelude.{ℕ, zero, suc, ◌+◌, ◌*◌, ◌%◌, ◌^◌, List, [], ◌∷◌, codes}
 use Rattle.stack_text.specs.Grammar.Printed.{unplaced}
-use Rattle.gypsy_syntax.specs.Made.{new_seq, new_proc, new_source}
-use Rattle.gypsy_syntax.specs.Sources.{ProcOf, SourceOf, StmtOf}
+use Rattle.gypsy_syntax.specs.{Made.{new_seq, new_proc, new_source}, Sources.{ProcOf, SourceOf, StmtOf}}
 use Rattle.gypsy_gen.specs.Parts.{procedure_name, formal, local, call_of, body_of, body}
 
 -- the state of the generator after this one

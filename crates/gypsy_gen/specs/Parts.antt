@@ -1,16 +1,11 @@
 -- Parts of a large source, with 0 in all their places.
-use Rattle.std.specs.Prelude.{ℕ, pos, ◌/◌, ◌%◌, ◌==◌, if◌then◌else◌, List, [], ◌∷◌, codes}
-use Rattle.std.specs.Fmt.{decimal}
-use Rattle.stack_text.specs.Grammar.Printed.{unplaced}
-use Rattle.stack_text.specs.declared.shape.Kind.TheVariants.{Integer}
-use Rattle.gypsy_syntax.specs.declared.literal.Decl.{Decl}
-use Rattle.gypsy_syntax.specs.declared.predef.Predef.TheVariants.{MgIntegerAdd, MgIntegerSubtract}
-use Rattle.gypsy_syntax.specs.declared.predef.Predef.TheVariants.{MgIntegerUnaryMinus, MgSimpleVariableAssignment}
-use Rattle.gypsy_syntax.specs.Made.{new_simple, new_decl, new_local, new_seq, new_call, new_predef}
-use Rattle.gypsy_syntax.specs.Sources.{integer, ArgOf, variable, LocalOf, StmtOf, no_op}
-use Rattle.gypsy_gen.specs.declared.parts.Variable.{Variable}
-use Rattle.gypsy_gen.specs.declared.parts.Variable.TheVariants.{X, C}
-use Rattle.gypsy_gen.specs.declared.body.Body.{Body}
+use Rattle.std.specs.{Prelude.{ℕ, pos, ◌/◌, ◌%◌, ◌==◌, if◌then◌else◌, List, [], ◌∷◌, codes}, Fmt.{decimal}}
+use Rattle.stack_text.specs.{Grammar.Printed.{unplaced}, declared.shape.Kind.TheVariants.{Integer}}
+use Rattle.gypsy_syntax.specs.{declared.literal.Decl.{Decl}, declared.predef.Predef.TheVariants.{MgIntegerAdd, MgIntegerSubtract}}
+use Rattle.gypsy_syntax.specs.{declared.predef.Predef.TheVariants.{MgIntegerUnaryMinus, MgSimpleVariableAssignment}, Made.{new_simple}}
+use Rattle.gypsy_syntax.specs.{Made.{new_decl, new_local, new_seq, new_call, new_predef}, Sources.{integer, ArgOf, variable, LocalOf}}
+use Rattle.gypsy_syntax.specs.Sources.{StmtOf, no_op}
+use Rattle.gypsy_gen.specs.{declared.parts.Variable.{Variable}, declared.parts.Variable.TheVariants.{X, C}, declared.body.Body.{Body}}
 use Rattle.gypsy_gen.specs.declared.body.Body.TheVariants.{Add, Subtract, Minus, Assign}
 
 -- `p7`

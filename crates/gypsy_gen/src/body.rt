@@ -2,9 +2,7 @@
 
 ghost use Rattle.std.specs.Prelude.{◌≡◌, map, [], ◌∷◌};
 ghost use Rattle.stack_heap.specs.Heaps.{IfOkUnless};
-ghost use Rattle.gypsy_syntax.specs.Made.{new_predef, new_seq};
-ghost use Rattle.gypsy_syntax.specs.Sources.{no_op};
-ghost use Rattle.gypsy_syntax.specs.Views.SourceView.{arg_of, stmt_of};
+ghost use Rattle.gypsy_syntax.specs.{Made.{new_predef, new_seq}, Sources.{no_op}, Views.SourceView.{arg_of, stmt_of}};
 ghost use Rattle.gypsy_gen.specs.Parts.{body_of, argument, body};
 
 use crate::parts::Variable;

@@ -2,8 +2,7 @@
 
 ghost use Rattle.std.specs.Prelude.{◌≡◌, ◌≤◌, ◌*◌, ◌+◌, ◌-◌, ◌%◌, IfOk, map, [], ◌∷◌};
 ghost use Rattle.stack_heap.specs.Heaps.{IfOkUnless};
-ghost use Rattle.gypsy_syntax.specs.GypsyReading.{KeepsForm};
-ghost use Rattle.gypsy_syntax.specs.Views.SourceView.{proc_of, source_of, stmt_of};
+ghost use Rattle.gypsy_syntax.specs.{GypsyReading.{KeepsForm}, Views.SourceView.{proc_of, source_of, stmt_of}};
 ghost use Rattle.gypsy_check.specs.Rules.{violations};
 ghost use Rattle.gypsy_gen.specs.Large.{next_state, procedure, calls_from, main_procedure, procedures_from, large_of};
 

@@ -2,9 +2,8 @@
 
 ghost use Rattle.std.specs.Prelude.{◌≡◌, map, [], ◌∷◌};
 ghost use Rattle.stack_heap.specs.Heaps.{IfOkUnless};
-ghost use Rattle.gypsy_syntax.specs.Made.{new_decl, new_simple};
+ghost use Rattle.gypsy_syntax.specs.{Made.{new_decl, new_simple}, Views.SourceView.{local_of, stmt_of}};
 ghost use Rattle.stack_text.specs.Grammar.Printed.{unplaced};
-ghost use Rattle.gypsy_syntax.specs.Views.SourceView.{local_of, stmt_of};
 ghost use Rattle.gypsy_gen.specs.Parts.{name_of, procedure_name, formal, local, call_of};
 
 use gypsy_syntax::{Decl, Literal, Local, Stmt, TypeText};

@@ -1,31 +1,20 @@
 -- The rules with counts, by the statement's form. Each is the rule of the same name without them, and says what is added to the number of
 -- instructions that were taken before. The rules of the predefined procedures serve both: `predef_after ▸ add_rule ..`.
 use Rattle.std.proofs.Common.{◌≡◌, ℕ, zero, suc, ◌+◌, ◌<◌, List, map, length, take, Bool, true, false, Some, None, refl, sym, ap, ◌∙◌, subst, slice_set, arith}
-use Rattle.std.proofs.Common.{◌⊎◌, inl, inr, ⊎_elim}
-use Rattle.std.specs.Prelude.{nat_lt, ◌==◌}
+use Rattle.std.{proofs.Common.{◌⊎◌, inl, inr, ⊎_elim}, specs.Prelude.{nat_lt, ◌==◌}, proofs.lemmas.Bool.eqb-true}
 use Rattle.stack_text.specs.Values.{ValueOf}
-use Rattle.gypsy_syntax.specs.declared.predef.Predef.{Predef}
+use Rattle.gypsy_syntax.{specs.declared.predef.Predef.Predef, specs.Programs.{ConditionOf, Leave, Routine, Space, Declared, Arg, Program, proc_at, body_of}}
+use Rattle.gypsy_syntax.{specs.Programs.{Stmt, Skip, NoOp, Signal, Seq, Loop, If, Begin, Call, Apply}, specs.Predefined.predef_effect, specs.Effects.Effect}
+use Rattle.gypsy_syntax.specs.Effects.{Normal, Fault, Beyond, no_value, value_at, is_true_value}
 use Rattle.gypsy_syntax.specs.declared.predef.Predef.TheVariants as row
-use Rattle.gypsy_syntax.specs.Programs.{ConditionOf, Leave, Routine, Space, Declared, Arg, Program, proc_at, body_of}
-use Rattle.gypsy_syntax.specs.Programs.{Stmt, Skip, NoOp, Signal, Seq, Loop, If, Begin, Call, Apply}
-use Rattle.gypsy_syntax.specs.Predefined.{predef_effect}
-use Rattle.gypsy_syntax.specs.Effects.{Effect, Normal, Fault, Beyond, no_value, value_at, is_true_value}
-use Rattle.gypsy_space.specs.Costs.{Tally, spend, start_tally, count_of, leaving, main_spend}
-use Rattle.gypsy_space.specs.Needs.{StackSizes, main_used, with_call, has_room}
+use Rattle.gypsy_space.{specs.Costs.{Tally, spend, start_tally, count_of, leaving, main_spend}, specs.Needs.{StackSizes, main_used, with_call, has_room}}
 use Rattle.gypsy_semantics.specs.Calls.{CurrentCondition, has_cond, is_passed_on, values_of, target_of, copied_in, copied_out, main_start, main_formals}
-use Rattle.gypsy_semantics.specs.Calls.{main_way}
-use Rattle.gypsy_semantics.specs.Meaning.{Done, Unfinished, applied, evaluate}
-use Rattle.gypsy_semantics.specs.Counted.{CountedDone, uncounted, counted_main_end, counted_meaning}
-use Rattle.gypsy_semantics.proofs.CountLaws.{meaning-uncounted}
-use Rattle.gypsy_logic.specs.Ends.{Ends, Either, Given, opened, formals_of, passed, Means}
-use Rattle.gypsy_logic.specs.Counts.{RunsAfter, join_count, call_count, return_count, end_count, predef_count, CountedCondition, CountedExit, EndsAfter}
-use Rattle.gypsy_logic.specs.Counts.{ThenAfter, JoinedAfter, HandledAfter, RoundAfter, AgainAfter, StandsAfter, PaidAfter, ReturnedAfter}
-use Rattle.gypsy_logic.specs.Counts.{CountedOutcomeOf, MeetsAfter}
-use Rattle.gypsy_logic.specs.Counts.{GivesAfter, MainEndsAfter, MeansAfter}
-use Rattle.gypsy_logic.proofs.CountedTableLaws.{takes_counts}
-use Rattle.gypsy_logic.proofs.Rules.{way_ended, copied_taken}
-use Rattle.std.proofs.lemmas.Bool.{eqb-true}
-use Rattle.gypsy_semantics.proofs.Rooms.{nothing_lacks}
+use Rattle.gypsy_semantics.{specs.Calls.main_way, specs.Meaning.{Done, Unfinished, applied, evaluate}, specs.Counted.{CountedDone, uncounted, counted_main_end}}
+use Rattle.gypsy_semantics.{specs.Counted.counted_meaning, proofs.CountLaws.meaning-uncounted, proofs.Rooms.nothing_lacks}
+use Rattle.gypsy_logic.{specs.Ends.{Ends, Either, Given, opened, formals_of, passed, Means}, specs.Counts.{RunsAfter, join_count, call_count, return_count}}
+use Rattle.gypsy_logic.specs.Counts.{end_count, predef_count, CountedCondition, CountedExit, EndsAfter, ThenAfter, JoinedAfter, HandledAfter, RoundAfter}
+use Rattle.gypsy_logic.specs.Counts.{AgainAfter, StandsAfter, PaidAfter, ReturnedAfter, CountedOutcomeOf, MeetsAfter, GivesAfter, MainEndsAfter, MeansAfter}
+use Rattle.gypsy_logic.{proofs.CountedTableLaws.takes_counts, proofs.Rules.{way_ended, copied_taken}}
 
 module _ {q : Program} {sizes u : StackSizes} where
   -- a run of which something is said, of the number of instructions in all

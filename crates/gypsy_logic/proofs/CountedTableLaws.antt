@@ -1,24 +1,17 @@
 -- The rows of the table with their counts.
-use Rattle.std.proofs.Common.{◌≡◌, ℕ, zero, suc, ◌+◌, ◌≤◌, List, Bool, true, false, Some, None, refl, ap, ◌∙◌, slice_set, arith}
-use Rattle.std.specs.Prelude.{nat_lt}
+use Rattle.std.{proofs.Common.{◌≡◌, ℕ, zero, suc, ◌+◌, ◌≤◌, List, Bool, true, false, Some, None, refl, ap, ◌∙◌, slice_set, arith}, specs.Prelude.nat_lt}
 use Rattle.stack_text.specs.Values.{ValueOf}
-use Rattle.gypsy_syntax.specs.declared.predef.Predef.{Predef}
-use Rattle.gypsy_syntax.specs.Programs.{ConditionOf, Leave, Routine, Space, Declared, Arg, Program, proc_at, body_of}
-use Rattle.gypsy_syntax.specs.Programs.{Stmt, Skip, NoOp, Signal, Seq, Loop, If, Begin, Call, Apply}
-use Rattle.gypsy_syntax.specs.Predefined.{predef_effect, predef_cost}
+use Rattle.gypsy_syntax.{specs.declared.predef.Predef.Predef, specs.Programs.{ConditionOf, Leave, Routine, Space, Declared, Arg, Program, proc_at, body_of}}
+use Rattle.gypsy_syntax.{specs.Programs.{Stmt, Skip, NoOp, Signal, Seq, Loop, If, Begin, Call, Apply}, specs.Predefined.{predef_effect, predef_cost}}
 use Rattle.gypsy_syntax.specs.Effects.{Effect, Normal, Fault, Beyond, value_at, is_true_value}
-use Rattle.gypsy_space.specs.Costs.{Tally, spend, start_tally, predef_spend, out_spend, raised_price, steps_of}
+use Rattle.gypsy_space.{specs.Costs.{Tally, spend, start_tally, predef_spend, out_spend, raised_price, steps_of}, specs.Needs.{StackSizes, with_call, lack_of}}
+use Rattle.gypsy_space.{specs.Needs.call_spend, specs.declared.need.Lack.Lack, specs.declared.need.Lack.TheVariants.{Nothing, Temporary, Control}}
+use Rattle.gypsy_space.proofs.SpendLaws.{spend_two, spend_none}
 use Rattle.gypsy_space.specs.declared.event.CostEvent.TheVariants as event
-use Rattle.gypsy_space.specs.Needs.{StackSizes, with_call, lack_of, call_spend}
-use Rattle.gypsy_space.specs.declared.need.Lack.{Lack}
-use Rattle.gypsy_space.specs.declared.need.Lack.TheVariants.{Nothing, Temporary, Control}
 use Rattle.gypsy_semantics.specs.Calls.{CurrentCondition, has_cond, is_leave, is_passed_on, matching, values_of, target_of, copied_in, copied_out}
 use Rattle.gypsy_semantics.specs.Counted.{CountedOutcome, CountedDone, counted_then, counted_part, counted_either, counted_caught, counted_round_end}
 use Rattle.gypsy_semantics.specs.Counted.{counted_applied, counted_returned, counted_if_room, counted_evaluate}
-use Rattle.gypsy_logic.specs.Ends.{passed}
-use Rattle.gypsy_logic.specs.Counts.{RunsAfter, join_count, call_count, return_count, predef_count}
-use Rattle.gypsy_logic.specs.CountedTable.{TakesCounts}
-use Rattle.gypsy_space.proofs.SpendLaws.{spend_two, spend_none}
+use Rattle.gypsy_logic.{specs.Ends.passed, specs.Counts.{RunsAfter, join_count, call_count, return_count, predef_count}, specs.CountedTable.TakesCounts}
 
 -- ---- what is spent in two parts
 

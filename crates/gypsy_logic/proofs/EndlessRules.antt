@@ -2,16 +2,12 @@
 -- are reached.
 use Rattle.std.proofs.Common.{◌≡◌, ℕ, zero, suc, List, map, Bool, true, false, Some, None, refl, ap, ◌∙◌, ◌⊎◌, inl, inr}
 use Rattle.stack_text.specs.Values.{ValueOf}
-use Rattle.gypsy_syntax.specs.Programs.{ConditionOf, Leave, Routine, Space, Declared, Program, body_of}
-use Rattle.gypsy_syntax.specs.Programs.{Stmt, Seq, Loop, If, Begin, Call}
+use Rattle.gypsy_syntax.specs.Programs.{ConditionOf, Leave, Routine, Space, Declared, Program, body_of, Stmt, Seq, Loop, If, Begin, Call}
 use Rattle.gypsy_syntax.specs.Effects.{value_at, is_true_value}
 use Rattle.gypsy_space.specs.Needs.{StackSizes, main_used, with_call, has_room}
-use Rattle.gypsy_semantics.specs.Calls.{CurrentCondition, copied_in, main_start}
-use Rattle.gypsy_semantics.specs.Meaning.{MeaningOutcome, Done, Unfinished, then_do, either_way, caught, round_end, returned, if_room, evaluate, main_end}
-use Rattle.gypsy_semantics.proofs.LongerLaws.{ends_once}
-use Rattle.gypsy_logic.specs.Runs.{Runs}
-use Rattle.gypsy_logic.specs.Ends.{Condition, Ends, Then, Round, opened}
-use Rattle.gypsy_logic.specs.Endless.{Endless, IsEndless, NoExit}
+use Rattle.gypsy_semantics.{specs.Calls.{CurrentCondition, copied_in, main_start}, specs.Meaning.{MeaningOutcome, Done, Unfinished, then_do, either_way}}
+use Rattle.gypsy_semantics.{specs.Meaning.{caught, round_end, returned, if_room, evaluate, main_end}, proofs.LongerLaws.ends_once}
+use Rattle.gypsy_logic.{specs.Runs.Runs, specs.Ends.{Condition, Ends, Then, Round, opened}, specs.Endless.{Endless, IsEndless, NoExit}}
 
 module _ {q : Program} {sizes u : StackSizes} where
   -- within a bound a statement that ends is unfinished, or ends so

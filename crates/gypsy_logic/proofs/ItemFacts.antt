@@ -1,6 +1,5 @@
 -- Facts on the items of arrays that proofs about programs meet.
-use Rattle.std.proofs.Common.{◌≡◌, ◌≢◌, ℕ, zero, suc, ◌<◌, ◌≤◌, List, [], ◌∷◌, length, take, get_or, slice_set, refl, ap, arith}
-use Rattle.std.specs.Prelude.{ℤ, pos}
+use Rattle.std.{proofs.Common.{◌≡◌, ◌≢◌, ℕ, zero, suc, ◌<◌, ◌≤◌, List, [], ◌∷◌, length, take, get_or, slice_set, refl, ap, arith}, specs.Prelude.{ℤ, pos}}
 
 abbrev pub at : List ℤ → ℕ → ℤ
 at zs i = get_or zs i (pos 0)

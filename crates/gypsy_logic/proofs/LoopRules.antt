@@ -1,21 +1,17 @@
 -- Loops that count up to a number: `(loop (seq (mg-simple-constant-eq B I m) (if B (signal leave) (no-op)) S ..))`. No measure is given:
 -- the state at a round is that of the number i that the variable I has.
 use Rattle.std.proofs.Common.{◌≡◌, ℕ, zero, suc, ◌+◌, ◌<◌, ◌≤◌, ◌-◌, List, [], ◌∷◌, Bool, true, false, Some, None, sym, ap, ◌∙◌, subst, arith}
-use Rattle.std.specs.Prelude.{pos}
-use Rattle.std.proofs.lemmas.Int.{ints}
+use Rattle.std.{specs.Prelude.pos, proofs.lemmas.Int.ints}
 use Rattle.stack_text.specs.Values.{ValueOf}
 use Rattle.gypsy_syntax.specs.declared.predef.Predef.TheVariants as row
-use Rattle.gypsy_syntax.specs.Programs.{Leave, Routine, Space, Declared, Var, Lit, Program}
-use Rattle.gypsy_syntax.specs.Programs.{Stmt, NoOp, Signal, Seq, Loop, If, Apply}
-use Rattle.gypsy_syntax.specs.Effects.{value_at, is_true_value, integer_value, truth_value, are_same}
+use Rattle.gypsy_syntax.{specs.Programs.{Leave, Routine, Space, Declared, Var, Lit, Program, Stmt, NoOp, Signal, Seq, Loop, If, Apply}, specs.Effects.value_at}
+use Rattle.gypsy_syntax.specs.Effects.{is_true_value, integer_value, truth_value, are_same}
 use Rattle.gypsy_space.specs.Needs.{StackSizes}
 use Rattle.gypsy_semantics.specs.Calls.{CurrentCondition}
-use Rattle.gypsy_logic.specs.Ends.{Exit, Ends, Round, Again, Stands}
-use Rattle.gypsy_logic.specs.Counts.{CountedExit, EndsAfter, RoundAfter, AgainAfter, StandsAfter}
-use Rattle.gypsy_logic.proofs.Rules.{◌▸◌, no_op_rule, signal_rule, seq_rule, if_true, if_false, loop_over, weaker}
-use Rattle.gypsy_logic.proofs.CountedRules.{no_op_after, signal_after, seq_after, if_true_after, if_false_after, loop_over_after, predef_after, weaker_after}
-use Rattle.gypsy_logic.proofs.PredefinedRules.{number_at, with_value, equal_constant_rule}
-use Rattle.gypsy_logic.proofs.NumberFacts.{truth_is, same_true, same_false}
+use Rattle.gypsy_logic.{specs.Ends.{Exit, Ends, Round, Again, Stands}, specs.Counts.{CountedExit, EndsAfter, RoundAfter, AgainAfter, StandsAfter}}
+use Rattle.gypsy_logic.{proofs.Rules.{◌▸◌, no_op_rule, signal_rule, seq_rule, if_true, if_false, loop_over, weaker}, proofs.CountedRules.no_op_after}
+use Rattle.gypsy_logic.proofs.CountedRules.{signal_after, seq_after, if_true_after, if_false_after, loop_over_after, predef_after, weaker_after}
+use Rattle.gypsy_logic.{proofs.PredefinedRules.{number_at, with_value, equal_constant_rule}, proofs.NumberFacts.{truth_is, same_true, same_false}}
 
 module _ (m : ℕ) (State : ℕ → Type 0) (vars : (i : ℕ) → State i → List ValueOf) where
   -- so many rounds are left

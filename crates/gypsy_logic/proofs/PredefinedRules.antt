@@ -1,19 +1,14 @@
 -- The rules of the predefined procedures. Each says which variable is written with what, or that the condition is routineerror.
 use Rattle.std.proofs.Common.{◌≡◌, ℕ, ◌<◌, ◌≤◌, List, [], ◌∷◌, length, get_or, Bool, true, false, Some, None, refl, sym, ap, ◌∙◌, subst, slice_set}
-use Rattle.std.specs.Prelude.{ℤ, pos, negsuc, ◌+ℤ◌, ◌-ℤ◌, ◌*ℤ◌, neg_ℤ, int_le, nat_lt, not, ◌&&◌, ◌||◌, if◌then◌else◌}
-use Rattle.std.proofs.lemmas.Bool.{lt-ltb, le-ltb}
-use Rattle.stack_text.specs.declared.shape.Kind.TheVariants.{Integer}
-use Rattle.stack_text.specs.Values.{ValueOf}
+use Rattle.std.{specs.Prelude.{ℤ, pos, negsuc, ◌+ℤ◌, ◌-ℤ◌, ◌*ℤ◌, neg_ℤ, int_le, nat_lt, not, ◌&&◌, ◌||◌, if◌then◌else◌}, proofs.lemmas.Bool.{lt-ltb, le-ltb}}
+use Rattle.stack_text.{specs.declared.shape.Kind.TheVariants.Integer, specs.Values.ValueOf}
 use Rattle.gypsy_syntax.specs.declared.predef.Predef.TheVariants as row
-use Rattle.gypsy_syntax.specs.Programs.{Routine, Arg, Var, Lit, Program, Apply, simple}
-use Rattle.gypsy_syntax.specs.Predefined.{predef_effect, effect_by}
-use Rattle.gypsy_syntax.specs.Ranges.{is_in_range}
+use Rattle.gypsy_syntax.{specs.Programs.{Routine, Arg, Var, Lit, Program, Apply, simple}, specs.Predefined.{predef_effect, effect_by}, specs.Ranges.is_in_range}
 use Rattle.gypsy_syntax.specs.Effects.{Normal, Fault, Beyond, value_at, item_of_value, is_true_value, integer_value, truth_value, are_same, number_effect}
 use Rattle.gypsy_syntax.specs.Effects.{indexed, stored}
 use Rattle.gypsy_space.specs.Needs.{StackSizes}
 use Rattle.gypsy_semantics.specs.Calls.{values_of, target_of}
-use Rattle.gypsy_logic.specs.Ends.{Exit, Ends, Applied}
-use Rattle.gypsy_logic.proofs.Rules.{apply_rule}
+use Rattle.gypsy_logic.{specs.Ends.{Exit, Ends, Applied}, proofs.Rules.apply_rule}
 
 -- ---- what an effect comes to
 

@@ -1,25 +1,17 @@
 -- The rules, by the statement's form. A rule's conclusion is what a statement ends with, its premises are what the parts have to end
 -- with; a proof is written from the outside to the inside. What a triple says is said by `λ x holds. ..`.
 use Rattle.std.proofs.Common.{◌≡◌, ℕ, zero, suc, ◌+◌, ◌<◌, ◌≤◌, List, [], ◌∷◌, map, length, take, Bool, true, false, Some, None, refl, sym, ap, ◌∙◌, subst}
-use Rattle.std.proofs.Common.{slice_set, arith}
-use Rattle.std.specs.Prelude.{nat_le}
-use Rattle.std.proofs.lemmas.Bool.{le-leb, and_from}
+use Rattle.std.{proofs.Common.{slice_set, arith}, specs.Prelude.nat_le, proofs.lemmas.Bool.{le-leb, and_from}}
 use Rattle.stack_text.specs.Values.{ValueOf}
-use Rattle.gypsy_syntax.specs.declared.predef.Predef.{Predef}
-use Rattle.gypsy_syntax.specs.Programs.{ConditionOf, Leave, Routine, Space, Declared, Arg, Program, proc_at, body_of}
-use Rattle.gypsy_syntax.specs.Programs.{Stmt, Skip, NoOp, Signal, Seq, Loop, If, Begin, Call, Apply}
-use Rattle.gypsy_syntax.specs.Predefined.{predef_effect}
-use Rattle.gypsy_syntax.specs.Effects.{Effect, Normal, Fault, Beyond, value_at, is_true_value}
+use Rattle.gypsy_syntax.{specs.declared.predef.Predef.Predef, specs.Programs.{ConditionOf, Leave, Routine, Space, Declared, Arg, Program, proc_at, body_of}}
+use Rattle.gypsy_syntax.{specs.Programs.{Stmt, Skip, NoOp, Signal, Seq, Loop, If, Begin, Call, Apply}, specs.Predefined.predef_effect, specs.Effects.Effect}
+use Rattle.gypsy_syntax.specs.Effects.{Normal, Fault, Beyond, value_at, is_true_value}
 use Rattle.gypsy_space.specs.Needs.{StackSizes, main_used, with_call, call_need, has_room}
 use Rattle.gypsy_semantics.specs.Calls.{CurrentCondition, has_cond, is_passed_on, matching, values_of, target_of, copied_in, copied_out, main_start}
-use Rattle.gypsy_semantics.specs.Calls.{main_formals, main_way}
-use Rattle.gypsy_semantics.specs.Meaning.{MeaningOutcome, Done, main_end, meaning}
-use Rattle.gypsy_logic.specs.Runs.{Runs}
-use Rattle.gypsy_logic.specs.Written.{written, KeepsOthers}
-use Rattle.gypsy_logic.specs.Ends.{Condition, Exit, Ends, Then, Either, Handled, Round, Again, Stands, passed, Returned, Applied, Entry, Outcome, Meets, Given}
-use Rattle.gypsy_logic.specs.Ends.{Gives, opened, formals_of, ended, MainEnds, Means}
-use Rattle.gypsy_logic.proofs.TableLaws.{follows_table}
-use Rattle.gypsy_logic.proofs.WrittenLaws.{run_keeps}
+use Rattle.gypsy_semantics.{specs.Calls.{main_formals, main_way}, specs.Meaning.{MeaningOutcome, Done, main_end, meaning}}
+use Rattle.gypsy_logic.{specs.Runs.Runs, specs.Written.{written, KeepsOthers}, specs.Ends.{Condition, Exit, Ends, Then, Either, Handled, Round, Again, Stands}}
+use Rattle.gypsy_logic.specs.Ends.{passed, Returned, Applied, Entry, Outcome, Meets, Given, Gives, opened, formals_of, ended, MainEnds, Means}
+use Rattle.gypsy_logic.{proofs.TableLaws.follows_table, proofs.WrittenLaws.run_keeps}
 
 -- a rule before what is left to show, so that a proof reads as the program does: `seq_rule ▸ assign_rule ▸ ..`
 infixr 1 ◌▸◌

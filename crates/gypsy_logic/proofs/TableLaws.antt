@@ -1,17 +1,13 @@
 -- The rows of the table.
 use Rattle.std.proofs.Common.{◌≡◌, ℕ, suc, ◌+◌, ◌≤◌, List, Bool, true, false, Some, None, refl, ap, ◌∙◌, slice_set, arith}
 use Rattle.stack_text.specs.Values.{ValueOf}
-use Rattle.gypsy_syntax.specs.declared.predef.Predef.{Predef}
-use Rattle.gypsy_syntax.specs.Programs.{ConditionOf, Leave, Routine, Space, Arg, Program, body_of}
-use Rattle.gypsy_syntax.specs.Programs.{Stmt, Seq, Loop, If, Begin, Call, Apply}
-use Rattle.gypsy_syntax.specs.Predefined.{predef_effect}
-use Rattle.gypsy_syntax.specs.Effects.{Effect, Normal, Fault, Beyond, value_at, is_true_value}
+use Rattle.gypsy_syntax.{specs.declared.predef.Predef.Predef, specs.Programs.{ConditionOf, Leave, Routine, Space, Arg, Program, body_of, Stmt, Seq, Loop, If}}
+use Rattle.gypsy_syntax.{specs.Programs.{Begin, Call, Apply}, specs.Predefined.predef_effect, specs.Effects.{Effect, Normal, Fault, Beyond, value_at}}
+use Rattle.gypsy_syntax.specs.Effects.{is_true_value}
 use Rattle.gypsy_space.specs.Needs.{StackSizes, with_call, has_room}
-use Rattle.gypsy_semantics.specs.Calls.{CurrentCondition, has_cond, is_leave, values_of, target_of, copied_in}
-use Rattle.gypsy_semantics.specs.Meaning.{MeaningOutcome, Done, then_do, either_way, caught, round_end, applied, returned, if_room, evaluate}
-use Rattle.gypsy_semantics.proofs.LongerLaws.{longer}
-use Rattle.gypsy_logic.specs.Runs.{Runs}
-use Rattle.gypsy_logic.specs.Table.{FollowsTable}
+use Rattle.gypsy_semantics.{specs.Calls.{CurrentCondition, has_cond, is_leave, values_of, target_of, copied_in}, specs.Meaning.{MeaningOutcome, Done, then_do}}
+use Rattle.gypsy_semantics.{specs.Meaning.{either_way, caught, round_end, applied, returned, if_room, evaluate}, proofs.LongerLaws.longer}
+use Rattle.gypsy_logic.{specs.Runs.Runs, specs.Table.FollowsTable}
 
 module _ (q : Program) (sizes : StackSizes) where
   -- a run within each bound from its own on

@@ -1,18 +1,14 @@
 -- A statement changes no variable that it doesn't write.
-use Rattle.std.proofs.Common.{◌≡◌, ℕ, zero, suc, List, [], ◌∷◌, ◌++◌, Bool, true, false, Some, None, refl, ◌∙◌, subst}
-use Rattle.std.proofs.lemmas.List.{get_or-set_other}
+use Rattle.std.{proofs.Common.{◌≡◌, ℕ, zero, suc, List, [], ◌∷◌, ◌++◌, Bool, true, false, Some, None, refl, ◌∙◌, subst}, proofs.lemmas.List.get_or-set_other}
 use Rattle.stack_text.specs.Values.{ValueOf}
-use Rattle.gypsy_syntax.specs.Programs.{ConditionOf, Arg, Program, body_of}
-use Rattle.gypsy_syntax.specs.Programs.{Stmt, Skip, NoOp, Signal, Seq, Loop, If, Begin, Call, Apply}
-use Rattle.gypsy_syntax.specs.Predefined.{predef_effect}
-use Rattle.gypsy_syntax.specs.ProgramFits.{Misses}
-use Rattle.gypsy_syntax.specs.Effects.{Effect, Normal, Fault, Beyond, no_value, value_at, is_true_value}
+use Rattle.gypsy_syntax.specs.Programs.{ConditionOf, Arg, Program, body_of, Stmt, Skip, NoOp, Signal, Seq, Loop, If, Begin, Call, Apply}
+use Rattle.gypsy_syntax.{specs.Predefined.predef_effect, specs.ProgramFits.Misses, specs.Effects.{Effect, Normal, Fault, Beyond, no_value, value_at}}
+use Rattle.gypsy_syntax.specs.Effects.{is_true_value}
 use Rattle.gypsy_space.specs.Needs.{StackSizes, with_call, has_room}
-use Rattle.gypsy_semantics.specs.Calls.{CurrentCondition, has_cond, is_leave, values_of, target_of, copied_in}
-use Rattle.gypsy_semantics.specs.Meaning.{MeaningOutcome, Done, Unfinished, then_do, either_way, caught, round_end, applied, returned, if_room, evaluate}
-use Rattle.gypsy_logic.specs.Runs.{Runs}
-use Rattle.gypsy_logic.specs.Written.{written, KeepsOthers}
+use Rattle.gypsy_semantics.{specs.Calls.{CurrentCondition, has_cond, is_leave, values_of, target_of, copied_in}, specs.Meaning.{MeaningOutcome, Done}}
+use Rattle.gypsy_semantics.specs.Meaning.{Unfinished, then_do, either_way, caught, round_end, applied, returned, if_room, evaluate}
 use Rattle.gypsy_semantics.proofs.LendingLaws.{copied_miss}
+use Rattle.gypsy_logic.{specs.Runs.Runs, specs.Written.{written, KeepsOthers}}
 
 -- ---- which variables a list misses
 

@@ -1,18 +1,14 @@
 -- After how many instructions each statement ends, in the rows of the table in docs/proved/meaning.md.
 use Rattle.std.specs.Prelude.{◌≡◌, ℕ, ◌+◌, List, true, false, Some, None, slice_set}
 use Rattle.stack_text.specs.Values.{ValueOf}
-use Rattle.gypsy_syntax.specs.declared.predef.Predef.{Predef}
-use Rattle.gypsy_syntax.specs.Programs.{ConditionOf, Leave, Routine, Space, Arg, Program, body_of}
-use Rattle.gypsy_syntax.specs.Programs.{Stmt, Skip, NoOp, Signal, Seq, Loop, If, Begin, Call, Apply}
-use Rattle.gypsy_syntax.specs.Predefined.{predef_effect}
+use Rattle.gypsy_syntax.specs.{declared.predef.Predef.{Predef}, Programs.{ConditionOf, Leave, Routine, Space, Arg, Program, body_of, Stmt}}
+use Rattle.gypsy_syntax.specs.{Programs.{Skip, NoOp, Signal, Seq, Loop, If, Begin, Call, Apply}, Predefined.{predef_effect}}
 use Rattle.gypsy_syntax.specs.Effects.{Normal, Fault, Beyond, value_at, is_true_value}
-use Rattle.gypsy_space.specs.Costs.{count_of}
+use Rattle.gypsy_space.specs.{Costs.{count_of}, Needs.{StackSizes, with_call, lack_of}, declared.need.Lack.TheVariants.{Nothing, Temporary}}
+use Rattle.gypsy_space.specs.declared.need.Lack.TheVariants.{Control}
 use Rattle.gypsy_space.specs.declared.event.CostEvent.TheVariants as event
-use Rattle.gypsy_space.specs.Needs.{StackSizes, with_call, lack_of}
-use Rattle.gypsy_space.specs.declared.need.Lack.TheVariants.{Nothing, Temporary, Control}
 use Rattle.gypsy_semantics.specs.Calls.{CurrentCondition, has_cond, is_leave, values_of, target_of, copied_in, copied_out}
-use Rattle.gypsy_logic.specs.Ends.{passed}
-use Rattle.gypsy_logic.specs.Counts.{RunsAfter, join_count, call_count, return_count, predef_count}
+use Rattle.gypsy_logic.specs.{Ends.{passed}, Counts.{RunsAfter, join_count, call_count, return_count, predef_count}}
 
 -- the rows of a program, for stacks of these sizes
 pub record TakesCounts (q : Program) (sizes : StackSizes) : Type 0 where

@@ -1,15 +1,11 @@
 -- How statements about programs are said with counts: what a statement ends with, and after how many instructions of the processor.
 use Rattle.std.specs.Prelude.{◌≡◌, ℕ, ◌+◌, ◌<◌, ◌≤◌, List, Some, None, ◌==◌, nat_lt, true, false}
 use Rattle.stack_text.specs.Values.{ValueOf}
-use Rattle.gypsy_syntax.specs.declared.predef.Predef.{Predef}
-use Rattle.gypsy_syntax.specs.Programs.{ConditionOf, Leave, Routine, Space, Declared, Program, Stmt, proc_at, body_of}
-use Rattle.gypsy_syntax.specs.Predefined.{row_of}
-use Rattle.gypsy_syntax.specs.Effects.{Effect, Normal, Fault, Beyond, no_value}
-use Rattle.gypsy_space.specs.Costs.{Tally, spend, start_tally, count_of, leaving, raised_price}
+use Rattle.gypsy_syntax.specs.{declared.predef.Predef.{Predef}, Programs.{ConditionOf, Leave, Routine, Space, Declared, Program, Stmt}}
+use Rattle.gypsy_syntax.specs.{Programs.{proc_at, body_of}, Predefined.{row_of}, Effects.{Effect, Normal, Fault, Beyond, no_value}}
+use Rattle.gypsy_space.specs.{Costs.{Tally, spend, start_tally, count_of, leaving, raised_price}, Needs.{StackSizes, with_call, call_spend}}
 use Rattle.gypsy_space.specs.declared.event.CostEvent.TheVariants as event
-use Rattle.gypsy_space.specs.Needs.{StackSizes, with_call, call_spend}
-use Rattle.gypsy_semantics.specs.Calls.{CurrentCondition, has_cond, copied_out}
-use Rattle.gypsy_semantics.specs.Counted.{CountedDone, counted_evaluate, counted_meaning}
+use Rattle.gypsy_semantics.specs.{Calls.{CurrentCondition, has_cond, copied_out}, Counted.{CountedDone, counted_evaluate, counted_meaning}}
 use Rattle.gypsy_logic.specs.Ends.{Exit, Either, Entry, opened, formals_of, passed, ended}
 
 -- From the variables x, with u words of the two stacks in use, the statement s ends with the variables y and the condition c, after n

@@ -1,12 +1,11 @@
 -- How statements about programs are said: what a statement ends with, and what its parts have to end with for that.
-use Rattle.std.specs.Prelude.{◌≡◌, ℕ, ◌<◌, List, ◌++◌, Bool, true, false, Some, None, length, take}
-use Rattle.std.specs.Prelude.{get_or, slice_set, nat_lt, if◌then◌else◌}
+use Rattle.std.specs.Prelude.{◌≡◌, ℕ, ◌<◌, List, ◌++◌, Bool, true, false, Some, None, length, take, get_or, slice_set, nat_lt}
+use Rattle.std.specs.Prelude.{if◌then◌else◌}
 use Rattle.stack_text.specs.Values.{ValueOf}
 use Rattle.gypsy_syntax.specs.Programs.{ConditionOf, Leave, Routine, Space, Declared, Arg, Program, Stmt, proc_at, body_of}
 use Rattle.gypsy_syntax.specs.Effects.{Effect, Normal, Fault, Beyond}
 use Rattle.gypsy_space.specs.Needs.{StackSizes, with_call}
-use Rattle.gypsy_semantics.specs.Calls.{CurrentCondition, has_cond, target_of, copied_out}
-use Rattle.gypsy_semantics.specs.Meaning.{Done, meaning}
+use Rattle.gypsy_semantics.specs.{Calls.{CurrentCondition, has_cond, target_of, copied_out}, Meaning.{Done, meaning}}
 use Rattle.gypsy_logic.specs.Runs.{Runs}
 
 -- what is said of variables

@@ -1,10 +1,8 @@
 -- What each statement does, in the rows of the table in docs/languages/gypsy.md. A bound stands in none of them.
 use Rattle.std.specs.Prelude.{◌≡◌, ℕ, List, true, false, Some, None, slice_set}
 use Rattle.stack_text.specs.Values.{ValueOf}
-use Rattle.gypsy_syntax.specs.declared.predef.Predef.{Predef}
-use Rattle.gypsy_syntax.specs.Programs.{ConditionOf, Leave, Routine, Space, Arg, Program, body_of}
-use Rattle.gypsy_syntax.specs.Programs.{Stmt, Skip, NoOp, Signal, Seq, Loop, If, Begin, Call, Apply}
-use Rattle.gypsy_syntax.specs.Predefined.{predef_effect}
+use Rattle.gypsy_syntax.specs.{declared.predef.Predef.{Predef}, Programs.{ConditionOf, Leave, Routine, Space, Arg, Program, body_of, Stmt}}
+use Rattle.gypsy_syntax.specs.{Programs.{Skip, NoOp, Signal, Seq, Loop, If, Begin, Call, Apply}, Predefined.{predef_effect}}
 use Rattle.gypsy_syntax.specs.Effects.{Normal, Fault, Beyond, value_at, is_true_value}
 use Rattle.gypsy_space.specs.Needs.{StackSizes, with_call, has_room}
 use Rattle.gypsy_semantics.specs.Calls.{CurrentCondition, has_cond, is_leave, matching, values_of, target_of, copied_in, copied_out}

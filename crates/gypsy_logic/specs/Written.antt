@@ -1,8 +1,7 @@
 -- What a statement writes.
 use Rattle.std.specs.Prelude.{◌≡◌, ℕ, List, [], ◌∷◌, ◌++◌}
 use Rattle.stack_text.specs.Values.{ValueOf}
-use Rattle.gypsy_syntax.specs.Programs.{Stmt, Skip, NoOp, Signal, Seq, Loop, If, Begin, Call, Apply}
-use Rattle.gypsy_syntax.specs.ProgramFits.{Misses}
+use Rattle.gypsy_syntax.specs.{Programs.{Stmt, Skip, NoOp, Signal, Seq, Loop, If, Begin, Call, Apply}, ProgramFits.{Misses}}
 use Rattle.gypsy_syntax.specs.Effects.{value_at}
 use Rattle.gypsy_semantics.specs.Calls.{target_of}
 

@@ -5,10 +5,7 @@ ghost use Rattle.stack_text.specs.Values.{ValueOf};
 ghost use Rattle.gypsy_syntax.specs.Programs.{Program, Stmt};
 ghost use Rattle.gypsy_space.specs.Needs.{StackSizes};
 ghost use Rattle.gypsy_semantics.specs.Calls.{CurrentCondition};
-ghost use Rattle.gypsy_logic.specs.Runs.{Runs};
-ghost use Rattle.gypsy_logic.specs.Table.{FollowsTable};
-ghost use Rattle.gypsy_logic.specs.CountedTable.{TakesCounts};
-ghost use Rattle.gypsy_logic.specs.Written.{written, KeepsOthers};
+ghost use Rattle.gypsy_logic.specs.{Runs.{Runs}, Table.{FollowsTable}, CountedTable.{TakesCounts}, Written.{written, KeepsOthers}};
 
 /// Statements do what the rows of the table of the language say.
 pub fn statements_follow_table()

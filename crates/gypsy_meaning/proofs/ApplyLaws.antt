@@ -1,28 +1,18 @@
 -- Predefined calls by the positions of their arguments.
 use Rattle.std.proofs.Common.{◌≡◌, ℕ, zero, suc, List, [], ◌∷◌, map, get_or, slice_set, false, refl, sym, subst, ap, ◌∙◌}
 use Rattle.stack_text.specs.Values.{ValueOf}
-use Rattle.gypsy_syntax.specs.declared.predef.Predef.{Predef}
-use Rattle.gypsy_syntax.specs.declared.predef.Predef.TheVariants as row
-use Rattle.gypsy_syntax.specs.Programs.{Arg, Lit, Routine}
-use Rattle.gypsy_syntax.specs.Effects.{Effect, Normal}
-use Rattle.gypsy_space.specs.Costs.{Tally, effect_of, spend, pay, predef_spend}
+use Rattle.gypsy_syntax.{specs.declared.predef.Predef.Predef, specs.Programs.{Arg, Lit, Routine}, specs.Effects.{Effect, Normal, value_at, no_value}}
 use Rattle.gypsy_syntax.specs.Predefined.{predef_cost, effect_by, predef_effect}
-use Rattle.gypsy_space.specs.declared.event.CostEvent.{CostEvent}
-use Rattle.gypsy_space.specs.declared.event.CostEvent.TheVariants as event
-use Rattle.gypsy_space.specs.declared.event.Outcome.{Outcome}
-use Rattle.gypsy_space.specs.declared.event.Outcome.TheVariants as outcome
-use Rattle.gypsy_space.specs.declared.program.Application.{Application}
-use Rattle.gypsy_semantics.specs.Machine.{Item, Frame, At, Next, settle, raise, apply_step}
-use Rattle.gypsy_meaning.specs.Views.Work.{caught_spend}
-use Rattle.gypsy_meaning.specs.Internal.Turns.{IsPlain, GoesOn, RaisesOn}
-use Rattle.gypsy_meaning.specs.Internal.PredefinedSteps.{call_item, WritesOn, IsApplied}
-use Rattle.gypsy_meaning.specs.declared.applying.Applied.{Applied}
-use Rattle.gypsy_meaning.specs.declared.applying.Applied.TheVariants.{Writes, Fails}
-use Rattle.gypsy_meaning.specs.declared.turn.Advance.{Advance}
-use Rattle.gypsy_syntax.specs.Effects.{value_at, no_value}
-use Rattle.gypsy_space.specs.declared.program.Argument.{Argument}
+use Rattle.gypsy_syntax.specs.declared.predef.Predef.TheVariants as row
+use Rattle.gypsy_space.{specs.Costs.{Tally, effect_of, spend, pay, predef_spend}, specs.declared.event.CostEvent.CostEvent}
+use Rattle.gypsy_space.{specs.declared.event.Outcome.Outcome, specs.declared.program.Application.Application, specs.declared.program.Argument.Argument}
 use Rattle.gypsy_space.specs.Nodes.{seen_arg}
-use Rattle.gypsy_semantics.specs.Calls.{value_of, values_of, target_of}
+use Rattle.gypsy_space.specs.declared.event.CostEvent.TheVariants as event
+use Rattle.gypsy_space.specs.declared.event.Outcome.TheVariants as outcome
+use Rattle.gypsy_semantics.{specs.Machine.{Item, Frame, At, Next, settle, raise, apply_step}, specs.Calls.{value_of, values_of, target_of}}
+use Rattle.gypsy_meaning.{specs.Views.Work.caught_spend, specs.Internal.Turns.{IsPlain, GoesOn, RaisesOn}, specs.Internal.PredefinedSteps.{call_item, WritesOn}}
+use Rattle.gypsy_meaning.{specs.Internal.PredefinedSteps.IsApplied, specs.declared.applying.Applied.Applied, specs.declared.applying.Applied.TheVariants.Writes}
+use Rattle.gypsy_meaning.{specs.declared.applying.Applied.TheVariants.Fails, specs.declared.turn.Advance.Advance}
 use Rattle.gypsy_meaning.specs.Internal.PredefinedEffects.{applied_effect}
 
 pub value_listed : (x : List ValueOf) (args : List Arg) (i : ℕ) → value_of x (get_or args i (Lit no_value)) ≡ value_at (values_of x args) i

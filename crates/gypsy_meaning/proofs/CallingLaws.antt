@@ -1,41 +1,21 @@
 -- The call of a procedure.
 use Rattle.std.proofs.Common.{◌≡◌, ℕ, ◌+◌, ◌^◌, ◌<◌, ◌≤◌, max, List, [], ◌∷◌, ◌++◌, length, map, drop, refl, sym, ap, ap₂, ◌∙◌, subst, reverse, arith}
-use Rattle.std.specs.declared.alloc.Global.{Global}
-use Rattle.std.specs.declared.rc.Rc.{Rc}
-use Rattle.std.specs.Global.{Vec}
-use Rattle.std.proofs.lemmas.Bool.{leb-true}
-use Rattle.std.proofs.lemmas.List.{length-map, reverse-append}
-use Rattle.stack_text.specs.Values.{ValueOf}
-use Rattle.stack_text.specs.declared.name.Name.{Name}
-use Rattle.stack_text.specs.declared.value.Value.{Value}
-use Rattle.gypsy_syntax.specs.Effects.{value_at}
-use Rattle.gypsy_syntax.specs.Programs.{Program, body_of, proc_at}
-use Rattle.gypsy_space.specs.Costs.{Tally, start_tally}
-use Rattle.gypsy_space.specs.Needs.{call_spend, lack_of, stack_sizes, with_call}
-use Rattle.gypsy_space.specs.Nodes.{seen_cond, seen_program}
-use Rattle.gypsy_space.specs.Events.{AreNeeds, event_count, has_ctrl_room_by, has_temp_room_by, lack_by, need_at, need_of}
+use Rattle.std.{specs.declared.alloc.Global.Global, specs.declared.rc.Rc.Rc, specs.Global.Vec, proofs.lemmas.Bool.leb-true, proofs.lemmas.List.length-map}
+use Rattle.std.proofs.lemmas.List.{reverse-append}
+use Rattle.stack_text.{specs.Values.ValueOf, specs.declared.name.Name.Name, specs.declared.value.Value.Value}
+use Rattle.gypsy_syntax.{specs.Effects.value_at, specs.Programs.{Program, body_of, proc_at}}
+use Rattle.gypsy_space.{specs.Costs.{Tally, start_tally}, specs.Needs.{call_spend, lack_of, stack_sizes, with_call}, specs.Nodes.{seen_cond, seen_program}}
+use Rattle.gypsy_space.{specs.Events.{AreNeeds, event_count, has_ctrl_room_by, has_temp_room_by, lack_by, need_at, need_of}, specs.declared.need.Lack.Lack}
+use Rattle.gypsy_space.{specs.declared.need.Lack.TheVariants.{Nothing, Temporary, Control}, specs.declared.need.Need.Need}
+use Rattle.gypsy_space.{specs.declared.program.CallSite.CallSite, proofs.EventLaws.{call_table, lack_same}}
 use Rattle.gypsy_space.specs.declared.event.CostEvent.TheVariants as event
-use Rattle.gypsy_space.specs.declared.need.Lack.{Lack}
-use Rattle.gypsy_space.specs.declared.need.Lack.TheVariants.{Nothing, Temporary, Control}
-use Rattle.gypsy_space.specs.declared.need.Need.{Need}
-use Rattle.gypsy_space.specs.declared.program.CallSite.{CallSite}
-use Rattle.gypsy_space.proofs.EventLaws.{call_table, lack_same}
-use Rattle.gypsy_meaning.specs.Internal.Entering.{RaisesSpace, Waits, call_top, with_words}
-use Rattle.gypsy_semantics.specs.Calls.{copied_in, copied_out}
-use Rattle.gypsy_meaning.specs.Views.Held.{AreActivations, IsActivation, IsHeld, Moves}
-use Rattle.gypsy_semantics.specs.Machine.{Item, At, call_step, gypsy_step, open_on, used}
+use Rattle.gypsy_meaning.{specs.Internal.Entering.{RaisesSpace, Waits, call_top, with_words}, specs.Views.Held.{AreActivations, IsActivation, IsHeld, Moves}}
+use Rattle.gypsy_meaning.{specs.Views.Named.variables_of, specs.Views.Running.{Goes, frames_in, frames_of, kept_frames, sizes_of, state_of, paid}}
+use Rattle.gypsy_meaning.{specs.Views.Work.work_of, specs.declared.names.Names.Names, specs.declared.running.Frame.Frame}
+use Rattle.gypsy_meaning.{specs.declared.running.Meaning.Meaning, specs.declared.work.Item.Item as Kept, proofs.ReturningLaws.{kept_frames-push, same_state}}
+use Rattle.gypsy_semantics.{specs.Calls.{copied_in, copied_out}, specs.Machine.{Item, At, call_step, gypsy_step, open_on, used}, specs.Views.RunView.added}
+use Rattle.gypsy_semantics.{specs.Views.RunView.handed_back, proofs.LendingLaws.{back_again, copied_again, length-copied_out, used_back}, proofs.Rooms.rooms}
 use Rattle.gypsy_semantics.specs.Machine as machine
-use Rattle.gypsy_meaning.specs.Views.Named.{variables_of}
-use Rattle.gypsy_meaning.specs.Views.Running.{Goes, frames_in, frames_of, kept_frames, sizes_of, state_of, paid}
-use Rattle.gypsy_semantics.specs.Views.RunView.{added, handed_back}
-use Rattle.gypsy_meaning.specs.Views.Work.{work_of}
-use Rattle.gypsy_meaning.specs.declared.names.Names.{Names}
-use Rattle.gypsy_meaning.specs.declared.running.Frame.{Frame}
-use Rattle.gypsy_meaning.specs.declared.running.Meaning.{Meaning}
-use Rattle.gypsy_meaning.specs.declared.work.Item.{Item as Kept}
-use Rattle.gypsy_semantics.proofs.LendingLaws.{back_again, copied_again, length-copied_out, used_back}
-use Rattle.gypsy_meaning.proofs.ReturningLaws.{kept_frames-push, same_state}
-use Rattle.gypsy_semantics.proofs.Rooms.{rooms}
 
 module _ (m : Meaning) (ns : List Need) (site : CallSite) (below : List Item) (needs : AreNeeds (seen_program m.program) ns)
     (there : site.callee < length (seen_program m.program).procs)

@@ -1,27 +1,17 @@
 -- The step that ends a run.
-use Rattle.std.proofs.Common.{◌≡◌, ℕ, List, [], ◌∷◌, length, map, take, Bool, true, false, Some, refl, sym, ap, ◌∙◌}
-use Rattle.std.proofs.lemmas.List.{take-map}
+use Rattle.std.{proofs.Common.{◌≡◌, ℕ, List, [], ◌∷◌, length, map, take, Bool, true, false, Some, refl, sym, ap, ◌∙◌}, proofs.lemmas.List.take-map}
 use Rattle.std.specs.Global.{Vec}
-use Rattle.stack_text.specs.declared.name.Name.{Name}
-use Rattle.stack_text.specs.declared.value.Value.{Value}
+use Rattle.stack_text.{specs.declared.name.Name.Name, specs.declared.value.Value.Value}
 use Rattle.gypsy_syntax.specs.Programs.{ConditionOf, proc_at}
-use Rattle.gypsy_space.specs.Costs.{Tally, spend, main_spend, start_tally}
-use Rattle.gypsy_space.specs.Nodes.{seen_cond, seen_program}
-use Rattle.gypsy_space.specs.Events.{event_count}
+use Rattle.gypsy_space.{specs.Costs.{Tally, spend, main_spend, start_tally}, specs.Nodes.{seen_cond, seen_program}, specs.Events.event_count}
+use Rattle.gypsy_space.{specs.declared.need.Need.Need, specs.declared.program.Condition.Condition}
 use Rattle.gypsy_space.specs.declared.event.CostEvent.TheVariants as event
-use Rattle.gypsy_space.specs.declared.need.Need.{Need}
-use Rattle.gypsy_space.specs.declared.program.Condition.{Condition}
-use Rattle.gypsy_semantics.specs.Calls.{is_passed_on, main_formals, main_way}
-use Rattle.gypsy_meaning.specs.Internal.Finishing.{IsFinished, end_price}
-use Rattle.gypsy_meaning.specs.Views.Held.{EndsRun, Keeps}
-use Rattle.gypsy_semantics.specs.Machine.{Item, Out, At, Ended, gypsy_step}
-use Rattle.gypsy_semantics.specs.Machine as machine
-use Rattle.gypsy_meaning.specs.Views.Running.{frames_in, frames_of, sizes_of, state_of, way_of, paid}
-use Rattle.gypsy_semantics.specs.Views.RunView.{added}
-use Rattle.gypsy_meaning.specs.Views.Work.{work_of}
-use Rattle.gypsy_meaning.specs.declared.running.Ending.{Ending}
-use Rattle.gypsy_meaning.specs.declared.running.Ending.TheVariants as ending
+use Rattle.gypsy_semantics.{specs.Calls.{is_passed_on, main_formals, main_way}, specs.Machine.{Item, Out, At, Ended, gypsy_step}, specs.Views.RunView.added}
+use Rattle.gypsy_meaning.{specs.Internal.Finishing.{IsFinished, end_price}, specs.Views.Held.{EndsRun, Keeps}, specs.Views.Running.{frames_in, frames_of}}
+use Rattle.gypsy_meaning.{specs.Views.Running.{sizes_of, state_of, way_of, paid}, specs.Views.Work.work_of, specs.declared.running.Ending.Ending}
 use Rattle.gypsy_meaning.specs.declared.running.Meaning.{Meaning}
+use Rattle.gypsy_semantics.specs.Machine as machine
+use Rattle.gypsy_meaning.specs.declared.running.Ending.TheVariants as ending
 
 -- with what is left of the variables
 pub finished : (e : Ending) (cost : ℕ) (m : Meaning) (vars : Vec (Name × Value)) (count : ℕ) → vars.items ≡ take count m.variables.items

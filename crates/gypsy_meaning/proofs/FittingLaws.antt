@@ -1,14 +1,8 @@
 -- Whether values and sizes suit the start of a run.
-use Rattle.std.proofs.Common.{◌≡◌, List, [], ◌∷◌, ◌==◌, ◌&&◌, length, nat_le, true, refl, sym, subst, eqb-true}
-use Rattle.std.proofs.Common.{eq-eqb, le-leb}
-use Rattle.std.specs.List.{list_all}
+use Rattle.std.{proofs.Common.{◌≡◌, List, [], ◌∷◌, ◌==◌, ◌&&◌, length, nat_le, true, refl, sym, subst, eqb-true, eq-eqb, le-leb}, specs.List.list_all}
 use Rattle.std.proofs.lemmas.Bool.{and_parts, and_from, leb-true}
-use Rattle.stack_text.specs.declared.shape.Shape.{Shape}
-use Rattle.stack_text.specs.Values.{ValueOf, item_count, same_kind}
-use Rattle.stack_text.proofs.SharedLaws.{kind_same}
-use Rattle.gypsy_syntax.specs.Ranges.{is_in_range}
-use Rattle.gypsy_syntax.specs.ValuesFit.{ValueFits, VarsFit}
-use Rattle.gypsy_syntax.specs.Programs.{Program, proc_at}
+use Rattle.stack_text.{specs.declared.shape.Shape.Shape, specs.Values.{ValueOf, item_count, same_kind}, proofs.SharedLaws.kind_same}
+use Rattle.gypsy_syntax.{specs.Ranges.is_in_range, specs.ValuesFit.{ValueFits, VarsFit}, specs.Programs.{Program, proc_at}}
 use Rattle.gypsy_check.proofs.LiteralLaws.{kind_self}
 use Rattle.gypsy_space.specs.Needs.{StackSizes, main_need}
 use Rattle.gypsy_semantics.specs.Views.Fitting.{CanStart, are_as_many, are_values, can_start, is_value_of, same_shape, suffice}

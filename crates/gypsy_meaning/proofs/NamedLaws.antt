@@ -1,15 +1,11 @@
 -- The names that the code keeps are the source's.
 use Rattle.std.proofs.Common.{◌≡◌, ℕ, zero, suc, ◌+◌, List, [], ◌∷◌, ◌++◌, map, length, get_or, refl, sym, ap, ◌∙◌, arith, length-append}
-use Rattle.std.proofs.lemmas.List.{length-map}
-use Rattle.std.proofs.lemmas.Simd.{map-map}
-use Rattle.gypsy_syntax.specs.Sources.{LocalOf, ProcOf, SourceOf}
-use Rattle.gypsy_syntax.specs.Programs.{Program, no_proc, proc_at}
-use Rattle.gypsy_syntax.specs.Resolved.{condition_names, local_value, procedure_of, program_of, shape_of, variable_names}
-use Rattle.gypsy_space.specs.Nodes.{seen_proc, seen_program}
-use Rattle.gypsy_space.specs.declared.program.Program.{Program as Code}
-use Rattle.gypsy_meaning.specs.Views.Named.{NamesOf, conditions_of, proc_names, seen_names, shown_names, variables_of}
+use Rattle.std.{proofs.lemmas.List.length-map, proofs.lemmas.Simd.map-map}
+use Rattle.gypsy_syntax.{specs.Sources.{LocalOf, ProcOf, SourceOf}, specs.Programs.{Program, no_proc, proc_at}, specs.Resolved.{condition_names, local_value}}
+use Rattle.gypsy_syntax.specs.Resolved.{procedure_of, program_of, shape_of, variable_names}
+use Rattle.gypsy_space.{specs.Nodes.{seen_proc, seen_program}, specs.declared.program.Program.Program as Code}
+use Rattle.gypsy_meaning.{specs.Views.Named.{NamesOf, conditions_of, proc_names, seen_names, shown_names, variables_of}, specs.declared.names.Names.Names}
 use Rattle.gypsy_semantics.specs.Views.Shown.{conditions_at, variables_at}
-use Rattle.gypsy_meaning.specs.declared.names.Names.{Names}
 
 module _ (s : SourceOf) (names : List Names) (same : map seen_names names ≡ map proc_names s.procs) where
   pub variables_same : (p : ℕ) → variables_of names p ≡ variables_at s p

@@ -1,16 +1,10 @@
 -- Statements that are opened, and work that is put on other work.
-use Rattle.std.proofs.Common.{◌≡◌, ℕ, zero, suc, ◌-◌, ◌<◌, ◌≤◌, List, [], ◌∷◌, ◌++◌}
-use Rattle.std.proofs.Common.{length, drop, take, get_or, Bool, true, false, Some, refl, ap, sym, ◌∙◌, arith}
-use Rattle.std.specs.Prelude.{slice_get}
-use Rattle.std.proofs.Math.Seq.{take-length}
-use Rattle.std.specs.declared.rc.Rc.{Rc}
-use Rattle.std.specs.declared.alloc.Global.{Global}
+use Rattle.std.proofs.Common.{◌≡◌, ℕ, zero, suc, ◌-◌, ◌<◌, ◌≤◌, List, [], ◌∷◌, ◌++◌, length, drop, take, get_or, Bool, true, false, Some, refl, ap, sym, ◌∙◌}
+use Rattle.std.{proofs.Common.arith, specs.Prelude.slice_get, proofs.Math.Seq.take-length, specs.declared.rc.Rc.Rc, specs.declared.alloc.Global.Global}
 use Rattle.gypsy_syntax.specs.Programs.{Stmt}
-use Rattle.gypsy_space.specs.declared.program.Node.{Node}
-use Rattle.gypsy_space.specs.Nodes.{seen_statements}
+use Rattle.gypsy_space.{specs.declared.program.Node.Node, specs.Nodes.seen_statements}
 use Rattle.gypsy_semantics.specs.Machine.{Item, opens}
-use Rattle.gypsy_meaning.specs.Views.Work.{item_of, left_by, work_of, work_on, OpensOn}
-use Rattle.gypsy_meaning.specs.declared.work.Item.{Item as Kept}
+use Rattle.gypsy_meaning.{specs.Views.Work.{item_of, left_by, work_of, work_on, OpensOn}, specs.declared.work.Item.Item as Kept}
 
 -- more items on top
 pub work_more : (ks ls : List Kept) (w : List Item) → work_on (ks ++ ls) w ≡ work_on ls (work_on ks w)

@@ -1,34 +1,16 @@
 -- What a step of a state that fits has.
-use Rattle.std.proofs.Common.{◌≡◌, ◌+◌, List, ◌∷◌, length, map, true, ap₂, ◌∙◌, subst, arith}
-use Rattle.std.proofs.lemmas.List.{length-map}
-use Rattle.stack_text.specs.declared.shape.Kind.{Kind}
-use Rattle.stack_text.specs.declared.shape.Shape.{Shape}
-use Rattle.stack_text.specs.Values.{ValueOf, is_item}
-use Rattle.gypsy_syntax.specs.declared.predef.Predef.{Predef}
+use Rattle.std.{proofs.Common.{◌≡◌, ◌+◌, List, ◌∷◌, length, map, true, ap₂, ◌∙◌, subst, arith}, proofs.lemmas.List.length-map}
+use Rattle.stack_text.{specs.declared.shape.Kind.Kind, specs.declared.shape.Shape.Shape, specs.Values.{ValueOf, is_item}}
+use Rattle.gypsy_syntax.{specs.declared.predef.Predef.Predef, specs.Effects.{item_of_value, value_at}, specs.Predefined.slots_of, specs.ProgramFits.ArgsFit}
+use Rattle.gypsy_syntax.{specs.Programs.{proc_at, shapes_of}, specs.ValuesFit.VarsFit, proofs.RangeLaws.range_item}
 use Rattle.gypsy_syntax.specs.declared.predef.Predef.TheVariants as row
-use Rattle.gypsy_syntax.specs.Effects.{item_of_value, value_at}
-use Rattle.gypsy_syntax.specs.Predefined.{slots_of}
-use Rattle.gypsy_syntax.specs.ProgramFits.{ArgsFit}
-use Rattle.gypsy_syntax.specs.Programs.{proc_at, shapes_of}
-use Rattle.gypsy_syntax.specs.ValuesFit.{VarsFit}
-use Rattle.gypsy_space.specs.Nodes.{seen_arg, seen_program}
-use Rattle.gypsy_space.specs.declared.need.Need.{Need}
-use Rattle.gypsy_space.specs.declared.program.Argument.{Argument}
+use Rattle.gypsy_space.{specs.Nodes.{seen_arg, seen_program}, specs.declared.need.Need.Need, specs.declared.program.Argument.Argument}
 use Rattle.gypsy_space.specs.declared.program.CallSite.{CallSite}
-use Rattle.gypsy_meaning.specs.Internal.PredefinedEffects.{Suits}
-use Rattle.gypsy_meaning.specs.Internal.Entering.{AreLent, call_top}
-use Rattle.gypsy_semantics.specs.Calls.{values_of}
-use Rattle.gypsy_semantics.specs.Kept.{WorkFits}
-use Rattle.gypsy_semantics.specs.Machine.{Item}
-use Rattle.gypsy_meaning.specs.Views.Named.{variables_of}
-use Rattle.gypsy_meaning.specs.Internal.Stepping.{IsReady}
-use Rattle.gypsy_meaning.specs.Internal.Within.{WorkSuits}
-use Rattle.gypsy_meaning.specs.Views.Work.{work_of}
-use Rattle.gypsy_meaning.specs.declared.running.Meaning.{Meaning}
+use Rattle.gypsy_meaning.{specs.Internal.PredefinedEffects.Suits, specs.Internal.Entering.{AreLent, call_top}, specs.Views.Named.variables_of}
+use Rattle.gypsy_meaning.{specs.Internal.Stepping.IsReady, specs.Internal.Within.WorkSuits, specs.Views.Work.work_of, specs.declared.running.Meaning.Meaning}
 use Rattle.gypsy_meaning.proofs.ApplyLaws.{value_listed}
-use Rattle.gypsy_semantics.proofs.EffectLaws.{stored_item}
-use Rattle.gypsy_semantics.proofs.LendingLaws.{actuals_length, actuals_there, as_many}
-use Rattle.gypsy_syntax.proofs.RangeLaws.{range_item}
+use Rattle.gypsy_semantics.{specs.Calls.values_of, specs.Kept.WorkFits, specs.Machine.Item, proofs.EffectLaws.stored_item, proofs.LendingLaws.actuals_length}
+use Rattle.gypsy_semantics.proofs.LendingLaws.{actuals_there, as_many}
 
 -- a call has the names of its callee's variables
 pub call_sized : (ns : List Need) (m : Meaning) (site : CallSite) (below : List Item) → IsReady ns m → work_of m.work ≡ call_top site ∷ below →

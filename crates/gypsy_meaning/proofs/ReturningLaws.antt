@@ -1,30 +1,18 @@
 -- The end of a procedure for which another waits.
-use Rattle.std.proofs.Common.{◌≡◌, ℕ, ◌+◌, List, [], ◌∷◌, ◌++◌, map, reverse, Bool, true, false, refl, sym, ap, ap₂, subst}
-use Rattle.std.proofs.Common.{◌∙◌, arith}
-use Rattle.std.proofs.lemmas.List.{reverse-append}
+use Rattle.std.proofs.Common.{◌≡◌, ℕ, ◌+◌, List, [], ◌∷◌, ◌++◌, map, reverse, Bool, true, false, refl, sym, ap, ap₂, subst, ◌∙◌, arith}
+use Rattle.std.{proofs.lemmas.List.reverse-append, specs.Global.Vec}
 use Rattle.stack_text.specs.Values.{ValueOf}
 use Rattle.gypsy_syntax.specs.Programs.{ConditionOf, Program}
-use Rattle.gypsy_space.specs.Costs.{Tally, spend, out_spend, start_tally}
-use Rattle.gypsy_space.specs.Needs.{stack_sizes}
-use Rattle.gypsy_space.specs.Nodes.{seen_cond, seen_program}
-use Rattle.gypsy_space.specs.Events.{event_count}
+use Rattle.gypsy_space.{specs.Costs.{Tally, spend, out_spend, start_tally}, specs.Needs.stack_sizes, specs.Nodes.{seen_cond, seen_program}}
+use Rattle.gypsy_space.{specs.Events.event_count, specs.declared.need.Need.Need}
 use Rattle.gypsy_space.specs.declared.event.CostEvent.TheVariants as event
-use Rattle.gypsy_space.specs.declared.need.Need.{Need}
-use Rattle.gypsy_semantics.specs.Calls.{copied_out, is_passed_on, matching}
-use Rattle.gypsy_meaning.specs.Views.Held.{AreActivations, IsActivation, IsHeld, Keeps, Moves}
-use Rattle.gypsy_semantics.specs.Machine.{Item, Out, State, At, Next, gypsy_step, settle, raise, used}
+use Rattle.gypsy_semantics.{specs.Calls.{copied_out, is_passed_on, matching}, specs.Machine.{Item, Out, State, At, Next, gypsy_step, settle, raise, used}}
+use Rattle.gypsy_semantics.{specs.Views.RunView.{added, bare, handed_back}, proofs.LendingLaws.{back_again, copied_again}}
+use Rattle.gypsy_meaning.{specs.Views.Held.{AreActivations, IsActivation, IsHeld, Keeps, Moves}, specs.Views.Named.variables_of}
+use Rattle.gypsy_meaning.{specs.Internal.Returning.{Resumes, out_price}, specs.Views.Running.{frame_of, frames_in, frames_of, kept_frames, sizes_of, state_of}}
+use Rattle.gypsy_meaning.{specs.Views.Running.paid, specs.Views.Work.{caught_spend, work_of}, specs.declared.names.Names.Names}
+use Rattle.gypsy_meaning.{specs.declared.running.Frame.Frame, specs.declared.running.Meaning.Meaning, specs.declared.work.Item.Item as Kept}
 use Rattle.gypsy_semantics.specs.Machine as machine
-use Rattle.gypsy_meaning.specs.Views.Named.{variables_of}
-use Rattle.gypsy_meaning.specs.Internal.Returning.{Resumes, out_price}
-use Rattle.gypsy_meaning.specs.Views.Running.{frame_of, frames_in, frames_of, kept_frames, sizes_of, state_of, paid}
-use Rattle.gypsy_semantics.specs.Views.RunView.{added, bare, handed_back}
-use Rattle.gypsy_meaning.specs.Views.Work.{caught_spend, work_of}
-use Rattle.gypsy_meaning.specs.declared.names.Names.{Names}
-use Rattle.gypsy_meaning.specs.declared.running.Frame.{Frame}
-use Rattle.gypsy_meaning.specs.declared.running.Meaning.{Meaning}
-use Rattle.gypsy_meaning.specs.declared.work.Item.{Item as Kept}
-use Rattle.std.specs.Global.{Vec}
-use Rattle.gypsy_semantics.proofs.LendingLaws.{back_again, copied_again}
 
 pub kept_frames-push : (fs : List Frame) (f : Frame) → kept_frames (fs ++ f ∷ []) ≡ frame_of f ∷ kept_frames fs
 kept_frames-push fs f = ap (map frame_of) (reverse-append fs (f ∷ []))

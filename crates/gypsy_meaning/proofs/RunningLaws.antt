@@ -1,26 +1,14 @@
 -- What the code's counters show.
-use Rattle.std.proofs.Common.{◌≡◌, ℕ, ◌+◌, List, length, map, slice_set, Bool, true, false, refl, ap, sym, ◌∙◌, arith}
-use Rattle.std.proofs.lemmas.List.{length-set}
+use Rattle.std.{proofs.Common.{◌≡◌, ℕ, ◌+◌, List, length, map, slice_set, Bool, true, false, refl, ap, sym, ◌∙◌, arith}, proofs.lemmas.List.length-set}
 use Rattle.stack_text.specs.Values.{ValueOf}
 use Rattle.gypsy_syntax.specs.Programs.{Program}
-use Rattle.gypsy_space.specs.Costs.{Tally, spend, start_tally, pay}
-use Rattle.gypsy_space.specs.Needs.{StackSizes}
-use Rattle.gypsy_space.specs.Nodes.{seen_program}
-use Rattle.gypsy_space.specs.Events.{event_count}
-use Rattle.gypsy_space.specs.declared.event.CostEvent.{CostEvent}
+use Rattle.gypsy_space.{specs.Costs.{Tally, spend, start_tally, pay}, specs.Needs.StackSizes, specs.Nodes.seen_program, specs.Events.event_count}
+use Rattle.gypsy_space.{specs.declared.event.CostEvent.CostEvent, specs.declared.need.Need.Need}
 use Rattle.gypsy_space.specs.declared.event.CostEvent.TheVariants as event
-use Rattle.gypsy_space.specs.declared.need.Need.{Need}
-use Rattle.gypsy_semantics.specs.Machine.{Item, Frame, At, Next, gypsy_step}
-use Rattle.gypsy_meaning.specs.Views.Work.{work_of, caught_spend}
-use Rattle.gypsy_meaning.specs.Internal.Turns.{IsPlain, GoesOn, OpensTo}
-use Rattle.gypsy_meaning.specs.Internal.PredefinedSteps.{WritesOn}
-use Rattle.gypsy_semantics.specs.Views.RunView.{added, bare, handed_back}
-use Rattle.gypsy_meaning.specs.Views.Held.{Moves}
-use Rattle.gypsy_meaning.specs.Views.Running.{price, advanced, Goes, frames_in, kept_frames, sizes_of, state_of, paid}
-use Rattle.gypsy_meaning.specs.declared.turn.Advance.{Advance}
-use Rattle.gypsy_meaning.specs.declared.running.Meaning.{Meaning}
-use Rattle.gypsy_meaning.specs.declared.work.Item.{Item as Kept}
-use Rattle.gypsy_semantics.proofs.LendingLaws.{back_again}
+use Rattle.gypsy_semantics.{specs.Machine.{Item, Frame, At, Next, gypsy_step}, specs.Views.RunView.{added, bare, handed_back}, proofs.LendingLaws.back_again}
+use Rattle.gypsy_meaning.{specs.Views.Work.{work_of, caught_spend}, specs.Internal.Turns.{IsPlain, GoesOn, OpensTo}, specs.Internal.PredefinedSteps.WritesOn}
+use Rattle.gypsy_meaning.{specs.Views.Held.Moves, specs.Views.Running.{price, advanced, Goes, frames_in, kept_frames, sizes_of, state_of, paid}}
+use Rattle.gypsy_meaning.{specs.declared.turn.Advance.Advance, specs.declared.running.Meaning.Meaning, specs.declared.work.Item.Item as Kept}
 
 caught_is : (b : Bool) (ns : List Need) (e : CostEvent) (t : Tally) (u : Tally) → u.count ≡ t.count + event_count ns e
     → (caught_spend b u).count ≡ t.count + price ns e b

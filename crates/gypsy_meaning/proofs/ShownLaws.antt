@@ -1,31 +1,17 @@
 -- What the code shows of a run.
 use Rattle.std.proofs.Common.{◌≡◌, ℕ, zero, suc, ◌+◌, ◌*◌, ◌^◌, ◌<◌, ◌≤◌, List, [], ◌∷◌, map, length, take, reverse, slice_get, Option, Some, None, refl, ap}
-use Rattle.std.proofs.Common.{ap₂, subst, ◌∙◌, arith}
-use Rattle.std.specs.declared.alloc.Global.{Global}
-use Rattle.std.specs.declared.rc.Rc.{Rc}
-use Rattle.std.proofs.lemmas.List.{length-map, length-reverse}
-use Rattle.gypsy_syntax.specs.Sources.{SourceOf}
-use Rattle.gypsy_syntax.specs.Programs.{Declared, Program, proc_at}
-use Rattle.gypsy_syntax.specs.Resolved.{program_of}
-use Rattle.gypsy_space.specs.Needs.{StackSizes, ctrl_need, main_used, with_call}
-use Rattle.gypsy_space.specs.Nodes.{seen_program, seen_statements}
-use Rattle.gypsy_space.specs.declared.need.Need.{Need}
+use Rattle.std.{proofs.Common.{ap₂, subst, ◌∙◌, arith}, specs.declared.alloc.Global.Global, specs.declared.rc.Rc.Rc, proofs.lemmas.List.length-map}
+use Rattle.std.proofs.lemmas.List.{length-reverse}
+use Rattle.gypsy_syntax.{specs.Sources.SourceOf, specs.Programs.{Declared, Program, proc_at}, specs.Resolved.program_of}
+use Rattle.gypsy_space.{specs.Needs.{StackSizes, ctrl_need, main_used, with_call}, specs.Nodes.{seen_program, seen_statements}, specs.declared.need.Need.Need}
 use Rattle.gypsy_space.specs.declared.program.Node.{Node}
-use Rattle.gypsy_meaning.specs.Views.Belongs.{BelongsTo, IsKept}
-use Rattle.gypsy_semantics.specs.Room.{HaveWords}
-use Rattle.gypsy_semantics.specs.Machine.{Frame, Held, statement_place, used}
-use Rattle.gypsy_meaning.specs.Views.Named.{conditions_of, current_or, shown_names, variables_of}
-use Rattle.gypsy_meaning.specs.Views.Running.{frame_of, frames_in, kept_frames, seen, sizes_of, stage_by}
-use Rattle.gypsy_semantics.specs.Views.RunView.{depth_at, procedure_at, way_at}
-use Rattle.gypsy_semantics.specs.Views.Shown.{condition_at, conditions_at, current_by, named_or, names_at}
-use Rattle.gypsy_semantics.specs.declared.conditions.Current.{Current}
+use Rattle.gypsy_meaning.{specs.Views.Belongs.{BelongsTo, IsKept}, specs.Views.Named.{conditions_of, current_or, shown_names, variables_of}}
+use Rattle.gypsy_meaning.{specs.Views.Running.{frame_of, frames_in, kept_frames, seen, sizes_of, stage_by}, specs.declared.running.Ending.Ending}
+use Rattle.gypsy_meaning.{specs.declared.running.Meaning.Meaning, proofs.NamedLaws.{conditions_same, variables_same}, proofs.StepLaws.{program_is, seen_fits}}
+use Rattle.gypsy_semantics.{specs.Room.HaveWords, specs.Machine.{Frame, Held, statement_place, used}, specs.Views.RunView.{depth_at, procedure_at, way_at}}
+use Rattle.gypsy_semantics.{specs.Views.Shown.{condition_at, conditions_at, current_by, named_or, names_at}, specs.declared.conditions.Current.Current}
+use Rattle.gypsy_semantics.{proofs.LendingLaws.length-back, proofs.SeenLaws.StageRoom}
 use Rattle.gypsy_semantics.specs.declared.conditions.Current.TheVariants as current
-use Rattle.gypsy_meaning.specs.declared.running.Ending.{Ending}
-use Rattle.gypsy_meaning.specs.declared.running.Meaning.{Meaning}
-use Rattle.gypsy_semantics.proofs.LendingLaws.{length-back}
-use Rattle.gypsy_meaning.proofs.NamedLaws.{conditions_same, variables_same}
-use Rattle.gypsy_semantics.proofs.SeenLaws.{StageRoom}
-use Rattle.gypsy_meaning.proofs.StepLaws.{program_is, seen_fits}
 
 pub parts_place : (ns : List (Rc Node Global)) → 0 ≡ statement_place (seen_statements ns)
 parts_place [] = refl

@@ -1,35 +1,18 @@
 -- The start of a run.
 use Rattle.std.proofs.Common.{◌≡◌, ℕ, ◌+◌, ◌<◌, ◌≤◌, List, [], ◌∷◌, map, length, reverse, None, refl, sym, ap, ap₂, subst, ◌∙◌, arith, length-append}
 use Rattle.std.proofs.lemmas.List.{length-map}
-use Rattle.stack_text.specs.declared.name.Name.{Name}
-use Rattle.stack_text.specs.declared.shape.Shape.{Shape}
-use Rattle.stack_text.specs.declared.value.Value.{Value}
-use Rattle.stack_text.specs.Values.{ValueOf}
-use Rattle.gypsy_syntax.specs.Sources.{SourceOf}
-use Rattle.gypsy_syntax.specs.Programs.{Program, body_of, proc_at, shapes_of, words_of}
-use Rattle.gypsy_syntax.specs.Resolved.{program_of}
+use Rattle.stack_text.{specs.declared.name.Name.Name, specs.declared.shape.Shape.Shape, specs.declared.value.Value.Value, specs.Values.ValueOf}
+use Rattle.gypsy_syntax.{specs.Sources.SourceOf, specs.Programs.{Program, body_of, proc_at, shapes_of, words_of}, specs.Resolved.program_of}
 use Rattle.gypsy_syntax.specs.ValuesFit.{VarsFit}
 use Rattle.gypsy_check.specs.Accepted.{IsAccepted}
-use Rattle.gypsy_space.specs.Costs.{start_tally}
-use Rattle.gypsy_space.specs.Events.{AreNeeds, AreSmall}
-use Rattle.gypsy_space.specs.Needs.{main_used, stack_sizes}
-use Rattle.gypsy_space.specs.Nodes.{seen_program}
-use Rattle.gypsy_space.specs.declared.need.Need.{Need}
-use Rattle.gypsy_space.specs.declared.program.Program.{Program as Code}
-use Rattle.gypsy_meaning.specs.Views.Belongs.{BelongsTo, IsKept}
-use Rattle.gypsy_semantics.specs.Room.{Suffices}
-use Rattle.gypsy_semantics.specs.Calls.{main_start}
-use Rattle.gypsy_meaning.specs.Views.Held.{AreActivations, IsHeld}
-use Rattle.gypsy_semantics.specs.Machine.{At, Frame, Item, open_on, start, used}
-use Rattle.gypsy_meaning.specs.Views.Named.{proc_names, seen_names, unnamed, variables_of}
-use Rattle.gypsy_meaning.specs.Views.Running.{frames_in, frames_of, kept_frames, seen, sizes_of, stage_by}
-use Rattle.gypsy_semantics.specs.Views.RunView.{Running, after, opening}
-use Rattle.gypsy_meaning.specs.Views.Work.{work_of}
-use Rattle.gypsy_meaning.specs.declared.names.Names.{Names}
-use Rattle.gypsy_meaning.specs.declared.running.Frame.{Frame as Waiting}
-use Rattle.gypsy_meaning.specs.declared.running.Meaning.{Meaning}
-use Rattle.gypsy_semantics.proofs.Keeping.{start_fits}
-use Rattle.gypsy_meaning.proofs.NamedLaws.{number_same, variables_same, variables_sized}
+use Rattle.gypsy_space.{specs.Costs.start_tally, specs.Events.{AreNeeds, AreSmall}, specs.Needs.{main_used, stack_sizes}, specs.Nodes.seen_program}
+use Rattle.gypsy_space.{specs.declared.need.Need.Need, specs.declared.program.Program.Program as Code}
+use Rattle.gypsy_meaning.{specs.Views.Belongs.{BelongsTo, IsKept}, specs.Views.Held.{AreActivations, IsHeld}, specs.Views.Named.{proc_names, seen_names}}
+use Rattle.gypsy_meaning.{specs.Views.Named.{unnamed, variables_of}, specs.Views.Running.{frames_in, frames_of, kept_frames, seen, sizes_of, stage_by}}
+use Rattle.gypsy_meaning.{specs.Views.Work.work_of, specs.declared.names.Names.Names, specs.declared.running.Frame.Frame as Waiting}
+use Rattle.gypsy_meaning.{specs.declared.running.Meaning.Meaning, proofs.NamedLaws.{number_same, variables_same, variables_sized}}
+use Rattle.gypsy_semantics.{specs.Room.Suffices, specs.Calls.main_start, specs.Machine.{At, Frame, Item, open_on, start, used}, specs.Views.RunView.Running}
+use Rattle.gypsy_semantics.{specs.Views.RunView.{after, opening}, proofs.Keeping.start_fits}
 
 shapes_are : (shapes : List Shape) (x : List ValueOf) → VarsFit shapes x → map (λ v. v.shape) x ≡ shapes
 shapes_are [] [] h = refl

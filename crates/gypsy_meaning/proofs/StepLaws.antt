@@ -1,39 +1,21 @@
 -- A step of the code is a step of what is shown.
 use Rattle.std.proofs.Common.{◌≡◌, ℕ, suc, ◌+◌, List, map, length, take, reverse, Option, Some, None, Result, Ok, Err, IfErr, true, false, refl, sym, ap, ap₂}
-use Rattle.std.proofs.Common.{subst, ◌∙◌}
-use Rattle.std.specs.Global.{Vec}
+use Rattle.std.{proofs.Common.{subst, ◌∙◌}, specs.Global.Vec}
 use Rattle.stack_text.specs.Values.{ValueOf}
-use Rattle.gypsy_syntax.specs.Sources.{SourceOf}
-use Rattle.gypsy_syntax.specs.Programs.{Program, proc_at}
-use Rattle.gypsy_syntax.specs.Resolved.{program_of}
-use Rattle.gypsy_syntax.specs.ValuesFit.{VarsFit}
-use Rattle.gypsy_space.specs.Events.{AreNeeds}
-use Rattle.gypsy_meaning.specs.Views.Belongs.{BelongsTo, IsKept, IsRunOf}
-use Rattle.gypsy_semantics.specs.Room.{Suffices}
-use Rattle.gypsy_semantics.specs.Views.RunView.{StageFits}
-use Rattle.gypsy_semantics.specs.Kept.{FramesFit, StateFits}
-use Rattle.gypsy_space.specs.Costs.{start_tally}
-use Rattle.gypsy_space.specs.Needs.{StackSizes, stack_sizes}
-use Rattle.gypsy_space.specs.Nodes.{seen_program}
+use Rattle.gypsy_syntax.{specs.Sources.SourceOf, specs.Programs.{Program, proc_at}, specs.Resolved.program_of, specs.ValuesFit.VarsFit}
+use Rattle.gypsy_space.{specs.Events.AreNeeds, specs.Costs.start_tally, specs.Needs.{StackSizes, stack_sizes}, specs.Nodes.seen_program}
 use Rattle.gypsy_space.specs.declared.need.Need.{Need}
-use Rattle.gypsy_meaning.specs.Internal.Entering.{IsUnchanged}
-use Rattle.gypsy_meaning.specs.Views.Held.{AreActivations, EndsRun, IsActivation, Keeps, Moves}
-use Rattle.gypsy_semantics.specs.Machine.{At, Ended, Move, Next, gypsy_step}
-use Rattle.gypsy_meaning.specs.Views.Named.{seen_names, variables_of}
-use Rattle.gypsy_meaning.specs.Views.Running.{Costs, frames_of, kept_frames, seen, sizes_of, stage_by, state_of, way_of}
-use Rattle.gypsy_semantics.specs.Views.RunView.{Finished, Running, Seen, Stage, added, after, after_move, answer_by, answer_from, answer_of, bare, is_over}
-use Rattle.gypsy_semantics.specs.Views.RunView.{left_from, left_of, opening, spent_at}
-use Rattle.gypsy_meaning.specs.Internal.Stepping.{Does, IsReady}
-use Rattle.gypsy_meaning.specs.Views.Work.{work_of}
-use Rattle.gypsy_semantics.specs.declared.answers.Moved.{Moved}
+use Rattle.gypsy_meaning.{specs.Views.Belongs.{BelongsTo, IsKept, IsRunOf}, specs.Internal.Entering.IsUnchanged, specs.Views.Held.{AreActivations, EndsRun}}
+use Rattle.gypsy_meaning.{specs.Views.Held.{IsActivation, Keeps, Moves}, specs.Views.Named.{seen_names, variables_of}, specs.Views.Running.{Costs, frames_of}}
+use Rattle.gypsy_meaning.{specs.Views.Running.{kept_frames, seen, sizes_of, stage_by, state_of, way_of}, specs.Internal.Stepping.{Does, IsReady}}
+use Rattle.gypsy_meaning.{specs.Views.Work.work_of, specs.declared.running.Ending.Ending, specs.declared.names.Names.Names, specs.declared.running.Frame.Frame}
+use Rattle.gypsy_meaning.{specs.declared.running.Meaning.Meaning, proofs.NamedLaws.{number_same, variables_same, variables_sized}}
+use Rattle.gypsy_semantics.{specs.Room.Suffices, specs.Views.RunView.{StageFits, Finished, Running, Seen, Stage, added, after, after_move, answer_by}}
+use Rattle.gypsy_semantics.{specs.Views.RunView.{answer_from, answer_of, bare, is_over, left_from, left_of, opening, spent_at}, specs.Kept.FramesFit}
+use Rattle.gypsy_semantics.{specs.Kept.StateFits, specs.Machine.{At, Ended, Move, Next, gypsy_step}, specs.declared.answers.Moved.Moved}
+use Rattle.gypsy_semantics.{proofs.ReachLaws.{Reached, after_reached, opening_reached}, proofs.SeenLaws.{Fits, after_fits, after_last, after_same}}
+use Rattle.gypsy_semantics.proofs.SeenLaws.{opening_fits}
 use Rattle.gypsy_semantics.specs.declared.answers.Moved.TheVariants as moved
-use Rattle.gypsy_meaning.specs.declared.running.Ending.{Ending}
-use Rattle.gypsy_meaning.specs.declared.names.Names.{Names}
-use Rattle.gypsy_meaning.specs.declared.running.Frame.{Frame}
-use Rattle.gypsy_meaning.specs.declared.running.Meaning.{Meaning}
-use Rattle.gypsy_meaning.proofs.NamedLaws.{number_same, variables_same, variables_sized}
-use Rattle.gypsy_semantics.proofs.ReachLaws.{Reached, after_reached, opening_reached}
-use Rattle.gypsy_semantics.proofs.SeenLaws.{Fits, after_fits, after_last, after_same, opening_fits}
 
 pub any_err : {T E : Type 0} (r : Result T E) (P : Type 0) → P → IfErr r (λ _. P)
 any_err (Ok x) P p = tt

@@ -1,15 +1,10 @@
 -- What a step does with the top of the work.
-use Rattle.std.proofs.Common.{◌≡◌, ℕ, List, [], ◌∷◌, refl, sym, subst}
-use Rattle.std.specs.declared.rc.Rc.{Rc}
-use Rattle.std.specs.declared.alloc.Global.{Global}
+use Rattle.std.{proofs.Common.{◌≡◌, ℕ, List, [], ◌∷◌, refl, sym, subst}, specs.declared.rc.Rc.Rc, specs.declared.alloc.Global.Global}
 use Rattle.stack_text.specs.Values.{ValueOf}
 use Rattle.gypsy_syntax.specs.Programs.{Stmt}
-use Rattle.gypsy_space.specs.declared.program.Node.{Node}
-use Rattle.gypsy_space.specs.Nodes.{seen_statements}
+use Rattle.gypsy_space.{specs.declared.program.Node.Node, specs.Nodes.seen_statements}
 use Rattle.gypsy_semantics.specs.Machine.{Item, Do, settle}
-use Rattle.gypsy_meaning.specs.Internal.Turns.{GoesOn, IsTurn, OpensTo}
-use Rattle.gypsy_meaning.specs.declared.turn.Advance.{Advance}
-use Rattle.gypsy_meaning.specs.declared.turn.Turn.{Turn}
+use Rattle.gypsy_meaning.{specs.Internal.Turns.{GoesOn, IsTurn, OpensTo}, specs.declared.turn.Advance.Advance, specs.declared.turn.Turn.Turn}
 use Rattle.gypsy_meaning.specs.declared.turn.Turn.TheVariants as turn
 
 parts_open : (ns : List (Rc Node Global)) (x : List ValueOf) (w : List Item) → OpensTo x (Do (seen_statements ns) ∷ w) (settle (Do (seen_statements ns) ∷ w))

@@ -1,9 +1,7 @@
 -- Arrays that stay values.
-use Rattle.std.proofs.Common.{◌≡◌, ℕ, ℤ, List, ◌==◌, length, slice_set, true, ap, ◌∙◌, length-set}
-use Rattle.std.specs.List.{list_all}
-use Rattle.std.proofs.lemmas.Bool.{and_parts, and_from}
-use Rattle.stack_text.specs.declared.shape.Shape.{Shape}
-use Rattle.stack_text.specs.Values.{is_item, is_value, item_count}
+use Rattle.std.{proofs.Common.{◌≡◌, ℕ, ℤ, List, ◌==◌, length, slice_set, true, ap, ◌∙◌, length-set}, specs.List.list_all, proofs.lemmas.Bool.and_parts}
+use Rattle.std.proofs.lemmas.Bool.{and_from}
+use Rattle.stack_text.{specs.declared.shape.Shape.Shape, specs.Values.{is_item, is_value, item_count}}
 use Rattle.gypsy_semantics.proofs.EffectLaws.{set_holds}
 
 -- with another item of the kind

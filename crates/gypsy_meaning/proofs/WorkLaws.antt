@@ -1,19 +1,12 @@
 -- Work whose top is opened, and conditions that are raised above it.
-use Rattle.std.proofs.Common.{◌≡◌, ℕ, suc, ◌<◌, List, [], ◌∷◌, length, take, get_or, Bool, true, false, refl, ap, sym, ◌∙◌}
+use Rattle.std.{proofs.Common.{◌≡◌, ℕ, suc, ◌<◌, List, [], ◌∷◌, length, take, get_or, Bool, true, false, refl, ap, sym, ◌∙◌}, specs.Global.Vec}
+use Rattle.std.{specs.declared.alloc.Global.Global, specs.declared.rc.Rc.Rc}
 use Rattle.stack_text.specs.Values.{ValueOf}
 use Rattle.gypsy_syntax.specs.Programs.{ConditionOf, Stmt}
-use Rattle.gypsy_space.specs.Costs.{Tally, spend}
-use Rattle.gypsy_semantics.specs.Calls.{has_cond, is_leave}
-use Rattle.gypsy_semantics.specs.Machine.{Item, Frame, Do, Back, JoinOne, Guard, At, opens, open_on, settle, raise, stop_if}
-use Rattle.gypsy_meaning.specs.Views.Work.{item_of, work_of, work_on, OpensOn}
-use Rattle.gypsy_meaning.specs.declared.work.Item.{Item as Kept}
+use Rattle.gypsy_space.{specs.Costs.{Tally, spend}, specs.declared.program.Condition.Condition, specs.declared.program.Node.Node}
+use Rattle.gypsy_semantics.{specs.Calls.{has_cond, is_leave}, specs.Machine.{Item, Frame, Do, Back, JoinOne, Guard, At, opens, open_on, settle, raise, stop_if}}
+use Rattle.gypsy_meaning.{specs.Views.Work.{item_of, work_of, work_on, OpensOn}, specs.declared.work.Item.Item as Kept, proofs.OpenLaws.work_first}
 use Rattle.gypsy_meaning.specs.declared.work.Item.TheVariants as kept
-use Rattle.gypsy_space.specs.declared.program.Condition.{Condition}
-use Rattle.gypsy_space.specs.declared.program.Node.{Node}
-use Rattle.std.specs.Global.{Vec}
-use Rattle.std.specs.declared.alloc.Global.{Global}
-use Rattle.std.specs.declared.rc.Rc.{Rc}
-use Rattle.gypsy_meaning.proofs.OpenLaws.{work_first}
 
 -- the last of the first items is their top
 pub top_of : (items : List Kept) (b n : ℕ) (k : Kept) → b ≡ suc n → n < length items → k ≡ get_or items n k →

@@ -3,11 +3,8 @@
 ghost use Rattle.std.specs.Prelude.{◌≡◌, ◌∷◌, List, IfErr, map};
 ghost use Rattle.stack_heap.specs.Heaps.{IfOkUnless};
 ghost use Rattle.gypsy_space.specs.Nodes.{held_values, seen_arg};
-ghost use Rattle.gypsy_semantics.specs.Calls.{target_of};
-ghost use Rattle.gypsy_meaning.specs.Views.Work.{work_of};
-ghost use Rattle.gypsy_meaning.specs.Internal.Turns.{RaisesOn};
-ghost use Rattle.gypsy_semantics.specs.Machine.{Item};
-ghost use Rattle.gypsy_meaning.specs.Internal.PredefinedSteps.{IsApplied, call_item};
+ghost use Rattle.gypsy_semantics.specs.{Calls.{target_of}, Machine.{Item}};
+ghost use Rattle.gypsy_meaning.specs.{Views.Work.{work_of}, Internal.Turns.{RaisesOn}, Internal.PredefinedSteps.{IsApplied, call_item}};
 ghost use Rattle.gypsy_meaning.specs.Internal.PredefinedEffects.{Suits};
 
 use crate::effects::{OwnedEffect, apply};

@@ -3,16 +3,11 @@
 ghost use Rattle.std.specs.Prelude.{◌≡◌, ◌<◌, ◌≤◌, ◌+◌, [], ◌∷◌, List, IfErr, IfOk, drop, length};
 ghost use Rattle.stack_heap.specs.Heaps.{IfOkUnless};
 ghost use Rattle.gypsy_syntax.specs.Programs.{body_of, proc_at};
-ghost use Rattle.gypsy_space.specs.Events.{AreNeeds, AreSmall, lack_by, need_at};
-ghost use Rattle.gypsy_space.specs.Needs.{stack_sizes};
-ghost use Rattle.gypsy_space.specs.Nodes.{held_names, held_values, seen_program};
+ghost use Rattle.gypsy_space.specs.{Events.{AreNeeds, AreSmall, lack_by, need_at}, Needs.{stack_sizes}, Nodes.{held_names, held_values, seen_program}};
 ghost use Rattle.gypsy_space.specs.declared.need.Lack.TheVariants as lack;
-ghost use Rattle.gypsy_meaning.specs.Internal.Entering.{AreLent, IsUnchanged, RaisesSpace, Waits, call_top, with_words};
-ghost use Rattle.gypsy_meaning.specs.Views.Held.{IsHeld, Moves};
+ghost use Rattle.gypsy_meaning.specs.{Internal.Entering.{AreLent, IsUnchanged, RaisesSpace, Waits, call_top, with_words}, Views.Held.{IsHeld, Moves}};
+ghost use Rattle.gypsy_meaning.specs.{Views.Named.{variables_of}, Internal.Turns.{IsCall, IsPlain}, Views.Work.{work_of}};
 ghost use Rattle.gypsy_semantics.specs.Machine.{Item, open_on};
-ghost use Rattle.gypsy_meaning.specs.Views.Named.{variables_of};
-ghost use Rattle.gypsy_meaning.specs.Internal.Turns.{IsCall, IsPlain};
-ghost use Rattle.gypsy_meaning.specs.Views.Work.{work_of};
 
 use crate::copying::{callee_variables, lend};
 use crate::names::Names;

@@ -3,9 +3,9 @@
 ghost use Rattle.std.specs.Prelude.{◌≡◌, ◌<◌, ◌*ℤ◌, ◌∷◌, [], IsTrue, MatchOption, length, slice_set};
 ghost use Rattle.stack_heap.specs.Heaps.{IfOkUnless};
 ghost use Rattle.stack_text.specs.Values.{is_item};
-ghost use Rattle.gypsy_syntax.specs.Programs.{simple};
+ghost use Rattle.gypsy_syntax.specs.{Programs.{simple}, Effects.{item_of_value, is_true_value, value_at, number_effect, truth_value, indexed, stored}};
+ghost use Rattle.gypsy_syntax.specs.Effects.{no_value};
 ghost use Rattle.gypsy_syntax.specs.Effects as effect;
-ghost use Rattle.gypsy_syntax.specs.Effects.{item_of_value, is_true_value, value_at, number_effect, truth_value, indexed, stored, no_value};
 ghost use Rattle.gypsy_space.specs.Nodes.{held_values};
 ghost use Rattle.gypsy_meaning.specs.Internal.PredefinedEffects.{Suits, effect_of, argument_at, applied_effect};
 

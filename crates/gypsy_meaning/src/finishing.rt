@@ -2,13 +2,9 @@
 
 ghost use Rattle.std.specs.Prelude.{◌≡◌, [], length};
 ghost use Rattle.gypsy_syntax.specs.Programs.{proc_at};
-ghost use Rattle.gypsy_space.specs.Events.{AreSmall};
-ghost use Rattle.gypsy_space.specs.Nodes.{seen_cond, seen_program};
+ghost use Rattle.gypsy_space.specs.{Events.{AreSmall}, Nodes.{seen_cond, seen_program}};
 ghost use Rattle.gypsy_semantics.specs.Calls.{main_way};
-ghost use Rattle.gypsy_meaning.specs.Internal.Finishing.{IsFinished, end_price};
-ghost use Rattle.gypsy_meaning.specs.Views.Held.{EndsRun};
-ghost use Rattle.gypsy_meaning.specs.Internal.Turns.{Leaves};
-ghost use Rattle.gypsy_meaning.specs.Views.Work.{work_of};
+ghost use Rattle.gypsy_meaning.specs.{Internal.Finishing.{IsFinished, end_price}, Views.Held.{EndsRun}, Internal.Turns.{Leaves}, Views.Work.{work_of}};
 
 use crate::running::{Ending, Meaning};
 use gypsy_semantics::is_passed_on;

@@ -1,12 +1,8 @@
 //! Whether values and sizes suit the start of a run.
 
-ghost use Rattle.std.specs.Prelude.{◌≡◌};
-ghost use Rattle.std.specs.List.{list_all};
-ghost use Rattle.gypsy_syntax.specs.ProgramFits.{ProgramFits};
-ghost use Rattle.gypsy_syntax.specs.Ranges.{is_in_range};
-ghost use Rattle.gypsy_space.specs.Events.{AreNeeds, AreSmall};
-ghost use Rattle.gypsy_space.specs.Needs.{main_need, stack_sizes};
-ghost use Rattle.gypsy_space.specs.Nodes.{held_shapes, seen_program};
+ghost use Rattle.std.specs.{Prelude.{◌≡◌}, List.{list_all}};
+ghost use Rattle.gypsy_syntax.specs.{ProgramFits.{ProgramFits}, Ranges.{is_in_range}};
+ghost use Rattle.gypsy_space.specs.{Events.{AreNeeds, AreSmall}, Needs.{main_need, stack_sizes}, Nodes.{held_shapes, seen_program}};
 ghost use Rattle.gypsy_semantics.specs.Views.Fitting.{are_as_many, are_values, can_start, is_value_of, same_shape, suffice};
 
 use gypsy_semantics::{control_need, main_formals, temporary_need};

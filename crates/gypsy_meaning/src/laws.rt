@@ -4,8 +4,7 @@ ghost use Rattle.std.specs.Prelude.{ℕ, List};
 ghost use Rattle.gypsy_syntax.specs.Sources.{SourceOf};
 ghost use Rattle.gypsy_space.specs.declared.need.Need.{Need};
 ghost use Rattle.gypsy_semantics.specs.Views.RunView.{IsOfRun, Seen, left_of, meaning_run};
-ghost use Rattle.gypsy_meaning.specs.Views.Belongs.{BelongsTo, IsRunOf};
-ghost use Rattle.gypsy_meaning.specs.declared.running.Meaning.{Meaning};
+ghost use Rattle.gypsy_meaning.specs.{Views.Belongs.{BelongsTo, IsRunOf}, declared.running.Meaning.{Meaning}};
 
 /// No step and no run changes the program, the sizes or the values with which a run was started; and what belongs to a
 /// source is a run of its program, which fits it.

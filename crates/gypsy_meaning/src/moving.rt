@@ -3,20 +3,11 @@
 ghost use Rattle.std.specs.Prelude.{◌≡◌, ◌≤◌, ℕ, List, IfErr, IfNone, IfOk, IfSome};
 ghost use Rattle.stack_heap.specs.Heaps.{IfOkUnless};
 ghost use Rattle.stack_text.specs.Values.{ValueOf};
-ghost use Rattle.gypsy_syntax.specs.Programs.{proc_at};
-ghost use Rattle.gypsy_syntax.specs.Resolved.{program_of};
-ghost use Rattle.gypsy_syntax.specs.Views.SourceView.{source_of};
-ghost use Rattle.gypsy_syntax.specs.ValuesFit.{VarsFit};
-ghost use Rattle.gypsy_space.specs.Events.{AreNeeds, AreSmall};
-ghost use Rattle.gypsy_space.specs.Needs.{stack_sizes};
-ghost use Rattle.gypsy_semantics.specs.Views.RunAgrees.{RunAgrees};
-ghost use Rattle.gypsy_meaning.specs.Views.Belongs.{BelongsTo};
-ghost use Rattle.gypsy_semantics.specs.Room.{Suffices};
-ghost use Rattle.gypsy_semantics.specs.Calls.{CurrentCondition};
-ghost use Rattle.gypsy_semantics.specs.Views.Fitting.{CanStart};
-ghost use Rattle.gypsy_semantics.specs.Meaning.{Done, meaning};
-ghost use Rattle.gypsy_meaning.specs.Views.Running.{seen};
-ghost use Rattle.gypsy_semantics.specs.Views.RunView.{IsEnd, after, answer_of, left_of, opening, meaning_run};
+ghost use Rattle.gypsy_syntax.specs.{Programs.{proc_at}, Resolved.{program_of}, Views.SourceView.{source_of}, ValuesFit.{VarsFit}};
+ghost use Rattle.gypsy_space.specs.{Events.{AreNeeds, AreSmall}, Needs.{stack_sizes}};
+ghost use Rattle.gypsy_semantics.specs.{Views.RunAgrees.{RunAgrees}, Room.{Suffices}, Calls.{CurrentCondition}, Views.Fitting.{CanStart}, Meaning.{Done}};
+ghost use Rattle.gypsy_semantics.specs.{Meaning.{meaning}, Views.RunView.{IsEnd, after, answer_of, left_of, opening, meaning_run}};
+ghost use Rattle.gypsy_meaning.specs.{Views.Belongs.{BelongsTo}, Views.Running.{seen}};
 
 use crate::calling::Start;
 use crate::fitting::can_start;

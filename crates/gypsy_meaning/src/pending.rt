@@ -3,12 +3,10 @@
 ghost use Rattle.std.specs.Prelude.{◌≡◌, ◌∷◌, ◌++◌, [], ℕ, List, IfErr, IfOk, IfSome, IfNone, take, length, ◌-◌};
 ghost use Rattle.stack_heap.specs.Heaps.{IfOkUnless};
 ghost use Rattle.stack_text.specs.Values.{ValueOf};
-ghost use Rattle.gypsy_space.specs.Costs.{Tally};
-ghost use Rattle.gypsy_space.specs.Nodes.{held_values, seen_cond, seen_statement};
+ghost use Rattle.gypsy_space.specs.{Costs.{Tally}, Nodes.{held_values, seen_cond, seen_statement}};
 ghost use Rattle.gypsy_semantics.specs.Machine as machine;
 ghost use Rattle.gypsy_semantics.specs.Machine.{Frame, open_on, raise, settle};
-ghost use Rattle.gypsy_meaning.specs.Internal.Turns.{IsTurn, Stays};
-ghost use Rattle.gypsy_meaning.specs.Views.Work.{caught_spend, item_of, work_of};
+ghost use Rattle.gypsy_meaning.specs.{Internal.Turns.{IsTurn, Stays}, Views.Work.{caught_spend, item_of, work_of}};
 
 use crate::turn::{Turn, next_turn};
 use crate::work::{Item, open, raise, settled};
@@ -31,8 +29,7 @@ pub struct Work {
 }
 
 impl Model for Work {
-    ghost use Rattle.std.specs.Prelude.{List};
-    ghost use Rattle.std.specs.Coded.{codes};
+    ghost use Rattle.std.specs.{Prelude.{List}, Coded.{codes}};
     ghost use Rattle.gypsy_space.specs.contracts.program.Node as node;
     ghost use Rattle.gypsy_meaning.specs.declared.work.Item.{Item};
 

@@ -1,18 +1,12 @@
 //! What a step does at the end of a procedure for which another waits.
 
-ghost use Rattle.std.specs.Prelude.{◌≡◌, ◌<◌, ◌++◌, ◌∷◌, [], get_or, map, IfErr, MatchBool};
+ghost use Rattle.std.specs.{Prelude.{◌≡◌, ◌<◌, ◌++◌, ◌∷◌, [], get_or, map, IfErr, MatchBool}, Vec.{vec_len, vec_capacity}};
 ghost use Rattle.stack_heap.specs.Heaps.{IfOkUnless};
-ghost use Rattle.gypsy_space.specs.Events.{AreSmall};
+ghost use Rattle.gypsy_space.specs.{Events.{AreSmall}, Nodes.{seen_cond, seen_program}};
 ghost use Rattle.gypsy_syntax.specs.Programs.{Routine};
-ghost use Rattle.gypsy_space.specs.Nodes.{seen_cond, seen_program};
 ghost use Rattle.gypsy_semantics.specs.Calls.{matching};
-ghost use Rattle.gypsy_meaning.specs.Internal.Entering.{IsUnchanged};
-ghost use Rattle.gypsy_meaning.specs.Internal.Returning.{Resumes, out_price};
-ghost use Rattle.gypsy_meaning.specs.Internal.Turns.{Leaves};
-ghost use Rattle.std.specs.Vec.{vec_len, vec_capacity};
-ghost use Rattle.gypsy_meaning.specs.Views.Held.{Moves};
-ghost use Rattle.gypsy_meaning.specs.Views.Running.{paid};
-ghost use Rattle.gypsy_meaning.specs.Views.Work.{work_of};
+ghost use Rattle.gypsy_meaning.specs.{Internal.Entering.{IsUnchanged}, Internal.Returning.{Resumes, out_price}, Internal.Turns.{Leaves}, Views.Held.{Moves}};
+ghost use Rattle.gypsy_meaning.specs.{Views.Running.{paid}, Views.Work.{work_of}};
 
 use crate::copying::copy_out;
 use crate::running::{Frame, Meaning};

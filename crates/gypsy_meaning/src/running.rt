@@ -2,14 +2,9 @@
 
 ghost use Rattle.std.specs.Prelude.{◌≡◌, IfErr};
 ghost use Rattle.stack_heap.specs.Heaps.{IfOkUnless};
-ghost use Rattle.gypsy_space.specs.Events.{AreSmall};
-ghost use Rattle.gypsy_space.specs.Nodes.{held_values};
-ghost use Rattle.gypsy_meaning.specs.Views.Held.{Moves};
-ghost use Rattle.gypsy_meaning.specs.Views.Running.{paid, price};
-ghost use Rattle.gypsy_meaning.specs.Internal.Turns.{IsApplication};
-ghost use Rattle.gypsy_meaning.specs.Internal.Within.{IsWithin, WorkSuits};
-ghost use Rattle.gypsy_meaning.specs.Views.Work.{work_of};
-ghost use Rattle.gypsy_meaning.specs.Internal.PredefinedEffects.{Suits};
+ghost use Rattle.gypsy_space.specs.{Events.{AreSmall}, Nodes.{held_values}};
+ghost use Rattle.gypsy_meaning.specs.{Views.Held.{Moves}, Views.Running.{paid, price}, Internal.Turns.{IsApplication}, Internal.Within.{IsWithin, WorkSuits}};
+ghost use Rattle.gypsy_meaning.specs.{Views.Work.{work_of}, Internal.PredefinedEffects.{Suits}};
 
 use crate::applying::{Applied, application};
 use crate::names::{Names, Unnamed};

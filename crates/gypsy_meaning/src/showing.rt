@@ -2,18 +2,11 @@
 
 ghost use Rattle.std.specs.Prelude.{◌≡◌, ◌+◌, ◌^◌, ◌<◌, List, slice_get, option_map};
 ghost use Rattle.stack_text.specs.Values.{ValueOf};
-ghost use Rattle.gypsy_syntax.specs.Programs.{proc_at};
-ghost use Rattle.gypsy_syntax.specs.Sources.{SourceOf};
-ghost use Rattle.gypsy_space.specs.Costs.{Tally};
-ghost use Rattle.gypsy_space.specs.Nodes.{held_names, held_values, seen_cond, seen_program, seen_statement};
-ghost use Rattle.gypsy_space.specs.declared.need.Need.{Need};
-ghost use Rattle.gypsy_meaning.specs.Views.Belongs.{BelongsTo};
-ghost use Rattle.gypsy_semantics.specs.Machine.{At, Frame, place_of, statement_place};
-ghost use Rattle.gypsy_meaning.specs.Views.Named.{conditions_of, current_or};
-ghost use Rattle.gypsy_meaning.specs.Views.Running.{seen};
-ghost use Rattle.gypsy_semantics.specs.Views.RunView.{depth_at, is_over, place_at, procedure_at, top_way, values_at, way_at};
-ghost use Rattle.gypsy_semantics.specs.Views.Shown.{condition_at, names_at};
-ghost use Rattle.gypsy_meaning.specs.Views.Work.{work_of};
+ghost use Rattle.gypsy_syntax.specs.{Programs.{proc_at}, Sources.{SourceOf}};
+ghost use Rattle.gypsy_space.specs.{Costs.{Tally}, Nodes.{held_names, held_values, seen_cond, seen_program, seen_statement}, declared.need.Need.{Need}};
+ghost use Rattle.gypsy_meaning.specs.{Views.Belongs.{BelongsTo}, Views.Named.{conditions_of, current_or}, Views.Running.{seen}, Views.Work.{work_of}};
+ghost use Rattle.gypsy_semantics.specs.{Machine.{At, Frame, place_of, statement_place}, Views.RunView.{depth_at, is_over, place_at, procedure_at, top_way}};
+ghost use Rattle.gypsy_semantics.specs.{Views.RunView.{values_at, way_at}, Views.Shown.{condition_at, names_at}};
 
 use crate::names::Names;
 use crate::pending::Work;

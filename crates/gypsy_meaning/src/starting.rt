@@ -4,10 +4,8 @@ ghost use Rattle.std.specs.Prelude.{◌≡◌, ◌+◌, ◌++◌, ◌<◌, ◌�
 ghost use Rattle.stack_heap.specs.Heaps.{IfOkUnless};
 ghost use Rattle.gypsy_syntax.specs.Programs.{body_of, proc_at, words_of};
 ghost use Rattle.gypsy_space.specs.Nodes.{held_names, held_values, seen_program, seen_statement};
-ghost use Rattle.gypsy_semantics.specs.Calls.{main_start};
-ghost use Rattle.gypsy_semantics.specs.Machine.{open_on};
-ghost use Rattle.gypsy_meaning.specs.Views.Named.{variables_of};
-ghost use Rattle.gypsy_meaning.specs.Views.Work.{work_of};
+ghost use Rattle.gypsy_semantics.specs.{Calls.{main_start}, Machine.{open_on}};
+ghost use Rattle.gypsy_meaning.specs.{Views.Named.{variables_of}, Views.Work.{work_of}};
 
 use crate::calling::Start;
 use crate::copying::{append_locals, named_copy};

@@ -3,9 +3,7 @@
 ghost use Rattle.std.specs.Prelude.{◌≡◌, [], IfErr};
 ghost use Rattle.stack_heap.specs.Heaps.{IfOkUnless};
 ghost use Rattle.gypsy_space.specs.Nodes.{seen_cond};
-ghost use Rattle.gypsy_meaning.specs.Internal.Entering.{IsUnchanged};
-ghost use Rattle.gypsy_meaning.specs.Internal.Turns.{IsCall, Leaves};
-ghost use Rattle.gypsy_meaning.specs.Internal.Stepping.{Does, IsReady};
+ghost use Rattle.gypsy_meaning.specs.{Internal.Entering.{IsUnchanged}, Internal.Turns.{IsCall, Leaves}, Internal.Stepping.{Does, IsReady}};
 ghost use Rattle.gypsy_meaning.specs.Views.Work.{work_of};
 
 use crate::running::{Crossing, Meaning};

@@ -7,8 +7,7 @@ ghost use Rattle.gypsy_syntax.specs.Programs as program;
 ghost use Rattle.gypsy_syntax.specs.Effects.{item_of_value, is_true_value, value_at};
 ghost use Rattle.gypsy_space.specs.Nodes.{held_values, seen_cond, seen_statement};
 ghost use Rattle.gypsy_semantics.specs.Machine as machine;
-ghost use Rattle.gypsy_meaning.specs.Views.Work.{item_of, left_by, work_of, work_on};
-ghost use Rattle.gypsy_meaning.specs.Internal.Turns.{GoesOn, IsTurn, Removes};
+ghost use Rattle.gypsy_meaning.specs.{Views.Work.{item_of, left_by, work_of, work_on}, Internal.Turns.{GoesOn, IsTurn, Removes}};
 
 use crate::effects::item_in;
 use crate::work::{Item, Raised, put, put_opened, raise, settled};

@@ -3,10 +3,9 @@
 ghost use Rattle.std.specs.Prelude.{◌≡◌, ◌≤◌, [], ◌∷◌, ◌++◌, List, IfOk, ℕ, drop, length, map, take};
 ghost use Rattle.stack_heap.specs.Heaps.{IfOkUnless};
 ghost use Rattle.stack_text.specs.Values.{ValueOf};
-ghost use Rattle.gypsy_space.specs.Costs.{Tally};
+ghost use Rattle.gypsy_space.specs.{Costs.{Tally}, Nodes.{seen_cond, seen_statement, seen_statements}};
 ghost use Rattle.gypsy_semantics.specs.Machine as machine;
 ghost use Rattle.gypsy_semantics.specs.Machine.{open_on, settle, raise, Frame};
-ghost use Rattle.gypsy_space.specs.Nodes.{seen_cond, seen_statement, seen_statements};
 ghost use Rattle.gypsy_meaning.specs.Views.Work.{item_of, left_by, work_of, work_on, caught_spend, OpensOn};
 
 use gypsy_semantics::{is_among, is_leave};

@@ -1,18 +1,11 @@
 -- The arguments of a statement are arguments of its call.
-use Rattle.std.proofs.Common.{refl, ◌≡◌, ℕ, Some, List, [], ◌∷◌, map, ap, sym, ◌∙◌}
-use Rattle.std.specs.Prelude.{slice_get}
-use Rattle.stack_text.specs.declared.shape.Kind.{Kind}
-use Rattle.stack_text.specs.declared.shape.Shape.{Shape}
-use Rattle.stack_text.specs.Values.{ValueOf}
+use Rattle.std.{proofs.Common.{refl, ◌≡◌, ℕ, Some, List, [], ◌∷◌, map, ap, sym, ◌∙◌}, specs.Prelude.slice_get}
+use Rattle.stack_text.{specs.declared.shape.Kind.Kind, specs.declared.shape.Shape.Shape, specs.Values.ValueOf}
 use Rattle.piton_words.specs.declared.word.Word.{Word}
-use Rattle.gypsy_syntax.specs.declared.slot.Form.{Form}
-use Rattle.gypsy_syntax.specs.declared.slot.Form.TheVariants.{Simple, Array, Literal}
-use Rattle.gypsy_syntax.specs.declared.slot.Slot.{Slot}
-use Rattle.gypsy_syntax.specs.Programs.{simple, Arg, Var, Lit}
-use Rattle.gypsy_syntax.specs.ProgramFits.{ArgFits, ArgsFit, slot_kind}
-use Rattle.gypsy_syntax.specs.Effects.{value_at}
-use Rattle.gypsy_predef.specs.Runs.{values_of, ArgumentFits, ArgumentsFit}
-use Rattle.gypsy_predef.specs.Calls.{LocalHolds, LocalsHold, argument_of, VariableHolds, ArgumentsHold, ValuesKept}
+use Rattle.gypsy_syntax.{specs.declared.slot.Form.Form, specs.declared.slot.Form.TheVariants.{Simple, Array, Literal}, specs.declared.slot.Slot.Slot}
+use Rattle.gypsy_syntax.{specs.Programs.{simple, Arg, Var, Lit}, specs.ProgramFits.{ArgFits, ArgsFit, slot_kind}, specs.Effects.value_at}
+use Rattle.gypsy_predef.{specs.Runs.{values_of, ArgumentFits, ArgumentsFit}, specs.Calls.{LocalHolds, LocalsHold, argument_of, VariableHolds, ArgumentsHold}}
+use Rattle.gypsy_predef.specs.Calls.{ValuesKept}
 
 module _ (shapes : List Shape) (x : List ValueOf) (stack locals : List Word) (local index : ℕ → ℕ)
     (holds : (i : ℕ) (s : Shape) → slice_get shapes i ≡ Some s → VariableHolds stack locals (local i) (index i) (value_at x i) s) where

@@ -1,36 +1,23 @@
 -- The code of a predefined call: the pushes, the call, the test.
 use Rattle.std.proofs.Common.{◌≡◌, ℕ, suc, ◌+◌, ◌≤◌, ◌<◌, Some, Ok, Bool, true, false, ◌||◌, List, [], ◌∷◌, ◌++◌, length, map, refl, ap, sym, ◌∙◌, subst, arith}
-use Rattle.std.proofs.Common.{length-append}
-use Rattle.std.proofs.lemmas.List.{length-map}
-use Rattle.std.specs.Prelude.{slice_get, if◌then◌else◌}
-use Rattle.stack_text.specs.declared.shape.Kind.{Kind}
-use Rattle.stack_text.specs.Values.{ValueOf}
-use Rattle.stack_text.proofs.SharedLaws.{get_after}
-use Rattle.piton_words.specs.declared.word.Word.{Word}
-use Rattle.piton_words.specs.declared.word.Word.TheVariants.{Nat}
+use Rattle.std.{proofs.Common.length-append, proofs.lemmas.List.length-map, specs.Prelude.{slice_get, if◌then◌else◌}}
+use Rattle.stack_text.{specs.declared.shape.Kind.Kind, specs.Values.ValueOf, proofs.SharedLaws.get_after}
+use Rattle.piton_words.{specs.declared.word.Word.Word, specs.declared.word.Word.TheVariants.Nat, specs.declared.outcome.Outcome.TheVariants.One}
 use Rattle.piton_words.specs.declared.op.WordOp.TheVariants as op
-use Rattle.piton_words.specs.declared.outcome.Outcome.TheVariants.{One}
 use Rattle.piton_syntax.specs.declared.test_kind.TestFamily.TheVariants as family
 use Rattle.piton_syntax.specs.declared.test_kind.TestKind.TheVariants as test
 use Rattle.piton_check.specs.Instruction.{Instruction, SystemView, PushConstant, PushLocal, PushGlobal, Apply, TestAndJump, Call}
-use Rattle.piton_semantics.specs.State.{Frame, PitonState, program_of, instruction_at, word_at, with_word}
-use Rattle.piton_semantics.specs.Views.{then_on, test_of}
-use Rattle.piton_semantics.specs.Law.{Steps, none}
+use Rattle.piton_semantics.{specs.State.{Frame, PitonState, program_of, instruction_at, word_at, with_word}, specs.Views.{then_on, test_of}, specs.Law.Steps}
+use Rattle.piton_semantics.{specs.Law.none, proofs.RowLaws.{does_push, does_push_local, does_push_global, does_test_and_jump, does_apply}}
 use Rattle.piton_words.specs.OperationRows as words
-use Rattle.piton_semantics.proofs.RowLaws.{does_push, does_push_local, does_push_global, does_test_and_jump, does_apply}
-use Rattle.gypsy_syntax.specs.declared.slot.Form.{Form}
-use Rattle.gypsy_syntax.specs.declared.slot.Form.TheVariants.{Simple, Array, Literal}
-use Rattle.gypsy_syntax.specs.declared.slot.Slot.{Slot}
-use Rattle.gypsy_syntax.specs.declared.predef.Predef.{Predef}
-use Rattle.gypsy_syntax.specs.declared.predef.Predef.TheVariants as row
-use Rattle.gypsy_syntax.specs.Predefined.{slots_of, predef_effect, predef_cost, predef_temp, predef_number, can_fail}
+use Rattle.gypsy_syntax.{specs.declared.slot.Form.Form, specs.declared.slot.Form.TheVariants.{Simple, Array, Literal}, specs.declared.slot.Slot.Slot}
+use Rattle.gypsy_syntax.{specs.declared.predef.Predef.Predef, specs.Predefined.{slots_of, predef_effect, predef_cost, predef_temp, predef_number, can_fail}}
 use Rattle.gypsy_syntax.specs.Effects.{Effect, Normal, Fault, Beyond}
-use Rattle.gypsy_predef.specs.Bodies.{body_of, bodies, lengths_of}
-use Rattle.gypsy_predef.specs.Runs.{Argument, ArgumentsFit, pushed_word, pushed_words, push_all, values_of, length_words, with_elements, target_of}
-use Rattle.gypsy_predef.specs.Runs.{words_of_value, push_count, pushes_count, called_count, called_steps, after_call, IsAtCall}
-use Rattle.gypsy_predef.specs.Calls.{argument_code, arguments_code, test_code, CodeAt, LocalHolds, LocalsHold, after_code, PredefCallRuns, BodiesStand}
-use Rattle.gypsy_predef.proofs.StackLaws.{written_length}
-use Rattle.gypsy_predef.proofs.RunningLaws.{step_first, joined, counted}
+use Rattle.gypsy_syntax.specs.declared.predef.Predef.TheVariants as row
+use Rattle.gypsy_predef.{specs.Bodies.{body_of, bodies, lengths_of}, specs.Runs.{Argument, ArgumentsFit, pushed_word, pushed_words, push_all, values_of}}
+use Rattle.gypsy_predef.specs.Runs.{length_words, with_elements, target_of, words_of_value, push_count, pushes_count, called_count, called_steps, after_call}
+use Rattle.gypsy_predef.{specs.Runs.IsAtCall, specs.Calls.{argument_code, arguments_code, test_code, CodeAt, LocalHolds, LocalsHold, after_code}}
+use Rattle.gypsy_predef.{specs.Calls.{PredefCallRuns, BodiesStand}, proofs.StackLaws.written_length, proofs.RunningLaws.{step_first, joined, counted}}
 use Rattle.gypsy_predef.proofs.RowLaws.{runs, counts}
 
 -- Code and then other code.

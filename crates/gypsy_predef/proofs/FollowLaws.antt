@@ -1,27 +1,18 @@
 -- A body that is followed by computation: what its next steps ask, and that they are made where it is given.
 use Rattle.std.proofs.Common.{◌≡◌, ℕ, zero, suc, ◌+◌, ◌-◌, ◌≤◌, ◌<◌, Some, None, Ok, Bool, true, false, not, Option, List, [], ◌∷◌, ◌++◌, length, map, refl, ap}
-use Rattle.std.proofs.Common.{subst, arith, length-append, length-set}
-use Rattle.std.specs.Prelude.{slice_get, slice_set, nat_lt, if◌then◌else◌}
+use Rattle.std.{proofs.Common.{subst, arith, length-append, length-set}, specs.Prelude.{slice_get, slice_set, nat_lt, if◌then◌else◌}}
 use Rattle.std.proofs.lemmas.Bool.{ltb-true, not-true}
-use Rattle.piton_words.specs.declared.word.Word.{Word}
-use Rattle.piton_words.specs.declared.word.Word.TheVariants.{Nat}
-use Rattle.piton_words.specs.declared.op.WordOp.{WordOp}
-use Rattle.piton_words.specs.declared.outcome.Outcome.{Outcome}
-use Rattle.piton_words.specs.declared.outcome.Outcome.TheVariants.{One, Two}
+use Rattle.piton_words.{specs.declared.word.Word.Word, specs.declared.word.Word.TheVariants.Nat, specs.declared.op.WordOp.WordOp}
+use Rattle.piton_words.{specs.declared.outcome.Outcome.Outcome, specs.declared.outcome.Outcome.TheVariants.{One, Two}}
 use Rattle.piton_words.specs.OperationRows as words
-use Rattle.piton_syntax.specs.declared.test_kind.TestFamily.{TestFamily}
-use Rattle.piton_syntax.specs.declared.test_kind.TestKind.{TestKind}
+use Rattle.piton_syntax.{specs.declared.test_kind.TestFamily.TestFamily, specs.declared.test_kind.TestKind.TestKind}
 use Rattle.piton_check.specs.Instruction as i
 use Rattle.piton_check.specs.Instruction.{Instruction}
-use Rattle.piton_semantics.specs.State.{PitonState, element, with_element, with_word}
-use Rattle.piton_semantics.specs.Views.{then_on, words_taken, operands_of, test_of}
-use Rattle.piton_semantics.specs.InstructionRows.{does_grow, results_on, row_of}
-use Rattle.piton_semantics.specs.Step.{cost_of, operation_cost}
-use Rattle.piton_semantics.specs.Law.{Steps, none}
+use Rattle.piton_semantics.{specs.State.{PitonState, element, with_element, with_word}, specs.Views.{then_on, words_taken, operands_of, test_of}}
+use Rattle.piton_semantics.{specs.InstructionRows.{does_grow, results_on, row_of}, specs.Step.{cost_of, operation_cost}, specs.Law.{Steps, none}}
 use Rattle.piton_semantics.proofs.RowLaws.{does_push, does_push_local, does_pop_local, does_set_local, does_pop_global, does_fetch_temp_stk}
 use Rattle.piton_semantics.proofs.RowLaws.{does_deposit_temp_stk, does_test_and_jump, does_apply}
-use Rattle.gypsy_predef.proofs.RunningLaws.{Called, At, within, afterwards, goes}
-use Rattle.gypsy_predef.proofs.StackLaws.{element_over}
+use Rattle.gypsy_predef.{proofs.RunningLaws.{Called, At, within, afterwards, goes}, proofs.StackLaws.element_over}
 
 -- ---- what is looked at; where it isn't there, nothing can be given
 

@@ -1,45 +1,28 @@
 -- The texts of the bodies keep the form.
 use Rattle.std.proofs.Common.{◌≡◌, ◌+◌, ◌<◌, ◌≤◌, ◌^◌, Bool, true, false, List, [], ◌∷◌, length, map, All, Contains, IsTrue, Some, pos, negsuc, refl, sym}
-use Rattle.std.proofs.Common.{subst, lit<, lit≤, flat_map}
-use Rattle.std.specs.Prelude.{nat_lt}
-use Rattle.std.specs.List.{list_all}
-use Rattle.std.proofs.lemmas.Bool.{and_parts, ltb-true}
+use Rattle.std.{proofs.Common.{subst, lit<, lit≤, flat_map}, specs.Prelude.nat_lt, specs.List.list_all, proofs.lemmas.Bool.{and_parts, ltb-true}}
 use Rattle.std.proofs.lemmas.List.Elements.{All-nil, All-cons, All-append}
-use Rattle.stack_text.specs.declared.name.Named.{Named}
-use Rattle.stack_text.specs.Names.{is_name}
-use Rattle.stack_text.specs.Numerals.{fits_128_bits}
-use Rattle.piton_syntax.specs.declared.op.PitonOp.{PitonOp}
+use Rattle.stack_text.{specs.declared.name.Named.Named, specs.Names.is_name, specs.Numerals.fits_128_bits, specs.Grammar.Parts.IsNamed}
+use Rattle.stack_text.specs.Grammar.Printed.{unplaced}
+use Rattle.piton_syntax.{specs.declared.op.PitonOp.PitonOp, specs.declared.test_kind.TestFamily.TestFamily, specs.declared.test_kind.TestKind.TestKind}
+use Rattle.piton_syntax.{specs.declared.argument.Arguments.Arguments, specs.declared.argument.Arguments.TheVariants.{Zero, One, TestAndLabel}}
+use Rattle.piton_syntax.{specs.Operations.{op_arguments, tests_of}, specs.Systems.InstrOf, specs.Fits.{FitsArguments, FitsInstruction, FitsTemporary}}
 use Rattle.piton_syntax.specs.declared.op.PitonOp.TheVariants as op
-use Rattle.piton_syntax.specs.declared.test_kind.TestFamily.{TestFamily}
 use Rattle.piton_syntax.specs.declared.test_kind.TestFamily.TheVariants as family
-use Rattle.piton_syntax.specs.declared.test_kind.TestKind.{TestKind}
 use Rattle.piton_syntax.specs.declared.test_kind.TestKind.TheVariants as test
 use Rattle.piton_syntax.specs.declared.argument.ArgKind.TheVariants as kind
 use Rattle.piton_syntax.specs.declared.argument.ArgText.TheVariants as arg
-use Rattle.piton_syntax.specs.declared.argument.Arguments.{Arguments}
-use Rattle.piton_syntax.specs.declared.argument.Arguments.TheVariants.{Zero, One, TestAndLabel}
 use Rattle.piton_syntax.specs.declared.word_text.WordItem.TheVariants as item
 use Rattle.piton_syntax.specs.Operations as operations
-use Rattle.piton_syntax.specs.Operations.{op_arguments, tests_of}
-use Rattle.piton_syntax.specs.Systems.{InstrOf}
-use Rattle.stack_text.specs.Grammar.Parts.{IsNamed}
-use Rattle.stack_text.specs.Grammar.Printed.{unplaced}
-use Rattle.piton_syntax.specs.Fits.{FitsArguments, FitsInstruction, FitsTemporary}
-use Rattle.gypsy_syntax.specs.declared.predef.Predef.{Predef}
+use Rattle.gypsy_syntax.{specs.declared.predef.Predef.Predef, specs.Predefined.predef_name}
 use Rattle.gypsy_syntax.specs.declared.predef.Predef.TheVariants as row
-use Rattle.gypsy_syntax.specs.Predefined.{predef_name}
-use Rattle.gypsy_predef.specs.declared.line.Local.{Local}
+use Rattle.gypsy_predef.{specs.declared.line.Local.Local, specs.declared.line.Label.Label, specs.declared.line.Temporary.Temporary}
+use Rattle.gypsy_predef.{specs.declared.line.Line.Line, specs.Resolving.BodiesFit, specs.Texts.{local_name, label_name, lines_of, formals_of, temporary_locals}}
+use Rattle.gypsy_predef.specs.Texts.{plain, plain_at, of_name, constant, branch_text, fail_label, condition_area, line_text, temporary_text, named_local}
 use Rattle.gypsy_predef.specs.declared.line.Local.TheVariants as local
-use Rattle.gypsy_predef.specs.declared.line.Label.{Label}
 use Rattle.gypsy_predef.specs.declared.line.Label.TheVariants as label
-use Rattle.gypsy_predef.specs.declared.line.Temporary.{Temporary}
 use Rattle.gypsy_predef.specs.declared.line.Temporary.TheVariants as temporary
-use Rattle.gypsy_predef.specs.declared.line.Line.{Line}
 use Rattle.gypsy_predef.specs.declared.line.Line.TheVariants as line
-use Rattle.gypsy_predef.specs.Resolving.{BodiesFit}
-use Rattle.gypsy_predef.specs.Texts.{local_name, label_name, lines_of, formals_of, temporary_locals, plain, plain_at, of_name, constant, branch_text}
-use Rattle.gypsy_predef.specs.Texts.{fail_label, condition_area}
-use Rattle.gypsy_predef.specs.Texts.{line_text, temporary_text, named_local}
 use Rattle.piton_semantics.proofs.ReadyForms.{is_test}
 
 -- ---- names

@@ -1,12 +1,8 @@
 -- The product: 31 rounds, each a bit of the second factor.
 use Rattle.std.proofs.Common.{◌≡◌, ℕ, zero, suc, ◌+◌, ◌*◌, ◌≤◌, ◌<◌, ◌^◌, ℤ, pos, ◌+ℤ◌, ◌-ℤ◌, ◌*ℤ◌, neg_ℤ, Some, Ok, Bool, true, false, not, ◌||◌, List, []}
-use Rattle.std.proofs.Common.{◌∷◌, length, map, refl, ap, sym, ◌∙◌, subst, arith}
-use Rattle.std.specs.Prelude.{slice_get, ◌==◌, if◌then◌else◌}
-use Rattle.std.proofs.lemmas.Bool.{lt-ltb, ne_eqb}
-use Rattle.std.proofs.lemmas.Int.{ints}
-use Rattle.piton_words.specs.declared.word.Word.{Word}
-use Rattle.piton_words.specs.declared.outcome.Outcome.TheVariants.{One}
-use Rattle.piton_words.specs.Views.{where_true}
+use Rattle.std.{proofs.Common.{◌∷◌, length, map, refl, ap, sym, ◌∙◌, subst, arith}, specs.Prelude.{slice_get, ◌==◌, if◌then◌else◌}, proofs.lemmas.Bool.lt-ltb}
+use Rattle.std.{proofs.lemmas.Bool.ne_eqb, proofs.lemmas.Int.ints}
+use Rattle.piton_words.{specs.declared.word.Word.Word, specs.declared.outcome.Outcome.TheVariants.One, specs.Views.where_true}
 use Rattle.piton_words.specs.declared.word.Word.TheVariants.{Int, Nat, Bool as Truth}
 use Rattle.piton_words.specs.declared.op.WordOp.TheVariants as op
 use Rattle.piton_words.specs.OperationRows as words
@@ -14,15 +10,11 @@ use Rattle.fm_words.specs.Word.{is_int}
 use Rattle.piton_syntax.specs.declared.test_kind.TestFamily.TheVariants as family
 use Rattle.piton_syntax.specs.declared.test_kind.TestKind.TheVariants as test
 use Rattle.piton_check.specs.Instruction.{SystemView}
-use Rattle.piton_semantics.specs.State.{Frame, PitonState, element, with_element, with_word}
-use Rattle.piton_semantics.specs.Views.{then_on, test_of, is_negative}
-use Rattle.piton_semantics.specs.Law.{Steps}
+use Rattle.piton_semantics.{specs.State.{Frame, PitonState, element, with_element, with_word}, specs.Views.{then_on, test_of, is_negative}, specs.Law.Steps}
 use Rattle.gypsy_syntax.specs.declared.predef.Predef.TheVariants as row
-use Rattle.gypsy_predef.specs.Bodies.{body_of}
-use Rattle.gypsy_predef.proofs.RunningLaws.{Called, program_is, joined, counted, within, afterwards}
-use Rattle.gypsy_predef.proofs.FollowLaws.{Follows, follow}
-use Rattle.gypsy_predef.proofs.NumberLaws.{add_row, subtract_row, truth_test, negative_test}
-use Rattle.gypsy_predef.proofs.ProductLaws.{kept, bit, term, IsSum, Cut, cut_between, cut_first, cut_next, cut_whole, sum_first, sum_next, sum_whole}
+use Rattle.gypsy_predef.{specs.Bodies.body_of, proofs.RunningLaws.{Called, program_is, joined, counted, within, afterwards}, proofs.FollowLaws.Follows}
+use Rattle.gypsy_predef.{proofs.FollowLaws.follow, proofs.NumberLaws.{add_row, subtract_row, truth_test, negative_test}, proofs.ProductLaws.{kept, bit, term}}
+use Rattle.gypsy_predef.proofs.ProductLaws.{IsSum, Cut, cut_between, cut_first, cut_next, cut_whole, sum_first, sum_next, sum_whole}
 
 -- one bit less to come
 less_row : (n : ℕ) (v : Word) (areas : List ℕ) → n < 2 ^ 32 → words.row_of op.Sub1Nat v v (Nat (suc n)) areas ≡ Ok (One (Nat n))

@@ -1,30 +1,20 @@
 -- The word operations of the bodies on words of items.
 use Rattle.std.proofs.Common.{◌≡◌, ℕ, zero, suc, ◌+◌, ◌<◌, ◌^◌, ℤ, pos, negsuc, ◌+ℤ◌, ◌-ℤ◌, neg_ℤ, Ok, Bool, true, false, not, ◌⊎◌, cond, List, refl, ap, sym}
-use Rattle.std.proofs.Common.{◌∙◌, arith, int_lt, int_le, inl, inr}
-use Rattle.std.specs.Prelude.{◌==◌, nat_lt, nat_le}
-use Rattle.std.specs.Ordering.{is_eq}
-use Rattle.std.proofs.Common.{Less, Equal, Greater}
+use Rattle.std.{proofs.Common.{◌∙◌, arith, int_lt, int_le, inl, inr, Less, Equal, Greater}, specs.Prelude.{◌==◌, nat_lt, nat_le}, specs.Ordering.is_eq}
 use Rattle.std.proofs.lemmas.Bool.{cases_order, eq-eqb, ne_eqb, lt-ltb, le-ltb, le-leb, lt-leb, ltb-false, ltb-true, eqb-true, eqb-false, or_cases}
-use Rattle.std.proofs.lemmas.Int.{ints}
-use Rattle.stack_text.specs.declared.shape.Kind.{Kind}
-use Rattle.stack_text.specs.declared.shape.Kind.TheVariants.{Integer, Boolean, Character}
-use Rattle.piton_words.specs.declared.word.Word.{Word}
-use Rattle.piton_words.specs.declared.word.Word.TheVariants.{Int, Nat, Bool as Truth}
-use Rattle.piton_words.specs.declared.op.WordOp.TheVariants as op
-use Rattle.piton_words.specs.declared.outcome.Outcome.TheVariants.{One}
-use Rattle.piton_words.specs.OperationRows as words
-use Rattle.fm_words.specs.Word.{are_same_ints, is_int}
-use Rattle.fm_words.specs.Alu.{are_same as are_same_bools}
-use Rattle.piton_words.specs.OperationRows.{are_same, bool_word, int_word, int_carried}
-use Rattle.stack_text.specs.Results.{◌>>=◌}
+use Rattle.std.{proofs.lemmas.Int.ints, proofs.Math.IntN.+ℤ_idr}
+use Rattle.stack_text.{specs.declared.shape.Kind.Kind, specs.declared.shape.Kind.TheVariants.{Integer, Boolean, Character}, specs.Results.◌>>=◌}
+use Rattle.piton_words.{specs.declared.word.Word.Word, specs.declared.word.Word.TheVariants.{Int, Nat, Bool as Truth}}
+use Rattle.piton_words.{specs.declared.outcome.Outcome.TheVariants.One, specs.OperationRows.{are_same, bool_word, int_word, int_carried}}
 use Rattle.piton_words.specs.Views.{where_true}
+use Rattle.piton_words.specs.declared.op.WordOp.TheVariants as op
+use Rattle.piton_words.specs.OperationRows as words
+use Rattle.fm_words.{specs.Word.{are_same_ints, is_int}, specs.Alu.are_same as are_same_bools}
 use Rattle.piton_syntax.specs.declared.test_kind.TestFamily.TheVariants as family
 use Rattle.piton_syntax.specs.declared.test_kind.TestKind.TheVariants as test
 use Rattle.piton_semantics.specs.Views.{then_on, test_of, is_negative}
-use Rattle.gypsy_syntax.specs.Ranges.{is_in_range}
-use Rattle.gypsy_syntax.specs.Effects.{same_int}
+use Rattle.gypsy_syntax.{specs.Ranges.is_in_range, specs.Effects.same_int}
 use Rattle.gypsy_predef.specs.Runs.{word_of_item}
-use Rattle.std.proofs.Math.IntN.{+ℤ_idr}
 
 -- Equality.
 

@@ -1,16 +1,11 @@
 -- The arithmetic of a product that is added up bit by bit, over whole numbers.
 use Rattle.std.proofs.Common.{◌≡◌, ℕ, zero, suc, ◌+◌, ◌*◌, ◌-◌, ◌%◌, ◌≤◌, ◌<◌, ◌^◌, ℤ, pos, negsuc, ◌+ℤ◌, ◌-ℤ◌, ◌*ℤ◌, neg_ℤ, Bool, true, false, not, ◌||◌, ◌⊎◌}
-use Rattle.std.proofs.Common.{inl, inr, refl, ap, sym, ◌∙◌, subst, arith}
-use Rattle.std.specs.Prelude.{nat_lt, if◌then◌else◌}
-use Rattle.std.specs.Int.{w32, cast_signed, cast_unsigned, int_wrap}
-use Rattle.std.proofs.lemmas.Bool.{lt-ltb, ltb-true, ltb-false, or_parts, or_cases, false_from_ne_true, not-false, not-true, both_ways}
-use Rattle.std.proofs.lemmas.Int.{int_wrap_fits, SFits-int_wrap, to_z-of_z, wrapping_add-bits, ints}
-use Rattle.std.proofs.lemmas.Nat.{pow_pos}
-use Rattle.std.proofs.Math.IntN.{+ℤ_comm}
+use Rattle.std.{proofs.Common.{inl, inr, refl, ap, sym, ◌∙◌, subst, arith}, specs.Prelude.{nat_lt, if◌then◌else◌}, specs.Int.{w32, cast_signed, cast_unsigned}}
+use Rattle.std.{specs.Int.int_wrap, proofs.lemmas.Bool.{lt-ltb, ltb-true, ltb-false, or_parts, or_cases, false_from_ne_true, not-false, not-true, both_ways}}
+use Rattle.std.{proofs.lemmas.Int.{int_wrap_fits, SFits-int_wrap, to_z-of_z, wrapping_add-bits, ints}, proofs.lemmas.Nat.pow_pos, proofs.Math.IntN.+ℤ_comm}
 use Rattle.std.proofs.Math.Nat.{mul-le-mul_left}
 use borrow.Author.Differences.{up, down, sum_is_lem, product_is, same_in}
-use Rattle.fm_words.specs.Word.{is_int, wrapped}
-use Rattle.fm_words.proofs.WordLaws.{is_int_from_fits, fits_signed}
+use Rattle.fm_words.{specs.Word.{is_int, wrapped}, proofs.WordLaws.{is_int_from_fits, fits_signed}}
 use Rattle.piton_semantics.specs.Views.{is_negative}
 use Rattle.stack_text.proofs.SharedLaws.{or_false}
 

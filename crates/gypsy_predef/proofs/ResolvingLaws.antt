@@ -1,24 +1,15 @@
 -- The texts of the bodies keep the form and the rules, and mean the programs.
-use Rattle.std.proofs.Common.{◌≡◌, ℕ, ◌+◌, ◌++◌, List, [], map, length, Option, Some, refl, ap, ◌∙◌}
-use Rattle.std.specs.Prelude.{slice_get}
-use Rattle.std.specs.Option.{option_map}
+use Rattle.std.{proofs.Common.{◌≡◌, ℕ, ◌+◌, ◌++◌, List, [], map, length, Option, Some, refl, ap, ◌∙◌}, specs.Prelude.slice_get, specs.Option.option_map}
 use Rattle.std.proofs.lemmas.Option.{slice_get-map}
-use Rattle.stack_text.specs.declared.breach.Breach.{Breach}
-use Rattle.stack_text.proofs.SharedLaws.{get_after}
+use Rattle.stack_text.{specs.declared.breach.Breach.Breach, proofs.SharedLaws.get_after}
 use Rattle.piton_syntax.specs.Systems.{ProgramOf, SystemOf}
 use Rattle.piton_syntax.specs.Operations as operations
-use Rattle.piton_check.specs.Resolved.{resolved, resolved_program}
-use Rattle.piton_check.specs.Declarations.{area_names, first_of}
-use Rattle.piton_check.specs.Violations.{program_breaches}
+use Rattle.piton_check.{specs.Resolved.{resolved, resolved_program}, specs.Declarations.{area_names, first_of}, specs.Violations.program_breaches}
 use Rattle.piton_check.specs.Instruction.{ProgramView, program_view, system_view}
-use Rattle.gypsy_syntax.specs.declared.predef.Predef.{Predef}
+use Rattle.gypsy_syntax.{specs.declared.predef.Predef.Predef, specs.Predefined.predef_number}
 use Rattle.gypsy_syntax.specs.declared.predef.Predef.TheVariants as row
-use Rattle.gypsy_syntax.specs.Predefined.{predef_number}
-use Rattle.gypsy_predef.specs.Bodies.{body_of}
-use Rattle.gypsy_predef.specs.Texts.{body_text, body_texts, condition_area}
-use Rattle.gypsy_predef.specs.Resolving.{BodiesResolve, BodiesStandResolved, BodiesKeepRules, DoTheirCalls, DoTheirRows}
-use Rattle.gypsy_predef.proofs.CallLaws.{calls}
-use Rattle.gypsy_predef.proofs.RowLaws.{runs}
+use Rattle.gypsy_predef.{specs.Bodies.body_of, specs.Texts.{body_text, body_texts, condition_area}, specs.Resolving.{BodiesResolve, BodiesStandResolved}}
+use Rattle.gypsy_predef.{specs.Resolving.{BodiesKeepRules, DoTheirCalls, DoTheirRows}, proofs.CallLaws.calls, proofs.RowLaws.runs}
 
 -- with the area's position beside it, which not all of the bodies name
 resolve_there : (s : SystemOf) (r : Predef) → first_of (area_names s) condition_area ≡ Some 0 →

@@ -1,44 +1,29 @@
 -- The rows: each body is followed by computation, and gives what its row says.
 use Rattle.std.proofs.Common.{◌≡◌, ℕ, suc, ◌+◌, ◌-◌, ◌≤◌, ◌<◌, ◌^◌, ℤ, pos, negsuc, ◌+ℤ◌, ◌-ℤ◌, ◌*ℤ◌, neg_ℤ, int_le, int_lt, not, ◌||◌, ◌&&◌, Some, Ok, Bool}
 use Rattle.std.proofs.Common.{true, false, List, [], ◌∷◌, ◌++◌, length, length-append, map, take, drop, reverse, refl, ap, sym, ◌∙◌, subst, arith}
-use Rattle.std.specs.Prelude.{slice_get, slice_set, nat_lt, get_or, if◌then◌else◌}
-use Rattle.std.proofs.lemmas.Bool.{lt-ltb, ltb-true, not-true, not-false}
+use Rattle.std.{specs.Prelude.{slice_get, slice_set, nat_lt, get_or, if◌then◌else◌}, proofs.lemmas.Bool.{lt-ltb, ltb-true, not-true, not-false}}
 use Rattle.std.proofs.lemmas.List.{map-set, length-map}
-use Rattle.gypsy_syntax.specs.Programs.{simple}
-use Rattle.gypsy_syntax.specs.declared.slot.Form.{Form}
-use Rattle.gypsy_syntax.specs.declared.slot.Form.TheVariants.{Simple, Array, Literal}
-use Rattle.gypsy_syntax.specs.declared.predef.Predef.{Predef}
-use Rattle.gypsy_syntax.specs.Predefined.{slots_of, shared, integer_slot, boolean_slot, predef_effect, predef_cost, predef_temp, predef_ctrl, predef_number}
-use Rattle.gypsy_syntax.specs.Effects.{Effect, Normal, Fault, Beyond, item_of_value, truth_value, integer_value, are_same, is_true_value, number_effect}
-use Rattle.gypsy_syntax.specs.Effects.{indexed}
-use Rattle.gypsy_syntax.specs.Ranges.{is_in_range}
-use Rattle.gypsy_syntax.proofs.RangeLaws.{simple_item}
-use Rattle.stack_text.specs.declared.shape.Kind.{Kind}
-use Rattle.stack_text.specs.declared.shape.Kind.TheVariants.{Integer, Boolean}
-use Rattle.stack_text.specs.Values.{ValueOf, item_count}
-use Rattle.piton_words.specs.declared.word.Word.{Word}
-use Rattle.piton_words.specs.declared.outcome.Outcome.TheVariants.{One}
-use Rattle.piton_words.specs.declared.word.Word.TheVariants.{Int, Nat, Bool as Truth}
+use Rattle.gypsy_syntax.{specs.Programs.simple, specs.declared.slot.Form.Form, specs.declared.slot.Form.TheVariants.{Simple, Array, Literal}}
+use Rattle.gypsy_syntax.{specs.declared.predef.Predef.Predef, specs.Predefined.{slots_of, shared, integer_slot, boolean_slot, predef_effect, predef_cost}}
+use Rattle.gypsy_syntax.{specs.Predefined.{predef_temp, predef_ctrl, predef_number}, specs.Effects.{Effect, Normal, Fault, Beyond, item_of_value, truth_value}}
+use Rattle.gypsy_syntax.{specs.Effects.{integer_value, are_same, is_true_value, number_effect, indexed}, specs.Ranges.is_in_range, proofs.RangeLaws.simple_item}
+use Rattle.stack_text.{specs.declared.shape.Kind.Kind, specs.declared.shape.Kind.TheVariants.{Integer, Boolean}, specs.Values.{ValueOf, item_count}}
+use Rattle.piton_words.{specs.declared.word.Word.Word, specs.declared.outcome.Outcome.TheVariants.One, specs.declared.word.Word.TheVariants.{Int, Nat}}
+use Rattle.piton_words.specs.declared.word.Word.TheVariants.{Bool as Truth}
 use Rattle.piton_words.specs.declared.op.WordOp.TheVariants as op
 use Rattle.piton_words.specs.OperationRows as words
 use Rattle.fm_words.specs.Word.{are_same_ints}
 use Rattle.piton_check.specs.Instruction.{ProgramView, SystemView, Call}
-use Rattle.piton_semantics.specs.State.{Frame, PitonState, instruction_at, ctrl_used, with_element}
-use Rattle.piton_semantics.specs.Views.{is_negative}
-use Rattle.piton_semantics.specs.Law.{Steps}
+use Rattle.piton_semantics.{specs.State.{Frame, PitonState, instruction_at, ctrl_used, with_element}, specs.Views.is_negative, specs.Law.Steps}
 use Rattle.gypsy_syntax.specs.declared.predef.Predef.TheVariants as row
 use Rattle.gypsy_syntax.specs.Effects as effects
-use Rattle.gypsy_predef.specs.Bodies.{body_of}
-use Rattle.gypsy_predef.specs.Runs.{word_of_item, words_of_value, with_elements, Argument, values_of, ArgumentFits, ArgumentsFit, with_arguments, after_call}
-use Rattle.gypsy_predef.specs.Runs.{called_count, called_steps, Runs, PredefRuns, CountsAdd, WordsWritten}
-use Rattle.gypsy_predef.proofs.RunningLaws.{Called, program_is, calls}
-use Rattle.gypsy_predef.proofs.FollowLaws.{Follows, follow}
-use Rattle.gypsy_predef.proofs.StackLaws.{element_there, written_one, written_length, written_word, written_other}
-use Rattle.gypsy_predef.proofs.NumberLaws.{eq_row, not_less, same_range, minus_range, minus_row, add_row, subtract_row, truth_test, false_test, negative_test}
-use Rattle.gypsy_predef.proofs.NumberLaws.{to_nat_row, add_nat_row}
-use Rattle.gypsy_predef.proofs.ProductLaws.{kept_is}
-use Rattle.gypsy_predef.proofs.MultiplyLaws.{product_fits, product_overflows}
-use Rattle.gypsy_predef.proofs.ValueLaws.{simple_words, simple_argument, literal_word, array_word, truth_words, for_two, for_three}
+use Rattle.gypsy_predef.{specs.Bodies.body_of, specs.Runs.{word_of_item, words_of_value, with_elements, Argument, values_of, ArgumentFits, ArgumentsFit}}
+use Rattle.gypsy_predef.specs.Runs.{with_arguments, after_call, called_count, called_steps, Runs, PredefRuns, CountsAdd, WordsWritten}
+use Rattle.gypsy_predef.{proofs.RunningLaws.{Called, program_is, calls}, proofs.FollowLaws.{Follows, follow}, proofs.StackLaws.{element_there, written_one}}
+use Rattle.gypsy_predef.{proofs.StackLaws.{written_length, written_word, written_other}, proofs.NumberLaws.{eq_row, not_less, same_range, minus_range}}
+use Rattle.gypsy_predef.proofs.NumberLaws.{minus_row, add_row, subtract_row, truth_test, false_test, negative_test, to_nat_row, add_nat_row}
+use Rattle.gypsy_predef.{proofs.ProductLaws.kept_is, proofs.MultiplyLaws.{product_fits, product_overflows}, proofs.ValueLaws.{simple_words, simple_argument}}
+use Rattle.gypsy_predef.proofs.ValueLaws.{literal_word, array_word, truth_words, for_two, for_three}
 
 take_all_of : (words stack : List Word) → take (length words) (words ++ stack) ≡ words
 take_all_of [] stack = refl

@@ -1,15 +1,11 @@
 -- Steps in a predefined program's body.
 use Rattle.std.proofs.Common.{◌≡◌, ℕ, suc, ◌+◌, ◌≤◌, Some, Ok, List, ◌∷◌, ◌++◌, length, take, drop, reverse, refl, ap, ◌∙◌, subst, arith}
-use Rattle.std.specs.Prelude.{slice_get}
-use Rattle.std.proofs.lemmas.Option.{get_or_from_slice_get}
+use Rattle.std.{specs.Prelude.slice_get, proofs.lemmas.Option.get_or_from_slice_get}
 use Rattle.piton_words.specs.declared.word.Word.{Word}
 use Rattle.piton_check.specs.Instruction as i
 use Rattle.piton_check.specs.Instruction.{Instruction, ProgramView, SystemView}
-use Rattle.piton_semantics.specs.State.{Frame, PitonState, program_of, instruction_at, ctrl_used}
-use Rattle.piton_semantics.specs.InstructionRows.{row_of}
-use Rattle.piton_semantics.specs.Step.{piton_step, step_cost, cost_of, cost_at, operation_cost}
-use Rattle.piton_semantics.specs.Law.{Steps, none, more}
-use Rattle.piton_semantics.proofs.RowLaws.{step_is, does_call}
+use Rattle.piton_semantics.{specs.State.{Frame, PitonState, program_of, instruction_at, ctrl_used}, specs.InstructionRows.row_of, specs.Step.piton_step}
+use Rattle.piton_semantics.{specs.Step.{step_cost, cost_of, cost_at, operation_cost}, specs.Law.{Steps, none, more}, proofs.RowLaws.{step_is, does_call}}
 
 -- a step whose instruction is known, before other steps
 pub step_first : {s : SystemView} {j n : ℕ} {q r : PitonState} (p : PitonState) (body : ProgramView) (f : Frame) (fs : List Frame) (ins : Instruction) →

@@ -1,13 +1,10 @@
 -- Elements of the temporary stack, read under pushed words and written.
 use Rattle.std.proofs.Common.{◌≤◌, ◌≡◌, ℕ, zero, suc, ◌+◌, ◌-◌, ◌<◌, Some, None, Bool, true, false, List, [], ◌∷◌, length, refl, ap, sym, ◌∙◌, subst, arith}
-use Rattle.std.proofs.Common.{ltb-true, length-set}
-use Rattle.std.specs.Prelude.{if◌then◌else◌, slice_get, slice_set, nat_lt, get_or, ◌≢◌}
-use Rattle.std.proofs.lemmas.Bool.{lt-ltb}
-use Rattle.std.proofs.lemmas.Option.{slice_get_within, slice_get-get_or, get_or_from_slice_get}
-use Rattle.std.proofs.lemmas.List.{get_or-set_other, get_or-set_same, set-get_or}
+use Rattle.std.{proofs.Common.{ltb-true, length-set}, specs.Prelude.{if◌then◌else◌, slice_get, slice_set, nat_lt, get_or, ◌≢◌}, proofs.lemmas.Bool.lt-ltb}
+use Rattle.std.{proofs.lemmas.Option.{slice_get_within, slice_get-get_or, get_or_from_slice_get}, proofs.lemmas.List.{get_or-set_other, get_or-set_same}}
+use Rattle.std.proofs.lemmas.List.{set-get_or}
 use Rattle.piton_words.specs.declared.word.Word.{Word}
-use Rattle.piton_semantics.specs.State.{element, with_element}
-use Rattle.piton_semantics.proofs.ElementLaws.{element_below}
+use Rattle.piton_semantics.{specs.State.{element, with_element}, proofs.ElementLaws.element_below}
 use Rattle.gypsy_predef.specs.Runs.{Holds, with_elements}
 
 -- an element that is there lies below the top, and is the word at its distance from the top

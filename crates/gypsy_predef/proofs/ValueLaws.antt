@@ -1,25 +1,13 @@
 -- What the arguments of a call read as.
 use Rattle.std.proofs.Common.{◌≡◌, ℕ, ◌+◌, ◌<◌, pos, Some, Bool, true, false, List, [], ◌∷◌, length, map, get_or, refl, ap, ◌∙◌, subst, arith}
-use Rattle.std.specs.Prelude.{slice_get}
-use Rattle.std.specs.Option.{option_map}
-use Rattle.std.proofs.lemmas.Option.{slice_get-map, slice_get-get_or}
-use Rattle.stack_text.specs.declared.shape.Kind.{Kind}
-use Rattle.stack_text.specs.declared.shape.Shape.{Shape}
-use Rattle.stack_text.specs.Values.{ValueOf, item_count}
-use Rattle.stack_text.proofs.SharedLaws.{one_item}
-use Rattle.piton_words.specs.declared.word.Word.{Word}
-use Rattle.piton_words.specs.declared.word.Word.TheVariants.{Bool as Truth}
+use Rattle.std.{specs.Prelude.slice_get, specs.Option.option_map, proofs.lemmas.Option.{slice_get-map, slice_get-get_or}}
+use Rattle.stack_text.{specs.declared.shape.Kind.Kind, specs.declared.shape.Shape.Shape, specs.Values.{ValueOf, item_count}, proofs.SharedLaws.one_item}
+use Rattle.piton_words.{specs.declared.word.Word.Word, specs.declared.word.Word.TheVariants.Bool as Truth}
 use Rattle.piton_semantics.specs.State.{element}
-use Rattle.gypsy_syntax.specs.declared.slot.Form.TheVariants.{Simple, Array}
-use Rattle.gypsy_syntax.specs.declared.slot.Slot.{Slot}
-use Rattle.gypsy_syntax.specs.Programs.{simple}
-use Rattle.gypsy_syntax.specs.ProgramFits.{slot_kind}
-use Rattle.gypsy_syntax.specs.Ranges.{is_in_range}
-use Rattle.gypsy_syntax.specs.ValuesFit.{ValueFits}
-use Rattle.gypsy_syntax.specs.Effects.{item_of_value, truth_value}
+use Rattle.gypsy_syntax.{specs.declared.slot.Form.TheVariants.{Simple, Array}, specs.declared.slot.Slot.Slot, specs.Programs.simple}
+use Rattle.gypsy_syntax.{specs.ProgramFits.slot_kind, specs.Ranges.is_in_range, specs.ValuesFit.ValueFits, specs.Effects.{item_of_value, truth_value}}
 use Rattle.gypsy_syntax.proofs.RangeLaws.{simple_item}
-use Rattle.gypsy_predef.specs.Runs.{word_of_item, words_of_value, Argument, ArgumentFits, ArgumentsFit}
-use Rattle.gypsy_predef.proofs.StackLaws.{element_there}
+use Rattle.gypsy_predef.{specs.Runs.{word_of_item, words_of_value, Argument, ArgumentFits, ArgumentsFit}, proofs.StackLaws.element_there}
 
 -- a simple value has one item, and is one word
 pub simple_items : (k : Kind) (v : ValueOf) → v.shape ≡ simple k → ValueFits v → v.items ≡ item_of_value v ∷ []

@@ -1,28 +1,22 @@
 -- The predefined procedures as programs of Piton: the instructions that their lines are, with offsets and places in place of names.
-use Rattle.std.specs.Prelude.{ℕ, pos, List, [], ◌∷◌, map, length}
-use Rattle.std.specs.List.{flat_map}
-use Rattle.std.specs.Option.{unwrap_or}
-use Rattle.piton_words.specs.declared.word.Word.{Word}
-use Rattle.piton_words.specs.declared.word.Word.TheVariants.{Int, Nat, Bool as Truth}
+use Rattle.std.specs.{Prelude.{ℕ, pos, List, [], ◌∷◌, map, length}, List.{flat_map}, Option.{unwrap_or}}
+use Rattle.piton_words.specs.{declared.word.Word.{Word}, declared.word.Word.TheVariants.{Int, Nat, Bool as Truth}}
 use Rattle.piton_words.specs.declared.op.WordOp.TheVariants as op
 use Rattle.piton_syntax.specs.declared.test_kind.TestFamily.TheVariants as family
 use Rattle.piton_syntax.specs.declared.test_kind.TestKind.TheVariants as test
 use Rattle.piton_syntax.specs.Systems.{ProgramOf}
 use Rattle.piton_check.specs.declared.resolved.ResolvedArg.TheVariants as arg
-use Rattle.piton_check.specs.Declarations.{first_of, local_names, label_names}
-use Rattle.piton_check.specs.Instruction.{Instruction, ProgramView, PushConstant, PushLocal, PopLocal, PopGlobal}
-use Rattle.piton_check.specs.Instruction.{FetchTempStk, DepositTempStk, NoOp, Jump, TestAndJump, Ret, Apply, instruction_of}
-use Rattle.gypsy_syntax.specs.declared.predef.Predef.{Predef}
+use Rattle.piton_check.specs.{Declarations.{first_of, local_names, label_names}, Instruction.{Instruction, ProgramView, PushConstant}}
+use Rattle.piton_check.specs.Instruction.{PushLocal, PopLocal, PopGlobal, FetchTempStk, DepositTempStk, NoOp, Jump, TestAndJump, Ret, Apply}
+use Rattle.piton_check.specs.Instruction.{instruction_of}
+use Rattle.gypsy_syntax.specs.{declared.predef.Predef.{Predef}, Predefined.{predefs}}
 use Rattle.gypsy_syntax.specs.declared.predef.Predef.TheVariants as row
-use Rattle.gypsy_syntax.specs.Predefined.{predefs}
-use Rattle.gypsy_predef.specs.declared.line.Local.{Local}
+use Rattle.gypsy_predef.specs.{declared.line.Local.{Local}, declared.line.Label.{Label}, declared.line.Temporary.{Temporary}}
+use Rattle.gypsy_predef.specs.{declared.line.Line.{Line}, Texts.{local_name, label_name, fail_label, formals_of, temporary_locals}}
+use Rattle.gypsy_predef.specs.Texts.{lines_of, body_text}
 use Rattle.gypsy_predef.specs.declared.line.Local.TheVariants as local
-use Rattle.gypsy_predef.specs.declared.line.Label.{Label}
-use Rattle.gypsy_predef.specs.declared.line.Temporary.{Temporary}
 use Rattle.gypsy_predef.specs.declared.line.Temporary.TheVariants as temporary
-use Rattle.gypsy_predef.specs.declared.line.Line.{Line}
 use Rattle.gypsy_predef.specs.declared.line.Line.TheVariants as line
-use Rattle.gypsy_predef.specs.Texts.{local_name, label_name, fail_label, formals_of, temporary_locals, lines_of, body_text}
 
 module _ (p : ProgramOf) where
   -- where a local lies in the frame, and the place of a label: 0 for a name that the text does not declare

@@ -1,29 +1,18 @@
 -- The code of a predefined call, as a generator gives it: the arguments pushed, the call, and the test for a fault.
 use Rattle.std.specs.Prelude.{◌≡◌, ℕ, ◌+◌, ◌≤◌, List, [], ◌∷◌, ◌++◌, length, map, slice_get, Some, if◌then◌else◌}
-use Rattle.stack_text.specs.SharedLimits.{most_stack}
-use Rattle.stack_text.specs.declared.shape.Kind.{Kind}
-use Rattle.stack_text.specs.declared.shape.Shape.{Shape}
-use Rattle.stack_text.specs.Values.{ValueOf}
-use Rattle.piton_words.specs.declared.word.Word.{Word}
-use Rattle.piton_words.specs.declared.word.Word.TheVariants.{Nat}
+use Rattle.stack_text.specs.{SharedLimits.{most_stack}, declared.shape.Kind.{Kind}, declared.shape.Shape.{Shape}, Values.{ValueOf}}
+use Rattle.piton_words.specs.{declared.word.Word.{Word}, declared.word.Word.TheVariants.{Nat}}
 use Rattle.piton_words.specs.declared.op.WordOp.TheVariants as op
 use Rattle.piton_syntax.specs.declared.test_kind.TestFamily.TheVariants as family
 use Rattle.piton_syntax.specs.declared.test_kind.TestKind.TheVariants as test
-use Rattle.piton_check.specs.Instruction.{Instruction, ProgramView, SystemView, PushConstant}
-use Rattle.piton_check.specs.Instruction.{PushLocal, PushGlobal, Apply, TestAndJump, Call}
-use Rattle.piton_semantics.specs.State.{Frame, PitonState, instruction_at, ctrl_used, word_at, with_word}
-use Rattle.piton_semantics.specs.Law.{Steps}
-use Rattle.gypsy_syntax.specs.declared.slot.Form.{Form}
-use Rattle.gypsy_syntax.specs.declared.slot.Form.TheVariants.{Simple, Array, Literal}
-use Rattle.gypsy_syntax.specs.declared.slot.Slot.{Slot}
-use Rattle.gypsy_syntax.specs.declared.predef.Predef.{Predef}
-use Rattle.gypsy_syntax.specs.Predefined.{slots_of, predef_effect, predef_cost, predef_temp, predef_ctrl, predef_number, can_fail}
-use Rattle.gypsy_syntax.specs.Programs.{Arg, Var, Lit}
-use Rattle.gypsy_syntax.specs.ProgramFits.{ArgsFit}
-use Rattle.gypsy_syntax.specs.ValuesFit.{ValueFits}
-use Rattle.gypsy_syntax.specs.Effects.{Effect, Normal, Fault, Beyond, value_at}
-use Rattle.gypsy_predef.specs.Bodies.{body_of, bodies}
-use Rattle.gypsy_predef.specs.Runs.{Argument, ArgumentsFit, Holds, pushed_word, values_of, length_words}
+use Rattle.piton_check.specs.Instruction.{Instruction, ProgramView, SystemView, PushConstant, PushLocal, PushGlobal, Apply, TestAndJump}
+use Rattle.piton_check.specs.Instruction.{Call}
+use Rattle.piton_semantics.specs.{State.{Frame, PitonState, instruction_at, ctrl_used, word_at, with_word}, Law.{Steps}}
+use Rattle.gypsy_syntax.specs.{declared.slot.Form.{Form}, declared.slot.Form.TheVariants.{Simple, Array, Literal}}
+use Rattle.gypsy_syntax.specs.{declared.slot.Slot.{Slot}, declared.predef.Predef.{Predef}, Predefined.{slots_of, predef_effect}}
+use Rattle.gypsy_syntax.specs.{Predefined.{predef_cost, predef_temp, predef_ctrl, predef_number, can_fail}, Programs.{Arg, Var, Lit}}
+use Rattle.gypsy_syntax.specs.{ProgramFits.{ArgsFit}, ValuesFit.{ValueFits}, Effects.{Effect, Normal, Fault, Beyond, value_at}}
+use Rattle.gypsy_predef.specs.{Bodies.{body_of, bodies}, Runs.{Argument, ArgumentsFit, Holds, pushed_word, values_of, length_words}}
 use Rattle.gypsy_predef.specs.Runs.{with_elements, target_of, words_of_value}
 
 -- the instruction that pushes an argument

@@ -1,8 +1,7 @@
 -- Worked rows of the product.
 use Rattle.std.specs.Prelude.{◌≡◌, ℤ, pos, negsuc, [], ◌∷◌}
 use Rattle.gypsy_syntax.specs.declared.predef.Predef.TheVariants as row
-use Rattle.gypsy_syntax.specs.Predefined.{predef_effect}
-use Rattle.gypsy_syntax.specs.Effects.{Effect, Normal, Fault, integer_value}
+use Rattle.gypsy_syntax.specs.{Predefined.{predef_effect}, Effects.{Effect, Normal, Fault, integer_value}}
 
 -- what `(mg-integer-multiply x x y)` does
 abbrev pub product_of : ℤ → ℤ → Effect

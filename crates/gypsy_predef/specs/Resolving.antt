@@ -2,20 +2,13 @@
 use Rattle.std.specs.Prelude.{◌≡◌, ℕ, ◌+◌, List, [], ◌++◌, length, slice_get, Some}
 use Rattle.stack_text.specs.declared.shape.Kind.{Kind}
 use Rattle.piton_words.specs.declared.word.Word.{Word}
-use Rattle.piton_syntax.specs.Systems.{ProgramOf, SystemOf}
-use Rattle.piton_check.specs.Declarations.{area_names, first_of}
-use Rattle.piton_check.specs.Violations.{program_breaches}
-use Rattle.piton_syntax.specs.Fits.{FitsProgram}
-use Rattle.piton_check.specs.Resolved.{resolved, resolved_program}
+use Rattle.piton_syntax.specs.{Systems.{ProgramOf, SystemOf}, Fits.{FitsProgram}}
+use Rattle.piton_check.specs.{Declarations.{area_names, first_of}, Violations.{program_breaches}, Resolved.{resolved, resolved_program}}
 use Rattle.piton_check.specs.Instruction.{program_view, system_view}
-use Rattle.piton_semantics.specs.State.{Frame, PitonState}
-use Rattle.piton_semantics.specs.Law.{Steps}
-use Rattle.gypsy_syntax.specs.declared.predef.Predef.{Predef}
-use Rattle.gypsy_syntax.specs.Predefined.{slots_of, predef_effect, predef_cost, predef_number}
-use Rattle.gypsy_predef.specs.Bodies.{body_of}
-use Rattle.gypsy_predef.specs.Calls.{IsAtCode, after_code, predef_code}
-use Rattle.gypsy_predef.specs.Runs.{Argument, ArgumentsFit, IsAtCall, Runs, values_of}
-use Rattle.gypsy_predef.specs.Texts.{body_text, body_texts, condition_area}
+use Rattle.piton_semantics.specs.{State.{Frame, PitonState}, Law.{Steps}}
+use Rattle.gypsy_syntax.specs.{declared.predef.Predef.{Predef}, Predefined.{slots_of, predef_effect, predef_cost, predef_number}}
+use Rattle.gypsy_predef.specs.{Bodies.{body_of}, Calls.{IsAtCode, after_code, predef_code}, Runs.{Argument, ArgumentsFit, IsAtCall, Runs}}
+use Rattle.gypsy_predef.specs.{Runs.{values_of}, Texts.{body_text, body_texts, condition_area}}
 
 -- in a system whose first area is `c-c`, the texts mean the programs
 abbrev pub BodiesResolve : Type 0

@@ -1,25 +1,16 @@
 -- What a call of a predefined program does: from the `call`, its arguments pushed, to the place after it.
-use Rattle.std.specs.Prelude.{◌≡◌, ℕ, ◌+◌, ◌-◌, ◌≤◌, ◌<◌, ◌≢◌, ℤ, pos, List, [], ◌∷◌, length, map, slice_get, Some}
-use Rattle.std.specs.Prelude.{if◌then◌else◌}
-use Rattle.stack_text.specs.SharedLimits.{most_stack}
-use Rattle.stack_text.specs.declared.shape.Kind.{Kind}
-use Rattle.stack_text.specs.declared.shape.Kind.TheVariants.{Integer, Boolean, Character}
-use Rattle.stack_text.specs.Values.{ValueOf, item_count}
-use Rattle.piton_words.specs.declared.word.Word.{Word}
-use Rattle.piton_words.specs.declared.word.Word.TheVariants.{Int, Nat, Bool as Truth}
+use Rattle.std.specs.Prelude.{◌≡◌, ℕ, ◌+◌, ◌-◌, ◌≤◌, ◌<◌, ◌≢◌, ℤ, pos, List, [], ◌∷◌, length, map, slice_get, Some, if◌then◌else◌}
+use Rattle.stack_text.specs.{SharedLimits.{most_stack}, declared.shape.Kind.{Kind}, declared.shape.Kind.TheVariants.{Integer, Boolean}}
+use Rattle.stack_text.specs.{declared.shape.Kind.TheVariants.{Character}, Values.{ValueOf, item_count}}
+use Rattle.piton_words.specs.{declared.word.Word.{Word}, declared.word.Word.TheVariants.{Int, Nat, Bool as Truth}}
 use Rattle.piton_check.specs.Instruction.{SystemView, Call}
-use Rattle.piton_semantics.specs.State.{Frame, PitonState, instruction_at, ctrl_used, element, with_element, with_word}
-use Rattle.piton_semantics.specs.Law.{Steps}
-use Rattle.gypsy_syntax.specs.declared.slot.Form.{Form}
-use Rattle.gypsy_syntax.specs.declared.slot.Form.TheVariants.{Simple, Array, Literal}
-use Rattle.gypsy_syntax.specs.declared.slot.Slot.{Slot}
-use Rattle.gypsy_syntax.specs.declared.predef.Predef.{Predef}
+use Rattle.piton_semantics.specs.{State.{Frame, PitonState, instruction_at, ctrl_used, element, with_element, with_word}, Law.{Steps}}
+use Rattle.gypsy_syntax.specs.{declared.slot.Form.{Form}, declared.slot.Form.TheVariants.{Simple, Array, Literal}}
+use Rattle.gypsy_syntax.specs.{declared.slot.Slot.{Slot}, declared.predef.Predef.{Predef}, Predefined.{slots_of, predef_effect}}
+use Rattle.gypsy_syntax.specs.{Predefined.{predef_cost, predef_temp, predef_ctrl, predef_number, can_fail}, Programs.{simple}}
+use Rattle.gypsy_syntax.specs.{ProgramFits.{slot_kind}, ValuesFit.{ValueFits}, Effects.{Effect, Normal, Fault, Beyond, same_int}}
+use Rattle.gypsy_syntax.specs.Effects.{item_of_value, value_at}
 use Rattle.gypsy_syntax.specs.declared.predef.Predef.TheVariants as row
-use Rattle.gypsy_syntax.specs.Predefined.{slots_of, predef_effect, predef_cost, predef_temp, predef_ctrl, predef_number, can_fail}
-use Rattle.gypsy_syntax.specs.Programs.{simple}
-use Rattle.gypsy_syntax.specs.ProgramFits.{slot_kind}
-use Rattle.gypsy_syntax.specs.ValuesFit.{ValueFits}
-use Rattle.gypsy_syntax.specs.Effects.{Effect, Normal, Fault, Beyond, same_int, item_of_value, value_at}
 use Rattle.gypsy_predef.specs.Bodies.{body_of, lengths_of}
 
 -- an item as a word

@@ -1,10 +1,8 @@
 //! The predefined procedures of Micro-Gypsy as programs of Piton.
 #![tactic(auto)]
 
-ghost use Rattle.gypsy_predef.specs.Runs.{PredefRuns, CountsAdd, WordsWritten};
-ghost use Rattle.gypsy_predef.specs.Examples.{ProductRows};
-ghost use Rattle.gypsy_predef.specs.Calls.{PredefCallRuns, BodiesStand, ArgumentsHold, ValuesKept};
-ghost use Rattle.gypsy_predef.specs.Resolving.{BodiesFit, BodiesKeepRules, BodiesResolve, BodiesStandResolved};
+ghost use Rattle.gypsy_predef.specs.{Runs.{PredefRuns, CountsAdd, WordsWritten}, Examples.{ProductRows}, Calls.{PredefCallRuns, BodiesStand, ArgumentsHold}};
+ghost use Rattle.gypsy_predef.specs.{Calls.{ValuesKept}, Resolving.{BodiesFit, BodiesKeepRules, BodiesResolve, BodiesStandResolved}};
 
 /// Instructions of a text, as the bodies here and other writers of Piton texts put them.
 pub mod instruction_text;

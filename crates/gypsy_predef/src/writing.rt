@@ -1,14 +1,12 @@
 //! The bodies as programs of Piton's text.
 
-ghost use Rattle.std.specs.Prelude.{◌≡◌, ◌++◌, IfOk, [], ◌∷◌, map};
-ghost use Rattle.std.specs.List.{flat_map};
+ghost use Rattle.std.specs.{Prelude.{◌≡◌, ◌++◌, IfOk, [], ◌∷◌, map}, List.{flat_map}};
 ghost use Rattle.stack_heap.specs.Heaps.{IfOkUnless, OnOkUnless};
 ghost use Rattle.stack_text.specs.Grammar.Printed.{unplaced};
 ghost use Rattle.piton_syntax.specs.declared.op.PitonOp.TheVariants.{Jump};
-ghost use Rattle.gypsy_predef.specs.declared.line.Line.TheVariants.{Get, Put, Choose, Note, Fail};
-ghost use Rattle.gypsy_predef.specs.Resolving.{DoTheirCalls, DoTheirRows};
-ghost use Rattle.gypsy_predef.specs.Texts.{body_text, body_texts, branch_text, line_text, named_local, temporary_text};
-ghost use Rattle.gypsy_predef.specs.Texts.{fail_label, label_name, local_name, of_name, plain_at};
+ghost use Rattle.gypsy_predef.specs.{declared.line.Line.TheVariants.{Get, Put, Choose, Note, Fail}, Resolving.{DoTheirCalls, DoTheirRows}, Texts.{body_text}};
+ghost use Rattle.gypsy_predef.specs.Texts.{body_texts, branch_text, line_text, named_local, temporary_text, fail_label, label_name, local_name, of_name};
+ghost use Rattle.gypsy_predef.specs.Texts.{plain_at};
 
 use crate::instruction_text::{condition_area, constant, number, of_name, plain, test};
 use crate::line::{Label, Line, Local, Temporary, label_name, local_name};

@@ -1,18 +1,14 @@
 -- What was spent before changes nothing of a step but what is spent after it.
 use Rattle.std.proofs.Common.{◌≡◌, ℕ, ◌+◌, List, [], ◌∷◌, slice_set, Bool, true, false, Some, None, refl, ap, ◌∙◌, add_assoc, add-zero}
 use Rattle.stack_text.specs.Values.{ValueOf}
-use Rattle.gypsy_syntax.specs.declared.predef.Predef.{Predef}
-use Rattle.gypsy_syntax.specs.Predefined.{predef_cost, predef_effect}
-use Rattle.gypsy_syntax.specs.Programs.{ConditionOf, Routine, Space, Arg, Program, body_of}
-use Rattle.gypsy_syntax.specs.Programs.{Stmt, Skip, NoOp, Signal, Seq, Loop, If, Begin, Call, Apply}
-use Rattle.gypsy_syntax.specs.Effects.{Effect, Normal, Fault, Beyond, value_at, is_true_value}
-use Rattle.gypsy_space.specs.Costs.{Tally, spend, start_tally, predef_spend, out_spend, main_spend}
-use Rattle.gypsy_space.specs.Needs.{StackSizes, lack_of, call_spend}
-use Rattle.gypsy_space.specs.declared.need.Lack.{Lack}
-use Rattle.gypsy_space.specs.declared.need.Lack.TheVariants.{Nothing, Temporary, Control}
+use Rattle.gypsy_syntax.{specs.declared.predef.Predef.Predef, specs.Predefined.{predef_cost, predef_effect}, specs.Programs.{ConditionOf, Routine, Space, Arg}}
+use Rattle.gypsy_syntax.{specs.Programs.{Program, body_of, Stmt, Skip, NoOp, Signal, Seq, Loop, If, Begin, Call, Apply}, specs.Effects.{Effect, Normal, Fault}}
+use Rattle.gypsy_syntax.specs.Effects.{Beyond, value_at, is_true_value}
+use Rattle.gypsy_space.{specs.Costs.{Tally, spend, start_tally, predef_spend, out_spend, main_spend}, specs.Needs.{StackSizes, lack_of, call_spend}}
+use Rattle.gypsy_space.{specs.declared.need.Lack.Lack, specs.declared.need.Lack.TheVariants.{Nothing, Temporary, Control}}
 use Rattle.gypsy_semantics.specs.Calls.{has_cond, is_leave, is_passed_on, matching, main_way, values_of, target_of, copied_in, copied_out, main_formals}
-use Rattle.gypsy_semantics.specs.Machine.{Item, Do, Back, JoinThen, JoinOne, Guard, Out, Frame, Held, State, At, Move, Next, Ended}
-use Rattle.gypsy_semantics.specs.Machine.{open_on, settle, stop_if, raise, either_move, apply_step, used, call_step, do_step, end_step, out_step, gypsy_step}
+use Rattle.gypsy_semantics.specs.Machine.{Item, Do, Back, JoinThen, JoinOne, Guard, Out, Frame, Held, State, At, Move, Next, Ended, open_on, settle, stop_if}
+use Rattle.gypsy_semantics.specs.Machine.{raise, either_move, apply_step, used, call_step, do_step, end_step, out_step, gypsy_step}
 
 -- both together
 abbrev pub plus : Tally → Tally → Tally

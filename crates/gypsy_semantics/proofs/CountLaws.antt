@@ -1,19 +1,15 @@
 -- Counting changes no meaning.
 use Rattle.std.proofs.Common.{◌≡◌, ℕ, zero, suc, List, Bool, true, false, not, ◌&&◌, if◌then◌else◌, Some, None, refl, ap, ◌∙◌}
 use Rattle.stack_text.specs.Values.{ValueOf}
-use Rattle.gypsy_syntax.specs.declared.predef.Predef.{Predef}
-use Rattle.gypsy_syntax.specs.Programs.{ConditionOf, Arg, Program, body_of}
-use Rattle.gypsy_syntax.specs.Programs.{Stmt, Skip, NoOp, Signal, Seq, Loop, If, Begin, Call, Apply}
-use Rattle.gypsy_syntax.specs.Predefined.{predef_effect}
-use Rattle.gypsy_syntax.specs.Effects.{Effect, Normal, Fault, Beyond, value_at, is_true_value}
-use Rattle.gypsy_space.specs.Costs.{Tally, spend, start_tally}
-use Rattle.gypsy_space.specs.Needs.{StackSizes, main_used, with_call, has_temp_room, has_ctrl_room, has_room, lack_of, call_spend}
-use Rattle.gypsy_space.specs.declared.need.Lack.TheVariants.{Nothing, Temporary, Control}
-use Rattle.gypsy_semantics.specs.Calls.{has_cond, is_leave, values_of, copied_in, main_start}
-use Rattle.gypsy_semantics.specs.Meaning.{MeaningOutcome, then_do, either_way, caught, round_end, applied, returned, if_room, evaluate, main_end, meaning}
-use Rattle.gypsy_semantics.specs.Counted.{CountedOutcome, CountedDone, CountedUnfinished, counted_then, counted_part, counted_either, counted_caught}
-use Rattle.gypsy_semantics.specs.Counted.{counted_round_end, counted_applied, counted_returned, counted_if_room, counted_evaluate, counted_main_end}
-use Rattle.gypsy_semantics.specs.Counted.{counted_meaning, uncounted}
+use Rattle.gypsy_syntax.{specs.declared.predef.Predef.Predef, specs.Programs.{ConditionOf, Arg, Program, body_of, Stmt, Skip, NoOp, Signal, Seq, Loop, If}}
+use Rattle.gypsy_syntax.{specs.Programs.{Begin, Call, Apply}, specs.Predefined.predef_effect, specs.Effects.{Effect, Normal, Fault, Beyond, value_at}}
+use Rattle.gypsy_syntax.specs.Effects.{is_true_value}
+use Rattle.gypsy_space.{specs.Costs.{Tally, spend, start_tally}, specs.Needs.{StackSizes, main_used, with_call, has_temp_room, has_ctrl_room, has_room}}
+use Rattle.gypsy_space.{specs.Needs.{lack_of, call_spend}, specs.declared.need.Lack.TheVariants.{Nothing, Temporary, Control}}
+use Rattle.gypsy_semantics.{specs.Calls.{has_cond, is_leave, values_of, copied_in, main_start}, specs.Meaning.{MeaningOutcome, then_do, either_way, caught}}
+use Rattle.gypsy_semantics.{specs.Meaning.{round_end, applied, returned, if_room, evaluate, main_end, meaning}, specs.Counted.{CountedOutcome, CountedDone}}
+use Rattle.gypsy_semantics.specs.Counted.{CountedUnfinished, counted_then, counted_part, counted_either, counted_caught, counted_round_end, counted_applied}
+use Rattle.gypsy_semantics.specs.Counted.{counted_returned, counted_if_room, counted_evaluate, counted_main_end, counted_meaning, uncounted}
 
 either-uncounted : (b : Bool) (o r : CountedOutcome) → uncounted (counted_either b o r) ≡ either_way b (uncounted o) (uncounted r)
 either-uncounted true o r = refl

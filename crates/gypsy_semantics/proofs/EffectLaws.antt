@@ -1,25 +1,14 @@
 -- What a predefined procedure writes has the shape of its first argument.
 use Rattle.std.proofs.Common.{◌≡◌, ℕ, zero, suc, ◌<◌, ℤ, pos, negsuc, ◌+ℤ◌, ◌-ℤ◌, ◌*ℤ◌, neg_ℤ, List, [], ◌∷◌, map, length, get_or, slice_get, slice_set, nat_lt}
-use Rattle.std.proofs.Common.{if◌then◌else◌}
-use Rattle.std.proofs.Common.{Bool, true, false, Some, refl, ap, sym, ◌∙◌, subst, arith, true≢false, ltb-true, length-set}
-use Rattle.std.specs.List.{list_all}
+use Rattle.std.{proofs.Common.{if◌then◌else◌, Bool, true, false, Some, refl, ap, sym, ◌∙◌, subst, arith, true≢false, ltb-true, length-set}, specs.List.list_all}
 use Rattle.std.proofs.lemmas.Bool.{and_parts, and_from}
-use Rattle.stack_text.specs.declared.shape.Kind.{Kind}
-use Rattle.stack_text.specs.declared.shape.Kind.TheVariants.{Integer}
-use Rattle.stack_text.specs.declared.shape.Shape.{Shape}
-use Rattle.stack_text.specs.Values.{ValueOf}
-use Rattle.gypsy_syntax.specs.declared.predef.Predef.{Predef}
+use Rattle.stack_text.{specs.declared.shape.Kind.Kind, specs.declared.shape.Kind.TheVariants.Integer, specs.declared.shape.Shape.Shape, specs.Values.ValueOf}
+use Rattle.gypsy_syntax.{specs.declared.predef.Predef.Predef, specs.declared.slot.Form.Form, specs.declared.slot.Form.TheVariants.{Simple, Array, Literal}}
+use Rattle.gypsy_syntax.{specs.declared.slot.Slot.Slot, specs.Predefined.{slots_of, integer_slot, boolean_slot, shared, predef_effect}, specs.Programs.simple}
+use Rattle.gypsy_syntax.{specs.Programs.{Arg, Var, Lit}, specs.ProgramFits.{ArgFits, ArgsFit, slot_kind}, specs.Ranges.is_in_range, specs.ValuesFit.ValueFits}
+use Rattle.gypsy_syntax.{specs.ValuesFit.VarsFit, specs.Effects.{Effect, Normal, Fault, Beyond, integer_value, truth_value, item_of_value, value_at}}
+use Rattle.gypsy_syntax.{specs.Effects.{number_effect, indexed, stored}, proofs.RangeLaws.{get_holds, simple_item}}
 use Rattle.gypsy_syntax.specs.declared.predef.Predef.TheVariants as row
-use Rattle.gypsy_syntax.specs.declared.slot.Form.{Form}
-use Rattle.gypsy_syntax.specs.declared.slot.Form.TheVariants.{Simple, Array, Literal}
-use Rattle.gypsy_syntax.specs.declared.slot.Slot.{Slot}
-use Rattle.gypsy_syntax.specs.Predefined.{slots_of, integer_slot, boolean_slot, shared, predef_effect}
-use Rattle.gypsy_syntax.specs.Programs.{simple, Arg, Var, Lit}
-use Rattle.gypsy_syntax.specs.ProgramFits.{ArgFits, ArgsFit, slot_kind}
-use Rattle.gypsy_syntax.specs.Ranges.{is_in_range}
-use Rattle.gypsy_syntax.specs.ValuesFit.{ValueFits, VarsFit}
-use Rattle.gypsy_syntax.specs.Effects.{Effect, Normal, Fault, Beyond, integer_value, truth_value, item_of_value, value_at, number_effect, indexed, stored}
-use Rattle.gypsy_syntax.proofs.RangeLaws.{get_holds, simple_item}
 use Rattle.gypsy_semantics.specs.Calls.{value_of, values_of, target_of}
 
 -- a value of this form and kind

@@ -1,24 +1,17 @@
 -- Each step keeps what every state of a program that fits has.
-use Rattle.std.proofs.Common.{◌≡◌, ℕ, zero, suc, List, [], ◌∷◌, ◌++◌, map, length, take, get_or, slice_set, nat_lt, if◌then◌else◌}
-use Rattle.std.proofs.Common.{Bool, true, false, Some, refl, ap, sym, ◌∙◌, subst, ltb-true}
-use Rattle.stack_text.specs.declared.shape.Shape.{Shape}
-use Rattle.stack_text.specs.Values.{ValueOf}
-use Rattle.gypsy_syntax.specs.declared.predef.Predef.{Predef}
-use Rattle.gypsy_syntax.specs.Programs.{ConditionOf, Leave, Routine, Space, Declared, Arg, Proc, Program, proc_at, body_of, shapes_of, conds_of}
-use Rattle.gypsy_syntax.specs.Programs.{Stmt, Skip, NoOp, Signal, Seq, Loop, If, Begin, Call, Apply}
-use Rattle.gypsy_syntax.specs.ProgramFits.{Each, CondFits, ActualsFit, CallFits, StmtFits, ProgramFits}
-use Rattle.gypsy_syntax.specs.ValuesFit.{ValueFits, VarsFit}
-use Rattle.gypsy_syntax.specs.Predefined.{predef_effect}
-use Rattle.gypsy_syntax.specs.Effects.{Effect, Normal, Fault, Beyond, value_at, is_true_value}
-use Rattle.gypsy_space.specs.Costs.{Tally, spend, predef_spend, out_spend}
-use Rattle.gypsy_space.specs.Needs.{StackSizes, lack_of}
-use Rattle.gypsy_space.specs.declared.need.Lack.{Lack}
+use Rattle.std.proofs.Common.{◌≡◌, ℕ, zero, suc, List, [], ◌∷◌, ◌++◌, map, length, take, get_or, slice_set, nat_lt, if◌then◌else◌, Bool, true, false, Some}
+use Rattle.std.proofs.Common.{refl, ap, sym, ◌∙◌, subst, ltb-true}
+use Rattle.stack_text.{specs.declared.shape.Shape.Shape, specs.Values.ValueOf}
+use Rattle.gypsy_syntax.{specs.declared.predef.Predef.Predef, specs.Programs.{ConditionOf, Leave, Routine, Space, Declared, Arg, Proc, Program, proc_at}}
+use Rattle.gypsy_syntax.{specs.Programs.{body_of, shapes_of, conds_of, Stmt, Skip, NoOp, Signal, Seq, Loop, If, Begin, Call, Apply}, specs.ProgramFits.Each}
+use Rattle.gypsy_syntax.{specs.ProgramFits.{CondFits, ActualsFit, CallFits, StmtFits, ProgramFits}, specs.ValuesFit.{ValueFits, VarsFit}}
+use Rattle.gypsy_syntax.{specs.Predefined.predef_effect, specs.Effects.{Effect, Normal, Fault, Beyond, value_at, is_true_value}}
+use Rattle.gypsy_space.{specs.Costs.{Tally, spend, predef_spend, out_spend}, specs.Needs.{StackSizes, lack_of}, specs.declared.need.Lack.Lack}
 use Rattle.gypsy_space.specs.declared.need.Lack.TheVariants.{Nothing, Temporary, Control}
 use Rattle.gypsy_semantics.specs.Calls.{has_cond, is_passed_on, matching, main_way, values_of, copied_in, copied_out, main_start, main_formals}
 use Rattle.gypsy_semantics.specs.Machine.{Item, Do, Back, JoinThen, JoinOne, Guard, Out, Frame, Held, State, At, Next, opens, open_on, settle, stop_if, raise}
-use Rattle.gypsy_semantics.specs.Machine.{either_move, apply_step, used, call_step, do_step, end_step, out_step, gypsy_step, start}
-use Rattle.gypsy_semantics.specs.Kept.{in_loop, RaisedFits, WorkFits, FramesFit, StateFits, EndFits, MoveFits}
-use Rattle.gypsy_semantics.proofs.EffectLaws.{value_fits, set_fits, apply_fits}
+use Rattle.gypsy_semantics.{specs.Machine.{either_move, apply_step, used, call_step, do_step, end_step, out_step, gypsy_step, start}, specs.Kept.in_loop}
+use Rattle.gypsy_semantics.{specs.Kept.{RaisedFits, WorkFits, FramesFit, StateFits, EndFits, MoveFits}, proofs.EffectLaws.{value_fits, set_fits, apply_fits}}
 
 -- Variables.
 

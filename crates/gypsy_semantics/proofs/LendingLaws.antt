@@ -1,29 +1,18 @@
 -- What those that wait have lent to their callees: no step looks at it before it writes it.
 use Rattle.std.proofs.Common.{◌≡◌, ◌≢◌, ℕ, zero, suc, ◌<◌, ◌≤◌, List, [], ◌∷◌, ◌++◌, length, map, take, drop, slice_set, slice_get, Bool, true, false, Some}
-use Rattle.std.proofs.Common.{refl, ap, sym, ◌∙◌, subst, ⊎_elim, arith}
-use Rattle.std.proofs.lemmas.Bool.{cases_eq}
-use Rattle.std.proofs.lemmas.List.{drop_all, length-set, set-set, set_comm, get_or-set_other, take-append-drop}
-use Rattle.stack_text.specs.declared.shape.Shape.{Shape}
-use Rattle.stack_text.specs.Values.{ValueOf}
-use Rattle.gypsy_syntax.specs.declared.predef.Predef.{Predef}
-use Rattle.gypsy_syntax.specs.ProgramFits.{ActualsFit, Distinct, Each, Misses}
-use Rattle.gypsy_syntax.specs.Programs.{ConditionOf, Routine, Space, Arg, Program, body_of, proc_at, shapes_of}
-use Rattle.gypsy_syntax.specs.Programs.{Stmt, Skip, NoOp, Signal, Seq, Loop, If, Begin, Call, Apply}
-use Rattle.gypsy_syntax.specs.Predefined.{predef_effect}
-use Rattle.gypsy_syntax.specs.Effects.{Effect, Normal, Fault, Beyond, no_value, value_at, is_true_value}
+use Rattle.std.{proofs.Common.{refl, ap, sym, ◌∙◌, subst, ⊎_elim, arith}, proofs.lemmas.Bool.cases_eq, proofs.lemmas.List.{drop_all, length-set, set-set}}
+use Rattle.std.proofs.lemmas.List.{set_comm, get_or-set_other, take-append-drop}
+use Rattle.stack_text.{specs.declared.shape.Shape.Shape, specs.Values.ValueOf}
+use Rattle.gypsy_syntax.{specs.declared.predef.Predef.Predef, specs.ProgramFits.{ActualsFit, Distinct, Each, Misses}, specs.Programs.{ConditionOf, Routine}}
+use Rattle.gypsy_syntax.specs.Programs.{Space, Arg, Program, body_of, proc_at, shapes_of, Stmt, Skip, NoOp, Signal, Seq, Loop, If, Begin, Call, Apply}
+use Rattle.gypsy_syntax.{specs.Predefined.predef_effect, specs.Effects.{Effect, Normal, Fault, Beyond, no_value, value_at, is_true_value}}
 use Rattle.gypsy_syntax.specs.ValuesFit.{VarsFit}
-use Rattle.gypsy_space.specs.Costs.{Tally, spend, predef_spend, out_spend}
-use Rattle.gypsy_space.specs.Needs.{StackSizes, lack_of, call_spend, with_call}
-use Rattle.gypsy_space.specs.declared.need.Lack.{Lack}
-use Rattle.gypsy_space.specs.declared.need.Lack.TheVariants.{Nothing, Temporary, Control}
-use Rattle.gypsy_semantics.specs.Calls.{has_cond, is_leave, is_passed_on, matching, values_of, target_of, copied_in, copied_out}
-use Rattle.gypsy_semantics.specs.Kept.{FramesFit}
-use Rattle.gypsy_semantics.specs.Machine.{Item, Do, Back, JoinThen, JoinOne, Guard, Out, Frame, Held, State, At, Move, Next, Ended, Ending, go_on}
-use Rattle.gypsy_semantics.specs.Machine.{open_on, settle, stop_if, raise, either_move, apply_step, used, call_step, do_step, end_step, out_step, gypsy_step}
-use Rattle.gypsy_semantics.specs.Machine.{run}
-use Rattle.gypsy_semantics.specs.Room.{HasWords, HaveWords}
-use Rattle.gypsy_semantics.specs.Views.RunView.{handed_back, lending, lending_move}
-use Rattle.gypsy_semantics.proofs.Keeping.{copies_back}
+use Rattle.gypsy_space.{specs.Costs.{Tally, spend, predef_spend, out_spend}, specs.Needs.{StackSizes, lack_of, call_spend, with_call}}
+use Rattle.gypsy_space.{specs.declared.need.Lack.Lack, specs.declared.need.Lack.TheVariants.{Nothing, Temporary, Control}}
+use Rattle.gypsy_semantics.{specs.Calls.{has_cond, is_leave, is_passed_on, matching, values_of, target_of, copied_in, copied_out}, specs.Kept.FramesFit}
+use Rattle.gypsy_semantics.specs.Machine.{Item, Do, Back, JoinThen, JoinOne, Guard, Out, Frame, Held, State, At, Move, Next, Ended, Ending, go_on, open_on}
+use Rattle.gypsy_semantics.specs.Machine.{settle, stop_if, raise, either_move, apply_step, used, call_step, do_step, end_step, out_step, gypsy_step, run}
+use Rattle.gypsy_semantics.{specs.Room.{HasWords, HaveWords}, specs.Views.RunView.{handed_back, lending, lending_move}, proofs.Keeping.copies_back}
 
 -- a variable that is no actual keeps its value
 pub copied_miss : (xs : List ℕ) (y x : List ValueOf) (a : ℕ) → Misses a xs → value_at (copied_out xs y x) a ≡ value_at x a

@@ -1,13 +1,11 @@
 -- What is done within a bound is done the same within each greater one, so a statement has one end.
 use Rattle.std.proofs.Common.{◌≡◌, ℕ, zero, suc, ◌+◌, ◌-◌, ◌≤◌, List, Bool, true, false, Some, None, refl, sym, ap, ◌∙◌, subst, arith}
 use Rattle.stack_text.specs.Values.{ValueOf}
-use Rattle.gypsy_syntax.specs.Programs.{ConditionOf, Program, body_of}
-use Rattle.gypsy_syntax.specs.Programs.{Stmt, Skip, NoOp, Signal, Seq, Loop, If, Begin, Call, Apply}
-use Rattle.gypsy_syntax.specs.Predefined.{predef_effect}
-use Rattle.gypsy_syntax.specs.Effects.{value_at, is_true_value}
+use Rattle.gypsy_syntax.specs.Programs.{ConditionOf, Program, body_of, Stmt, Skip, NoOp, Signal, Seq, Loop, If, Begin, Call, Apply}
+use Rattle.gypsy_syntax.{specs.Predefined.predef_effect, specs.Effects.{value_at, is_true_value}}
 use Rattle.gypsy_space.specs.Needs.{StackSizes, with_call, has_room}
-use Rattle.gypsy_semantics.specs.Calls.{CurrentCondition, has_cond, is_leave, values_of, copied_in}
-use Rattle.gypsy_semantics.specs.Meaning.{MeaningOutcome, Done, Unfinished, then_do, either_way, caught, round_end, applied, returned, if_room, evaluate}
+use Rattle.gypsy_semantics.{specs.Calls.{CurrentCondition, has_cond, is_leave, values_of, copied_in}, specs.Meaning.{MeaningOutcome, Done, Unfinished, then_do}}
+use Rattle.gypsy_semantics.specs.Meaning.{either_way, caught, round_end, applied, returned, if_room, evaluate}
 
 -- where the first is done, the second is the same
 abbrev Within : MeaningOutcome → MeaningOutcome → Type 0

@@ -2,14 +2,11 @@
 use Rattle.std.proofs.Common.{◌≡◌, ℕ, zero, suc, ◌+◌, List, refl, sym, ap, subst, ◌∙◌, arith}
 use Rattle.stack_text.specs.Values.{ValueOf}
 use Rattle.gypsy_syntax.specs.Programs.{Program}
-use Rattle.gypsy_space.specs.Costs.{Tally, start_tally}
-use Rattle.gypsy_space.specs.Needs.{StackSizes}
-use Rattle.gypsy_semantics.specs.Machine.{At, Ended, Frame, Item, Move, Next, State, gypsy_step}
-use Rattle.gypsy_semantics.specs.Views.Moments.{IsMoment, moment, moment_from, moved_on, shown_stage, spent_by}
-use Rattle.gypsy_semantics.specs.Views.RunView.{Running, Seen, ShowsSum, Stage, added, after, after_move, left_from, left_of, lending, lending_move, opening}
-use Rattle.gypsy_semantics.proofs.ApartLaws.{add_to, plus-nothing, step_apart}
-use Rattle.gypsy_semantics.proofs.LendingLaws.{back_again, step_lent}
-use Rattle.gypsy_semantics.proofs.SeenLaws.{after_last, after_same}
+use Rattle.gypsy_space.{specs.Costs.{Tally, start_tally}, specs.Needs.StackSizes}
+use Rattle.gypsy_semantics.{specs.Machine.{At, Ended, Frame, Item, Move, Next, State, gypsy_step}, specs.Views.Moments.{IsMoment, moment, moment_from}}
+use Rattle.gypsy_semantics.{specs.Views.Moments.{moved_on, shown_stage, spent_by}, specs.Views.RunView.{Running, Seen, ShowsSum, Stage, added, after}}
+use Rattle.gypsy_semantics.{specs.Views.RunView.{after_move, left_from, left_of, lending, lending_move, opening}, proofs.ApartLaws.{add_to, plus-nothing}}
+use Rattle.gypsy_semantics.{proofs.ApartLaws.step_apart, proofs.LendingLaws.{back_again, step_lent}, proofs.SeenLaws.{after_last, after_same}}
 
 -- One step more, made last.
 

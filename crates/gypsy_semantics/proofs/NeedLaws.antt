@@ -1,11 +1,8 @@
 -- Main's own need.
 use Rattle.std.proofs.Common.{◌≡◌, ℕ, ◌+◌, ◌≤◌, ◌++◌, map, sym, ap, ap₂, ◌∙◌, arith, List}
 use Rattle.stack_text.specs.Values.{ValueOf}
-use Rattle.gypsy_syntax.specs.ProgramFits.{ProgramFits}
-use Rattle.gypsy_syntax.specs.Programs.{Program, proc_at, words_of}
-use Rattle.gypsy_space.specs.Events.{AreNeeds, need_at, need_of}
-use Rattle.gypsy_space.specs.Needs.{main_need, main_used}
-use Rattle.gypsy_space.specs.declared.need.Need.{Need}
+use Rattle.gypsy_syntax.{specs.ProgramFits.ProgramFits, specs.Programs.{Program, proc_at, words_of}}
+use Rattle.gypsy_space.{specs.Events.{AreNeeds, need_at, need_of}, specs.Needs.{main_need, main_used}, specs.declared.need.Need.Need}
 use Rattle.gypsy_space.proofs.SmallLaws.{words_of-append}
 
 pub formals_small : (q : Program) → ProgramFits q → words_of (proc_at q q.main).formals ≤ 65536

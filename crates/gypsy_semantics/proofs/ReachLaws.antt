@@ -1,21 +1,14 @@
 -- Where a run stands by the step machine from the start, and what that says of the meaning.
-use Rattle.std.proofs.Common.{◌≡◌, ℕ, zero, suc, ◌+◌, ◌≤◌, List, refl, sym, ap, ap₂, subst, ◌∙◌, arith}
-use Rattle.std.specs.Prelude.{option_map}
+use Rattle.std.{proofs.Common.{◌≡◌, ℕ, zero, suc, ◌+◌, ◌≤◌, List, refl, sym, ap, ap₂, subst, ◌∙◌, arith}, specs.Prelude.option_map}
 use Rattle.stack_text.specs.Values.{ValueOf}
 use Rattle.gypsy_syntax.specs.Programs.{Program}
-use Rattle.gypsy_space.specs.Costs.{Tally, start_tally}
-use Rattle.gypsy_space.specs.Needs.{StackSizes}
-use Rattle.gypsy_semantics.specs.Calls.{CurrentCondition}
-use Rattle.gypsy_semantics.specs.Meaning.{Done, meaning}
-use Rattle.gypsy_semantics.specs.Counted.{CountedDone, CountedOutcome, CountedUnfinished, counted_meaning, tally_of, uncounted}
-use Rattle.gypsy_semantics.specs.Machine.{At, Ended, Frame, Going, Item, Move, Next, Over, State, go_on, gypsy_step, run, start}
-use Rattle.gypsy_semantics.specs.Views.RunView.{Finished, IsEnd, Running, Seen, ShowsSum, Stage, added, after, after_move, answer_by, answer_from, answer_of}
-use Rattle.gypsy_semantics.specs.Views.RunView.{bare, end_by, handed_back, left_from, left_of, opening, ran_on, meaning_run}
-use Rattle.gypsy_semantics.specs.Views.RunAgrees.{MeansEnd}
-use Rattle.gypsy_semantics.proofs.ApartLaws.{add, add_to, plus, plus-nothing, step_apart}
-use Rattle.gypsy_semantics.proofs.CountLaws.{meaning-uncounted}
-use Rattle.gypsy_semantics.proofs.LendingLaws.{run_lent}
-use Rattle.gypsy_semantics.proofs.Runs.{agree, longer, one_end}
+use Rattle.gypsy_space.{specs.Costs.{Tally, start_tally}, specs.Needs.StackSizes}
+use Rattle.gypsy_semantics.{specs.Calls.CurrentCondition, specs.Meaning.{Done, meaning}, specs.Counted.{CountedDone, CountedOutcome, CountedUnfinished}}
+use Rattle.gypsy_semantics.{specs.Counted.{counted_meaning, tally_of, uncounted}, specs.Machine.{At, Ended, Frame, Going, Item, Move, Next, Over, State, go_on}}
+use Rattle.gypsy_semantics.{specs.Machine.{gypsy_step, run, start}, specs.Views.RunView.{Finished, IsEnd, Running, Seen, ShowsSum, Stage, added, after}}
+use Rattle.gypsy_semantics.specs.Views.RunView.{after_move, answer_by, answer_from, answer_of, bare, end_by, handed_back, left_from, left_of, opening, ran_on}
+use Rattle.gypsy_semantics.{specs.Views.RunView.meaning_run, specs.Views.RunAgrees.MeansEnd, proofs.ApartLaws.{add, add_to, plus, plus-nothing, step_apart}}
+use Rattle.gypsy_semantics.{proofs.CountLaws.meaning-uncounted, proofs.LendingLaws.run_lent, proofs.Runs.{agree, longer, one_end}}
 
 -- after so many steps from the start, with so much spent
 abbrev pub IsAt : Seen → Stage → ℕ → Tally → Type 0

@@ -1,21 +1,16 @@
 -- Each step keeps the words that are left.
-use Rattle.std.proofs.Common.{◌≡◌, ℕ, ◌+◌, ◌≤◌, max, List, [], ◌∷◌, length, leb-true, not, ◌&&◌, if◌then◌else◌}
-use Rattle.std.proofs.Common.{Bool, true, false, refl, arith}
+use Rattle.std.proofs.Common.{◌≡◌, ℕ, ◌+◌, ◌≤◌, max, List, [], ◌∷◌, length, leb-true, not, ◌&&◌, if◌then◌else◌, Bool, true, false, refl, arith}
 use Rattle.stack_text.specs.Values.{ValueOf}
-use Rattle.gypsy_syntax.specs.declared.predef.Predef.{Predef}
-use Rattle.gypsy_syntax.specs.Programs.{ConditionOf, Routine, Space, Arg, Proc, Program, proc_at, body_of}
-use Rattle.gypsy_syntax.specs.Programs.{Stmt, Skip, NoOp, Signal, Seq, Loop, If, Begin, Call, Apply}
-use Rattle.gypsy_syntax.specs.Predefined.{predef_effect}
-use Rattle.gypsy_syntax.specs.Effects.{Effect, Normal, Fault, Beyond, value_at, is_true_value}
-use Rattle.gypsy_space.specs.Costs.{Tally, spend, predef_spend, out_spend}
-use Rattle.gypsy_space.specs.Needs.{StackSizes, temp_need, ctrl_need, local_words, frame_of, main_need, with_call, call_need}
-use Rattle.gypsy_space.specs.Needs.{has_room, has_temp_room, has_ctrl_room, lack_of}
-use Rattle.gypsy_space.specs.declared.need.Lack.{Lack}
+use Rattle.gypsy_syntax.{specs.declared.predef.Predef.Predef, specs.Programs.{ConditionOf, Routine, Space, Arg, Proc, Program, proc_at, body_of, Stmt, Skip}}
+use Rattle.gypsy_syntax.{specs.Programs.{NoOp, Signal, Seq, Loop, If, Begin, Call, Apply}, specs.Predefined.predef_effect, specs.Effects.{Effect, Normal}}
+use Rattle.gypsy_syntax.specs.Effects.{Fault, Beyond, value_at, is_true_value}
+use Rattle.gypsy_space.{specs.Costs.{Tally, spend, predef_spend, out_spend}, specs.Needs.{StackSizes, temp_need, ctrl_need, local_words, frame_of, main_need}}
+use Rattle.gypsy_space.{specs.Needs.{with_call, call_need, has_room, has_temp_room, has_ctrl_room, lack_of}, specs.declared.need.Lack.Lack}
 use Rattle.gypsy_space.specs.declared.need.Lack.TheVariants.{Nothing, Temporary, Control}
-use Rattle.gypsy_semantics.specs.Calls.{has_cond, is_leave, is_passed_on, matching, values_of, copied_out}
-use Rattle.gypsy_semantics.specs.Machine.{Item, Do, Back, JoinThen, JoinOne, Guard, Out, Frame, Held, State, At, Next, opens, open_on, settle, stop_if, raise}
-use Rattle.gypsy_semantics.specs.Machine.{either_move, apply_step, used, call_step, do_step, end_step, out_step, gypsy_step, start}
-use Rattle.gypsy_semantics.specs.Room.{Covers, CoversWork, HasWords, HaveWords, StateRoom, MoveRoom}
+use Rattle.gypsy_semantics.{specs.Calls.{has_cond, is_leave, is_passed_on, matching, values_of, copied_out}, specs.Machine.{Item, Do, Back, JoinThen, JoinOne}}
+use Rattle.gypsy_semantics.specs.Machine.{Guard, Out, Frame, Held, State, At, Next, opens, open_on, settle, stop_if, raise, either_move, apply_step, used}
+use Rattle.gypsy_semantics.{specs.Machine.{call_step, do_step, end_step, out_step, gypsy_step, start}, specs.Room.{Covers, CoversWork, HasWords, HaveWords}}
+use Rattle.gypsy_semantics.specs.Room.{StateRoom, MoveRoom}
 
 -- a call that lacks nothing has room on each stack
 pub rooms : (temp ctrl : Bool) → (if not temp then Temporary else if not ctrl then Control else Nothing) ≡ Nothing → (temp ≡ true) × (ctrl ≡ true)

@@ -1,13 +1,10 @@
 -- Runs of several steps.
 use Rattle.std.proofs.Common.{◌≡◌, ℕ, zero, suc, ◌+◌, ◌-◌, ◌<◌, ◌≤◌, Bool, true, false, refl, sym, ap, subst, ◌∙◌, arith}
-use Rattle.gypsy_semantics.specs.Views.RunAgrees.{EndAgrees, RunAgrees}
-use Rattle.gypsy_semantics.specs.Machine.{Ended, Move, Next, State, gypsy_step}
-use Rattle.gypsy_semantics.specs.Views.RunView.{Finished, Ran, Running, Seen, Stage, after_move, answer_by, answer_from, answer_of, end_by, is_over, left_from}
-use Rattle.gypsy_semantics.specs.Views.RunView.{left_of, ran_on, meaning_run}
-use Rattle.gypsy_semantics.specs.declared.answers.MeanRun.{MeanRun}
-use Rattle.gypsy_semantics.specs.declared.answers.MeanRun.TheVariants as ran
-use Rattle.gypsy_semantics.specs.declared.answers.Moved.{Moved}
+use Rattle.gypsy_semantics.{specs.Views.RunAgrees.{EndAgrees, RunAgrees}, specs.Machine.{Ended, Move, Next, State, gypsy_step}, specs.Views.RunView.Finished}
+use Rattle.gypsy_semantics.specs.Views.RunView.{Ran, Running, Seen, Stage, after_move, answer_by, answer_from, answer_of, end_by, is_over, left_from, left_of}
+use Rattle.gypsy_semantics.{specs.Views.RunView.{ran_on, meaning_run}, specs.declared.answers.MeanRun.MeanRun, specs.declared.answers.Moved.Moved}
 use Rattle.gypsy_semantics.proofs.ReachLaws.{IsAt, Reached, end_agrees, move_reached}
+use Rattle.gypsy_semantics.specs.declared.answers.MeanRun.TheVariants as ran
 
 abbrev pub over_answer : Bool → MeanRun
 over_answer true = ran.Ended

@@ -2,22 +2,16 @@
 use Rattle.std.proofs.Common.{◌≡◌, ℕ, zero, suc, ◌≤◌, List, [], ◌∷◌, Bool, true, false, Some, None, refl, sym, ap, ◌∙◌, subst, ⊎_elim, arith}
 use Rattle.std.proofs.lemmas.Bool.{cases_lt}
 use Rattle.stack_text.specs.Values.{ValueOf}
-use Rattle.gypsy_syntax.specs.declared.predef.Predef.{Predef}
-use Rattle.gypsy_syntax.specs.Programs.{ConditionOf, Arg, Program, body_of}
-use Rattle.gypsy_syntax.specs.Programs.{Stmt, Skip, NoOp, Signal, Seq, Loop, If, Begin, Call, Apply}
-use Rattle.gypsy_syntax.specs.Predefined.{predef_effect}
-use Rattle.gypsy_syntax.specs.Effects.{Effect, Normal, Fault, Beyond, value_at, is_true_value}
-use Rattle.gypsy_space.specs.Costs.{Tally, spend, start_tally}
-use Rattle.gypsy_space.specs.Needs.{StackSizes, main_used, with_call, lack_of, call_spend}
-use Rattle.gypsy_space.specs.declared.need.Lack.{Lack}
-use Rattle.gypsy_space.specs.declared.need.Lack.TheVariants.{Nothing, Temporary, Control}
-use Rattle.gypsy_semantics.specs.Calls.{CurrentCondition, has_cond, is_leave, values_of, copied_in, main_start}
-use Rattle.gypsy_semantics.specs.Counted.{CountedOutcome, CountedDone, CountedUnfinished, CountedMeans, counted_then, counted_part, counted_either}
-use Rattle.gypsy_semantics.specs.Counted.{counted_caught, counted_round_end, counted_applied, counted_returned, counted_if_room, counted_evaluate}
-use Rattle.gypsy_semantics.specs.Counted.{counted_main_end, counted_meaning}
+use Rattle.gypsy_syntax.{specs.declared.predef.Predef.Predef, specs.Programs.{ConditionOf, Arg, Program, body_of, Stmt, Skip, NoOp, Signal, Seq, Loop, If}}
+use Rattle.gypsy_syntax.{specs.Programs.{Begin, Call, Apply}, specs.Predefined.predef_effect, specs.Effects.{Effect, Normal, Fault, Beyond, value_at}}
+use Rattle.gypsy_syntax.specs.Effects.{is_true_value}
+use Rattle.gypsy_space.{specs.Costs.{Tally, spend, start_tally}, specs.Needs.{StackSizes, main_used, with_call, lack_of, call_spend}}
+use Rattle.gypsy_space.{specs.declared.need.Lack.Lack, specs.declared.need.Lack.TheVariants.{Nothing, Temporary, Control}}
+use Rattle.gypsy_semantics.{specs.Calls.{CurrentCondition, has_cond, is_leave, values_of, copied_in, main_start}, specs.Counted.{CountedOutcome, CountedDone}}
+use Rattle.gypsy_semantics.specs.Counted.{CountedUnfinished, CountedMeans, counted_then, counted_part, counted_either, counted_caught, counted_round_end}
+use Rattle.gypsy_semantics.specs.Counted.{counted_applied, counted_returned, counted_if_room, counted_evaluate, counted_main_end, counted_meaning}
 use Rattle.gypsy_semantics.specs.Machine.{Item, Do, Back, JoinThen, JoinOne, Guard, Frame, Held, State, At, Move, Next, Ended, open_on, settle, stop_if, raise}
-use Rattle.gypsy_semantics.specs.Machine.{either_move, apply_step, used, call_step, gypsy_step, Ending, Over, Going, go_on, run, start}
-use Rattle.gypsy_semantics.specs.Agree.{Agree}
+use Rattle.gypsy_semantics.{specs.Machine.{either_move, apply_step, used, call_step, gypsy_step, Ending, Over, Going, go_on, run, start}, specs.Agree.Agree}
 
 -- a run that is over
 abbrev pub IsOver : Ending → Type 0

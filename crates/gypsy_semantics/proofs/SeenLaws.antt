@@ -1,21 +1,13 @@
 -- Steps of what a run shows.
 use Rattle.std.proofs.Common.{◌≡◌, ℕ, zero, suc, ◌≤◌, List, refl, sym, subst, ◌∙◌}
 use Rattle.stack_text.specs.Values.{ValueOf}
-use Rattle.gypsy_syntax.specs.ProgramFits.{ProgramFits}
-use Rattle.gypsy_syntax.specs.Programs.{Program, proc_at}
-use Rattle.gypsy_syntax.specs.ValuesFit.{VarsFit}
+use Rattle.gypsy_syntax.{specs.ProgramFits.ProgramFits, specs.Programs.{Program, proc_at}, specs.ValuesFit.VarsFit}
 use Rattle.gypsy_space.specs.Needs.{StackSizes, main_need}
-use Rattle.gypsy_semantics.specs.Views.RunView.{StageFits}
-use Rattle.gypsy_semantics.specs.Kept.{MoveFits}
-use Rattle.gypsy_semantics.specs.Room.{MoveRoom, StateRoom}
-use Rattle.gypsy_semantics.specs.Machine.{At, Ended, Move, Next, gypsy_step}
-use Rattle.gypsy_semantics.specs.Views.RunView.{Finished, IsOfRun, Running, Seen, Stage, after, after_move, answer_of, left_from, left_of, opening, ran_on}
-use Rattle.gypsy_semantics.specs.Views.RunView.{meaning_run}
-use Rattle.gypsy_semantics.specs.declared.answers.Moved.{Moved}
+use Rattle.gypsy_semantics.specs.Views.RunView.{StageFits, Finished, IsOfRun, Running, Seen, Stage, after, after_move, answer_of, left_from, left_of, opening}
+use Rattle.gypsy_semantics.{specs.Views.RunView.{ran_on, meaning_run}, specs.Kept.MoveFits, specs.Room.{MoveRoom, StateRoom}, specs.Machine.{At, Ended, Move}}
+use Rattle.gypsy_semantics.{specs.Machine.{Next, gypsy_step}, specs.declared.answers.Moved.Moved, proofs.Keeping.{start_fits, step_keeps}}
+use Rattle.gypsy_semantics.{proofs.LendingLaws.{back_fits, back_words}, proofs.Rooms.{start_room, step_room}}
 use Rattle.gypsy_semantics.specs.declared.answers.Moved.TheVariants as moved
-use Rattle.gypsy_semantics.proofs.Keeping.{start_fits, step_keeps}
-use Rattle.gypsy_semantics.proofs.LendingLaws.{back_fits, back_words}
-use Rattle.gypsy_semantics.proofs.Rooms.{start_room, step_room}
 
 -- one more step, made last
 pub after_last : (k : ℕ) (v : Seen) → after (suc k) v ≡ left_of (after k v)

@@ -2,11 +2,8 @@
 use Rattle.std.specs.Prelude.{◌≡◌, ℕ, suc, List}
 use Rattle.stack_text.specs.Values.{ValueOf}
 use Rattle.gypsy_syntax.specs.Programs.{Program}
-use Rattle.gypsy_space.specs.Costs.{Tally}
-use Rattle.gypsy_space.specs.Needs.{StackSizes}
-use Rattle.gypsy_semantics.specs.Calls.{CurrentCondition}
-use Rattle.gypsy_semantics.specs.Counted.{CountedDone, counted_meaning}
-use Rattle.gypsy_semantics.specs.Machine.{Over, run, start}
+use Rattle.gypsy_space.specs.{Costs.{Tally}, Needs.{StackSizes}}
+use Rattle.gypsy_semantics.specs.{Calls.{CurrentCondition}, Counted.{CountedDone, counted_meaning}, Machine.{Over, run, start}}
 
 -- a run that ends in j steps is the meaning at j + 1; and a meaning that is done is a run.
 -- The instructions and the steps of Piton that the machine counts are those counted along the meaning.

@@ -1,10 +1,9 @@
 -- What every state of the step machine keeps, where the program fits.
 use Rattle.std.specs.Prelude.{◌≡◌, ℕ, ◌<◌, List, [], ◌∷◌, Bool, true, false, Some, None}
 use Rattle.gypsy_syntax.specs.Programs.{ConditionOf, Leave, Routine, Space, Declared, Proc, Program, proc_at, shapes_of, conds_of}
-use Rattle.gypsy_syntax.specs.ProgramFits.{Each, HandlerFits, CallFits, StmtFits}
-use Rattle.gypsy_syntax.specs.ValuesFit.{VarsFit}
-use Rattle.gypsy_semantics.specs.Calls.{CurrentCondition}
-use Rattle.gypsy_semantics.specs.Machine.{Item, Do, Back, JoinThen, JoinOne, Guard, Out, Frame, Held, State, At, Move, Next, Ended}
+use Rattle.gypsy_syntax.specs.{ProgramFits.{Each, HandlerFits, CallFits, StmtFits}, ValuesFit.{VarsFit}}
+use Rattle.gypsy_semantics.specs.{Calls.{CurrentCondition}, Machine.{Item, Do, Back, JoinThen, JoinOne, Guard, Out, Frame, Held, State, At}}
+use Rattle.gypsy_semantics.specs.Machine.{Move, Next, Ended}
 
 -- whether a loop is round what stands on the list
 abbrev pub in_loop : List Item → Bool

@@ -1,19 +1,15 @@
 -- The step machine, with a list of work.
 use Rattle.std.specs.Prelude.{ℕ, zero, suc, List, [], ◌∷◌, Bool, true, false, Some, None, slice_set}
 use Rattle.stack_text.specs.Values.{ValueOf}
-use Rattle.gypsy_syntax.specs.declared.predef.Predef.{Predef}
-use Rattle.gypsy_syntax.specs.Programs.{ConditionOf, Routine, Space, Arg, Program, body_of, proc_at}
-use Rattle.gypsy_syntax.specs.Programs.{Stmt, Skip, NoOp, Signal, Seq, Loop, If, Begin, Call, Apply}
-use Rattle.gypsy_syntax.specs.Predefined.{predef_effect}
+use Rattle.gypsy_syntax.specs.{declared.predef.Predef.{Predef}, Programs.{ConditionOf, Routine, Space, Arg, Program, body_of, proc_at}}
+use Rattle.gypsy_syntax.specs.{Programs.{Stmt, Skip, NoOp, Signal, Seq, Loop, If, Begin, Call, Apply}, Predefined.{predef_effect}}
 use Rattle.gypsy_syntax.specs.Effects.{Effect, Normal, Fault, Beyond, value_at, is_true_value}
-use Rattle.gypsy_space.specs.Costs.{Tally, start_tally, pay, predef_spend, out_spend, main_spend}
-use Rattle.gypsy_space.specs.Needs.{StackSizes, main_used, with_call, lack_of, call_spend}
+use Rattle.gypsy_space.specs.{Costs.{Tally, start_tally, pay, predef_spend, out_spend, main_spend}, Needs.{StackSizes, main_used}}
+use Rattle.gypsy_space.specs.{Needs.{with_call, lack_of, call_spend}, declared.need.Lack.{Lack}, declared.need.Lack.TheVariants.{Nothing}}
+use Rattle.gypsy_space.specs.declared.need.Lack.TheVariants.{Temporary, Control}
 use Rattle.gypsy_space.specs.declared.event.CostEvent.TheVariants as event
-use Rattle.gypsy_space.specs.declared.need.Lack.{Lack}
-use Rattle.gypsy_space.specs.declared.need.Lack.TheVariants.{Nothing, Temporary, Control}
-use Rattle.gypsy_semantics.specs.Calls.{CurrentCondition, has_cond, is_leave, is_passed_on, matching}
-use Rattle.gypsy_semantics.specs.Calls.{main_way, values_of, target_of, copied_in, copied_out}
-use Rattle.gypsy_semantics.specs.Calls.{main_start, main_formals}
+use Rattle.gypsy_semantics.specs.Calls.{CurrentCondition, has_cond, is_leave, is_passed_on, matching, main_way, values_of, target_of}
+use Rattle.gypsy_semantics.specs.Calls.{copied_in, copied_out, main_start, main_formals}
 
 -- each with the place of the statement that made it
 pub data Item : Type 0 where

@@ -5,13 +5,12 @@
 -- no room sets the condition spaceerror.
 use Rattle.std.specs.Prelude.{ℕ, zero, suc, List, Bool, true, false, Some, None, slice_set}
 use Rattle.stack_text.specs.Values.{ValueOf}
-use Rattle.gypsy_syntax.specs.Programs.{ConditionOf, Routine, Space, Arg, Program, body_of}
-use Rattle.gypsy_syntax.specs.Programs.{Stmt, Skip, NoOp, Signal, Seq, Loop, If, Begin, Call, Apply}
-use Rattle.gypsy_syntax.specs.Predefined.{predef_effect}
-use Rattle.gypsy_syntax.specs.Effects.{Effect, Normal, Fault, Beyond, value_at, is_true_value}
+use Rattle.gypsy_syntax.specs.Programs.{ConditionOf, Routine, Space, Arg, Program, body_of, Stmt, Skip, NoOp, Signal, Seq, Loop, If, Begin}
+use Rattle.gypsy_syntax.specs.{Programs.{Call, Apply}, Predefined.{predef_effect}, Effects.{Effect, Normal, Fault, Beyond, value_at}}
+use Rattle.gypsy_syntax.specs.Effects.{is_true_value}
 use Rattle.gypsy_space.specs.Needs.{StackSizes, main_used, with_call, has_room}
-use Rattle.gypsy_semantics.specs.Calls.{CurrentCondition, has_cond, is_leave, matching, main_way, values_of, target_of}
-use Rattle.gypsy_semantics.specs.Calls.{copied_in, copied_out, main_start, main_formals}
+use Rattle.gypsy_semantics.specs.Calls.{CurrentCondition, has_cond, is_leave, matching, main_way, values_of, target_of, copied_in}
+use Rattle.gypsy_semantics.specs.Calls.{copied_out, main_start, main_formals}
 
 -- done, with these variables and this condition; or not done within the bound
 pub data MeaningOutcome : Type 0 where

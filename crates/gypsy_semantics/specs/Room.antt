@@ -2,8 +2,7 @@
 use Rattle.std.specs.Prelude.{ℕ, ◌+◌, ◌≤◌, List, [], ◌∷◌}
 use Rattle.gypsy_syntax.specs.Programs.{Proc, Program, proc_at, Stmt}
 use Rattle.gypsy_space.specs.Needs.{StackSizes, main_need, statement_temp, statement_ctrl, temp_need, ctrl_need}
-use Rattle.gypsy_semantics.specs.Machine.{Item, Do, Back, JoinThen, JoinOne, Guard, Out, Frame}
-use Rattle.gypsy_semantics.specs.Machine.{Held, State, At, Move, Next, Ended, used}
+use Rattle.gypsy_semantics.specs.Machine.{Item, Do, Back, JoinThen, JoinOne, Guard, Out, Frame, Held, State, At, Move, Next, Ended, used}
 
 -- the procedure's needs cover the calls of the statement
 abbrev pub Covers : Proc → Stmt → Type 0

@@ -1,7 +1,6 @@
 //! Conditions.
 
-ghost use Rattle.std.specs.Prelude.{◌≡◌, map};
-ghost use Rattle.std.specs.List.{list_any};
+ghost use Rattle.std.specs.{Prelude.{◌≡◌, map}, List.{list_any}};
 ghost use Rattle.gypsy_space.specs.Nodes.{seen_cond, seen_program};
 ghost use Rattle.gypsy_semantics.specs.Calls.{has_cond, same_cond, is_leave, is_passed_on};
 

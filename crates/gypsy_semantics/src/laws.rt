@@ -2,19 +2,11 @@
 
 ghost use Rattle.std.specs.Prelude.{◌≡◌, ℕ, ◌≤◌, List};
 ghost use Rattle.stack_text.specs.Values.{ValueOf};
-ghost use Rattle.gypsy_syntax.specs.Programs.{Program, Stmt, proc_at};
-ghost use Rattle.gypsy_syntax.specs.ProgramFits.{ProgramFits};
+ghost use Rattle.gypsy_syntax.specs.{Programs.{Program, Stmt, proc_at}, ProgramFits.{ProgramFits}, ValuesFit.{VarsFit}};
 ghost use Rattle.gypsy_space.specs.Needs.{StackSizes, main_need};
-ghost use Rattle.gypsy_syntax.specs.ValuesFit.{VarsFit};
-ghost use Rattle.gypsy_semantics.specs.Agree.{Agree};
-ghost use Rattle.gypsy_semantics.specs.Views.Moments.{IsMoment, moment_from};
-ghost use Rattle.gypsy_semantics.specs.Views.RunView.{after, lending, lending_move, opening};
-ghost use Rattle.gypsy_semantics.specs.Counted.{counted_meaning, uncounted};
-ghost use Rattle.gypsy_semantics.specs.Machine.{State, start, gypsy_step};
-ghost use Rattle.gypsy_semantics.specs.Calls.{CurrentCondition};
-ghost use Rattle.gypsy_semantics.specs.Meaning.{Done, evaluate, meaning};
-ghost use Rattle.gypsy_semantics.specs.Kept.{StateFits, MoveFits};
-ghost use Rattle.gypsy_semantics.specs.Room.{StateRoom, MoveRoom};
+ghost use Rattle.gypsy_semantics.specs.{Agree.{Agree}, Views.Moments.{IsMoment, moment_from}, Views.RunView.{after, lending, lending_move, opening}};
+ghost use Rattle.gypsy_semantics.specs.{Counted.{counted_meaning, uncounted}, Machine.{State, start, gypsy_step}, Calls.{CurrentCondition}, Meaning.{Done}};
+ghost use Rattle.gypsy_semantics.specs.{Meaning.{evaluate, meaning}, Kept.{StateFits, MoveFits}, Room.{StateRoom, MoveRoom}};
 
 /// A statement that is done within a bound is done the same within each greater one, so it has one end.
 pub fn statements_end_once()

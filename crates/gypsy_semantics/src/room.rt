@@ -1,11 +1,8 @@
 //! The words of both stacks that main itself needs.
 
 ghost use Rattle.std.specs.Prelude.{◌≡◌, ◌≤◌};
-ghost use Rattle.gypsy_syntax.specs.ProgramFits.{ProgramFits};
-ghost use Rattle.gypsy_syntax.specs.Programs.{proc_at, words_of};
-ghost use Rattle.gypsy_space.specs.Events.{AreNeeds, AreSmall};
-ghost use Rattle.gypsy_space.specs.Needs.{main_need};
-ghost use Rattle.gypsy_space.specs.Nodes.{held_shapes, seen_program};
+ghost use Rattle.gypsy_syntax.specs.{ProgramFits.{ProgramFits}, Programs.{proc_at, words_of}};
+ghost use Rattle.gypsy_space.specs.{Events.{AreNeeds, AreSmall}, Needs.{main_need}, Nodes.{held_shapes, seen_program}};
 
 use gypsy_space::{Needs, Program};
 use stack_text::{Name, Shape};

@@ -1,44 +1,24 @@
 -- What an accepted source gives: positions and numbers of 32 bits, and literals that are values.
 use Rattle.std.proofs.Common.{◌≡◌, ℕ, suc, ◌+◌, ◌<◌, ◌≤◌, ◌^◌, ℤ, pos, negsuc, List, [], ◌∷◌, ◌++◌, map, length, get_or, flat_map, nat_lt, ◌==◌, ◌||◌, cond}
-use Rattle.std.proofs.Common.{bytes_eq, Bool, true, false}
-use Rattle.std.proofs.Common.{Some, None, unwrap_or, All, IsTrue, refl, arith, length-append, lt-ltb, ltb-true, leb-true, eqb-true, eq-eqb}
-use Rattle.std.specs.List.{list_all, position_or_len}
-use Rattle.std.proofs.lemmas.Bool.{and_parts, and_from}
-use Rattle.std.proofs.lemmas.List.{length-map}
+use Rattle.std.proofs.Common.{bytes_eq, Bool, true, false, Some, None, unwrap_or, All, IsTrue, refl, arith, length-append, lt-ltb, ltb-true, leb-true, eqb-true}
+use Rattle.std.{proofs.Common.eq-eqb, specs.List.{list_all, position_or_len}, proofs.lemmas.Bool.{and_parts, and_from}, proofs.lemmas.List.length-map}
 use Rattle.std.proofs.lemmas.List.Elements.{All-nil, All-cons, All-head, All-tail}
-use Rattle.stack_text.specs.Names.{place_among}
-use Rattle.stack_text.specs.declared.name.Named.{Named}
-use Rattle.stack_text.specs.declared.shape.Kind.{Kind}
-use Rattle.stack_text.specs.declared.shape.Kind.TheVariants.{Integer, Boolean, Character}
-use Rattle.stack_text.specs.declared.shape.Shape.{Shape}
-use Rattle.stack_text.specs.Values.{ValueOf, is_item, is_value, item_count}
-use Rattle.stack_text.proofs.SharedLaws.{rule_holds, append_none}
-use Rattle.gypsy_syntax.specs.declared.literal.Decl.{Decl}
-use Rattle.gypsy_syntax.specs.declared.literal.Literal.{Literal}
-use Rattle.gypsy_syntax.specs.declared.literal.TypeText.{TypeText}
-use Rattle.gypsy_syntax.specs.declared.slot.Form.{Form}
+use Rattle.stack_text.{specs.Names.place_among, specs.declared.name.Named.Named, specs.declared.shape.Kind.Kind, specs.declared.shape.Kind.TheVariants.Integer}
+use Rattle.stack_text.{specs.declared.shape.Kind.TheVariants.{Boolean, Character}, specs.declared.shape.Shape.Shape, specs.Values.{ValueOf, is_item, is_value}}
+use Rattle.stack_text.{specs.Values.item_count, proofs.SharedLaws.{rule_holds, append_none}}
+use Rattle.gypsy_syntax.{specs.declared.literal.Decl.Decl, specs.declared.literal.Literal.Literal, specs.declared.literal.TypeText.TypeText}
+use Rattle.gypsy_syntax.{specs.declared.slot.Form.Form, specs.declared.slot.Slot.Slot, specs.declared.statement.Stmt.Stmt as Text, specs.Fits.FitsForm}
+use Rattle.gypsy_syntax.{specs.Fits.FitsProcedure, specs.Predefined.slots_of, specs.Programs.no_proc, specs.ProgramFits.{ArgFits, ArgsFit, Each, ProcFits}}
+use Rattle.gypsy_syntax.{specs.ProgramFits.{StmtFits, slot_kind}, specs.Ranges.is_in_range, specs.ValuesFit.ValueFits, specs.Resolved.argument_of}
+use Rattle.gypsy_syntax.specs.Resolved.{condition_names, item_of, items_of_all, local_value, position_of, procedure_of, program_of, statement_of}
+use Rattle.gypsy_syntax.{specs.Resolved.{statement_of_all, value_items, variable_names, variable_types}, specs.Sources.{LiteralOf, integer, truth, character}}
+use Rattle.gypsy_syntax.specs.Sources.{array, ArgOf, variable, constant, LocalOf, ProcOf, SourceOf, StmtOf, StmtsOf, no_op, signal, seq, loop, branch, begin}
+use Rattle.gypsy_syntax.{specs.Sources.{call, predef, no_parts, part}, specs.Views.SourceView.{items_of_list, literal_of, parts_of_list, stmt_of}}
+use Rattle.gypsy_syntax.{proofs.FitsLaws.keeps_fits, proofs.RangeLaws.range_item}
 use Rattle.gypsy_syntax.specs.declared.slot.Form.TheVariants as form
-use Rattle.gypsy_syntax.specs.declared.slot.Slot.{Slot}
-use Rattle.gypsy_syntax.specs.declared.statement.Stmt.{Stmt as Text}
-use Rattle.gypsy_syntax.specs.Fits.{FitsForm, FitsProcedure}
-use Rattle.gypsy_syntax.specs.Predefined.{slots_of}
-use Rattle.gypsy_syntax.specs.Programs.{no_proc}
-use Rattle.gypsy_syntax.specs.ProgramFits.{ArgFits, ArgsFit, Each, ProcFits, StmtFits, slot_kind}
-use Rattle.gypsy_syntax.specs.Ranges.{is_in_range}
-use Rattle.gypsy_syntax.specs.ValuesFit.{ValueFits}
-use Rattle.gypsy_syntax.specs.Resolved.{argument_of, condition_names, item_of, items_of_all, local_value, position_of, procedure_of, program_of}
-use Rattle.gypsy_syntax.specs.Resolved.{statement_of, statement_of_all, value_items, variable_names, variable_types}
-use Rattle.gypsy_syntax.specs.Sources.{LiteralOf, integer, truth, character, array, ArgOf, variable, constant, LocalOf, ProcOf, SourceOf}
-use Rattle.gypsy_syntax.specs.Sources.{StmtOf, StmtsOf, no_op, signal, seq, loop, branch, begin, call, predef, no_parts, part}
-use Rattle.gypsy_syntax.specs.Views.SourceView.{items_of_list, literal_of, parts_of_list, stmt_of}
-use Rattle.gypsy_syntax.proofs.FitsLaws.{keeps_fits}
-use Rattle.gypsy_syntax.proofs.RangeLaws.{range_item}
-use Rattle.gypsy_check.specs.Accepted.{IsAccepted}
-use Rattle.gypsy_check.specs.Declarations.{repeats, variables_of}
-use Rattle.gypsy_check.specs.Rules.{condition_name_breaches, local_breaches, main_breaches, name_breaches, procedure_breaches, size_breaches}
-use Rattle.gypsy_check.specs.Rules.{statement_breaches, type_breaches, variable_breaches, violations}
-use Rattle.gypsy_check.specs.Types.{has_length}
-use Rattle.gypsy_check.proofs.CleanLaws.{four, three}
+use Rattle.gypsy_check.{specs.Accepted.IsAccepted, specs.Declarations.{repeats, variables_of}, specs.Rules.{condition_name_breaches, local_breaches}}
+use Rattle.gypsy_check.specs.Rules.{main_breaches, name_breaches, procedure_breaches, size_breaches, statement_breaches, type_breaches, variable_breaches}
+use Rattle.gypsy_check.{specs.Rules.violations, specs.Types.has_length, proofs.CleanLaws.{four, three}}
 use Rattle.gypsy_space.specs.Resolvable.{ConstantFits, ConstantsFit, IsResolvable, LocalFits, PartsFit}
 
 -- ---- positions

@@ -1,14 +1,11 @@
 -- The table of a source's procedures, one procedure after the other.
 use Rattle.std.proofs.Common.{◌≡◌, ℕ, suc, ◌<◌, ◌+◌, List, [], ◌∷◌, ◌++◌, length, get_or, take, Bool, true, false, true≢false, cond, Option, Some, None}
-use Rattle.std.proofs.Common.{is_some, option_map, bytes_eq, refl, sym, ap, ◌∙◌, arith}
-use Rattle.std.proofs.lemmas.List.{map_push, take_more, length-map, length-take-le}
+use Rattle.std.{proofs.Common.{is_some, option_map, bytes_eq, refl, sym, ap, ◌∙◌, arith}, proofs.lemmas.List.{map_push, take_more, length-map, length-take-le}}
 use Rattle.std.proofs.lemmas.Slice.Eq.{bytes_eq-Decides}
-use Rattle.stack_text.specs.Names.{place_among}
+use Rattle.stack_text.{specs.Names.place_among, specs.Options.first_or}
 use Rattle.gypsy_syntax.specs.declared.proc.Proc.{Proc}
-use Rattle.stack_text.specs.Options.{first_or}
 use Rattle.gypsy_check.proofs.LookupLaws.{place_cons, place_nil}
-use Rattle.gypsy_space.specs.Callees.{names_of}
-use Rattle.gypsy_space.proofs.PositionLaws.{place_among-append, place_or}
+use Rattle.gypsy_space.{specs.Callees.names_of, proofs.PositionLaws.{place_among-append, place_or}}
 
 -- the place among one name more
 place_among-push : (name : List ℕ) (ms : List (List ℕ)) (n : List ℕ) → place_among name (ms ++ n ∷ [])

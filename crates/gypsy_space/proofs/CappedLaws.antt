@@ -1,8 +1,7 @@
 -- Sums that are exact up to 2^60.
 use Rattle.std.proofs.Common.{◌≡◌, ℕ, arith}
 use Rattle.gypsy_syntax.specs.Programs.{Program, Stmt, Skip}
-use Rattle.gypsy_space.specs.StatementNeeds.{capped, HasMore, HasMoreWords, IsStatementNeed}
-use Rattle.gypsy_space.specs.declared.counting.StatementNeed.{StatementNeed}
+use Rattle.gypsy_space.{specs.StatementNeeds.{capped, HasMore, HasMoreWords, IsStatementNeed}, specs.declared.counting.StatementNeed.StatementNeed}
 
 -- where nothing is to come, all is counted
 pub no_more_words : (n whole : ℕ) → HasMoreWords n 0 whole → n ≡ capped whole

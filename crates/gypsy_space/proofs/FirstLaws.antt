@@ -2,9 +2,7 @@
 use Rattle.std.proofs.Common.{◌≡◌, ℕ, zero, suc, ◌+◌, ◌<◌, List, [], ◌∷◌, ◌++◌, length, length-append, refl, sym, ◌∙◌, ap, arith, ⊎_elim}
 use Rattle.std.proofs.lemmas.Bool.{cases_lt}
 use Rattle.gypsy_syntax.specs.Programs.{Program}
-use Rattle.gypsy_space.specs.Events.{need_at, need_of, IsSmall}
-use Rattle.gypsy_space.specs.StatementNeeds.{AreFirst, capped_need}
-use Rattle.gypsy_space.specs.declared.need.Need.{Need}
+use Rattle.gypsy_space.{specs.Events.{need_at, need_of, IsSmall}, specs.StatementNeeds.{AreFirst, capped_need}, specs.declared.need.Need.Need}
 
 before : (ns : List Need) (n : Need) (p : ℕ) → p < length ns → need_at (ns ++ n ∷ []) p ≡ need_at ns p
 before [] n p lt = absurd (omega (arith, lt))

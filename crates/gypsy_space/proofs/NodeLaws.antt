@@ -2,10 +2,8 @@
 use Rattle.std.proofs.Common.{◌≡◌, refl, ap, ◌∙◌}
 use Rattle.gypsy_syntax.specs.Programs.{Seq}
 use Rattle.gypsy_space.specs.declared.program.Node.{Row_of-Node-Seq-0-1, end_of-Node-Seq-0-1, more_of-Node-Seq-0-1, items-the_row-Node-Seq-0-1}
-use Rattle.gypsy_space.specs.declared.program.Node.{items_hidden-the_row-Node-Seq-0-1-0}
-use Rattle.gypsy_space.specs.declared.program.Node.TheBlock.{hidden-the_row-Node-Seq-0-1-0}
-use Rattle.gypsy_space.specs.declared.program.Node.TheVariants.{Seq as MadeSeq}
-use Rattle.gypsy_space.specs.Nodes.{seen_statement, seen_parts, seen_statements}
+use Rattle.gypsy_space.{specs.declared.program.Node.items_hidden-the_row-Node-Seq-0-1-0, specs.declared.program.Node.TheBlock.hidden-the_row-Node-Seq-0-1-0}
+use Rattle.gypsy_space.{specs.declared.program.Node.TheVariants.Seq as MadeSeq, specs.Nodes.{seen_statement, seen_parts, seen_statements}}
 
 parts_listed : (n : _) (k : Row_of-Node-Seq-0-1 n) → seen_parts k ≡ seen_statements (items-the_row-Node-Seq-0-1 n k)
 parts_listed n end_of-Node-Seq-0-1 = refl

@@ -1,19 +1,10 @@
 -- Where a name stands first among those of two lists.
-use Rattle.std.proofs.Common.{◌≡◌, ℕ, suc, ◌+◌, List, [], ◌∷◌, ◌++◌, map, length, Bool, true, false, cond, Option, Some, None, option_map}
-use Rattle.std.proofs.Common.{bytes_eq, refl, sym, ap, ap₂, ◌∙◌, zero-add, arith}
-use Rattle.std.specs.List.{position}
-use Rattle.std.specs.Option.{unwrap_or}
-use Rattle.std.proofs.lemmas.List.{length-map}
+use Rattle.std.proofs.Common.{◌≡◌, ℕ, suc, ◌+◌, List, [], ◌∷◌, ◌++◌, map, length, Bool, true, false, cond, Option, Some, None, option_map, bytes_eq, refl, sym}
+use Rattle.std.{proofs.Common.{ap, ap₂, ◌∙◌, zero-add, arith}, specs.List.position, specs.Option.unwrap_or, proofs.lemmas.List.length-map}
 use Rattle.std.proofs.lemmas.Simd.{map-map}
-use Rattle.stack_text.specs.Names.{place_among}
-use Rattle.stack_text.specs.declared.name.Named.{Named}
-use Rattle.stack_text.proofs.SharedLaws.{place_among-map}
-use Rattle.gypsy_syntax.specs.declared.literal.Decl.{Decl}
-use Rattle.gypsy_syntax.specs.declared.literal.Local.{Local}
-use Rattle.gypsy_syntax.specs.declared.proc.Proc.{Proc}
-use Rattle.gypsy_syntax.specs.Resolved.{condition_names, position_of, variable_names}
-use Rattle.gypsy_syntax.specs.Views.SourceView.{local_of, proc_of}
-use Rattle.gypsy_syntax.specs.Sources.{LocalOf}
+use Rattle.stack_text.{specs.Names.place_among, specs.declared.name.Named.Named, proofs.SharedLaws.place_among-map}
+use Rattle.gypsy_syntax.{specs.declared.literal.Decl.Decl, specs.declared.literal.Local.Local, specs.declared.proc.Proc.Proc, specs.Resolved.condition_names}
+use Rattle.gypsy_syntax.{specs.Resolved.{position_of, variable_names}, specs.Views.SourceView.{local_of, proc_of}, specs.Sources.LocalOf}
 use Rattle.gypsy_check.proofs.LookupLaws.{place_cons, place_nil}
 
 -- the place in the first list, and else in the second, after so many

@@ -1,17 +1,10 @@
 -- The parts of a sequence, resolved one after another.
-use Rattle.std.proofs.Common.{◌≡◌, ℕ, ◌+◌, ◌<◌, ◌≤◌, List, [], ◌∷◌, ◌++◌, length, get_or, drop, refl, sym, ap, ◌∙◌}
-use Rattle.std.specs.declared.alloc.Global.{Global}
-use Rattle.std.specs.declared.rc.Rc.{Rc}
-use Rattle.std.proofs.lemmas.List.{drop_all}
+use Rattle.std.{proofs.Common.{◌≡◌, ℕ, ◌+◌, ◌<◌, ◌≤◌, List, [], ◌∷◌, ◌++◌, length, get_or, drop, refl, sym, ap, ◌∙◌}, specs.declared.alloc.Global.Global}
+use Rattle.std.{specs.declared.rc.Rc.Rc, proofs.lemmas.List.drop_all}
 use Rattle.stack_text.proofs.Loops.{drop-item}
-use Rattle.gypsy_syntax.specs.declared.statement.Stmt.{Stmt as Text}
-use Rattle.gypsy_syntax.specs.Programs.{Stmt, Skip, Seq}
-use Rattle.gypsy_syntax.specs.Resolved.{statement_of, statement_of_all}
-use Rattle.gypsy_syntax.specs.Views.SourceView.{parts_of_list, stmt_of}
-use Rattle.gypsy_syntax.specs.Sources.{ProcOf, SourceOf}
-use Rattle.gypsy_space.specs.declared.program.Node.{Node}
-use Rattle.gypsy_space.specs.Nodes.{seen_statement, seen_statements}
-use Rattle.gypsy_space.specs.CallSites.{sequenced}
+use Rattle.gypsy_syntax.{specs.declared.statement.Stmt.Stmt as Text, specs.Programs.{Stmt, Skip, Seq}, specs.Resolved.{statement_of, statement_of_all}}
+use Rattle.gypsy_syntax.{specs.Views.SourceView.{parts_of_list, stmt_of}, specs.Sources.{ProcOf, SourceOf}}
+use Rattle.gypsy_space.{specs.declared.program.Node.Node, specs.Nodes.{seen_statement, seen_statements}, specs.CallSites.sequenced}
 
 sequenced-push : (ns : List (Rc Node Global)) (n : Rc Node Global) (rest : Stmt)
     → sequenced (ns ++ n ∷ []) rest ≡ sequenced ns (Seq (seen_statement n.value) rest)

@@ -1,29 +1,16 @@
 -- No number of the needs of an accepted source is above 2^60, so what is counted is exact.
 use Rattle.std.proofs.Common.{◌≡◌, ℕ, zero, suc, ◌+◌, ◌*◌, ◌^◌, ◌<◌, ◌≤◌, List, [], ◌∷◌, ◌++◌, length, map, get_or, Bool, true, false, refl, ap, ◌∙◌, subst}
-use Rattle.std.proofs.Common.{arith}
-use Rattle.std.specs.Prelude.{if◌then◌else◌, ◌==◌}
-use Rattle.std.proofs.lemmas.List.{length-map}
-use Rattle.stack_text.specs.declared.name.Named.{Named}
-use Rattle.stack_text.specs.declared.shape.Shape.{Shape}
-use Rattle.stack_text.specs.Trees.{node_count, node_counts}
-use Rattle.stack_text.specs.Views.TreeView.{nodes}
-use Rattle.stack_text.specs.Values.{item_count}
-use Rattle.stack_text.specs.Grammar.Printed.{name_tree}
-use Rattle.gypsy_syntax.specs.GypsyReading.{KeepsForm}
-use Rattle.gypsy_syntax.specs.Printed.{arg_tree, literal_tree, proc_tree, stmt_tree, stmt_trees}
-use Rattle.gypsy_syntax.specs.ProgramFits.{ProcFits, ProgramFits}
-use Rattle.gypsy_syntax.specs.Programs.{Program, Proc, no_proc, proc_at, shapes_of, words_of}
-use Rattle.gypsy_syntax.specs.Resolved.{argument_of, cond_of, position_of, procedure_names, procedure_of, program_of, statement_of, statement_of_all}
-use Rattle.gypsy_syntax.specs.Sources.{ArgOf, variable, constant, LiteralOf, integer, truth, character, array}
-use Rattle.gypsy_syntax.specs.Sources.{StmtOf, StmtsOf, no_op, signal, seq, loop, branch, begin, call, predef, no_parts, part, ProcOf, SourceOf}
-use Rattle.gypsy_syntax.specs.declared.predef.Predef.{Predef}
-use Rattle.gypsy_syntax.specs.Programs.{Stmt, Skip, NoOp, Signal, Seq, Loop, If, Begin, Call, Apply}
-use Rattle.gypsy_space.specs.Needs.{arg_words, args_words, code_words, greatest, local_words, statement_words, vars_of}
-use Rattle.gypsy_syntax.proofs.FitsLaws.{keeps_fits}
-use Rattle.gypsy_syntax.proofs.PredefLaws.{few_words}
-use Rattle.gypsy_space.specs.declared.need.Need.{Need}
-use Rattle.gypsy_space.specs.Events.{AreNeeds, need_of}
-use Rattle.gypsy_space.specs.StatementNeeds.{AreCapped, capped, capped_need}
+use Rattle.std.{proofs.Common.arith, specs.Prelude.{if◌then◌else◌, ◌==◌}, proofs.lemmas.List.length-map}
+use Rattle.stack_text.{specs.declared.name.Named.Named, specs.declared.shape.Shape.Shape, specs.Trees.{node_count, node_counts}, specs.Views.TreeView.nodes}
+use Rattle.stack_text.{specs.Values.item_count, specs.Grammar.Printed.name_tree}
+use Rattle.gypsy_syntax.{specs.GypsyReading.KeepsForm, specs.Printed.{arg_tree, literal_tree, proc_tree, stmt_tree, stmt_trees}, specs.ProgramFits.ProcFits}
+use Rattle.gypsy_syntax.{specs.ProgramFits.ProgramFits, specs.Programs.{Program, Proc, no_proc, proc_at, shapes_of, words_of, Stmt, Skip, NoOp, Signal, Seq}}
+use Rattle.gypsy_syntax.{specs.Programs.{Loop, If, Begin, Call, Apply}, specs.Resolved.{argument_of, cond_of, position_of, procedure_names, procedure_of}}
+use Rattle.gypsy_syntax.{specs.Resolved.{program_of, statement_of, statement_of_all}, specs.Sources.{ArgOf, variable, constant, LiteralOf, integer, truth}}
+use Rattle.gypsy_syntax.specs.Sources.{character, array, StmtOf, StmtsOf, no_op, signal, seq, loop, branch, begin, call, predef, no_parts, part, ProcOf}
+use Rattle.gypsy_syntax.{specs.Sources.SourceOf, specs.declared.predef.Predef.Predef, proofs.FitsLaws.keeps_fits, proofs.PredefLaws.few_words}
+use Rattle.gypsy_space.{specs.Needs.{arg_words, args_words, code_words, greatest, local_words, statement_words, vars_of}, specs.declared.need.Need.Need}
+use Rattle.gypsy_space.{specs.Events.{AreNeeds, need_of}, specs.StatementNeeds.{AreCapped, capped, capped_need}}
 
 -- ---- the words of variables
 

@@ -1,11 +1,7 @@
 -- Parts of the program that is made of a source.
-use Rattle.std.specs.Prelude.{◌≡◌, ℕ, List, [], ◌∷◌, map}
-use Rattle.std.specs.declared.alloc.Global.{Global}
-use Rattle.std.specs.declared.rc.Rc.{Rc}
+use Rattle.std.specs.{Prelude.{◌≡◌, ℕ, List, [], ◌∷◌, map}, declared.alloc.Global.{Global}, declared.rc.Rc.{Rc}}
 use Rattle.gypsy_syntax.specs.Programs.{ConditionOf, Stmt, Seq}
-use Rattle.gypsy_space.specs.declared.program.CallSite.{CallSite}
-use Rattle.gypsy_space.specs.declared.program.Node.{Node}
-use Rattle.gypsy_space.specs.Nodes.{seen_cond, seen_statement}
+use Rattle.gypsy_space.specs.{declared.program.CallSite.{CallSite}, declared.program.Node.{Node}, Nodes.{seen_cond, seen_statement}}
 
 -- a call at a place, of this callee, with these data and condition actuals
 pub record IsCallSite (place callee : ℕ) (xs : List ℕ) (cs : List ConditionOf) (site : CallSite) : Type 0 where

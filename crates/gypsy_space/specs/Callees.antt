@@ -2,9 +2,7 @@
 use Rattle.std.specs.Prelude.{◌≡◌, ℕ, List, map, Option}
 use Rattle.stack_text.specs.Names.{place_among}
 use Rattle.name_tables.specs.Entries.{Entries, look_up}
-use Rattle.gypsy_syntax.specs.declared.proc.Proc.{Proc}
-use Rattle.gypsy_syntax.specs.Resolved.{procedure_names}
-use Rattle.gypsy_syntax.specs.Views.SourceView.{source_of}
+use Rattle.gypsy_syntax.specs.{declared.proc.Proc.{Proc}, Resolved.{procedure_names}, Views.SourceView.{source_of}}
 use Rattle.gypsy_space.specs.declared.callees.Callees.{Callees}
 
 -- the names of procedures, in order

@@ -1,11 +1,8 @@
 -- The price list of a run, and what was spent: instructions of the processor, and steps of Piton.
 use Rattle.std.specs.Prelude.{ℕ, ◌+◌, ◌*◌, Bool, true, false}
-use Rattle.gypsy_syntax.specs.declared.predef.Predef.{Predef}
-use Rattle.gypsy_syntax.specs.Effects.{Effect, no_value}
+use Rattle.gypsy_syntax.specs.{declared.predef.Predef.{Predef}, Effects.{Effect, no_value}, Predefined.{predef_cost}}
 use Rattle.gypsy_syntax.specs.Effects as effect
-use Rattle.gypsy_syntax.specs.Predefined.{predef_cost}
-use Rattle.gypsy_space.specs.declared.event.Outcome.{Outcome}
-use Rattle.gypsy_space.specs.declared.event.Outcome.TheVariants.{Normal, Fault, Beyond}
+use Rattle.gypsy_space.specs.{declared.event.Outcome.{Outcome}, declared.event.Outcome.TheVariants.{Normal, Fault, Beyond}}
 use Rattle.gypsy_space.specs.declared.event.CostEvent.{CostEvent}
 use Rattle.gypsy_space.specs.declared.event.CostEvent.TheVariants as event
 

@@ -1,13 +1,10 @@
 -- Needs as a list, and what an event costs by it.
 use Rattle.std.specs.Prelude.{◌≡◌, ℕ, ◌+◌, ◌^◌, ◌<◌, ◌≤◌, List, length, max, get_or, nat_le, Bool, not, ◌&&◌, if◌then◌else◌}
 use Rattle.gypsy_syntax.specs.Programs.{Program, proc_at}
-use Rattle.gypsy_space.specs.Costs.{count_of, variables_price}
-use Rattle.gypsy_space.specs.Needs.{StackSizes, temp_need, ctrl_need, local_words, vars_of, code_words}
-use Rattle.gypsy_space.specs.declared.event.CostEvent.{CostEvent}
-use Rattle.gypsy_space.specs.declared.event.CostEvent.TheVariants as event
-use Rattle.gypsy_space.specs.declared.need.Need.{Need}
-use Rattle.gypsy_space.specs.declared.need.Lack.{Lack}
+use Rattle.gypsy_space.specs.{Costs.{count_of, variables_price}, Needs.{StackSizes, temp_need, ctrl_need, local_words, vars_of, code_words}}
+use Rattle.gypsy_space.specs.{declared.event.CostEvent.{CostEvent}, declared.need.Need.{Need}, declared.need.Lack.{Lack}}
 use Rattle.gypsy_space.specs.declared.need.Lack.TheVariants.{Nothing, Temporary, Control}
+use Rattle.gypsy_space.specs.declared.event.CostEvent.TheVariants as event
 
 -- a procedure's
 abbrev pub need_of : Program → ℕ → Need

@@ -1,13 +1,11 @@
 -- The words that programs need: of both stacks, and of code.
 use Rattle.std.specs.Prelude.{ℕ, ◌+◌, ◌*◌, List, [], ◌∷◌, map, length, max, nat_le, Bool, true, false, not, ◌&&◌, ◌==◌, if◌then◌else◌}
-use Rattle.gypsy_syntax.specs.declared.predef.Predef.{Predef}
-use Rattle.gypsy_syntax.specs.Predefined.{predef_temp, predef_ctrl, predef_words}
-use Rattle.gypsy_syntax.specs.Programs.{Arg, Var, Lit, Proc, Program, proc_at, shapes_of, words_of}
-use Rattle.gypsy_syntax.specs.Programs.{Stmt, Skip, NoOp, Signal, Seq, Loop, If, Begin, Call, Apply}
-use Rattle.gypsy_space.specs.Costs.{Tally, spend, count_of, steps_of, variables_price}
-use Rattle.gypsy_space.specs.declared.event.CostEvent.TheVariants as event
-use Rattle.gypsy_space.specs.declared.need.Lack.{Lack}
+use Rattle.gypsy_syntax.specs.{declared.predef.Predef.{Predef}, Predefined.{predef_temp, predef_ctrl, predef_words}, Programs.{Arg, Var}}
+use Rattle.gypsy_syntax.specs.Programs.{Lit, Proc, Program, proc_at, shapes_of, words_of, Stmt, Skip, NoOp, Signal, Seq, Loop, If, Begin}
+use Rattle.gypsy_syntax.specs.Programs.{Call, Apply}
+use Rattle.gypsy_space.specs.{Costs.{Tally, spend, count_of, steps_of, variables_price}, declared.need.Lack.{Lack}}
 use Rattle.gypsy_space.specs.declared.need.Lack.TheVariants.{Nothing, Temporary, Control}
+use Rattle.gypsy_space.specs.declared.event.CostEvent.TheVariants as event
 
 -- the sizes of the two stacks, and the words in use of each
 pub record StackSizes : Type 0 where

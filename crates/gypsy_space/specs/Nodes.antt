@@ -1,21 +1,15 @@
 -- What clauses see of nodes.
-use Rattle.std.specs.Prelude.{ℕ, List, [], ◌∷◌, ◌++◌, map, length}
-use Rattle.std.specs.declared.rc.Rc.{Rc}
-use Rattle.std.specs.declared.alloc.Global.{Global}
-use Rattle.stack_text.specs.declared.shape.Shape.{Shape}
-use Rattle.stack_text.specs.Values.{ValueOf}
+use Rattle.std.specs.{Prelude.{ℕ, List, [], ◌∷◌, ◌++◌, map, length}, declared.rc.Rc.{Rc}, declared.alloc.Global.{Global}}
+use Rattle.stack_text.specs.{declared.shape.Shape.{Shape}, Values.{ValueOf}}
 use Rattle.gypsy_syntax.specs.Programs.{ConditionOf, Leave, Routine, Space, Declared, Arg, Var, Lit, Stmt, Proc}
-use Rattle.gypsy_syntax.specs.Resolved.{condition_names, variable_names}
-use Rattle.gypsy_syntax.specs.Sources.{ProcOf}
-use Rattle.gypsy_space.specs.declared.program.Procedure.{Procedure}
-use Rattle.gypsy_space.specs.declared.program.Program.{Program}
+use Rattle.gypsy_syntax.specs.{Resolved.{condition_names, variable_names}, Sources.{ProcOf}}
+use Rattle.gypsy_space.specs.{declared.program.Procedure.{Procedure}, declared.program.Program.{Program}}
+use Rattle.gypsy_space.specs.{declared.program.Condition.{Condition}, declared.program.Argument.{Argument}}
+use Rattle.gypsy_space.specs.{declared.program.Argument.TheVariants.{Variable, Constant}, declared.program.Node.{Node, NoOp, Signal, Seq'}}
+use Rattle.gypsy_space.specs.declared.program.Node.{Loop', If', Begin', Call, Apply, Row_of-Node-Seq-0-1, end_of-Node-Seq-0-1}
+use Rattle.gypsy_space.specs.declared.program.Node.{more_of-Node-Seq-0-1}
 use Rattle.gypsy_syntax.specs.Programs as program
-use Rattle.gypsy_space.specs.declared.program.Condition.{Condition}
 use Rattle.gypsy_space.specs.declared.program.Condition.TheVariants as condition
-use Rattle.gypsy_space.specs.declared.program.Argument.{Argument}
-use Rattle.gypsy_space.specs.declared.program.Argument.TheVariants.{Variable, Constant}
-use Rattle.gypsy_space.specs.declared.program.Node.{Node, NoOp, Signal, Seq', Loop', If', Begin', Call, Apply}
-use Rattle.gypsy_space.specs.declared.program.Node.{Row_of-Node-Seq-0-1, end_of-Node-Seq-0-1, more_of-Node-Seq-0-1}
 
 abbrev pub seen_cond : Condition → ConditionOf
 seen_cond condition.Leave = Leave

@@ -1,13 +1,9 @@
 -- What positions of 32 bits and values of a shape can hold: a procedure within the limits of the form, with lengths in range
 -- and literals that are values.
 use Rattle.std.specs.Prelude.{All, IsTrue}
-use Rattle.gypsy_syntax.specs.declared.literal.Decl.{Decl}
-use Rattle.gypsy_syntax.specs.Fits.{FitsProcedure}
-use Rattle.gypsy_syntax.specs.ValuesFit.{ValueFits}
-use Rattle.gypsy_syntax.specs.Resolved.{literal_value, local_value}
-use Rattle.gypsy_syntax.specs.Sources.{ArgOf, variable, constant}
-use Rattle.gypsy_syntax.specs.Sources.{StmtOf, StmtsOf, no_op, signal, seq, loop, branch, begin, call, predef, no_parts, part}
-use Rattle.gypsy_syntax.specs.Sources.{LocalOf, ProcOf}
+use Rattle.gypsy_syntax.specs.{declared.literal.Decl.{Decl}, Fits.{FitsProcedure}, ValuesFit.{ValueFits}, Resolved.{literal_value}}
+use Rattle.gypsy_syntax.specs.{Resolved.{local_value}, Sources.{ArgOf, variable, constant, StmtOf, StmtsOf, no_op, signal, seq, loop}}
+use Rattle.gypsy_syntax.specs.Sources.{branch, begin, call, predef, no_parts, part, LocalOf, ProcOf}
 use Rattle.gypsy_check.specs.Types.{has_length}
 
 -- a literal that stands as an argument is a value

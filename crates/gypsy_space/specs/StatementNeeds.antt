@@ -1,10 +1,8 @@
 -- What the code counts for statements and procedures: sums are exact up to 2^60, and stay there.
 use Rattle.std.specs.Prelude.{◌≡◌, ℕ, ◌+◌, ◌^◌, ◌<◌, ◌≤◌, max, min, List, length}
 use Rattle.gypsy_syntax.specs.Programs.{Program, Stmt}
-use Rattle.gypsy_space.specs.Needs.{statement_temp, statement_ctrl, statement_words}
-use Rattle.gypsy_space.specs.Events.{need_at, need_of, IsSmall}
-use Rattle.gypsy_space.specs.declared.need.Need.{Need}
-use Rattle.gypsy_space.specs.declared.counting.StatementNeed.{StatementNeed}
+use Rattle.gypsy_space.specs.{Needs.{statement_temp, statement_ctrl, statement_words}, Events.{need_at, need_of, IsSmall}}
+use Rattle.gypsy_space.specs.{declared.need.Need.{Need}, declared.counting.StatementNeed.{StatementNeed}}
 
 abbrev pub capped : ℕ → ℕ
 capped n = min n (2 ^ 60)

@@ -2,9 +2,7 @@
 
 ghost use Rattle.std.specs.Prelude.{◌≡◌, ◌≤◌, IfOk, length};
 ghost use Rattle.stack_heap.specs.Heaps.{IfOkUnless};
-ghost use Rattle.gypsy_syntax.specs.Fits.{FitsForm};
-ghost use Rattle.gypsy_syntax.specs.Resolved.{position_of, procedure_names};
-ghost use Rattle.gypsy_syntax.specs.Views.SourceView.{source_of};
+ghost use Rattle.gypsy_syntax.specs.{Fits.{FitsForm}, Resolved.{position_of, procedure_names}, Views.SourceView.{source_of}};
 ghost use Rattle.gypsy_space.specs.Callees.{KnowsProcedures, KnowsPositions, names_of};
 
 use gypsy_syntax::{Proc, Source};

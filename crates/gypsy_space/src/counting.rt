@@ -2,14 +2,11 @@
 
 ghost use Rattle.std.specs.Prelude.{◌≡◌, ◌+◌, ◌^◌, ◌*◌, ◌≤◌, ◌<◌, IfOk, map, length};
 ghost use Rattle.stack_heap.specs.Heaps.{IfOkUnless};
-ghost use Rattle.gypsy_syntax.specs.Programs.{proc_at, words_of};
-ghost use Rattle.gypsy_syntax.specs.Resolved.{program_of};
-ghost use Rattle.gypsy_syntax.specs.Views.SourceView.{source_of};
+ghost use Rattle.gypsy_syntax.specs.{Programs.{proc_at, words_of}, Resolved.{program_of}, Views.SourceView.{source_of}};
 ghost use Rattle.gypsy_check.specs.Accepted.{IsAccepted};
-ghost use Rattle.gypsy_space.specs.Events.{AreNeeds, AreSmall, IsSmall, need_of};
-ghost use Rattle.gypsy_space.specs.Needs.{arg_words, args_words, local_words, vars_of};
-ghost use Rattle.gypsy_space.specs.Nodes.{held_values, seen_arg, seen_program, seen_statement, seen_statements};
-ghost use Rattle.gypsy_space.specs.StatementNeeds.{capped, capped_need, joined, AreCapped, IsStatementNeed};
+ghost use Rattle.gypsy_space.specs.{Events.{AreNeeds, AreSmall, IsSmall, need_of}, Needs.{arg_words, args_words, local_words, vars_of}, Nodes.{held_values}};
+ghost use Rattle.gypsy_space.specs.{Nodes.{seen_arg, seen_program, seen_statement, seen_statements}, StatementNeeds.{capped, capped_need, joined, AreCapped}};
+ghost use Rattle.gypsy_space.specs.StatementNeeds.{IsStatementNeed};
 
 use crate::need::{Need, Needs};
 use crate::program::{Argument, CallSite, Node, Program};

@@ -2,10 +2,8 @@
 
 ghost use Rattle.std.specs.Prelude.{◌≡◌, ℕ, ◌+◌, ◌<◌, List, length};
 ghost use Rattle.gypsy_syntax.specs.Programs.{Program};
-ghost use Rattle.gypsy_space.specs.Costs.{Tally};
-ghost use Rattle.gypsy_space.specs.Needs.{StackSizes, call_spend, has_room, is_nothing, lack_of};
-ghost use Rattle.gypsy_space.specs.Events.{AreNeeds, need_of, has_room_by, lack_by, event_count};
-ghost use Rattle.gypsy_space.specs.declared.need.Need.{Need};
+ghost use Rattle.gypsy_space.specs.{Costs.{Tally}, Needs.{StackSizes, call_spend, has_room, is_nothing, lack_of}, Events.{AreNeeds, need_of, has_room_by}};
+ghost use Rattle.gypsy_space.specs.{Events.{lack_by, event_count}, declared.need.Need.{Need}};
 ghost use Rattle.gypsy_space.specs.declared.event.CostEvent.TheVariants as event;
 
 /// A call has room by a procedure's needs exactly where it has room, and lacks by them what it lacks. It has room exactly

@@ -1,27 +1,16 @@
 //! The program that an accepted source is: names become positions.
 
-ghost use Rattle.std.specs.Prelude.{◌≡◌, All, IfOk, IsTrue, map};
+ghost use Rattle.std.specs.{Prelude.{◌≡◌, All, IfOk, IsTrue, map}, Option.{unwrap_or}, List.{list_all, position}, Str.{bytes_eq}};
 ghost use Rattle.stack_heap.specs.Heaps.{IfOkUnless};
-ghost use Rattle.std.specs.Option.{unwrap_or};
-ghost use Rattle.std.specs.List.{list_all, position};
-ghost use Rattle.std.specs.Str.{bytes_eq};
 ghost use Rattle.stack_text.specs.declared.shape.Kind.TheVariants as kinds;
-ghost use Rattle.gypsy_syntax.specs.Fits.{FitsProcedure};
-ghost use Rattle.gypsy_syntax.specs.Ranges.{is_in_range};
-ghost use Rattle.gypsy_syntax.specs.ValuesFit.{ValueFits};
-ghost use Rattle.gypsy_syntax.specs.Programs.{Apply, Call};
-ghost use Rattle.gypsy_syntax.specs.Resolved.{argument_of, cond_of, condition_names, item_of, items_of_all, literal_kind};
-ghost use Rattle.gypsy_syntax.specs.Resolved.{local_value, position_of, procedure_names, procedure_of, program_of, shape_of};
-ghost use Rattle.gypsy_syntax.specs.Resolved.{statement_of, statement_of_all, value_items, variable_names, variable_of};
-ghost use Rattle.gypsy_syntax.specs.Views.SourceView.{arg_of, items_of_list, literal_of, local_of, parts_of_list, proc_of};
-ghost use Rattle.gypsy_syntax.specs.Views.SourceView.{source_of, stmt_of};
+ghost use Rattle.gypsy_syntax.specs.{Fits.{FitsProcedure}, Ranges.{is_in_range}, ValuesFit.{ValueFits}, Programs.{Apply, Call}, Resolved.{argument_of}};
+ghost use Rattle.gypsy_syntax.specs.Resolved.{cond_of, condition_names, item_of, items_of_all, literal_kind, local_value, position_of, procedure_names};
+ghost use Rattle.gypsy_syntax.specs.Resolved.{procedure_of, program_of, shape_of, statement_of, statement_of_all, value_items, variable_names, variable_of};
+ghost use Rattle.gypsy_syntax.specs.Views.SourceView.{arg_of, items_of_list, literal_of, local_of, parts_of_list, proc_of, source_of, stmt_of};
 ghost use Rattle.gypsy_space.specs.Nodes.{held_names, held_shapes, held_values, seen_arg, seen_cond, seen_proc, seen_program, seen_statement, seen_statements};
-ghost use Rattle.gypsy_space.specs.Nodes.{declared_names, seen_proc_names};
-ghost use Rattle.gypsy_space.specs.Callees.{KnowsProcedures};
-ghost use Rattle.gypsy_space.specs.CallSites.{IsCallSite};
-ghost use Rattle.gypsy_space.specs.Resolvable.{ConstantFits, ConstantsFit, IsResolvable, LocalFits};
-ghost use Rattle.gypsy_check.specs.Accepted.{IsAccepted};
-ghost use Rattle.gypsy_check.specs.Types.{has_length};
+ghost use Rattle.gypsy_space.specs.{Nodes.{declared_names, seen_proc_names}, Callees.{KnowsProcedures}, CallSites.{IsCallSite}, Resolvable.{ConstantFits}};
+ghost use Rattle.gypsy_space.specs.Resolvable.{ConstantsFit, IsResolvable, LocalFits};
+ghost use Rattle.gypsy_check.specs.{Accepted.{IsAccepted}, Types.{has_length}};
 
 use crate::callees::{Callees, callees_of};
 use crate::program::{Application, Argument, CallSite, Condition, Node, Procedure, Program};

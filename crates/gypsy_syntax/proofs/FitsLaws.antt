@@ -1,42 +1,26 @@
 -- What keeps the form fits it in plain words: what the grammar gives for a tree fits, nests no deeper than the tree, and places
 -- don't count.
 use Rattle.std.proofs.Common.{◌≡◌, ℕ, suc, ◌+◌, ◌<◌, ◌≤◌, max, Bool, true, false, leb, List, [], ◌∷◌, length, Option, Some, None, Ok, All, refl, subst, arith}
-use Rattle.std.specs.Prelude.{codes, drop, ◌&&◌, if◌then◌else◌}
-use Rattle.std.specs.Str.{bytes_eq}
-use Rattle.std.proofs.lemmas.Bool.{and_parts, leb-true}
-use Rattle.std.proofs.lemmas.List.{length-map}
+use Rattle.std.{specs.Prelude.{codes, drop, ◌&&◌, if◌then◌else◌}, specs.Str.bytes_eq, proofs.lemmas.Bool.{and_parts, leb-true}, proofs.lemmas.List.length-map}
 use Rattle.std.proofs.lemmas.List.Elements.{All-nil, All-cons, All-head, All-tail}
-use Rattle.stack_text.specs.declared.name.Named.{Named}
-use Rattle.stack_text.specs.declared.shape.Kind.{Kind}
-use Rattle.stack_text.specs.Names.{is_name, is_truth_word}
-use Rattle.stack_text.specs.Numerals.{is_digits, is_numeral, numeral_value, fits_128_bits, IsNatural, IsNumber}
-use Rattle.stack_text.specs.Trees.{Node, Nodes, atom, list, none, more, place_of, depth, depths}
-use Rattle.stack_text.specs.Grammar.Judged.{judged, ◌⊛◌, front, each_of}
-use Rattle.stack_text.specs.Grammar.Parts.{IsNamed, count_of, is_atom_of, list_length, list_or}
-use Rattle.stack_text.specs.Grammar.Printed.{unplaced_name}
-use Rattle.stack_text.proofs.FitsLaws.{Fitting, FittingList, all_under, fits_each, fits_front, fits_list, fits_name, placed_names}
-use Rattle.stack_text.proofs.NumeralTextLaws.{natural_digits}
+use Rattle.stack_text.{specs.declared.name.Named.Named, specs.declared.shape.Kind.Kind, specs.Names.{is_name, is_truth_word}, specs.Numerals.is_digits}
+use Rattle.stack_text.{specs.Numerals.{is_numeral, numeral_value, fits_128_bits, IsNatural, IsNumber}, specs.Trees.{Node, Nodes, atom, list, none, more}}
+use Rattle.stack_text.{specs.Trees.{place_of, depth, depths}, specs.Grammar.Judged.{judged, ◌⊛◌, front, each_of}, specs.Grammar.Parts.{IsNamed, count_of}}
+use Rattle.stack_text.{specs.Grammar.Parts.{is_atom_of, list_length, list_or}, specs.Grammar.Printed.unplaced_name, proofs.FitsLaws.{Fitting, FittingList}}
+use Rattle.stack_text.{proofs.FitsLaws.{all_under, fits_each, fits_front, fits_list, fits_name, placed_names}, proofs.NumeralTextLaws.natural_digits}
 use Rattle.stack_text.proofs.KeepsLaws.{Holds, holds_judged, holds_one, holds_two, holds_three, holds_six, holds_at, holds_more}
-use Rattle.gypsy_syntax.specs.declared.keyword.Keyword.{Keyword}
+use Rattle.gypsy_syntax.{specs.declared.keyword.Keyword.Keyword, specs.declared.literal.Decl.Decl, specs.declared.literal.TypeText.TypeText}
+use Rattle.gypsy_syntax.{specs.GypsyReading.KeepsForm, specs.Fits.{FitsLength, FitsSimple, AllSimple, FitsLiteral, FitsArgument, FitsDecl, FitsLocal}}
+use Rattle.gypsy_syntax.{specs.Fits.{FitsStatement, FitsStatements, FitsProcedure, FitsForm}, specs.Grammar.{named_in, names_in, is_word, number_at, number_in}}
+use Rattle.gypsy_syntax.specs.Grammar.{kind_in, simple_type, array_type, type_in, is_character, simple_at, simple_in, literal_in, decl_in, local_in, arg_in}
+use Rattle.gypsy_syntax.{specs.Grammar.{is_empty_list, statement_in, form_in, statements_in, are_few, procedure_in, source_in}, specs.Keywords.keyword_named}
+use Rattle.gypsy_syntax.{specs.Keywords.kind_named, specs.Made.{literals, statements, new_name, new_array, new_decl, new_local, new_list, new_seq, new_branch}}
+use Rattle.gypsy_syntax.{specs.Made.{new_begin, new_call, new_predef, new_proc, new_source}, specs.Places.{unplaced_literal, unplaced_literals, unplaced_arg}}
+use Rattle.gypsy_syntax.{specs.Places.{unplaced_decl, unplaced_local, unplaced_stmt, unplaced_stmts, unplaced_proc, without_places}, specs.Printed.tree_of}
+use Rattle.gypsy_syntax.{specs.Sizes.{nesting, deepest}, specs.Sources.{LiteralOf, LiteralsOf, integer, truth, character, array, no_items, item, ArgOf}}
+use Rattle.gypsy_syntax.specs.Sources.{variable, constant, StmtOf, StmtsOf, no_op, signal, seq, loop, branch, begin, call, predef, no_parts, part, LocalOf}
+use Rattle.gypsy_syntax.{specs.Sources.{ProcOf, SourceOf}, proofs.KeepsLaws.{by_empty, character_digits, keeps_number}}
 use Rattle.gypsy_syntax.specs.declared.keyword.Keyword.TheVariants as word
-use Rattle.gypsy_syntax.specs.declared.literal.Decl.{Decl}
-use Rattle.gypsy_syntax.specs.declared.literal.TypeText.{TypeText}
-use Rattle.gypsy_syntax.specs.GypsyReading.{KeepsForm}
-use Rattle.gypsy_syntax.specs.Fits.{FitsLength, FitsSimple, AllSimple, FitsLiteral, FitsArgument, FitsDecl, FitsLocal, FitsStatement, FitsStatements}
-use Rattle.gypsy_syntax.specs.Fits.{FitsProcedure, FitsForm}
-use Rattle.gypsy_syntax.specs.Grammar.{named_in, names_in, is_word, number_at, number_in, kind_in, simple_type, array_type, type_in, is_character, simple_at}
-use Rattle.gypsy_syntax.specs.Grammar.{simple_in, literal_in, decl_in, local_in, arg_in, is_empty_list, statement_in, form_in, statements_in, are_few}
-use Rattle.gypsy_syntax.specs.Grammar.{procedure_in, source_in}
-use Rattle.gypsy_syntax.specs.Keywords.{keyword_named, kind_named}
-use Rattle.gypsy_syntax.specs.Made.{literals, statements, new_name, new_array, new_decl, new_local, new_list, new_seq, new_branch, new_begin, new_call}
-use Rattle.gypsy_syntax.specs.Made.{new_predef, new_proc, new_source}
-use Rattle.gypsy_syntax.specs.Places.{unplaced_literal, unplaced_literals, unplaced_arg, unplaced_decl, unplaced_local, unplaced_stmt, unplaced_stmts}
-use Rattle.gypsy_syntax.specs.Places.{unplaced_proc, without_places}
-use Rattle.gypsy_syntax.specs.Printed.{tree_of}
-use Rattle.gypsy_syntax.specs.Sizes.{nesting, deepest}
-use Rattle.gypsy_syntax.specs.Sources.{LiteralOf, LiteralsOf, integer, truth, character, array, no_items, item, ArgOf, variable, constant}
-use Rattle.gypsy_syntax.specs.Sources.{StmtOf, StmtsOf, no_op, signal, seq, loop, branch, begin, call, predef, no_parts, part, LocalOf, ProcOf, SourceOf}
-use Rattle.gypsy_syntax.proofs.KeepsLaws.{by_empty, character_digits, keeps_number}
 
 -- ---- names and numbers
 

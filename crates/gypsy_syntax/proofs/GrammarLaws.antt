@@ -1,29 +1,16 @@
 -- Trees by their items, as the grammar of sources takes them apart.
 use Rattle.std.proofs.Common.{Bor, Vec, Global, Option, ◌≡◌, ◌≢◌, ◌<◌, ◌≤◌, ℕ, List, [], ◌∷◌, length, map, get_or, Ok, Some, refl, sym, ap, ◌∙◌, arith}
-use Rattle.std.proofs.Math.Dec.{eqb}
-use Rattle.std.proofs.lemmas.Bool.{ne_eqb, le-leb, lt-leb}
-use Rattle.std.specs.Prelude.{codes, false, nat_le, true}
-use Rattle.stack_text.specs.Trees.{Nodes, list, none, more}
-use Rattle.stack_text.specs.Views.TreeView.{node_of, nodes_of}
-use Rattle.stack_text.specs.declared.tree.TextTree.{TextTree, Atom}
-use Rattle.stack_text.proofs.TreeViewLaws.{node_of-atom}
-use Rattle.stack_text.specs.Grammar.Judged.{◌⊛◌, each_of, fault, front, judged}
-use Rattle.stack_text.specs.Grammar.Parts.{count_of}
-use Rattle.stack_text.specs.Grammar.Reading.{IsFirstFault}
-use Rattle.stack_text.specs.declared.grammar.fault.FormFault.{FormFault}
-use Rattle.stack_text.proofs.PartLaws.{first_of_value}
+use Rattle.std.{proofs.Math.Dec.eqb, proofs.lemmas.Bool.{ne_eqb, le-leb, lt-leb}, specs.Prelude.{codes, false, nat_le, true}}
+use Rattle.stack_text.{specs.Trees.{Nodes, list, none, more}, specs.Views.TreeView.{node_of, nodes_of}, specs.declared.tree.TextTree.{TextTree, Atom}}
+use Rattle.stack_text.{proofs.TreeViewLaws.node_of-atom, specs.Grammar.Judged.{◌⊛◌, each_of, fault, front, judged}, specs.Grammar.Parts.count_of}
+use Rattle.stack_text.{specs.Grammar.Reading.IsFirstFault, specs.declared.grammar.fault.FormFault.FormFault, proofs.PartLaws.first_of_value}
 use Rattle.stack_text.proofs.TreeListLaws.{count_of_all, rest, rest_is_drop}
-use Rattle.gypsy_syntax.specs.declared.keyword.Keyword.{Keyword}
+use Rattle.gypsy_syntax.{specs.declared.keyword.Keyword.Keyword, specs.Keywords.keyword_named, specs.declared.literal.Literal.Literal}
+use Rattle.gypsy_syntax.{specs.declared.literal.Literal.TheVariants.List as MadeList, specs.declared.statement.Stmt.Stmt}
+use Rattle.gypsy_syntax.{specs.declared.statement.Stmt.TheVariants.Seq as MadeSeq, specs.Grammar.{form_in, is_empty_list, is_word, literal_in, named_in}}
+use Rattle.gypsy_syntax.{specs.Grammar.{procedure_in, simple_in, source_in, statement_in, statements_in}, specs.Made.{new_seq, new_source}}
+use Rattle.gypsy_syntax.{specs.Views.SourceView.{literal_of, stmt_of}, proofs.ViewLaws.{list_is_new, seq_is_new}}
 use Rattle.gypsy_syntax.specs.declared.keyword.Keyword.TheVariants as word
-use Rattle.gypsy_syntax.specs.Keywords.{keyword_named}
-use Rattle.gypsy_syntax.specs.declared.literal.Literal.{Literal}
-use Rattle.gypsy_syntax.specs.declared.literal.Literal.TheVariants.{List as MadeList}
-use Rattle.gypsy_syntax.specs.declared.statement.Stmt.{Stmt}
-use Rattle.gypsy_syntax.specs.declared.statement.Stmt.TheVariants.{Seq as MadeSeq}
-use Rattle.gypsy_syntax.specs.Grammar.{form_in, is_empty_list, is_word, literal_in, named_in, procedure_in, simple_in, source_in, statement_in, statements_in}
-use Rattle.gypsy_syntax.specs.Made.{new_seq, new_source}
-use Rattle.gypsy_syntax.specs.Views.SourceView.{literal_of, stmt_of}
-use Rattle.gypsy_syntax.proofs.ViewLaws.{list_is_new, seq_is_new}
 
 pub no_items : (place n : ℕ) (ts : List TextTree) → n ≡ length ts → eqb n 0 ≡ is_empty_list (list place (nodes_of ts))
 no_items place n [] e = rw e refl

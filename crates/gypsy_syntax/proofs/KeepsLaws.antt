@@ -1,49 +1,29 @@
 -- A source that was read keeps the form.
 use Rattle.std.proofs.Common.{◌≡◌, ℕ, ◌≤◌, Bool, true, false, cond, List, [], ◌∷◌, length, map, Option, Some, None, Ok, refl, sym, ap, subst, ◌∙◌, arith}
-use Rattle.std.specs.Prelude.{ℤ, ◌&&◌, ◌==◌, codes, drop, nat_lt, nat_le, if◌then◌else◌}
-use Rattle.std.specs.List.{list_all}
-use Rattle.std.specs.Char.{is_ascii_digit, is_ascii_alphabetic}
-use Rattle.std.specs.Str.{bytes_eq}
-use Rattle.std.specs.Fmt.{signed_decimal}
-use Rattle.std.proofs.Math.Dec.{eqb}
-use Rattle.std.proofs.lemmas.Bool.{eqb-true, lt-leb}
-use Rattle.stack_text.specs.declared.name.Named.{Named}
-use Rattle.stack_text.specs.declared.shape.Kind.{Kind}
-use Rattle.stack_text.specs.declared.shape.Kind.TheVariants.{Integer, Boolean, Character}
-use Rattle.stack_text.specs.Names.{is_name, is_truth_word}
-use Rattle.stack_text.specs.Numerals.{is_digits, is_numeral, numeral_value, fits_128_bits, IsNumber}
-use Rattle.stack_text.specs.Trees.{Node, Nodes, atom, list, none, more, place_of, IsWellFormed}
-use Rattle.stack_text.specs.Views.TreeView.{nodes}
+use Rattle.std.{specs.Prelude.{ℤ, ◌&&◌, ◌==◌, codes, drop, nat_lt, nat_le, if◌then◌else◌}, specs.List.list_all, specs.Char.is_ascii_digit}
+use Rattle.std.{specs.Char.is_ascii_alphabetic, specs.Str.bytes_eq, specs.Fmt.signed_decimal, proofs.Math.Dec.eqb, proofs.lemmas.Bool.{eqb-true, lt-leb}}
 use Rattle.std.proofs.lemmas.Bool.{and_parts}
-use Rattle.stack_text.proofs.NumeralLaws.{digit_in_range}
-use Rattle.stack_text.proofs.AtomLaws.{name_is_run, numeral_is_run}
-use Rattle.stack_text.specs.Grammar.Judged.{Judged, fault, front, judged, ◌⊛◌, each_of}
-use Rattle.stack_text.specs.Grammar.Parts.{count_of, list_or}
-use Rattle.stack_text.specs.Grammar.Printed.{list_tree, name_tree, unplaced_name}
-use Rattle.stack_text.specs.Values.{kind_name}
-use Rattle.stack_text.proofs.NumeralTextLaws.{value-signed_decimal, numeral-signed_decimal, digits-signed_decimal}
-use Rattle.stack_text.proofs.KeepsLaws.{Alike, AllAlike, Holds, IsRun, Keeps, KeepsEach, KeepsName, alike_list_length, alike_items, holds_at, holds_judged}
-use Rattle.stack_text.proofs.KeepsLaws.{holds_more, holds_one, holds_six, holds_three, holds_two, keeps_each, keeps_list, keeps_name, keeps_named, named_again}
-use Rattle.stack_text.proofs.KeepsLaws.{ok_one, ok_six, ok_three, ok_two, passes, well_formed}
-use Rattle.stack_text.proofs.SharedLaws.{and_false}
-use Rattle.gypsy_syntax.specs.declared.keyword.Keyword.{Keyword}
-use Rattle.gypsy_syntax.specs.declared.keyword.Keyword.TheVariants as word
-use Rattle.gypsy_syntax.specs.declared.literal.Decl.{Decl}
-use Rattle.gypsy_syntax.specs.declared.literal.TypeText.{TypeText}
-use Rattle.gypsy_syntax.specs.declared.predef.Predef.TheVariants as row
-use Rattle.gypsy_syntax.specs.GypsyReading.{KeepsForm}
-use Rattle.gypsy_syntax.specs.Grammar.{named_in, names_in, number_at, simple_type, array_type, type_in, is_character, simple_at, simple_in, literal_in, decl_in}
-use Rattle.gypsy_syntax.specs.Grammar.{local_in, arg_in, is_empty_list, statement_in, form_in, statements_in, are_few, procedure_in, source_in}
-use Rattle.gypsy_syntax.specs.Keywords.{keyword_name, keyword_named, form_named, predef_named, kind_named}
+use Rattle.stack_text.{specs.declared.name.Named.Named, specs.declared.shape.Kind.Kind, specs.declared.shape.Kind.TheVariants.{Integer, Boolean, Character}}
+use Rattle.stack_text.{specs.Names.{is_name, is_truth_word}, specs.Numerals.{is_digits, is_numeral, numeral_value, fits_128_bits, IsNumber}, specs.Trees.Node}
+use Rattle.stack_text.{specs.Trees.{Nodes, atom, list, none, more, place_of, IsWellFormed}, specs.Views.TreeView.nodes, proofs.NumeralLaws.digit_in_range}
+use Rattle.stack_text.{proofs.AtomLaws.{name_is_run, numeral_is_run}, specs.Grammar.Judged.{Judged, fault, front, judged, ◌⊛◌, each_of}}
+use Rattle.stack_text.{specs.Grammar.Parts.{count_of, list_or}, specs.Grammar.Printed.{list_tree, name_tree, unplaced_name}, specs.Values.kind_name}
+use Rattle.stack_text.{proofs.NumeralTextLaws.{value-signed_decimal, numeral-signed_decimal, digits-signed_decimal}, proofs.KeepsLaws.{Alike, AllAlike, Holds}}
+use Rattle.stack_text.proofs.KeepsLaws.{IsRun, Keeps, KeepsEach, KeepsName, alike_list_length, alike_items, holds_at, holds_judged, holds_more, holds_one}
+use Rattle.stack_text.proofs.KeepsLaws.{holds_six, holds_three, holds_two, keeps_each, keeps_list, keeps_name, keeps_named, named_again, ok_one, ok_six}
+use Rattle.stack_text.{proofs.KeepsLaws.{ok_three, ok_two, passes, well_formed}, proofs.SharedLaws.and_false}
+use Rattle.gypsy_syntax.{specs.declared.keyword.Keyword.Keyword, specs.declared.literal.Decl.Decl, specs.declared.literal.TypeText.TypeText}
+use Rattle.gypsy_syntax.{specs.GypsyReading.KeepsForm, specs.Grammar.{named_in, names_in, number_at, simple_type, array_type, type_in, is_character, simple_at}}
+use Rattle.gypsy_syntax.specs.Grammar.{simple_in, literal_in, decl_in, local_in, arg_in, is_empty_list, statement_in, form_in, statements_in, are_few}
+use Rattle.gypsy_syntax.{specs.Grammar.{procedure_in, source_in}, specs.Keywords.{keyword_name, keyword_named, form_named, predef_named, kind_named}}
 use Rattle.gypsy_syntax.specs.Made.{literals, statements, new_name, new_array, new_decl, new_local, new_list, new_seq, new_branch, new_begin, new_call}
-use Rattle.gypsy_syntax.specs.Made.{new_predef, new_proc, new_source}
-use Rattle.gypsy_syntax.specs.Places.{unplaced_type, unplaced_literal, unplaced_arg, unplaced_decl, unplaced_local, unplaced_stmt, unplaced_proc}
-use Rattle.gypsy_syntax.specs.Places.{without_places}
-use Rattle.gypsy_syntax.specs.Printed.{number_tree, type_tree, type_tree_by, literal_tree, literal_trees, arg_tree, decl_tree, local_tree, keyword_tree}
-use Rattle.gypsy_syntax.specs.Printed.{stmt_tree, stmt_trees, proc_tree, tree_of}
+use Rattle.gypsy_syntax.{specs.Made.{new_predef, new_proc, new_source}, specs.Places.{unplaced_type, unplaced_literal, unplaced_arg, unplaced_decl}}
+use Rattle.gypsy_syntax.{specs.Places.{unplaced_local, unplaced_stmt, unplaced_proc, without_places}, specs.Printed.{number_tree, type_tree, type_tree_by}}
+use Rattle.gypsy_syntax.specs.Printed.{literal_tree, literal_trees, arg_tree, decl_tree, local_tree, keyword_tree, stmt_tree, stmt_trees, proc_tree, tree_of}
 use Rattle.gypsy_syntax.specs.Sources.{LiteralOf, integer, truth, character, array, ArgOf, variable, constant, StmtOf, no_op, signal, seq, loop, LocalOf}
-use Rattle.gypsy_syntax.specs.Sources.{ProcOf, SourceOf}
-use Rattle.gypsy_syntax.proofs.PlacesLaws.{literals_unplaced, statements_unplaced}
+use Rattle.gypsy_syntax.{specs.Sources.{ProcOf, SourceOf}, proofs.PlacesLaws.{literals_unplaced, statements_unplaced}}
+use Rattle.gypsy_syntax.specs.declared.keyword.Keyword.TheVariants as word
+use Rattle.gypsy_syntax.specs.declared.predef.Predef.TheVariants as row
 
 -- ---- numbers
 

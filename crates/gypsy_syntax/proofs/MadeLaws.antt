@@ -1,39 +1,24 @@
 -- What fits the form keeps it, where its tree is not too large: the tree of each part is judged to be that part but for
 -- places, its atoms are runs, and it is shallow.
 use Rattle.std.proofs.Common.{◌∙◌, ◌≡◌, ℕ, suc, ◌+◌, ◌<◌, ◌≤◌, ◌^◌, max, true, false, leb, List, [], ◌∷◌, length, map, Option, Some, None, Ok, All, refl, sym}
-use Rattle.std.proofs.Common.{ap, subst, arith}
-use Rattle.std.specs.Prelude.{ℤ, ◌&&◌}
-use Rattle.std.proofs.lemmas.Bool.{le-leb, and_from}
-use Rattle.stack_text.specs.declared.name.Named.{Named}
-use Rattle.stack_text.specs.Trees.{Node, Nodes, list, none, more, depth, depths, node_count, AtomsAreRuns, AllAtomsAreRuns}
-use Rattle.stack_text.specs.Views.TreeView.{nodes}
-use Rattle.stack_text.specs.Grammar.Judged.{front, each_of}
-use Rattle.stack_text.specs.Grammar.Parts.{count_of}
-use Rattle.stack_text.specs.Grammar.Printed.{list_tree, name_tree, unplaced_name}
-use Rattle.stack_text.proofs.AtomLaws.{name_is_run}
-use Rattle.stack_text.proofs.NumeralTextLaws.{natural_written}
-use Rattle.stack_text.proofs.MadeLaws.{Made, made_each, made_names}
-use Rattle.stack_text.proofs.KeepsLaws.{named_again, ok_one, ok_two, ok_three, ok_six, passes}
-use Rattle.gypsy_syntax.specs.declared.keyword.Keyword.{Keyword}
-use Rattle.gypsy_syntax.specs.declared.keyword.Keyword.TheVariants as word
-use Rattle.gypsy_syntax.specs.declared.literal.Decl.{Decl}
-use Rattle.gypsy_syntax.specs.declared.literal.TypeText.{TypeText}
-use Rattle.gypsy_syntax.specs.GypsyReading.{KeepsForm}
-use Rattle.gypsy_syntax.specs.Fits.{FitsLength, FitsSimple, AllSimple, FitsLiteral, FitsArgument, FitsDecl, FitsLocal, FitsStatement, FitsStatements}
-use Rattle.gypsy_syntax.specs.Fits.{FitsProcedure, FitsForm}
-use Rattle.gypsy_syntax.specs.Grammar.{simple_type, type_in, simple_in, literal_in, decl_in, local_in, arg_in, is_empty_list, statement_in, form_in}
-use Rattle.gypsy_syntax.specs.Grammar.{statements_in, are_few, procedure_in, source_in}
+use Rattle.std.{proofs.Common.{ap, subst, arith}, specs.Prelude.{ℤ, ◌&&◌}, proofs.lemmas.Bool.{le-leb, and_from}}
+use Rattle.stack_text.{specs.declared.name.Named.Named, specs.Trees.{Node, Nodes, list, none, more, depth, depths, node_count, AtomsAreRuns, AllAtomsAreRuns}}
+use Rattle.stack_text.{specs.Views.TreeView.nodes, specs.Grammar.Judged.{front, each_of}, specs.Grammar.Parts.count_of, specs.Grammar.Printed.list_tree}
+use Rattle.stack_text.{specs.Grammar.Printed.{name_tree, unplaced_name}, proofs.AtomLaws.name_is_run, proofs.NumeralTextLaws.natural_written}
+use Rattle.stack_text.{proofs.MadeLaws.{Made, made_each, made_names}, proofs.KeepsLaws.{named_again, ok_one, ok_two, ok_three, ok_six, passes}}
+use Rattle.gypsy_syntax.{specs.declared.keyword.Keyword.Keyword, specs.declared.literal.Decl.Decl, specs.declared.literal.TypeText.TypeText}
+use Rattle.gypsy_syntax.{specs.GypsyReading.KeepsForm, specs.Fits.{FitsLength, FitsSimple, AllSimple, FitsLiteral, FitsArgument, FitsDecl, FitsLocal}}
+use Rattle.gypsy_syntax.{specs.Fits.{FitsStatement, FitsStatements, FitsProcedure, FitsForm}, specs.Grammar.{simple_type, type_in, simple_in, literal_in}}
+use Rattle.gypsy_syntax.specs.Grammar.{decl_in, local_in, arg_in, is_empty_list, statement_in, form_in, statements_in, are_few, procedure_in, source_in}
 use Rattle.gypsy_syntax.specs.Made.{literals, statements, new_decl, new_local, new_list, new_seq, new_branch, new_begin, new_call, new_predef, new_proc}
-use Rattle.gypsy_syntax.specs.Made.{new_source}
-use Rattle.gypsy_syntax.specs.Places.{unplaced_type, unplaced_literal, unplaced_literals, unplaced_arg, unplaced_decl, unplaced_local, unplaced_stmt}
-use Rattle.gypsy_syntax.specs.Places.{unplaced_stmts, unplaced_proc, without_places}
-use Rattle.gypsy_syntax.specs.Printed.{type_tree, literal_tree, literal_trees, arg_tree, decl_tree, local_tree, keyword_tree, stmt_tree, stmt_trees, proc_tree}
-use Rattle.gypsy_syntax.specs.Printed.{tree_of}
-use Rattle.gypsy_syntax.specs.Sizes.{nesting, deepest}
-use Rattle.gypsy_syntax.specs.Sources.{LiteralOf, LiteralsOf, integer, truth, character, array, no_items, item, ArgOf, variable, constant}
-use Rattle.gypsy_syntax.specs.Sources.{StmtOf, StmtsOf, no_op, signal, seq, loop, branch, begin, call, predef, no_parts, part, LocalOf, ProcOf, SourceOf}
-use Rattle.gypsy_syntax.proofs.KeepsLaws.{KeepsSimple, argument_again, array_again, begin_again, character_kept, integer_kept, keyword_run, kind_again}
-use Rattle.gypsy_syntax.proofs.KeepsLaws.{kind_run, number_run, statement_again, truth_kept, variable_again}
+use Rattle.gypsy_syntax.{specs.Made.new_source, specs.Places.{unplaced_type, unplaced_literal, unplaced_literals, unplaced_arg, unplaced_decl, unplaced_local}}
+use Rattle.gypsy_syntax.{specs.Places.{unplaced_stmt, unplaced_stmts, unplaced_proc, without_places}, specs.Printed.{type_tree, literal_tree, literal_trees}}
+use Rattle.gypsy_syntax.{specs.Printed.{arg_tree, decl_tree, local_tree, keyword_tree, stmt_tree, stmt_trees, proc_tree, tree_of}, specs.Sizes.nesting}
+use Rattle.gypsy_syntax.{specs.Sizes.deepest, specs.Sources.{LiteralOf, LiteralsOf, integer, truth, character, array, no_items, item, ArgOf, variable}}
+use Rattle.gypsy_syntax.specs.Sources.{constant, StmtOf, StmtsOf, no_op, signal, seq, loop, branch, begin, call, predef, no_parts, part, LocalOf, ProcOf}
+use Rattle.gypsy_syntax.{specs.Sources.SourceOf, proofs.KeepsLaws.{KeepsSimple, argument_again, array_again, begin_again, character_kept, integer_kept}}
+use Rattle.gypsy_syntax.proofs.KeepsLaws.{keyword_run, kind_again, kind_run, number_run, statement_again, truth_kept, variable_again}
+use Rattle.gypsy_syntax.specs.declared.keyword.Keyword.TheVariants as word
 
 -- ---- values
 

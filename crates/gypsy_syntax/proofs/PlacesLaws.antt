@@ -1,28 +1,19 @@
 -- The grammar of sources is blind to places.
-use Rattle.std.proofs.Common.{◌≡◌, ℕ, List, [], ◌∷◌, map, Option, Some, None, Ok, refl, sym, ap, subst, ◌∙◌}
-use Rattle.std.specs.Prelude.{Bool, ◌&&◌, codes, drop, nat_le, if◌then◌else◌}
-use Rattle.std.specs.Str.{bytes_eq}
-use Rattle.stack_text.specs.Names.{is_name, is_truth_word}
-use Rattle.stack_text.specs.Numerals.{is_numeral, numeral_value, fits_128_bits}
-use Rattle.stack_text.specs.Trees.{Node, Nodes, atom, list, none, more, all_without_places, place_of}
-use Rattle.stack_text.specs.Trees.{without_places as unplaced_tree}
-use Rattle.stack_text.specs.declared.shape.Kind.{Kind}
-use Rattle.stack_text.specs.Grammar.Judged.{Judged, fault, front}
-use Rattle.stack_text.specs.Grammar.Parts.{count_of}
-use Rattle.stack_text.specs.Grammar.Printed.{unplaced_name}
-use Rattle.stack_text.proofs.PlacesLaws.{IsSame, agree_if, agree_judged, same_one, same_two, same_three, same_six, same_each, same_atom, same_count}
-use Rattle.stack_text.proofs.PlacesLaws.{same_list_length, same_name, same_list, unplaced_place}
-use Rattle.gypsy_syntax.specs.declared.keyword.Keyword.{Keyword}
+use Rattle.std.{proofs.Common.{◌≡◌, ℕ, List, [], ◌∷◌, map, Option, Some, None, Ok, refl, sym, ap, subst, ◌∙◌}, specs.Prelude.{Bool, ◌&&◌, codes, drop, nat_le}}
+use Rattle.std.{specs.Prelude.if◌then◌else◌, specs.Str.bytes_eq}
+use Rattle.stack_text.{specs.Names.{is_name, is_truth_word}, specs.Numerals.{is_numeral, numeral_value, fits_128_bits}, specs.Trees.{Node, Nodes, atom, list}}
+use Rattle.stack_text.{specs.Trees.{none, more, all_without_places, place_of, without_places as unplaced_tree}, specs.declared.shape.Kind.Kind}
+use Rattle.stack_text.{specs.Grammar.Judged.{Judged, fault, front}, specs.Grammar.Parts.count_of, specs.Grammar.Printed.unplaced_name, proofs.PlacesLaws.IsSame}
+use Rattle.stack_text.proofs.PlacesLaws.{agree_if, agree_judged, same_one, same_two, same_three, same_six, same_each, same_atom, same_count, same_list_length}
+use Rattle.stack_text.proofs.PlacesLaws.{same_name, same_list, unplaced_place}
+use Rattle.gypsy_syntax.{specs.declared.keyword.Keyword.Keyword, specs.Keywords.{keyword_named, kind_named}, specs.Grammar.{named_in, names_in, number_at}}
+use Rattle.gypsy_syntax.specs.Grammar.{number_in, kind_in, simple_type, array_type, type_in, is_character, simple_at, simple_in, literal_in, decl_in, local_in}
+use Rattle.gypsy_syntax.{specs.Grammar.{arg_in, is_empty_list, statement_in, form_in, statements_in, are_few, procedure_in, source_in}, specs.Made.literals}
+use Rattle.gypsy_syntax.specs.Made.{statements, new_array, new_decl, new_local, new_list, new_seq, new_branch, new_begin, new_call, new_predef, new_proc}
+use Rattle.gypsy_syntax.{specs.Made.new_source, specs.Places.{unplaced_type, unplaced_literal, unplaced_literals, unplaced_arg, unplaced_decl, unplaced_local}}
+use Rattle.gypsy_syntax.{specs.Places.{unplaced_stmt, unplaced_stmts, unplaced_proc, without_places}, specs.Sources.{LiteralOf, StmtOf, integer, truth}}
+use Rattle.gypsy_syntax.specs.Sources.{character, constant, array, item, seq, part, signal, loop}
 use Rattle.gypsy_syntax.specs.declared.keyword.Keyword.TheVariants as word
-use Rattle.gypsy_syntax.specs.Keywords.{keyword_named, kind_named}
-use Rattle.gypsy_syntax.specs.Grammar.{named_in, names_in, number_at, number_in, kind_in, simple_type, array_type, type_in, is_character, simple_at, simple_in}
-use Rattle.gypsy_syntax.specs.Grammar.{literal_in, decl_in, local_in, arg_in, is_empty_list, statement_in, form_in, statements_in, are_few, procedure_in}
-use Rattle.gypsy_syntax.specs.Grammar.{source_in}
-use Rattle.gypsy_syntax.specs.Made.{literals, statements, new_array, new_decl, new_local, new_list, new_seq, new_branch, new_begin, new_call, new_predef}
-use Rattle.gypsy_syntax.specs.Made.{new_proc, new_source}
-use Rattle.gypsy_syntax.specs.Places.{unplaced_type, unplaced_literal, unplaced_literals, unplaced_arg, unplaced_decl, unplaced_local, unplaced_stmt}
-use Rattle.gypsy_syntax.specs.Places.{unplaced_stmts, unplaced_proc, without_places}
-use Rattle.gypsy_syntax.specs.Sources.{LiteralOf, StmtOf, integer, truth, character, constant, array, item, seq, part, signal, loop}
 
 same_named : (t : Node) → IsSame unplaced_name (named_in t) (named_in (unplaced_tree t))
 same_named = same_name 3

@@ -1,9 +1,8 @@
 -- What holds of each row of the predefined procedures, by computing it of all.
 use Rattle.std.proofs.Common.{◌≤◌, ◌<◌, length, arith}
-use Rattle.gypsy_syntax.specs.declared.predef.Predef.{Predef}
+use Rattle.gypsy_syntax.{specs.declared.predef.Predef.Predef, specs.Effects.{Effect, Normal, Fault, Beyond}, specs.Predefined.{predefs, predef_cost}}
+use Rattle.gypsy_syntax.specs.Predefined.{predef_ctrl, predef_number, predef_temp, predef_words}
 use Rattle.gypsy_syntax.specs.declared.predef.Predef.TheVariants as row
-use Rattle.gypsy_syntax.specs.Effects.{Effect, Normal, Fault, Beyond}
-use Rattle.gypsy_syntax.specs.Predefined.{predefs, predef_cost, predef_ctrl, predef_number, predef_temp, predef_words}
 
 pub number_below : (r : Predef) → predef_number r < length predefs
 number_below row.MgSimpleVariableAssignment = omega arith

@@ -1,15 +1,9 @@
 -- An item in range is an item of its kind, and a simple value's is in range.
 use Rattle.std.proofs.Common.{◌≡◌, ℕ, zero, suc, ◌<◌, ℤ, pos, negsuc, List, [], ◌∷◌, length, get_or, Bool, true, refl, ap, sym, ◌∙◌, arith}
-use Rattle.std.specs.List.{list_all}
-use Rattle.std.proofs.lemmas.Bool.{and_parts}
-use Rattle.stack_text.specs.declared.shape.Kind.{Kind}
-use Rattle.stack_text.specs.declared.shape.Kind.TheVariants.{Integer, Boolean, Character}
-use Rattle.stack_text.specs.declared.shape.Shape.{Shape}
+use Rattle.std.{specs.List.list_all, proofs.lemmas.Bool.and_parts}
+use Rattle.stack_text.{specs.declared.shape.Kind.Kind, specs.declared.shape.Kind.TheVariants.{Integer, Boolean, Character}, specs.declared.shape.Shape.Shape}
 use Rattle.stack_text.specs.Values.{ValueOf, is_item, item_count}
-use Rattle.gypsy_syntax.specs.Programs.{simple}
-use Rattle.gypsy_syntax.specs.Ranges.{is_in_range}
-use Rattle.gypsy_syntax.specs.ValuesFit.{ValueFits}
-use Rattle.gypsy_syntax.specs.Effects.{item_of_value}
+use Rattle.gypsy_syntax.{specs.Programs.simple, specs.Ranges.is_in_range, specs.ValuesFit.ValueFits, specs.Effects.item_of_value}
 
 pub range_item : (k : Kind) (z : ℤ) → is_in_range k z ≡ true → is_item k z ≡ true
 range_item Integer z e = refl

@@ -1,22 +1,13 @@
 -- The text that is printed for a source is read as that source but for places.
-use Rattle.std.proofs.Common.{◌≡◌, ℕ, List, [], ◌∷◌, Option, Some, None, true, false, refl, ap}
-use Rattle.std.specs.Prelude.{ℤ, Bool, codes, drop}
-use Rattle.stack_text.specs.Trees.{atom, list}
-use Rattle.stack_text.specs.Trees.{without_places as unplaced_tree, all_without_places}
-use Rattle.stack_text.specs.Internal.Spellings.{Spells}
-use Rattle.stack_text.specs.declared.shape.Kind.{Kind}
-use Rattle.stack_text.proofs.SpellingLaws.{spelled_is_read}
-use Rattle.stack_text.specs.Grammar.Printed.{lines_text, name_tree}
-use Rattle.stack_text.proofs.ReaderLaws.{read_back}
-use Rattle.stack_text.proofs.PartTextLaws.{spells_list, unplaced_all}
-use Rattle.stack_text.proofs.PrintLaws.{Spells-tree_text}
-use Rattle.gypsy_syntax.specs.declared.literal.Decl.{Decl}
-use Rattle.gypsy_syntax.specs.GypsyReading.{KeepsForm, ReadsAs, gypsy_reader}
-use Rattle.gypsy_syntax.specs.Printed.{type_tree_by, truth_tree, literal_tree, literal_trees, arg_tree, decl_tree, local_tree, stmt_tree, stmt_trees, proc_tree}
-use Rattle.gypsy_syntax.specs.Printed.{proc_text, source_head, tree_of, gypsy_text}
-use Rattle.gypsy_syntax.specs.Sources.{LiteralOf, LiteralsOf, integer, truth, character, array, no_items, item, ArgOf, variable, constant}
-use Rattle.gypsy_syntax.specs.Sources.{StmtOf, StmtsOf, no_op, signal, seq, loop, branch, begin, call, predef, no_parts, part, LocalOf, ProcOf, SourceOf}
-use Rattle.gypsy_syntax.proofs.PlacesLaws.{same_source}
+use Rattle.std.{proofs.Common.{◌≡◌, ℕ, List, [], ◌∷◌, Option, Some, None, true, false, refl, ap}, specs.Prelude.{ℤ, Bool, codes, drop}}
+use Rattle.stack_text.{specs.Trees.{atom, list, without_places as unplaced_tree, all_without_places}, specs.Internal.Spellings.Spells}
+use Rattle.stack_text.{specs.declared.shape.Kind.Kind, proofs.SpellingLaws.spelled_is_read, specs.Grammar.Printed.{lines_text, name_tree}}
+use Rattle.stack_text.{proofs.ReaderLaws.read_back, proofs.PartTextLaws.{spells_list, unplaced_all}, proofs.PrintLaws.Spells-tree_text}
+use Rattle.gypsy_syntax.{specs.declared.literal.Decl.Decl, specs.GypsyReading.{KeepsForm, ReadsAs, gypsy_reader}, specs.Printed.{type_tree_by, truth_tree}}
+use Rattle.gypsy_syntax.specs.Printed.{literal_tree, literal_trees, arg_tree, decl_tree, local_tree, stmt_tree, stmt_trees, proc_tree, proc_text, source_head}
+use Rattle.gypsy_syntax.{specs.Printed.{tree_of, gypsy_text}, specs.Sources.{LiteralOf, LiteralsOf, integer, truth, character, array, no_items, item, ArgOf}}
+use Rattle.gypsy_syntax.specs.Sources.{variable, constant, StmtOf, StmtsOf, no_op, signal, seq, loop, branch, begin, call, predef, no_parts, part, LocalOf}
+use Rattle.gypsy_syntax.{specs.Sources.{ProcOf, SourceOf}, proofs.PlacesLaws.same_source}
 
 spells_source : (s : SourceOf) → Spells (tree_of s) (lines_text proc_text (source_head s) s.procs)
 spells_source s = spells_list proc_tree proc_text (λ p. Spells-tree_text (proc_tree p)) (atom 0 (codes "program")) (drop 1 (source_head s)) s.procs

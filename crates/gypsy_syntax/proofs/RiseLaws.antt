@@ -1,25 +1,16 @@
 -- In a tree whose places go up, the faults of each part of a source go up too.
-use Rattle.std.proofs.Common.{◌+◌, ◌<◌, ◌≤◌, ℕ, List, [], Option, Some, None, Ok, arith}
-use Rattle.std.specs.Prelude.{Bool, true, false, ◌&&◌, codes, drop, nat_le, if◌then◌else◌}
-use Rattle.std.specs.Str.{bytes_eq}
-use Rattle.stack_text.specs.Names.{is_name, is_truth_word}
-use Rattle.stack_text.specs.Numerals.{is_numeral, numeral_value, fits_128_bits}
-use Rattle.stack_text.specs.PlaceOrder.{AllInOrder, InOrder}
-use Rattle.stack_text.specs.Trees.{Node, Nodes, atom, list, none, more, place_of}
-use Rattle.stack_text.specs.declared.shape.Kind.{Kind}
-use Rattle.stack_text.specs.Grammar.Judged.{Judged, ◌⊛◌, fault, front, judged}
-use Rattle.stack_text.specs.Grammar.Parts.{count_of, is_atom_of}
-use Rattle.stack_text.proofs.RiseLaws.{Up, Rising, higher, starts, apply_up, goes_on, goes_on_with_each, at_fault, is_judged, place_within, named_up, only}
-use Rattle.stack_text.proofs.RiseLaws.{both, apply_value, list_up}
-use Rattle.gypsy_syntax.specs.declared.keyword.Keyword.{Keyword}
+use Rattle.std.{proofs.Common.{◌+◌, ◌<◌, ◌≤◌, ℕ, List, [], Option, Some, None, Ok, arith}, specs.Prelude.{Bool, true, false, ◌&&◌, codes, drop, nat_le}}
+use Rattle.std.{specs.Prelude.if◌then◌else◌, specs.Str.bytes_eq}
+use Rattle.stack_text.{specs.Names.{is_name, is_truth_word}, specs.Numerals.{is_numeral, numeral_value, fits_128_bits}, specs.PlaceOrder.{AllInOrder, InOrder}}
+use Rattle.stack_text.{specs.Trees.{Node, Nodes, atom, list, none, more, place_of}, specs.declared.shape.Kind.Kind, specs.Grammar.Judged.{Judged, ◌⊛◌, fault}}
+use Rattle.stack_text.{specs.Grammar.Judged.{front, judged}, specs.Grammar.Parts.{count_of, is_atom_of}, proofs.RiseLaws.{Up, Rising, higher, starts, apply_up}}
+use Rattle.stack_text.proofs.RiseLaws.{goes_on, goes_on_with_each, at_fault, is_judged, place_within, named_up, only, both, apply_value, list_up}
+use Rattle.gypsy_syntax.{specs.declared.keyword.Keyword.Keyword, specs.Keywords.{keyword_named, kind_named}, specs.Made.{new_name, new_simple, new_array}}
+use Rattle.gypsy_syntax.specs.Made.{new_decl, new_local, new_list, new_seq, new_branch, new_begin, new_call, new_predef, new_proc, new_source}
+use Rattle.gypsy_syntax.{specs.Sources.{integer, truth, character, variable, constant, no_op, signal, loop}, specs.Grammar.{named_in, names_in, is_word}}
+use Rattle.gypsy_syntax.specs.Grammar.{number_at, number_in, kind_in, simple_type, array_type, type_in, is_character, simple_at, simple_in, literal_in, decl_in}
+use Rattle.gypsy_syntax.specs.Grammar.{local_in, arg_in, is_empty_list, statement_in, form_in, statements_in, are_few, procedure_in, source_in}
 use Rattle.gypsy_syntax.specs.declared.keyword.Keyword.TheVariants as word
-use Rattle.gypsy_syntax.specs.Keywords.{keyword_named, kind_named}
-use Rattle.gypsy_syntax.specs.Made.{new_name, new_simple, new_array, new_decl, new_local, new_list}
-use Rattle.gypsy_syntax.specs.Made.{new_seq, new_branch, new_begin, new_call, new_predef, new_proc, new_source}
-use Rattle.gypsy_syntax.specs.Sources.{integer, truth, character, variable, constant, no_op, signal, loop}
-use Rattle.gypsy_syntax.specs.Grammar.{named_in, names_in, is_word, number_at, number_in, kind_in, simple_type, array_type, type_in, is_character, simple_at}
-use Rattle.gypsy_syntax.specs.Grammar.{simple_in, literal_in, decl_in, local_in, arg_in, is_empty_list, statement_in, form_in, statements_in, are_few}
-use Rattle.gypsy_syntax.specs.Grammar.{procedure_in, source_in}
 
 name_up : Rising named_in
 name_up = named_up 3

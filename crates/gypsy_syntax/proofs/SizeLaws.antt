@@ -1,15 +1,11 @@
 -- The tree of a source has no more atoms and lists than its plain counts allow.
-use Rattle.std.proofs.Common.{◌≡◌, ◌≤◌, Option, Some, None, Bool, true, false, refl, arith}
-use Rattle.std.specs.Prelude.{ℤ}
-use Rattle.stack_text.specs.declared.shape.Kind.{Kind}
-use Rattle.stack_text.specs.Trees.{node_count, node_counts}
-use Rattle.stack_text.proofs.SizeLaws.{each_over, names_over, sum_over}
-use Rattle.gypsy_syntax.specs.declared.literal.Decl.{Decl}
-use Rattle.gypsy_syntax.specs.Printed.{type_tree_by, truth_tree, literal_tree, literal_trees, arg_tree, decl_tree, local_tree, stmt_tree, stmt_trees, proc_tree}
-use Rattle.gypsy_syntax.specs.Printed.{tree_of}
-use Rattle.gypsy_syntax.specs.Sizes.{literal_size, items_size, argument_size, statement_size, parts_size, local_size, procedure_size, text_size}
-use Rattle.gypsy_syntax.specs.Sources.{LiteralOf, LiteralsOf, integer, truth, character, array, no_items, item, ArgOf, variable, constant}
-use Rattle.gypsy_syntax.specs.Sources.{StmtOf, StmtsOf, no_op, signal, seq, loop, branch, begin, call, predef, no_parts, part, LocalOf, ProcOf, SourceOf}
+use Rattle.std.{proofs.Common.{◌≡◌, ◌≤◌, Option, Some, None, Bool, true, false, refl, arith}, specs.Prelude.ℤ}
+use Rattle.stack_text.{specs.declared.shape.Kind.Kind, specs.Trees.{node_count, node_counts}, proofs.SizeLaws.{each_over, names_over, sum_over}}
+use Rattle.gypsy_syntax.{specs.declared.literal.Decl.Decl, specs.Printed.{type_tree_by, truth_tree, literal_tree, literal_trees, arg_tree, decl_tree}}
+use Rattle.gypsy_syntax.{specs.Printed.{local_tree, stmt_tree, stmt_trees, proc_tree, tree_of}, specs.Sizes.{literal_size, items_size, argument_size}}
+use Rattle.gypsy_syntax.{specs.Sizes.{statement_size, parts_size, local_size, procedure_size, text_size}, specs.Sources.{LiteralOf, LiteralsOf, integer, truth}}
+use Rattle.gypsy_syntax.specs.Sources.{character, array, no_items, item, ArgOf, variable, constant, StmtOf, StmtsOf, no_op, signal, seq, loop, branch, begin}
+use Rattle.gypsy_syntax.specs.Sources.{call, predef, no_parts, part, LocalOf, ProcOf, SourceOf}
 
 -- ---- parts
 

@@ -1,11 +1,7 @@
 -- What calls of predefined procedures do: outcomes, and what makes them of values.
-use Rattle.std.specs.Prelude.{ℕ, ℤ, pos, negsuc, List, [], ◌∷◌, length, get_or, slice_set, Bool, nat_lt, if◌then◌else◌}
-use Rattle.std.specs.Ordering.{int_eq}
-use Rattle.stack_text.specs.declared.shape.Kind.TheVariants.{Integer, Boolean}
-use Rattle.stack_text.specs.Values.{ValueOf}
-use Rattle.gypsy_syntax.specs.Programs.{simple}
-use Rattle.gypsy_syntax.specs.Resolved.{truth_item}
-use Rattle.gypsy_syntax.specs.Ranges.{is_in_range}
+use Rattle.std.specs.{Prelude.{ℕ, ℤ, pos, negsuc, List, [], ◌∷◌, length, get_or, slice_set, Bool, nat_lt, if◌then◌else◌}, Ordering.{int_eq}}
+use Rattle.stack_text.specs.{declared.shape.Kind.TheVariants.{Integer, Boolean}, Values.{ValueOf}}
+use Rattle.gypsy_syntax.specs.{Programs.{simple}, Resolved.{truth_item}, Ranges.{is_in_range}}
 
 -- the value that is written to the first argument; a fault; or an index that isn't below the length
 pub data Effect : Type 0 where

@@ -1,15 +1,10 @@
 -- The form of a source in plain words: names are names, what must not be empty isn't, a value is simple or a list of simple
 -- values, numbers have 128 bits, and all counts are within the limits.
 use Rattle.std.specs.Prelude.{◌+◌, ◌<◌, ◌≤◌, ℤ, length, Option, Some, None, All}
-use Rattle.stack_text.specs.SharedLimits.{most_declared, most_procedures}
-use Rattle.stack_text.specs.Grammar.Parts.{IsNamed}
-use Rattle.stack_text.specs.Numerals.{IsNatural, IsNumber}
-use Rattle.gypsy_syntax.specs.declared.literal.Decl.{Decl}
-use Rattle.gypsy_syntax.specs.Sizes.{nesting}
-use Rattle.gypsy_syntax.specs.Sources.{LiteralOf, LiteralsOf, integer, truth, character, array, no_items, item}
-use Rattle.gypsy_syntax.specs.Sources.{ArgOf, variable, constant}
-use Rattle.gypsy_syntax.specs.Sources.{StmtOf, StmtsOf, no_op, signal, seq, loop, branch, begin, call, predef, no_parts, part}
-use Rattle.gypsy_syntax.specs.Sources.{LocalOf, ProcOf, SourceOf}
+use Rattle.stack_text.specs.{SharedLimits.{most_declared, most_procedures}, Grammar.Parts.{IsNamed}, Numerals.{IsNatural, IsNumber}}
+use Rattle.gypsy_syntax.specs.{declared.literal.Decl.{Decl}, Sizes.{nesting}, Sources.{LiteralOf, LiteralsOf, integer, truth, character}}
+use Rattle.gypsy_syntax.specs.Sources.{array, no_items, item, ArgOf, variable, constant, StmtOf, StmtsOf, no_op, signal, seq, loop, branch}
+use Rattle.gypsy_syntax.specs.Sources.{begin, call, predef, no_parts, part, LocalOf, ProcOf, SourceOf}
 
 -- the length of an array, if there is one
 abbrev pub FitsLength : Option ℤ → Type 0

@@ -1,24 +1,16 @@
 -- The grammar of Micro-Gypsy: the source that a tree is, or its faults, part by part.
-use Rattle.std.specs.Prelude.{◌+◌, ℕ, ℤ, List, [], ◌∷◌, Ok, Option, Some, None, drop}
-use Rattle.std.specs.Prelude.{Bool, true, false, ◌&&◌, ◌==◌, nat_le, codes, if◌then◌else◌}
-use Rattle.std.specs.Str.{bytes_eq}
-use Rattle.stack_text.specs.SharedLimits.{most_declared, most_procedures}
-use Rattle.stack_text.specs.Names.{is_name, is_truth_word}
-use Rattle.stack_text.specs.Numerals.{is_digits, is_numeral, numeral_value, fits_128_bits}
-use Rattle.stack_text.specs.Trees.{Node, Nodes, atom, list, none, more, place_of}
-use Rattle.stack_text.specs.declared.name.Named.{Named}
-use Rattle.stack_text.specs.declared.shape.Kind.{Kind}
-use Rattle.stack_text.specs.Grammar.Judged.{Judged, fault, judged, ◌⊛◌, front, each_of}
-use Rattle.stack_text.specs.Grammar.Parts.{count_of, is_atom_of, list_length, list_or, name_or}
-use Rattle.gypsy_syntax.specs.declared.keyword.Keyword.{Keyword}
+use Rattle.std.specs.Prelude.{◌+◌, ℕ, ℤ, List, [], ◌∷◌, Ok, Option, Some, None, drop, Bool, true, false, ◌&&◌, ◌==◌, nat_le, codes}
+use Rattle.std.specs.{Prelude.{if◌then◌else◌}, Str.{bytes_eq}}
+use Rattle.stack_text.specs.{SharedLimits.{most_declared, most_procedures}, Names.{is_name, is_truth_word}, Numerals.{is_digits}}
+use Rattle.stack_text.specs.{Numerals.{is_numeral, numeral_value, fits_128_bits}, Trees.{Node, Nodes, atom, list, none, more, place_of}}
+use Rattle.stack_text.specs.{declared.name.Named.{Named}, declared.shape.Kind.{Kind}, Grammar.Judged.{Judged, fault, judged, ◌⊛◌, front}}
+use Rattle.stack_text.specs.{Grammar.Judged.{each_of}, Grammar.Parts.{count_of, is_atom_of, list_length, list_or, name_or}}
+use Rattle.gypsy_syntax.specs.{declared.keyword.Keyword.{Keyword}, declared.literal.Decl.{Decl}, declared.literal.TypeText.{TypeText}}
+use Rattle.gypsy_syntax.specs.{Keywords.{keyword_named, kind_named}, Made.{new_name, new_simple, new_array, new_decl, new_local, new_list}}
+use Rattle.gypsy_syntax.specs.{Made.{new_seq, new_branch, new_begin, new_call, new_predef, new_proc, new_source}, Sources.{LiteralOf}}
+use Rattle.gypsy_syntax.specs.Sources.{integer, truth, character, ArgOf, variable, constant, StmtOf, no_op, signal, loop, LocalOf, ProcOf}
+use Rattle.gypsy_syntax.specs.Sources.{SourceOf}
 use Rattle.gypsy_syntax.specs.declared.keyword.Keyword.TheVariants as word
-use Rattle.gypsy_syntax.specs.declared.literal.Decl.{Decl}
-use Rattle.gypsy_syntax.specs.declared.literal.TypeText.{TypeText}
-use Rattle.gypsy_syntax.specs.Keywords.{keyword_named, kind_named}
-use Rattle.gypsy_syntax.specs.Made.{new_name, new_simple, new_array, new_decl, new_local, new_list}
-use Rattle.gypsy_syntax.specs.Made.{new_seq, new_branch, new_begin, new_call, new_predef, new_proc, new_source}
-use Rattle.gypsy_syntax.specs.Sources.{LiteralOf, integer, truth, character, ArgOf, variable, constant}
-use Rattle.gypsy_syntax.specs.Sources.{StmtOf, no_op, signal, loop, LocalOf, ProcOf, SourceOf}
 
 -- M3 where a name is wanted and isn't there
 abbrev pub named_in : Node → Judged Named

@@ -2,12 +2,8 @@
 use Rattle.std.specs.Prelude.{ℕ, List, Option, Some, None, Result}
 use Rattle.stack_text.specs.Gives as common
 use Rattle.stack_text.specs.Grammar.TextReaders.{TextReader, value_in, KeepsFormOf, ReadsBack}
-use Rattle.gypsy_syntax.specs.declared.fault.GypsyFault.{GypsyFault}
-use Rattle.gypsy_syntax.specs.declared.fault.GypsyFault.TheVariants.{Text, Form, Memory}
-use Rattle.gypsy_syntax.specs.Grammar.{source_in}
-use Rattle.gypsy_syntax.specs.Printed.{tree_of}
-use Rattle.gypsy_syntax.specs.Places.{without_places}
-use Rattle.gypsy_syntax.specs.Sources.{SourceOf}
+use Rattle.gypsy_syntax.specs.{declared.fault.GypsyFault.{GypsyFault}, declared.fault.GypsyFault.TheVariants.{Text, Form, Memory}}
+use Rattle.gypsy_syntax.specs.{Grammar.{source_in}, Printed.{tree_of}, Places.{without_places}, Sources.{SourceOf}}
 
 abbrev pub gypsy_reader : TextReader SourceOf GypsyFault
 gypsy_reader = record {

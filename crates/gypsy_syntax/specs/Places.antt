@@ -1,12 +1,9 @@
 -- A source with 0 in all its places.
 use Rattle.std.specs.Prelude.{map}
 use Rattle.stack_text.specs.Grammar.Printed.{unplaced_name}
-use Rattle.gypsy_syntax.specs.declared.literal.Decl.{Decl}
-use Rattle.gypsy_syntax.specs.declared.literal.TypeText.{TypeText}
-use Rattle.gypsy_syntax.specs.Sources.{LiteralOf, LiteralsOf, integer, truth, character, array, no_items, item}
-use Rattle.gypsy_syntax.specs.Sources.{ArgOf, variable, constant}
-use Rattle.gypsy_syntax.specs.Sources.{StmtOf, StmtsOf, no_op, signal, seq, loop, branch, begin, call, predef, no_parts, part}
-use Rattle.gypsy_syntax.specs.Sources.{LocalOf, ProcOf, SourceOf}
+use Rattle.gypsy_syntax.specs.{declared.literal.Decl.{Decl}, declared.literal.TypeText.{TypeText}, Sources.{LiteralOf, LiteralsOf, integer}}
+use Rattle.gypsy_syntax.specs.Sources.{truth, character, array, no_items, item, ArgOf, variable, constant, StmtOf, StmtsOf, no_op, signal}
+use Rattle.gypsy_syntax.specs.Sources.{seq, loop, branch, begin, call, predef, no_parts, part, LocalOf, ProcOf, SourceOf}
 
 abbrev pub unplaced_type : TypeText → TypeText
 unplaced_type t = record t { place = 0 }

@@ -1,20 +1,12 @@
 -- The tree of a source, with 0 in all its places, and the text that is printed for it.
-use Rattle.std.specs.Prelude.{ℕ, ℤ, List, [], ◌∷◌, ◌++◌, map, Option, Some, None, Bool, true, false, codes}
-use Rattle.std.specs.Fmt.{signed_decimal}
-use Rattle.stack_text.specs.Trees.{Node, Nodes, atom, list, none, more}
-use Rattle.stack_text.specs.TreeText.{tree_text}
-use Rattle.stack_text.specs.declared.shape.Kind.{Kind}
-use Rattle.stack_text.specs.Values.{kind_name}
-use Rattle.stack_text.specs.Grammar.Printed.{lines_text, list_tree, name_tree, tree_of_all}
-use Rattle.gypsy_syntax.specs.declared.keyword.Keyword.{Keyword}
+use Rattle.std.specs.{Prelude.{ℕ, ℤ, List, [], ◌∷◌, ◌++◌, map, Option, Some, None, Bool, true, false, codes}, Fmt.{signed_decimal}}
+use Rattle.stack_text.specs.{Trees.{Node, Nodes, atom, list, none, more}, TreeText.{tree_text}, declared.shape.Kind.{Kind}}
+use Rattle.stack_text.specs.{Values.{kind_name}, Grammar.Printed.{lines_text, list_tree, name_tree, tree_of_all}}
+use Rattle.gypsy_syntax.specs.{declared.keyword.Keyword.{Keyword}, declared.literal.Decl.{Decl}, declared.literal.TypeText.{TypeText}}
+use Rattle.gypsy_syntax.specs.{Keywords.{keyword_name}, Sources.{LiteralOf, LiteralsOf, integer, truth, character, array, no_items, item}}
+use Rattle.gypsy_syntax.specs.Sources.{ArgOf, variable, constant, StmtOf, StmtsOf, no_op, signal, seq, loop, branch, begin, call, predef}
+use Rattle.gypsy_syntax.specs.Sources.{no_parts, part, LocalOf, ProcOf, SourceOf}
 use Rattle.gypsy_syntax.specs.declared.keyword.Keyword.TheVariants as word
-use Rattle.gypsy_syntax.specs.declared.literal.Decl.{Decl}
-use Rattle.gypsy_syntax.specs.declared.literal.TypeText.{TypeText}
-use Rattle.gypsy_syntax.specs.Keywords.{keyword_name}
-use Rattle.gypsy_syntax.specs.Sources.{LiteralOf, LiteralsOf, integer, truth, character, array, no_items, item}
-use Rattle.gypsy_syntax.specs.Sources.{ArgOf, variable, constant}
-use Rattle.gypsy_syntax.specs.Sources.{StmtOf, StmtsOf, no_op, signal, seq, loop, branch, begin, call, predef, no_parts, part}
-use Rattle.gypsy_syntax.specs.Sources.{LocalOf, ProcOf, SourceOf}
 
 abbrev pub number_tree : ℤ → Node
 number_tree z = atom 0 (signed_decimal z)

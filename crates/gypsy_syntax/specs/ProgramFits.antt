@@ -1,17 +1,11 @@
 -- What is known of the program of a source that breaks no static rule.
 use Rattle.std.specs.Prelude.{◌≡◌, ◌≢◌, ℕ, ◌<◌, ◌≤◌, List, [], ◌∷◌, length, slice_get, Bool, true, false, Option, Some, None}
-use Rattle.stack_text.specs.SharedLimits.{most_stack, most_array}
-use Rattle.stack_text.specs.declared.shape.Kind.{Kind}
-use Rattle.stack_text.specs.declared.shape.Kind.TheVariants.{Boolean}
+use Rattle.stack_text.specs.{SharedLimits.{most_stack, most_array}, declared.shape.Kind.{Kind}, declared.shape.Kind.TheVariants.{Boolean}}
 use Rattle.stack_text.specs.declared.shape.Shape.{Shape}
-use Rattle.gypsy_syntax.specs.declared.slot.Form.{Form}
-use Rattle.gypsy_syntax.specs.declared.slot.Form.TheVariants.{Simple, Array, Literal}
-use Rattle.gypsy_syntax.specs.declared.slot.Slot.{Slot}
-use Rattle.gypsy_syntax.specs.Predefined.{slots_of}
-use Rattle.gypsy_syntax.specs.Programs.{ConditionOf, Leave, Routine, Space, Declared, Arg, Var, Lit}
-use Rattle.gypsy_syntax.specs.Programs.{Proc, Program, simple, proc_at, shapes_of, conds_of, words_of}
-use Rattle.gypsy_syntax.specs.Programs.{Stmt, Skip, NoOp, Signal, Seq, Loop, If, Begin, Call, Apply}
-use Rattle.gypsy_syntax.specs.ValuesFit.{ValueFits}
+use Rattle.gypsy_syntax.specs.{declared.slot.Form.{Form}, declared.slot.Form.TheVariants.{Simple, Array, Literal}}
+use Rattle.gypsy_syntax.specs.{declared.slot.Slot.{Slot}, Predefined.{slots_of}, Programs.{ConditionOf, Leave, Routine, Space, Declared}}
+use Rattle.gypsy_syntax.specs.Programs.{Arg, Var, Lit, Proc, Program, simple, proc_at, shapes_of, conds_of, words_of, Stmt, Skip, NoOp}
+use Rattle.gypsy_syntax.specs.{Programs.{Signal, Seq, Loop, If, Begin, Call, Apply}, ValuesFit.{ValueFits}}
 pub use Rattle.stack_text.specs.Lists.{Each}
 
 -- a is none of these

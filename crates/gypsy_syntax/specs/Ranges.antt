@@ -1,7 +1,6 @@
 -- The numbers that items of each kind can be.
 use Rattle.std.specs.Prelude.{ℤ, pos, negsuc, ◌^◌, Bool, false, ◌==◌, ◌||◌, nat_lt, nat_le}
-use Rattle.stack_text.specs.declared.shape.Kind.{Kind}
-use Rattle.stack_text.specs.declared.shape.Kind.TheVariants.{Integer, Boolean, Character}
+use Rattle.stack_text.specs.{declared.shape.Kind.{Kind}, declared.shape.Kind.TheVariants.{Integer, Boolean, Character}}
 
 -- a signed number of 32 bits; 0 or 1; or 0 to 127
 abbrev pub is_in_range : Kind → ℤ → Bool

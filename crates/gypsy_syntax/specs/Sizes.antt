@@ -1,10 +1,8 @@
 -- How deep the lists of a statement nest, and how many atoms and lists the text of a source has at most, by plain counts.
-use Rattle.std.specs.Prelude.{ℕ, ◌+◌, ◌*◌, max, length}
-use Rattle.std.specs.List.{sum_by}
-use Rattle.gypsy_syntax.specs.Sources.{LiteralOf, LiteralsOf, integer, truth, character, array, no_items, item}
-use Rattle.gypsy_syntax.specs.Sources.{ArgOf, variable, constant}
-use Rattle.gypsy_syntax.specs.Sources.{StmtOf, StmtsOf, no_op, signal, seq, loop, branch, begin, call, predef, no_parts, part}
-use Rattle.gypsy_syntax.specs.Sources.{LocalOf, ProcOf, SourceOf}
+use Rattle.std.specs.{Prelude.{ℕ, ◌+◌, ◌*◌, max, length}, List.{sum_by}}
+use Rattle.gypsy_syntax.specs.Sources.{LiteralOf, LiteralsOf, integer, truth, character, array, no_items, item, ArgOf, variable, constant}
+use Rattle.gypsy_syntax.specs.Sources.{StmtOf, StmtsOf, no_op, signal, seq, loop, branch, begin, call, predef, no_parts, part, LocalOf}
+use Rattle.gypsy_syntax.specs.Sources.{ProcOf, SourceOf}
 
 abbrev mutual
   pub nesting : StmtOf → ℕ

@@ -1,9 +1,6 @@
 -- When values fit the shapes of variables.
-use Rattle.std.specs.Prelude.{◌≡◌, ◌≤◌, List, [], ◌∷◌, length, true}
-use Rattle.std.specs.List.{list_all}
-use Rattle.stack_text.specs.SharedLimits.{most_array}
-use Rattle.stack_text.specs.declared.shape.Shape.{Shape}
-use Rattle.stack_text.specs.Values.{ValueOf, item_count}
+use Rattle.std.specs.{Prelude.{◌≡◌, ◌≤◌, List, [], ◌∷◌, length, true}, List.{list_all}}
+use Rattle.stack_text.specs.{SharedLimits.{most_array}, declared.shape.Shape.{Shape}, Values.{ValueOf, item_count}}
 use Rattle.gypsy_syntax.specs.Ranges.{is_in_range}
 
 -- a value has its shape's number of items, each in range

@@ -2,11 +2,7 @@
 
 ghost use Rattle.std.specs.Prelude.{◌≤◌, ◌^◌};
 ghost use Rattle.stack_text.specs.Trees.{node_count};
-ghost use Rattle.gypsy_syntax.specs.GypsyReading.{KeepsForm};
-ghost use Rattle.gypsy_syntax.specs.Fits.{FitsForm};
-ghost use Rattle.gypsy_syntax.specs.Printed.{tree_of};
-ghost use Rattle.gypsy_syntax.specs.Sizes.{text_size};
-ghost use Rattle.gypsy_syntax.specs.Sources.{SourceOf};
+ghost use Rattle.gypsy_syntax.specs.{GypsyReading.{KeepsForm}, Fits.{FitsForm}, Printed.{tree_of}, Sizes.{text_size}, Sources.{SourceOf}};
 
 /// Keeping the form is fitting it in plain words, and having a tree of at most 2^31 atoms and lists, which plain counts
 /// bound. It does nothing: its clauses hold of all sources.

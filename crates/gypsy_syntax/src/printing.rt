@@ -1,13 +1,9 @@
 //! The text of a source.
 
-ghost use Rattle.std.specs.Prelude.{◌≡◌, ◌++◌, ◌∷◌, map, IfOk};
+ghost use Rattle.std.specs.{Prelude.{◌≡◌, ◌++◌, ◌∷◌, map, IfOk}, List.{flat_map}};
 ghost use Rattle.stack_heap.specs.Heaps.{IfOkUnless, OnOkUnless};
-ghost use Rattle.std.specs.List.{flat_map};
-ghost use Rattle.stack_text.specs.TreeText.{items_text, spaced_text};
-ghost use Rattle.stack_text.specs.Views.TreeView.{nodes};
-ghost use Rattle.stack_text.specs.Grammar.Printed.{lines_text};
-ghost use Rattle.gypsy_syntax.specs.GypsyReading.{KeepsForm, ReadsAs};
-ghost use Rattle.gypsy_syntax.specs.Printed.{gypsy_text, proc_head, proc_rest, proc_text, source_head};
+ghost use Rattle.stack_text.specs.{TreeText.{items_text, spaced_text}, Views.TreeView.{nodes}, Grammar.Printed.{lines_text}};
+ghost use Rattle.gypsy_syntax.specs.{GypsyReading.{KeepsForm, ReadsAs}, Printed.{gypsy_text, proc_head, proc_rest, proc_text, source_head}};
 ghost use Rattle.gypsy_syntax.specs.Views.SourceView.{proc_of, source_of};
 
 mod declaration;

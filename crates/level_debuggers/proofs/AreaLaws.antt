@@ -1,14 +1,8 @@
 -- The words of the areas of a state, one area after the other.
-use Rattle.std.proofs.Common.{◌≡◌, ◌≤◌, List, [], ◌∷◌, length, sym, ap, ◌∙◌, subst}
-use Rattle.std.specs.List.{flat_map}
-use Rattle.std.proofs.lemmas.List.{length-map}
+use Rattle.std.{proofs.Common.{◌≡◌, ◌≤◌, List, [], ◌∷◌, length, sym, ap, ◌∙◌, subst}, specs.List.flat_map, proofs.lemmas.List.length-map}
 use Rattle.piton_words.specs.declared.word.Word.{Word}
-use Rattle.piton_check.specs.PitonChecking.{CheckedOf, IsChecked}
-use Rattle.piton_check.specs.Resolved.{ResolvedOf}
-use Rattle.piton_check.specs.Instruction.{SystemView, system_view}
-use Rattle.piton_semantics.specs.Fits.{Each, IsWordOf, system_in}
-use Rattle.piton_semantics.specs.StateView.{Seen, IsSeen}
-use Rattle.piton_semantics.proofs.EachLaws.{each_append}
+use Rattle.piton_check.{specs.PitonChecking.{CheckedOf, IsChecked}, specs.Resolved.ResolvedOf, specs.Instruction.{SystemView, system_view}}
+use Rattle.piton_semantics.{specs.Fits.{Each, IsWordOf, system_in}, specs.StateView.{Seen, IsSeen}, proofs.EachLaws.each_append}
 use Rattle.level_debuggers.specs.PitonReadings.{area_words}
 
 -- each of them exists

@@ -1,20 +1,14 @@
 -- First arrivals at a place.
 use Rattle.std.proofs.Common.{◌≡◌, ◌+◌, ◌<◌, ◌≤◌, ℕ, zero, suc, Bool, true, false, cond, Option, Some, None, refl, sym, ap, subst, ◌∙◌, arith}
-use Rattle.std.specs.List.{find, range_with_len}
-use Rattle.std.proofs.Math.Dec.{ltb}
-use Rattle.std.proofs.lemmas.Bool.{ltb-true, ltb-false}
+use Rattle.std.{specs.List.{find, range_with_len}, proofs.Math.Dec.ltb, proofs.lemmas.Bool.{ltb-true, ltb-false}}
 use Rattle.debug_script.specs.declared.command.Place.{Place}
-use Rattle.level_debuggers.specs.declared.advance.Advance.{Advance}
+use Rattle.level_debuggers.{specs.declared.advance.Advance.Advance, specs.declared.advance.Stop.Stop, specs.declared.session.SessionRun.SessionRun}
+use Rattle.level_debuggers.{specs.Arrivals.{IsFirstArrival, arrived, arrived_by, first_arrival}, specs.Levels.{LevelOf, next_of, stands_at}}
+use Rattle.level_debuggers.{specs.Steps.{IsAdvance, is_over}, specs.Walks.{HasMadeSome, SessionOf, Stepped, Walk, refused_after, stepped, walk}}
+use Rattle.level_debuggers.proofs.WalkLaws.{IsStop, Made, made_all, step_over, step_refused, stepped_some, walk_stays}
 use Rattle.level_debuggers.specs.declared.advance.Advance.TheVariants as advance
-use Rattle.level_debuggers.specs.declared.advance.Stop.{Stop}
-use Rattle.level_debuggers.specs.declared.session.SessionRun.{SessionRun}
 use Rattle.level_debuggers.specs.declared.session.SessionRun.TheVariants as run
 use Rattle.level_debuggers.specs.declared.arrival.Arrival.TheVariants as arrival
-use Rattle.level_debuggers.specs.Arrivals.{IsFirstArrival, arrived, arrived_by, first_arrival}
-use Rattle.level_debuggers.specs.Levels.{LevelOf, next_of, stands_at}
-use Rattle.level_debuggers.specs.Steps.{IsAdvance, is_over}
-use Rattle.level_debuggers.specs.Walks.{HasMadeSome, SessionOf, Stepped, Walk, refused_after, stepped, walk}
-use Rattle.level_debuggers.proofs.WalkLaws.{IsStop, Made, made_all, step_over, step_refused, stepped_some, walk_stays}
 
 -- Of numbers from one on, the first that passes.
 module _ (p : ℕ → Bool) where

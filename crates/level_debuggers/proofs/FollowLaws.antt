@@ -3,10 +3,9 @@ use Rattle.std.proofs.Common.{◌≡◌, ◌+◌, ◌<◌, ◌≤◌, ℕ, List,
 use Rattle.std.proofs.lemmas.List.{drop_all}
 use Rattle.stack_text.proofs.Loops.{drop-item}
 use Rattle.debug_script.specs.declared.reading.Line.{Line}
-use Rattle.level_debuggers.specs.Walks.{SessionOf}
-use Rattle.level_debuggers.specs.declared.script_end.ScriptEnd.{ScriptEnd}
+use Rattle.level_debuggers.{specs.Walks.SessionOf, specs.declared.script_end.ScriptEnd.ScriptEnd, specs.Transcripts.{Followed, IsLeftBy, IsLeftIn, IsSaid}}
+use Rattle.level_debuggers.specs.Transcripts.{follow_on, followed, said_to}
 use Rattle.level_debuggers.specs.declared.script_end.ScriptEnd.TheVariants as end
-use Rattle.level_debuggers.specs.Transcripts.{Followed, IsLeftBy, IsLeftIn, IsSaid, follow_on, followed, said_to}
 
 -- a line after which the script goes on
 went_on : (text new : List ℕ) (line : Line) (lines : List Line) (s t : SessionOf) → IsSaid (said_to line s) text new None t

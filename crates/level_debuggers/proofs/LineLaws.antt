@@ -1,51 +1,34 @@
 -- What a session says to a line of a script are whole lines.
-use Rattle.std.proofs.Common.{inl, inr, ℕ, zero, suc, ◌+◌, Bool, true, false, List, [], ◌∷◌, ◌++◌, Option, Some, None, refl, sym, ap, subst, ◌∙◌}
-use Rattle.std.proofs.Common.{append_assoc, append-nil}
-use Rattle.std.specs.Prelude.{◌-◌, ◌^◌, ◌%◌, ◌==◌, drop, length, map, min, reverse, codes, slice_get, if◌then◌else◌}
-use Rattle.std.specs.List.{flat_map}
-use Rattle.std.specs.Fmt.{decimal}
+use Rattle.std.proofs.Common.{inl, inr, ℕ, zero, suc, ◌+◌, Bool, true, false, List, [], ◌∷◌, ◌++◌, Option, Some, None, refl, sym, ap, subst, ◌∙◌, append_assoc}
+use Rattle.std.{proofs.Common.append-nil, specs.Prelude.{◌-◌, ◌^◌, ◌%◌, ◌==◌, drop, length, map, min, reverse, codes, slice_get, if◌then◌else◌}}
+use Rattle.std.{specs.List.flat_map, specs.Fmt.decimal}
 use Rattle.stack_text.specs.Lines.{line}
 use Rattle.fm_machine.specs.State as fm
-use Rattle.fm_show.specs.Digits.{hex_digits}
-use Rattle.fm_show.specs.Disassembly.{register_name}
-use Rattle.fm_show.specs.Listing.{count_line, flag_letters, flags_line, machine_listing, numbered_lines, register_line, register_lines}
+use Rattle.fm_show.{specs.Digits.hex_digits, specs.Disassembly.register_name, specs.Listing.{count_line, flag_letters, flags_line, machine_listing}}
+use Rattle.fm_show.specs.Listing.{numbered_lines, register_line, register_lines}
 use Rattle.piton_words.specs.declared.word.Word.{Word}
 use Rattle.piton_syntax.specs.Systems.{SystemOf}
-use Rattle.piton_semantics.specs.State.{PitonState, locals_of}
-use Rattle.piton_semantics.specs.Fits.{system_in}
+use Rattle.piton_semantics.{specs.State.{PitonState, locals_of}, specs.Fits.system_in}
 use Rattle.piton_check.specs.NamedWords.{program_name_at, word_text, words_line}
-use Rattle.display_maps.specs.declared.shown.Shown.{Shown}
-use Rattle.display_maps.specs.Report.{VariableOf, condition_line, lines_of_reading, reading_lines, shown_text, value_text, variable_line}
-use Rattle.display_maps.specs.Reading.{reading, word_in}
-use Rattle.display_maps.specs.ReadingAt.{ReadingAtOf, read_from, read_variable, reading_at}
+use Rattle.display_maps.{specs.declared.shown.Shown.Shown, specs.Report.{VariableOf, condition_line, lines_of_reading, reading_lines, shown_text, value_text}}
+use Rattle.display_maps.{specs.Report.variable_line, specs.Reading.{reading, word_in}, specs.ReadingAt.{ReadingAtOf, read_from, read_variable, reading_at}}
 use Rattle.display_maps.specs.Running.{condition_shown, run_lines, variables_shown}
-use Rattle.gypsy_semantics.specs.Views.RunView.{depth_at, place_at, values_at}
-use Rattle.gypsy_semantics.specs.Views.Shown.{condition_at, names_at}
-use Rattle.debug_script.specs.declared.command.Command.{Command}
+use Rattle.gypsy_semantics.{specs.Views.RunView.{depth_at, place_at, values_at}, specs.Views.Shown.{condition_at, names_at}}
+use Rattle.debug_script.{specs.declared.command.Command.Command, specs.declared.command.Place.Place, specs.declared.command.WatchWord.WatchWord}
 use Rattle.debug_script.specs.declared.command.Command.TheVariants as command
-use Rattle.debug_script.specs.declared.command.Place.{Place}
-use Rattle.debug_script.specs.declared.command.WatchWord.{WatchWord}
-use Rattle.level_debuggers.specs.declared.session.SessionRun.{SessionRun}
-use Rattle.level_debuggers.specs.declared.session.SessionRun.TheVariants as run
-use Rattle.level_debuggers.specs.declared.watch.Rule.{Rule}
-use Rattle.level_debuggers.specs.declared.watch.Rule.TheVariants as rule
-use Rattle.level_debuggers.specs.declared.watch.Tally.{Tally}
-use Rattle.level_debuggers.specs.GypsyLevels.{GypsyLevelOf, gypsy_listing, gypsy_over, gypsy_place_line}
-use Rattle.level_debuggers.specs.PitonLevels.{PitonLevelOf, local_line, local_lines, names_of, piton_listing, piton_over, place_line}
-use Rattle.level_debuggers.specs.PitonReadings.{is_covered, piton_at, piton_end, piton_reading_of, piton_up}
-use Rattle.level_debuggers.specs.declared.arrival.Arrival.{Arrival}
-use Rattle.level_debuggers.specs.declared.arrival.Arrival.TheVariants as arrival
-use Rattle.level_debuggers.specs.Arrivals.{arrived}
-use Rattle.level_debuggers.specs.FmLevels.{FmLevelOf, fm_over, fm_up, word_line, word_lines}
-use Rattle.level_debuggers.specs.Levels.{LevelOf, Gypsy, Piton, Fm, has_places, show_text, up_text, words_text}
-use Rattle.level_debuggers.specs.Texts.{mark_text, no_mark}
-use Rattle.level_debuggers.specs.declared.script_end.ScriptEnd.{ScriptEnd}
-use Rattle.level_debuggers.specs.declared.script_end.ScriptEnd.TheVariants as end
+use Rattle.level_debuggers.{specs.declared.session.SessionRun.SessionRun, specs.declared.watch.Rule.Rule, specs.declared.watch.Tally.Tally}
+use Rattle.level_debuggers.{specs.GypsyLevels.{GypsyLevelOf, gypsy_listing, gypsy_over, gypsy_place_line}, specs.PitonLevels.{PitonLevelOf, local_line}}
+use Rattle.level_debuggers.{specs.PitonLevels.{local_lines, names_of, piton_listing, piton_over, place_line}, specs.PitonReadings.{is_covered, piton_at}}
+use Rattle.level_debuggers.{specs.PitonReadings.{piton_end, piton_reading_of, piton_up}, specs.declared.arrival.Arrival.Arrival, specs.Arrivals.arrived}
+use Rattle.level_debuggers.{specs.FmLevels.{FmLevelOf, fm_over, fm_up, word_line, word_lines}, specs.Levels.{LevelOf, Gypsy, Piton, Fm, has_places, show_text}}
+use Rattle.level_debuggers.{specs.Levels.{up_text, words_text}, specs.Texts.{mark_text, no_mark}, specs.declared.script_end.ScriptEnd.ScriptEnd}
 use Rattle.level_debuggers.specs.Transcripts.{Followed, Said, arrival_text, arrived_said, attach_with, detach_with, ends_with, follow_on, followed, places_said}
-use Rattle.level_debuggers.specs.Transcripts.{run_text, said_by, said_to}
-use Rattle.level_debuggers.specs.Transcripts.{tally_said, watch_name, words_said}
-use Rattle.level_debuggers.specs.Walks.{SessionOf, stepped}
+use Rattle.level_debuggers.{specs.Transcripts.{run_text, said_by, said_to, tally_said, watch_name, words_said}, specs.Walks.{SessionOf, stepped}}
 use Rattle.level_debuggers.specs.WholeLines.{AreLines, AnswersAreLines, TranscriptsAreLines}
+use Rattle.level_debuggers.specs.declared.session.SessionRun.TheVariants as run
+use Rattle.level_debuggers.specs.declared.watch.Rule.TheVariants as rule
+use Rattle.level_debuggers.specs.declared.arrival.Arrival.TheVariants as arrival
+use Rattle.level_debuggers.specs.declared.script_end.ScriptEnd.TheVariants as end
 
 -- 1. Texts that are put together.
 

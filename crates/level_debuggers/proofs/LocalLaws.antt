@@ -1,8 +1,7 @@
 -- The locals of a frame, one by one.
 use Rattle.std.proofs.Common.{◌≡◌, ◌≤◌, ◌+◌, ℕ, List, [], ◌∷◌, ◌++◌, length, drop, Some, None, refl, sym, ap, ◌∙◌, append_assoc, append-nil, ⊎_elim}
-use Rattle.std.specs.Prelude.{slice_get}
-use Rattle.std.proofs.lemmas.List.{drop_all}
-use Rattle.std.proofs.lemmas.Option.{get_or_from_slice_get, none-some, slice_get_cases, slice_get_within}
+use Rattle.std.{specs.Prelude.slice_get, proofs.lemmas.List.drop_all, proofs.lemmas.Option.{get_or_from_slice_get, none-some, slice_get_cases}}
+use Rattle.std.proofs.lemmas.Option.{slice_get_within}
 use Rattle.stack_text.proofs.Loops.{drop-item}
 use Rattle.piton_words.specs.declared.word.Word.{Word}
 use Rattle.piton_syntax.specs.Systems.{SystemOf}

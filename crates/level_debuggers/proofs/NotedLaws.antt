@@ -1,6 +1,5 @@
 -- A list whose items are changed one after the other.
-use Rattle.std.proofs.Common.{◌≡◌, ◌+◌, ◌<◌, ◌≤◌, ℕ, zero, suc, List, [], ◌∷◌, length, map, get_or, refl, ap, add-one, arith}
-use Rattle.std.proofs.Math.ListN.{set}
+use Rattle.std.{proofs.Common.{◌≡◌, ◌+◌, ◌<◌, ◌≤◌, ℕ, zero, suc, List, [], ◌∷◌, length, map, get_or, refl, ap, add-one, arith}, proofs.Math.ListN.set}
 
 -- the first n items are changed
 abbrev pub changed : {X : Type 0} → (X → X) → ℕ → List X → List X

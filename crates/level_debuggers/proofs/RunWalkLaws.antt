@@ -3,24 +3,15 @@ use Rattle.std.proofs.Common.{◌≡◌, ◌≢◌, ◌+◌, ◌<◌, ◌≤◌,
 use Rattle.std.proofs.lemmas.Bool.{eq-eqb, ne_eqb}
 use Rattle.debug_script.specs.declared.command.Place.TheVariants as place
 use Rattle.fm_machine.specs.State as machine
-use Rattle.fm_machine.specs.Run.{Avoids, fm_run, pc_of}
-use Rattle.fm_machine.specs.Step.{fm_step, then_on}
-use Rattle.fm_machine.specs.declared.fault.Outside.{Outside}
+use Rattle.fm_machine.{specs.Run.{Avoids, fm_run, pc_of}, specs.Step.{fm_step, then_on}, specs.declared.fault.Outside.Outside}
 use Rattle.piton_check.specs.Instruction.{SystemView}
-use Rattle.piton_semantics.specs.declared.error_kind.ErrorKind.{ErrorKind}
-use Rattle.piton_semantics.specs.Fits.{system_in}
-use Rattle.piton_semantics.specs.Law.{Steps, none, more, advanced}
-use Rattle.piton_semantics.specs.StateView.{Seen, saturated, seen_after, seen_step}
-use Rattle.piton_semantics.specs.State.{Frame, PitonState}
-use Rattle.piton_semantics.specs.Step.{piton_step, step_cost}
-use Rattle.level_debuggers.specs.declared.watch.Event.{Event}
-use Rattle.level_debuggers.specs.FmLevels.{FmLevelOf, fm_after, fm_event}
-use Rattle.level_debuggers.specs.Levels.{LevelOf, Piton, Fm, lifted, next_of, stands_at}
-use Rattle.level_debuggers.specs.PitonLevels.{PitonLevelOf, piton_after, piton_event, piton_from}
-use Rattle.level_debuggers.specs.RunWalks.{WalksTo, MachinesWalk, MachinesArrive, SystemsWalk}
-use Rattle.level_debuggers.specs.Steps.{Over, Makes}
-use Rattle.level_debuggers.specs.Walks.{Walk, with_event, walk_on, walk}
+use Rattle.piton_semantics.{specs.declared.error_kind.ErrorKind.ErrorKind, specs.Fits.system_in, specs.Law.{Steps, none, more, advanced}, specs.StateView.Seen}
+use Rattle.piton_semantics.{specs.StateView.{saturated, seen_after, seen_step}, specs.State.{Frame, PitonState}, specs.Step.{piton_step, step_cost}}
 use Rattle.piton_semantics.proofs.RunLaws.{seen_next_by}
+use Rattle.level_debuggers.{specs.declared.watch.Event.Event, specs.FmLevels.{FmLevelOf, fm_after, fm_event}, specs.Levels.{LevelOf, Piton, Fm, lifted}}
+use Rattle.level_debuggers.{specs.Levels.{next_of, stands_at}, specs.PitonLevels.{PitonLevelOf, piton_after, piton_event, piton_from}, specs.RunWalks.WalksTo}
+use Rattle.level_debuggers.{specs.RunWalks.{MachinesWalk, MachinesArrive, SystemsWalk}, specs.Steps.{Over, Makes}, specs.Walks.{Walk, with_event, walk_on}}
+use Rattle.level_debuggers.specs.Walks.{walk}
 
 -- one step, and the others
 walks_on : (n : ℕ) (level after to : LevelOf) (event : Event) → next_of level ≡ Makes event after → WalksTo n after to → WalksTo (suc n) level to

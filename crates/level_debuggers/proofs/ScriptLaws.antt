@@ -1,35 +1,21 @@
 -- How far a script leads, and what is said at its lines of `up`, `words` and `until`.
-use Rattle.std.proofs.Common.{◌≡◌, ◌+◌, ◌≤◌, ℕ, zero, suc, Bool, true, false, cond, List, [], ◌∷◌, ◌++◌, length, Option, Some, None}
-use Rattle.std.proofs.Common.{refl, sym, ap, subst, ◌∙◌, arith, append_assoc}
-use Rattle.std.specs.Prelude.{unwrap_or}
-use Rattle.std.proofs.lemmas.Bool.{eq-eqb}
-use Rattle.std.proofs.lemmas.List.{append-nil}
-use Rattle.debug_script.specs.declared.command.Command.{Command}
-use Rattle.debug_script.specs.declared.command.Command.TheVariants as command
-use Rattle.debug_script.specs.declared.command.Place.{Place}
-use Rattle.debug_script.specs.declared.command.WatchWord.{WatchWord}
+use Rattle.std.proofs.Common.{◌≡◌, ◌+◌, ◌≤◌, ℕ, zero, suc, Bool, true, false, cond, List, [], ◌∷◌, ◌++◌, length, Option, Some, None, refl, sym, ap, subst, ◌∙◌}
+use Rattle.std.{proofs.Common.{arith, append_assoc}, specs.Prelude.unwrap_or, proofs.lemmas.Bool.eq-eqb, proofs.lemmas.List.append-nil}
+use Rattle.debug_script.{specs.declared.command.Command.Command, specs.declared.command.Place.Place, specs.declared.command.WatchWord.WatchWord}
 use Rattle.debug_script.specs.declared.reading.Line.{Line}
-use Rattle.level_debuggers.specs.declared.script_end.ScriptEnd.{ScriptEnd}
+use Rattle.debug_script.specs.declared.command.Command.TheVariants as command
+use Rattle.level_debuggers.{specs.declared.script_end.ScriptEnd.ScriptEnd, specs.declared.session.SessionRun.SessionRun, specs.declared.watch.Tally.Tally}
+use Rattle.level_debuggers.{specs.declared.arrival.Arrival.Arrival, specs.Arrivals.{Arrived, IsFirstArrival, arrived, arrived_by, first_arrival}}
+use Rattle.level_debuggers.{specs.FmLevels.{FmLevelOf, word_lines}, specs.Levels.{LevelOf, Fm, has_places, next_of, up_text, words_text}, specs.Steps.Next}
+use Rattle.level_debuggers.{specs.Steps.{Over, Stops, Makes, is_over}, specs.Tallies.Watching, specs.Taken.{taken, attached_with, detached_with}}
+use Rattle.level_debuggers.{specs.Walks.{SessionOf, walk, walk_on, ends_by, refused_after, stepped}, specs.Transcripts.{Said, Followed, arrival_end}}
+use Rattle.level_debuggers.specs.Transcripts.{arrival_text, arrived_said, attach_with, detach_with, ends_with, follow_on, followed, rule_of_word, run_end}
+use Rattle.level_debuggers.{specs.Transcripts.{run_text, said_by, said_to, words_said}, specs.ScriptSteps.{AskForSteps, all_asked, steps_asked, steps_led}}
+use Rattle.level_debuggers.specs.ScriptSteps.{steps_of_lines, stepped_lines, until_line, up_line, line_of_words, ArrivalsAreSaid, GoesOn, ScriptsWalk, UpIsSaid}
+use Rattle.level_debuggers.{specs.ScriptSteps.{WordsAreSaid, StepsAreSaid, UpSaysMoment, TextStays}, proofs.ArrivalLaws.is_first, proofs.WalkLaws.walk_level}
 use Rattle.level_debuggers.specs.declared.script_end.ScriptEnd.TheVariants as end
-use Rattle.level_debuggers.specs.declared.session.SessionRun.{SessionRun}
 use Rattle.level_debuggers.specs.declared.session.SessionRun.TheVariants as run
-use Rattle.level_debuggers.specs.declared.watch.Tally.{Tally}
-use Rattle.level_debuggers.specs.declared.arrival.Arrival.{Arrival}
 use Rattle.level_debuggers.specs.declared.arrival.Arrival.TheVariants as arrival
-use Rattle.level_debuggers.specs.Arrivals.{Arrived, IsFirstArrival, arrived, arrived_by, first_arrival}
-use Rattle.level_debuggers.specs.FmLevels.{FmLevelOf, word_lines}
-use Rattle.level_debuggers.specs.Levels.{LevelOf, Fm, has_places, next_of, up_text, words_text}
-use Rattle.level_debuggers.specs.Steps.{Next, Over, Stops, Makes, is_over}
-use Rattle.level_debuggers.specs.Tallies.{Watching}
-use Rattle.level_debuggers.specs.Taken.{taken, attached_with, detached_with}
-use Rattle.level_debuggers.specs.Walks.{SessionOf, walk, walk_on, ends_by, refused_after, stepped}
-use Rattle.level_debuggers.specs.Transcripts.{Said, Followed, arrival_end, arrival_text, arrived_said, attach_with, detach_with}
-use Rattle.level_debuggers.specs.Transcripts.{ends_with, follow_on, followed, rule_of_word, run_end, run_text, said_by, said_to, words_said}
-use Rattle.level_debuggers.specs.ScriptSteps.{AskForSteps, all_asked, steps_asked, steps_led, steps_of_lines, stepped_lines}
-use Rattle.level_debuggers.specs.ScriptSteps.{until_line, up_line, line_of_words}
-use Rattle.level_debuggers.specs.ScriptSteps.{ArrivalsAreSaid, GoesOn, ScriptsWalk, UpIsSaid, WordsAreSaid, StepsAreSaid, UpSaysMoment, TextStays}
-use Rattle.level_debuggers.proofs.ArrivalLaws.{is_first}
-use Rattle.level_debuggers.proofs.WalkLaws.{walk_level}
 
 -- ---- one line
 

@@ -1,11 +1,8 @@
 -- The first watch of a rule, and the others.
 use Rattle.std.proofs.Common.{◌≡◌, ◌+◌, ◌-◌, ◌<◌, ◌≤◌, ℕ, suc, Bool, true, false, cond, List, [], ◌∷◌, ◌++◌, length, map, get_or, take, drop, Option, Some}
-use Rattle.std.proofs.Common.{None, refl, sym, ap, ◌∙◌, arith}
-use Rattle.std.specs.List.{position_from, remove}
+use Rattle.std.{proofs.Common.{None, refl, sym, ap, ◌∙◌, arith}, specs.List.{position_from, remove}}
 use Rattle.stack_text.proofs.Loops.{drop-item}
-use Rattle.level_debuggers.specs.declared.watch.Rule.{Rule}
-use Rattle.level_debuggers.specs.Tallies.{Watching}
-use Rattle.level_debuggers.specs.Taken.{is_same, behind, taken}
+use Rattle.level_debuggers.{specs.declared.watch.Rule.Rule, specs.Tallies.Watching, specs.Taken.{is_same, behind, taken}}
 
 abbrev place_in : Rule → ℕ → List Watching → Option ℕ
 place_in rule k watches = position_from (λ w. is_same w.rule rule) k watches

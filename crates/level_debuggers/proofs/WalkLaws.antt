@@ -1,21 +1,14 @@
 -- Steps that a session makes one after the other are one walk.
-use Rattle.std.proofs.Common.{◌≡◌, ◌+◌, ◌^◌, ◌<◌, ◌≤◌, ◌==◌, ℕ, zero, suc, Bool, false, cond, List, [], ◌∷◌, ◌++◌, length, map}
-use Rattle.std.proofs.Common.{refl, sym, ap, subst, ◌∙◌, add-one, arith, length-append, inl, inr}
-use Rattle.std.proofs.lemmas.Bool.{eq-eqb}
-use Rattle.std.proofs.lemmas.Bool.Decides.{eqb_tells}
+use Rattle.std.proofs.Common.{◌≡◌, ◌+◌, ◌^◌, ◌<◌, ◌≤◌, ◌==◌, ℕ, zero, suc, Bool, false, cond, List, [], ◌∷◌, ◌++◌, length, map, refl, sym, ap, subst, ◌∙◌}
+use Rattle.std.{proofs.Common.{add-one, arith, length-append, inl, inr}, proofs.lemmas.Bool.eq-eqb, proofs.lemmas.Bool.Decides.eqb_tells}
 use Rattle.std.proofs.lemmas.List.Sums.{fold-append}
 use Rattle.piton_semantics.specs.StateView.{saturated}
-use Rattle.level_debuggers.specs.declared.watch.Event.{Event}
-use Rattle.level_debuggers.specs.declared.advance.Stop.{Stop}
-use Rattle.level_debuggers.specs.declared.advance.Advance.{Advance}
+use Rattle.level_debuggers.{specs.declared.watch.Event.Event, specs.declared.advance.Stop.Stop, specs.declared.advance.Advance.Advance}
+use Rattle.level_debuggers.{specs.declared.session.SessionRun.SessionRun, specs.Levels.{LevelOf, next_of}, specs.Steps.{Next, Over, Stops, Makes, IsAdvance}}
+use Rattle.level_debuggers.{specs.Steps.is_over, specs.Tallies.{Watching, tally_step, told}, specs.Walks.{Walk, with_event, walk_on, walk, SessionOf}}
+use Rattle.level_debuggers.specs.Walks.{after_event, after_walk, refused_after, ends_by, stepped_by, stepped, HasMadeSome, SessionsGoOn}
 use Rattle.level_debuggers.specs.declared.advance.Advance.TheVariants as advance
-use Rattle.level_debuggers.specs.declared.session.SessionRun.{SessionRun}
 use Rattle.level_debuggers.specs.declared.session.SessionRun.TheVariants as run
-use Rattle.level_debuggers.specs.Levels.{LevelOf, next_of}
-use Rattle.level_debuggers.specs.Steps.{Next, Over, Stops, Makes, IsAdvance, is_over}
-use Rattle.level_debuggers.specs.Tallies.{Watching, tally_step, told}
-use Rattle.level_debuggers.specs.Walks.{Walk, with_event, walk_on, walk, SessionOf, after_event, after_walk, refused_after, ends_by, stepped_by, stepped}
-use Rattle.level_debuggers.specs.Walks.{HasMadeSome, SessionsGoOn}
 
 -- One step more.
 more_from : (i : ℕ) (level after : LevelOf) (event : Event) (next : Next LevelOf)

@@ -1,11 +1,8 @@
 -- Arrivals at a place.
-use Rattle.std.specs.Prelude.{◌≡◌, ◌<◌, ℕ, ◌+◌, Option, Some, None, true, false}
-use Rattle.std.specs.List.{find, range_with_len}
+use Rattle.std.specs.{Prelude.{◌≡◌, ◌<◌, ℕ, ◌+◌, Option, Some, None, true, false}, List.{find, range_with_len}}
 use Rattle.debug_script.specs.declared.command.Place.{Place}
-use Rattle.level_debuggers.specs.declared.arrival.Arrival.{Arrival}
+use Rattle.level_debuggers.specs.{declared.arrival.Arrival.{Arrival}, Levels.{LevelOf, stands_at}, Walks.{SessionOf, stepped, walk}}
 use Rattle.level_debuggers.specs.declared.arrival.Arrival.TheVariants as arrival
-use Rattle.level_debuggers.specs.Levels.{LevelOf, stands_at}
-use Rattle.level_debuggers.specs.Walks.{SessionOf, stepped, walk}
 
 -- so many steps lead a run to a place for the first time
 pub record IsFirstArrival (there : Place) (k : ℕ) (level : LevelOf) : Type 0 where

@@ -3,18 +3,11 @@ use Rattle.std.specs.Prelude.{ℕ, zero, suc, List, [], ◌++◌, ◌+◌, ◌-�
 use Rattle.std.specs.Prelude.{Option, Some, None, Result, Ok, Err, codes}
 use Rattle.stack_text.specs.Lines.{line}
 use Rattle.fm_show.specs.Digits.{hex_digits}
-use Rattle.fm_machine.specs.declared.fault.Outside.{Outside}
-use Rattle.fm_machine.specs.State.{Fm}
-use Rattle.fm_machine.specs.Step.{fm_step}
-use Rattle.fm_machine.specs.Run.{pc_of}
+use Rattle.fm_machine.specs.{declared.fault.Outside.{Outside}, State.{Fm}, Step.{fm_step}, Run.{pc_of}}
 use Rattle.fm_image.specs.Image.{ImageOf}
-use Rattle.display_maps.specs.Reading.{reading, word_in}
-use Rattle.display_maps.specs.ReadingAt.{reading_at}
-use Rattle.display_maps.specs.Report.{lines_of_reading}
-use Rattle.level_debuggers.specs.declared.watch.Event.{Event}
+use Rattle.display_maps.specs.{Reading.{reading, word_in}, ReadingAt.{reading_at}, Report.{lines_of_reading}}
+use Rattle.level_debuggers.specs.{declared.watch.Event.{Event}, Texts.{mark_text}, Steps.{Next, Over, Stops, Makes}}
 use Rattle.level_debuggers.specs.declared.advance.Stop.TheVariants as stop
-use Rattle.level_debuggers.specs.Texts.{mark_text}
-use Rattle.level_debuggers.specs.Steps.{Next, Over, Stops, Makes}
 
 -- an image, and a machine that runs it
 pub record FmLevelOf : Type 0 where

@@ -1,13 +1,11 @@
 -- Runs of a source.
-use Rattle.std.specs.Prelude.{ℕ, List, ◌++◌, ◌==◌, ◌&&◌, not, Bool, if◌then◌else◌, codes}
-use Rattle.std.specs.Fmt.{decimal}
+use Rattle.std.specs.{Prelude.{ℕ, List, ◌++◌, ◌==◌, ◌&&◌, not, Bool, if◌then◌else◌, codes}, Fmt.{decimal}}
 use Rattle.stack_text.specs.Lines.{line}
 use Rattle.display_maps.specs.Running.{run_lines}
 use Rattle.gypsy_syntax.specs.Sources.{SourceOf}
-use Rattle.gypsy_semantics.specs.Views.RunView.{Seen, left_of, is_over, place_at, depth_at, values_at}
-use Rattle.gypsy_semantics.specs.Views.Shown.{condition_at, names_at}
-use Rattle.level_debuggers.specs.declared.watch.Event.{Event}
-use Rattle.level_debuggers.specs.Steps.{Next, Over, Makes}
+use Rattle.gypsy_semantics.specs.{Views.RunView.{Seen, left_of, is_over, place_at, depth_at, values_at}, Views.Shown.{condition_at}}
+use Rattle.gypsy_semantics.specs.Views.Shown.{names_at}
+use Rattle.level_debuggers.specs.{declared.watch.Event.{Event}, Steps.{Next, Over, Makes}}
 
 -- a source, and a run of it
 pub record GypsyLevelOf : Type 0 where

@@ -5,19 +5,14 @@ use Rattle.debug_script.specs.declared.command.Place.TheVariants as place
 use Rattle.fm_words.specs.WindowLimit.{most_window}
 use Rattle.fm_show.specs.Listing.{machine_listing}
 use Rattle.gypsy_syntax.specs.Views.SourceView.{source_of}
-use Rattle.gypsy_meaning.specs.Views.Belongs.{BelongsTo}
-use Rattle.gypsy_meaning.specs.Views.Running.{seen}
-use Rattle.piton_semantics.specs.Fits.{system_in}
-use Rattle.piton_semantics.specs.Placed.{placed}
-use Rattle.piton_semantics.specs.StateView.{IsSeen}
+use Rattle.gypsy_meaning.specs.{Views.Belongs.{BelongsTo}, Views.Running.{seen}}
+use Rattle.piton_semantics.specs.{Fits.{system_in}, Placed.{placed}, StateView.{IsSeen}}
 use Rattle.piton_check.specs.NamedWords.{program_name_at}
-use Rattle.level_debuggers.specs.declared.runner.Runner.{Runner}
+use Rattle.level_debuggers.specs.{declared.runner.Runner.{Runner}, Steps.{Next, Over, Stops, Makes}, GypsyLevels.{GypsyLevelOf}}
+use Rattle.level_debuggers.specs.{GypsyLevels.{gypsy_listing, gypsy_next, gypsy_stands, gypsy_up}, PitonLevels.{PitonLevelOf}}
+use Rattle.level_debuggers.specs.{PitonLevels.{piton_listing, piton_next, piton_stands}, PitonReadings.{piton_up}, FmLevels.{FmLevelOf}}
+use Rattle.level_debuggers.specs.FmLevels.{fm_next, fm_stands, fm_up, word_lines}
 use Rattle.level_debuggers.specs.declared.runner.Runner.TheVariants as runner
-use Rattle.level_debuggers.specs.Steps.{Next, Over, Stops, Makes}
-use Rattle.level_debuggers.specs.GypsyLevels.{GypsyLevelOf, gypsy_listing, gypsy_next, gypsy_stands, gypsy_up}
-use Rattle.level_debuggers.specs.PitonLevels.{PitonLevelOf, piton_listing, piton_next, piton_stands}
-use Rattle.level_debuggers.specs.PitonReadings.{piton_up}
-use Rattle.level_debuggers.specs.FmLevels.{FmLevelOf, fm_next, fm_stands, fm_up, word_lines}
 
 -- a run at one of the levels
 pub data LevelOf : Type 0 where

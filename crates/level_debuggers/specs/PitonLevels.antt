@@ -1,22 +1,15 @@
 -- Runs of Piton's machine.
-use Rattle.std.specs.Str.{bytes_eq}
-use Rattle.std.specs.Prelude.{ℕ, ◌==◌, ◌&&◌, not, Bool, List, [], ◌∷◌, ◌++◌, length, map, reverse}
-use Rattle.std.specs.Prelude.{slice_get, Option, Some, None, Result, Ok, Err, codes, if◌then◌else◌}
-use Rattle.std.specs.Fmt.{decimal}
+use Rattle.std.specs.{Str.{bytes_eq}, Prelude.{ℕ, ◌==◌, ◌&&◌, not, Bool, List, [], ◌∷◌, ◌++◌, length, map, reverse, slice_get, Option}}
+use Rattle.std.specs.{Prelude.{Some, None, Result, Ok, Err, codes, if◌then◌else◌}, Fmt.{decimal}}
 use Rattle.fm_image.specs.Image.{ImageOf}
 use Rattle.stack_text.specs.Lines.{line}
 use Rattle.piton_words.specs.declared.word.Word.{Word}
 use Rattle.piton_syntax.specs.Systems.{ProgramOf, SystemOf}
-use Rattle.piton_check.specs.NamedWords.{program_name_at, word_text, words_line}
-use Rattle.piton_check.specs.PitonChecking.{CheckedOf}
-use Rattle.piton_semantics.specs.declared.error_kind.ErrorKind.{ErrorKind}
-use Rattle.piton_semantics.specs.State.{Frame, PitonState, locals_of}
-use Rattle.piton_semantics.specs.Step.{step_cost}
-use Rattle.piton_semantics.specs.Fits.{system_in}
-use Rattle.piton_semantics.specs.StateView.{Seen, seen_step}
-use Rattle.level_debuggers.specs.declared.watch.Event.{Event}
+use Rattle.piton_check.specs.{NamedWords.{program_name_at, word_text, words_line}, PitonChecking.{CheckedOf}}
+use Rattle.piton_semantics.specs.{declared.error_kind.ErrorKind.{ErrorKind}, State.{Frame, PitonState, locals_of}, Step.{step_cost}}
+use Rattle.piton_semantics.specs.{Fits.{system_in}, StateView.{Seen, seen_step}}
+use Rattle.level_debuggers.specs.{declared.watch.Event.{Event}, Steps.{Next, Over, Stops, Makes}}
 use Rattle.level_debuggers.specs.declared.advance.Stop.TheVariants as stop
-use Rattle.level_debuggers.specs.Steps.{Next, Over, Stops, Makes}
 
 -- a system, its image, and a state of a run of the system
 pub record PitonLevelOf : Type 0 where

@@ -1,24 +1,16 @@
 -- What a run of Piton's machine says of the variables of its source, at its end and at the marks of its image.
-use Rattle.std.specs.Prelude.{ℕ, zero, suc, ◌+◌, ◌-◌, List, [], ◌∷◌, length, map, reverse, Bool}
-use Rattle.std.specs.Prelude.{◌&&◌, nat_lt, nat_le, if◌then◌else◌, slice_get, slice_index, unwrap_or, Option}
-use Rattle.std.specs.List.{list_all, flat_map}
-use Rattle.std.specs.Option.{option_map}
+use Rattle.std.specs.Prelude.{ℕ, zero, suc, ◌+◌, ◌-◌, List, [], ◌∷◌, length, map, reverse, Bool, ◌&&◌, nat_lt, nat_le, if◌then◌else◌}
+use Rattle.std.specs.{Prelude.{slice_get, slice_index, unwrap_or, Option}, List.{list_all, flat_map}, Option.{option_map}}
 use Rattle.stack_text.specs.Values.{item_count}
 use Rattle.fm_machine.specs.State.{word_at}
-use Rattle.fm_image.specs.declared.slot.Slot.{Slot}
-use Rattle.fm_image.specs.Image.{ImageOf}
-use Rattle.display_maps.specs.declared.shown.Shown.{Shown}
-use Rattle.display_maps.specs.Reading.{ReadingOf, condition_of, item_of}
-use Rattle.display_maps.specs.ReadingAt.{StandingOf, read_from}
+use Rattle.fm_image.specs.{declared.slot.Slot.{Slot}, Image.{ImageOf}}
+use Rattle.display_maps.specs.{declared.shown.Shown.{Shown}, Reading.{ReadingOf, condition_of, item_of}, ReadingAt.{StandingOf, read_from}}
 use Rattle.display_maps.specs.Report.{lines_of_reading}
 use Rattle.piton_words.specs.declared.word.Word.{Word}
 use Rattle.piton_check.specs.Instruction.{SystemView}
-use Rattle.piton_semantics.specs.State.{PitonState, locals_of}
-use Rattle.piton_semantics.specs.Fits.{system_in}
-use Rattle.piton_semantics.specs.Addresses.{numbers}
-use Rattle.piton_semantics.specs.Placed.{address_of_place, addresses_of, areas_start, end_of}
-use Rattle.level_debuggers.specs.PitonLevels.{PitonLevelOf, piton_over}
-use Rattle.level_debuggers.specs.Texts.{mark_text, no_mark}
+use Rattle.piton_semantics.specs.{State.{PitonState, locals_of}, Fits.{system_in}, Addresses.{numbers}, Placed.{address_of_place}}
+use Rattle.piton_semantics.specs.Placed.{addresses_of, areas_start, end_of}
+use Rattle.level_debuggers.specs.{PitonLevels.{PitonLevelOf, piton_over}, Texts.{mark_text, no_mark}}
 
 -- The elements of the stack stand below the end of memory, the bottom one at the highest address.
 abbrev pub element_at : ℕ → List ℕ → ℕ → ℕ

@@ -3,13 +3,8 @@ use Rattle.std.specs.Prelude.{◌≡◌, ◌^◌, ◌<◌, ℕ, Ok, length}
 use Rattle.fm_machine.specs.State as machine
 use Rattle.fm_machine.specs.Run.{Avoids, IsFirst, fm_run}
 use Rattle.debug_script.specs.declared.command.Place.TheVariants.{Number}
-use Rattle.piton_semantics.specs.Fits.{system_in}
-use Rattle.piton_semantics.specs.Law.{Steps, advanced}
-use Rattle.piton_semantics.specs.State.{PitonState}
-use Rattle.level_debuggers.specs.Arrivals.{IsFirstArrival}
-use Rattle.level_debuggers.specs.FmLevels.{FmLevelOf}
-use Rattle.level_debuggers.specs.Levels.{LevelOf, Piton, Fm}
-use Rattle.level_debuggers.specs.PitonLevels.{PitonLevelOf}
+use Rattle.piton_semantics.specs.{Fits.{system_in}, Law.{Steps, advanced}, State.{PitonState}}
+use Rattle.level_debuggers.specs.{Arrivals.{IsFirstArrival}, FmLevels.{FmLevelOf}, Levels.{LevelOf, Piton, Fm}, PitonLevels.{PitonLevelOf}}
 use Rattle.level_debuggers.specs.Walks.{walk}
 
 -- so many steps can be made, and lead there

@@ -1,17 +1,12 @@
 -- How far a script leads, and what is said at its lines of `up`, `words` and `until`.
 use Rattle.std.specs.Prelude.{◌≡◌, ◌≤◌, ℕ, ◌+◌, List, [], ◌∷◌, ◌++◌, length, true, false, unwrap_or, if◌then◌else◌}
-use Rattle.debug_script.specs.declared.command.Command.{Command}
+use Rattle.debug_script.specs.{declared.command.Command.{Command}, declared.command.Place.{Place}, declared.reading.Line.{Line}}
 use Rattle.debug_script.specs.declared.command.Command.TheVariants as command
-use Rattle.debug_script.specs.declared.command.Place.{Place}
-use Rattle.debug_script.specs.declared.reading.Line.{Line}
 use Rattle.level_debuggers.specs.declared.arrival.Arrival.TheVariants as arrival
 use Rattle.level_debuggers.specs.declared.script_end.ScriptEnd.TheVariants as end
 use Rattle.level_debuggers.specs.declared.session.SessionRun.TheVariants as run
-use Rattle.level_debuggers.specs.Arrivals.{IsFirstArrival, first_arrival}
-use Rattle.level_debuggers.specs.FmLevels.{FmLevelOf, word_lines}
-use Rattle.level_debuggers.specs.Levels.{LevelOf, Fm, has_places, next_of, up_text}
-use Rattle.level_debuggers.specs.Steps.{is_over}
-use Rattle.level_debuggers.specs.Walks.{SessionOf, stepped, walk}
+use Rattle.level_debuggers.specs.{Arrivals.{IsFirstArrival, first_arrival}, FmLevels.{FmLevelOf, word_lines}, Levels.{LevelOf, Fm}}
+use Rattle.level_debuggers.specs.{Levels.{has_places, next_of, up_text}, Steps.{is_over}, Walks.{SessionOf, stepped, walk}}
 use Rattle.level_debuggers.specs.Transcripts.{arrival_text, followed, run_text}
 
 -- the steps to the first arrival at a place, or as many as are asked for

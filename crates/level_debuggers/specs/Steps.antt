@@ -1,8 +1,6 @@
 -- Steps of a run of some kind.
 use Rattle.std.specs.Prelude.{◌≡◌, Bool, true, false}
-use Rattle.level_debuggers.specs.declared.watch.Event.{Event}
-use Rattle.level_debuggers.specs.declared.advance.Stop.{Stop}
-use Rattle.level_debuggers.specs.declared.advance.Advance.{Advance}
+use Rattle.level_debuggers.specs.{declared.watch.Event.{Event}, declared.advance.Stop.{Stop}, declared.advance.Advance.{Advance}}
 use Rattle.level_debuggers.specs.declared.advance.Advance.TheVariants as advance
 
 -- how a run goes on: it is over, its next step is refused, or that step is an event and leads to another state

@@ -1,10 +1,7 @@
 -- Watches that are attached and detached.
 use Rattle.std.specs.Prelude.{List, [], ◌∷◌, ◌++◌, Bool, true, false, Option, Some, None, if◌then◌else◌}
-use Rattle.level_debuggers.specs.declared.watch.Rule.{Rule}
-use Rattle.level_debuggers.specs.declared.watch.Rule.TheVariants.{Count, Cost, Last, Peak}
-use Rattle.level_debuggers.specs.declared.watch.Tally.{Tally}
-use Rattle.level_debuggers.specs.Tallies.{Watching}
-use Rattle.level_debuggers.specs.Walks.{SessionOf}
+use Rattle.level_debuggers.specs.{declared.watch.Rule.{Rule}, declared.watch.Rule.TheVariants.{Count, Cost, Last, Peak}}
+use Rattle.level_debuggers.specs.{declared.watch.Tally.{Tally}, Tallies.{Watching}, Walks.{SessionOf}}
 
 abbrev pub is_same : Rule → Rule → Bool
 is_same Count Count = true

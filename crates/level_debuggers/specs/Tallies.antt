@@ -1,9 +1,7 @@
 -- What watches make of events.
 use Rattle.std.specs.Prelude.{◌+◌, max, List, [], ◌∷◌, ◌++◌, drop, fold, replicate}
 use Rattle.piton_semantics.specs.StateView.{saturated}
-use Rattle.level_debuggers.specs.declared.watch.Event.{Event}
-use Rattle.level_debuggers.specs.declared.watch.Tally.{Tally}
-use Rattle.level_debuggers.specs.declared.watch.Rule.{Rule}
+use Rattle.level_debuggers.specs.{declared.watch.Event.{Event}, declared.watch.Tally.{Tally}, declared.watch.Rule.{Rule}}
 use Rattle.level_debuggers.specs.declared.watch.Rule.TheVariants.{Count, Cost, Last, Peak}
 
 abbrev pub no_events : Tally

@@ -1,25 +1,17 @@
 -- What a session says to a script.
-use Rattle.std.specs.Prelude.{◌≡◌, ◌⊎◌, ℕ, ◌-◌, min, List, [], ◌∷◌, ◌++◌, drop, Option, Some, None, codes, if◌then◌else◌}
-use Rattle.std.specs.Fmt.{decimal}
+use Rattle.std.specs.{Prelude.{◌≡◌, ◌⊎◌, ℕ, ◌-◌, min, List, [], ◌∷◌, ◌++◌, drop, Option, Some, None, codes, if◌then◌else◌}, Fmt.{decimal}}
 use Rattle.stack_text.specs.Lines.{line}
-use Rattle.debug_script.specs.declared.command.Command.{Command}
-use Rattle.debug_script.specs.declared.command.Command.TheVariants as command
-use Rattle.debug_script.specs.declared.command.Place.{Place}
-use Rattle.debug_script.specs.declared.command.WatchWord.{WatchWord}
-use Rattle.debug_script.specs.declared.command.WatchWord.TheVariants as word
+use Rattle.debug_script.specs.{declared.command.Command.{Command}, declared.command.Place.{Place}, declared.command.WatchWord.{WatchWord}}
 use Rattle.debug_script.specs.declared.reading.Line.{Line}
-use Rattle.level_debuggers.specs.declared.session.SessionRun.{SessionRun}
-use Rattle.level_debuggers.specs.declared.session.SessionRun.TheVariants as run
-use Rattle.level_debuggers.specs.declared.watch.Rule.{Rule}
-use Rattle.level_debuggers.specs.declared.watch.Rule.TheVariants as rule
-use Rattle.level_debuggers.specs.declared.watch.Tally.{Tally}
-use Rattle.level_debuggers.specs.declared.arrival.Arrival.{Arrival}
-use Rattle.level_debuggers.specs.declared.arrival.Arrival.TheVariants as arrival
-use Rattle.level_debuggers.specs.Arrivals.{Arrived, arrived}
-use Rattle.level_debuggers.specs.Levels.{has_places, show_text, up_text, words_text}
-use Rattle.level_debuggers.specs.Taken.{attached_by, detached_by}
-use Rattle.level_debuggers.specs.Walks.{SessionOf, Stepped, stepped, HasMadeSome}
+use Rattle.debug_script.specs.declared.command.Command.TheVariants as command
+use Rattle.debug_script.specs.declared.command.WatchWord.TheVariants as word
+use Rattle.level_debuggers.specs.{declared.session.SessionRun.{SessionRun}, declared.watch.Rule.{Rule}, declared.watch.Tally.{Tally}}
+use Rattle.level_debuggers.specs.{declared.arrival.Arrival.{Arrival}, Arrivals.{Arrived, arrived}, Levels.{has_places, show_text, up_text}}
+use Rattle.level_debuggers.specs.{Levels.{words_text}, Taken.{attached_by, detached_by}, Walks.{SessionOf, Stepped, stepped, HasMadeSome}}
 use Rattle.level_debuggers.specs.declared.script_end.ScriptEnd.{ScriptEnd}
+use Rattle.level_debuggers.specs.declared.session.SessionRun.TheVariants as run
+use Rattle.level_debuggers.specs.declared.watch.Rule.TheVariants as rule
+use Rattle.level_debuggers.specs.declared.arrival.Arrival.TheVariants as arrival
 use Rattle.level_debuggers.specs.declared.script_end.ScriptEnd.TheVariants as end
 
 -- what is said, how the script ends where it ends here, and the session that is left

@@ -1,14 +1,10 @@
 -- Runs of several steps.
 use Rattle.std.specs.Prelude.{◌≡◌, ◌≤◌, ℕ, zero, suc, ◌+◌, ◌==◌, List, [], ◌∷◌, length, map, if◌then◌else◌}
 use Rattle.piton_semantics.specs.StateView.{saturated}
-use Rattle.level_debuggers.specs.declared.watch.Event.{Event}
-use Rattle.level_debuggers.specs.declared.advance.Stop.{Stop}
+use Rattle.level_debuggers.specs.{declared.watch.Event.{Event}, declared.advance.Stop.{Stop}, declared.session.SessionRun.{SessionRun}}
+use Rattle.level_debuggers.specs.{Levels.{LevelOf, next_of}, Steps.{Next, Over, Stops, Makes}, Tallies.{Watching, noted, told}}
 use Rattle.level_debuggers.specs.declared.advance.Stop.TheVariants as stop
-use Rattle.level_debuggers.specs.declared.session.SessionRun.{SessionRun}
 use Rattle.level_debuggers.specs.declared.session.SessionRun.TheVariants as run
-use Rattle.level_debuggers.specs.Levels.{LevelOf, next_of}
-use Rattle.level_debuggers.specs.Steps.{Next, Over, Stops, Makes}
-use Rattle.level_debuggers.specs.Tallies.{Watching, noted, told}
 
 -- the events of steps, and where they led
 pub record Walk : Type 0 where

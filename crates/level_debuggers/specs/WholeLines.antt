@@ -2,8 +2,7 @@
 use Rattle.std.specs.Prelude.{◌≡◌, ◌⊎◌, ℕ, List, []}
 use Rattle.stack_text.specs.Lines.{line}
 use Rattle.debug_script.specs.declared.reading.Line.{Line}
-use Rattle.level_debuggers.specs.Transcripts.{followed, said_to}
-use Rattle.level_debuggers.specs.Walks.{SessionOf}
+use Rattle.level_debuggers.specs.{Transcripts.{followed, said_to}, Walks.{SessionOf}}
 
 -- a text that is empty, or ends with a line feed
 abbrev pub AreLines : List ℕ → Type 0

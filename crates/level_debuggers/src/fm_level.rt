@@ -63,9 +63,8 @@ impl FmLevel {
     ghost use Rattle.std.specs.Prelude.{◌≡◌};
     ghost use Rattle.stack_heap.specs.Heaps.{IfOkUnless};
     ghost use Rattle.fm_show.specs.Listing.{machine_listing};
-    ghost use Rattle.level_debuggers.specs.Steps.{IsAdvance};
-    ghost use Rattle.level_debuggers.specs.FmLevels.{fm_depth, fm_event, fm_next, fm_over, fm_stands, fm_up, word_lines};
-    ghost use Rattle.level_debuggers.specs.Levels.{Fm, level_of};
+    ghost use Rattle.level_debuggers.specs.{Steps.{IsAdvance}, FmLevels.{fm_depth, fm_event, fm_next, fm_over, fm_stands, fm_up, word_lines}, Levels.{Fm}};
+    ghost use Rattle.level_debuggers.specs.Levels.{level_of};
 
     pub(crate) fn new(image: Image, machine: Machine) -> FmLevel
         ensures { result ≡ record { image = image; state = machine.state } }

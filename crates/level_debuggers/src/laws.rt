@@ -1,9 +1,8 @@
 //! Laws. The functions do nothing: their clauses hold of all sessions and runs.
 
-ghost use Rattle.level_debuggers.specs.RunWalks.{MachinesArrive, MachinesWalk, SystemsWalk};
-ghost use Rattle.level_debuggers.specs.ScriptSteps.{ArrivalsAreSaid, ScriptsWalk, StepsAreSaid, TextStays, UpIsSaid, UpSaysMoment, WordsAreSaid};
-ghost use Rattle.level_debuggers.specs.Walks.{SessionsGoOn};
-ghost use Rattle.level_debuggers.specs.WholeLines.{AnswersAreLines, TranscriptsAreLines};
+ghost use Rattle.level_debuggers.specs.{RunWalks.{MachinesArrive, MachinesWalk, SystemsWalk}, ScriptSteps.{ArrivalsAreSaid, ScriptsWalk, StepsAreSaid}};
+ghost use Rattle.level_debuggers.specs.{ScriptSteps.{TextStays, UpIsSaid, UpSaysMoment, WordsAreSaid}, Walks.{SessionsGoOn}, WholeLines.{AnswersAreLines}};
+ghost use Rattle.level_debuggers.specs.WholeLines.{TranscriptsAreLines};
 
 /// Where memory ran out in a call of `step`, a further call goes on from the steps that were made: it leaves the session that one
 /// call for all these steps leaves.

@@ -18,12 +18,10 @@ pub(crate) enum Level {
 }
 
 impl Level {
-    ghost use Rattle.std.specs.Prelude.{◌≡◌, IfOk, OnErr};
+    ghost use Rattle.std.specs.{Prelude.{◌≡◌, IfOk, OnErr}, Option.{option_map}};
     ghost use Rattle.stack_heap.specs.Heaps.{IfOkUnless};
-    ghost use Rattle.std.specs.Option.{option_map};
     ghost use Rattle.level_debuggers.specs.Levels.{IsRunner, level_of, next_of, program_named, has_places, show_text, stands_at, up_text, words_text};
-    ghost use Rattle.level_debuggers.specs.Views.Belonging.{IsLevel, level_seen};
-    ghost use Rattle.level_debuggers.specs.Steps.{IsAdvance, is_over};
+    ghost use Rattle.level_debuggers.specs.{Views.Belonging.{IsLevel, level_seen}, Steps.{IsAdvance, is_over}};
 
     /// The level of a runner. The only error is out of memory.
     pub(crate) fn new<H: Heap>(heap: H, runner: Runner) -> Result<Level, Memory>

@@ -27,8 +27,7 @@ pub(crate) struct PitonLevel {
 }
 
 impl Model for PitonLevel {
-    ghost use Rattle.piton_semantics.specs.Fits.{system_in};
-    ghost use Rattle.piton_semantics.specs.StateView.{IsSeen};
+    ghost use Rattle.piton_semantics.specs.{Fits.{system_in}, StateView.{IsSeen}};
     ghost use Rattle.level_debuggers.specs.PitonLevels.{PitonLevelOf};
 
     ghost Value = { PitonLevelOf };
@@ -41,17 +40,12 @@ impl Model for PitonLevel {
 impl PitonLevel {
     ghost use Rattle.std.specs.Prelude.{◌≡◌, ◌≤◌, ◌^◌, slice_get};
     ghost use Rattle.stack_heap.specs.Heaps.{IfOkUnless};
-    ghost use Rattle.piton_semantics.specs.Addresses.{numbers};
-    ghost use Rattle.piton_semantics.specs.Fits.{Each, IsWordOf, system_in};
-    ghost use Rattle.piton_semantics.specs.StateView.{IsSeen};
-    ghost use Rattle.piton_semantics.specs.Placed.{address_of_place, placed, addresses_of, areas_start};
-    ghost use Rattle.piton_semantics.specs.State.{locals_of};
+    ghost use Rattle.piton_semantics.specs.{Addresses.{numbers}, Fits.{Each, IsWordOf, system_in}, StateView.{IsSeen}, Placed.{address_of_place, placed}};
+    ghost use Rattle.piton_semantics.specs.{Placed.{addresses_of, areas_start}, State.{locals_of}};
     ghost use Rattle.piton_check.specs.NamedWords.{program_name_at};
-    ghost use Rattle.level_debuggers.specs.Steps.{IsAdvance};
-    ghost use Rattle.level_debuggers.specs.Levels.{IsRunner, Piton, level_of};
-    ghost use Rattle.level_debuggers.specs.PitonLevels.{piton_listing, piton_next, piton_over, piton_stands};
-    ghost use Rattle.level_debuggers.specs.PitonReadings.{area_words, element_numbers, is_covered, piton_at, piton_end, piton_reading_of, piton_up};
-    ghost use Rattle.level_debuggers.specs.Standings.{standing_of};
+    ghost use Rattle.level_debuggers.specs.{Steps.{IsAdvance}, Levels.{IsRunner, Piton, level_of}, PitonLevels.{piton_listing, piton_next, piton_over}};
+    ghost use Rattle.level_debuggers.specs.{PitonLevels.{piton_stands}, PitonReadings.{area_words, element_numbers, is_covered, piton_at, piton_end}};
+    ghost use Rattle.level_debuggers.specs.{PitonReadings.{piton_reading_of, piton_up}, Standings.{standing_of}};
 
     /// The level of a run, with its system's addresses. The only error is out of memory.
     pub(crate) fn new<H: Heap>(

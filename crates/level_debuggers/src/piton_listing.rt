@@ -1,7 +1,6 @@
 //! A state of Piton's machine as lines.
 
-ghost use Rattle.std.specs.Prelude.{◌≡◌, ◌++◌, slice_get};
-ghost use Rattle.std.specs.Option.{option_map};
+ghost use Rattle.std.specs.{Prelude.{◌≡◌, ◌++◌, slice_get}, Option.{option_map}};
 ghost use Rattle.stack_heap.specs.Heaps.{IfOkUnless, OnOkUnless};
 ghost use Rattle.level_debuggers.specs.PitonLevels.{local_names, names_of, local_line, local_lines, place_line, piton_listing};
 

@@ -1,9 +1,7 @@
 //! What a run of Piton's machine says of variables.
 
-ghost use Rattle.std.specs.Prelude.{◌≡◌, ◌≤◌, length, map, unwrap_or};
+ghost use Rattle.std.specs.{Prelude.{◌≡◌, ◌≤◌, length, map, unwrap_or}, List.{list_all}, Option.{option_map}};
 ghost use Rattle.stack_heap.specs.Heaps.{IfOkUnless};
-ghost use Rattle.std.specs.List.{list_all};
-ghost use Rattle.std.specs.Option.{option_map};
 ghost use Rattle.stack_text.specs.Values.{item_count};
 ghost use Rattle.fm_machine.specs.State.{word_at};
 ghost use Rattle.display_maps.specs.Reading.{condition_of, item_of};

@@ -1,9 +1,7 @@
 //! Watches in a list.
 
-ghost use Rattle.std.specs.Prelude.{◌≡◌, ◌+◌, map, IfSome, IfNone, MatchOption, Some, None, vec_len, vec_capacity};
-ghost use Rattle.std.specs.List.{position_from};
-ghost use Rattle.level_debuggers.specs.Tallies.{noted};
-ghost use Rattle.level_debuggers.specs.Taken.{is_same, taken};
+ghost use Rattle.std.specs.{Prelude.{◌≡◌, ◌+◌, map, IfSome, IfNone, MatchOption, Some, None, vec_len, vec_capacity}, List.{position_from}};
+ghost use Rattle.level_debuggers.specs.{Tallies.{noted}, Taken.{is_same, taken}};
 
 use crate::watch::{Event, Rule, Watch};
 

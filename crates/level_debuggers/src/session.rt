@@ -60,14 +60,10 @@ pub struct Session {
 }
 
 impl Session {
-    ghost use Rattle.std.specs.Prelude.{◌≡◌, [], map, IfOk, OnOk, OnErr, Some, None};
+    ghost use Rattle.std.specs.{Prelude.{◌≡◌, [], map, IfOk, OnOk, OnErr, Some, None}, Option.{option_map}};
     ghost use Rattle.stack_heap.specs.Heaps.{IfOkUnless};
-    ghost use Rattle.std.specs.Option.{option_map};
-    ghost use Rattle.level_debuggers.specs.Levels.{IsRunner, has_places, level_of, program_named, show_text, up_text, words_text};
-    ghost use Rattle.level_debuggers.specs.Arrivals.{arrived};
-    ghost use Rattle.level_debuggers.specs.Tallies.{noted};
-    ghost use Rattle.level_debuggers.specs.Walks.{after_event, stepped, HasMadeSome};
-    ghost use Rattle.level_debuggers.specs.Taken.{attached_by, detached_by};
+    ghost use Rattle.level_debuggers.specs.{Levels.{IsRunner, has_places, level_of, program_named, show_text, up_text, words_text}, Arrivals.{arrived}};
+    ghost use Rattle.level_debuggers.specs.{Tallies.{noted}, Walks.{after_event, stepped, HasMadeSome}, Taken.{attached_by, detached_by}};
     ghost use Rattle.level_debuggers.specs.Views.Sessions.{IsSession, session_of};
 
     /// A session of a runner that has made no step, with these watches waiting. Room for all of them to be attached is

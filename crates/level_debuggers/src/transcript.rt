@@ -2,10 +2,9 @@
 
 ghost use Rattle.std.specs.Prelude.{◌≡◌, ◌++◌, IfOk, None, OnErr};
 ghost use Rattle.stack_heap.specs.Heaps.{IfOkUnless};
-ghost use Rattle.level_debuggers.specs.Views.Sessions.{IsSession, session_of};
-ghost use Rattle.level_debuggers.specs.Transcripts.{IsLeftBy, IsLeftIn, IsSaid, arrival_end, arrival_text, attach_said, attached_word, detach_said, followed, rule_of_word, run_end, run_text, said_to, step_said, until_said, words_said};
-ghost use Rattle.level_debuggers.specs.Levels.{words_text};
-ghost use Rattle.level_debuggers.specs.Walks.{HasMadeSome, stepped};
+ghost use Rattle.level_debuggers.specs.{Views.Sessions.{IsSession, session_of}, Transcripts.{IsLeftBy, IsLeftIn, IsSaid, arrival_end, arrival_text}};
+ghost use Rattle.level_debuggers.specs.Transcripts.{attach_said, attached_word, detach_said, followed, rule_of_word, run_end, run_text, said_to, step_said};
+ghost use Rattle.level_debuggers.specs.{Transcripts.{until_said, words_said}, Levels.{words_text}, Walks.{HasMadeSome, stepped}};
 
 use crate::arrival::Arrival;
 use crate::script_end::ScriptEnd;

@@ -8,8 +8,7 @@ use std::marker::{Model, PhantomData};
 /// A rule, as a type: the one that a watch keeps its tally by.
 pub trait TallyRule {
     ghost use Rattle.std.specs.Prelude.{◌≡◌};
-    ghost use Rattle.level_debuggers.specs.declared.watch.Rule.{Rule};
-    ghost use Rattle.level_debuggers.specs.Tallies.{tally_step};
+    ghost use Rattle.level_debuggers.specs.{declared.watch.Rule.{Rule}, Tallies.{tally_step}};
 
     /// The rule.
     ghost rule: { Rule };

@@ -1,10 +1,8 @@
 //! Sessions that no command makes: of a run that another session handed back, of a system that comes to an error, of a machine that leaves its window.
 
 ghost use Rattle.std.specs.Prelude.{◌≤◌, ◌^◌, IfOk};
-ghost use Rattle.piton_semantics.specs.Fits.{system_in};
-ghost use Rattle.piton_semantics.specs.Placed.{placed};
-ghost use Rattle.level_debuggers.specs.Levels.{IsRunner};
-ghost use Rattle.level_debuggers.specs.Views.Sessions.{IsSession};
+ghost use Rattle.piton_semantics.specs.{Fits.{system_in}, Placed.{placed}};
+ghost use Rattle.level_debuggers.specs.{Levels.{IsRunner}, Views.Sessions.{IsSession}};
 
 use fm_image::{Image, read_image};
 use fm_machine::Machine;

@@ -1,17 +1,13 @@
 -- What a program means doesn't depend on the places in it.
 use Rattle.std.proofs.Common.{◌≡◌, ℕ, zero, suc, ◌+◌, List, [], ◌∷◌, ◌++◌, map, length, get_or, take, max, Bool, cond, Some, None, refl, sym, ap, ap₂, ◌∙◌}
 use Rattle.std.specs.Prelude.{◌&&◌, nat_le, nat_lt}
-use Rattle.stack_text.specs.declared.shape.Shape.{Shape}
-use Rattle.stack_text.specs.Values.{ValueOf}
-use Rattle.gypsy_syntax.specs.declared.predef.Predef.{Predef}
-use Rattle.gypsy_syntax.specs.Predefined.{predef_temp, predef_ctrl}
-use Rattle.gypsy_syntax.specs.Effects.{value_at, is_true_value}
-use Rattle.gypsy_syntax.specs.Programs.{ConditionOf, Leave, Routine, Space, Declared, Proc, Program, no_proc, proc_at, body_of, shapes_of, words_of}
-use Rattle.gypsy_syntax.specs.Programs.{Stmt, Skip, NoOp, Signal, Seq, Loop, If, Begin, Call, Apply}
+use Rattle.stack_text.{specs.declared.shape.Shape.Shape, specs.Values.ValueOf}
+use Rattle.gypsy_syntax.{specs.declared.predef.Predef.Predef, specs.Predefined.{predef_temp, predef_ctrl}, specs.Effects.{value_at, is_true_value}}
+use Rattle.gypsy_syntax.specs.Programs.{ConditionOf, Leave, Routine, Space, Declared, Proc, Program, no_proc, proc_at, body_of, shapes_of, words_of, Stmt, Skip}
+use Rattle.gypsy_syntax.specs.Programs.{NoOp, Signal, Seq, Loop, If, Begin, Call, Apply}
 use Rattle.gypsy_space.specs.Needs.{StackSizes, greatest, temp_need, ctrl_need, local_words, frame_of, main_used, with_call, call_need, has_room}
-use Rattle.gypsy_semantics.specs.Calls.{is_passed_on, matching, main_way, copied_in, copied_out, main_start, main_formals}
-use Rattle.gypsy_semantics.specs.Meaning.{MeaningOutcome, Done, Unfinished, then_do, either_way, caught, round_end, returned, if_room, evaluate, main_end}
-use Rattle.gypsy_semantics.specs.Meaning.{meaning}
+use Rattle.gypsy_semantics.{specs.Calls.{is_passed_on, matching, main_way, copied_in, copied_out, main_start, main_formals}, specs.Meaning.MeaningOutcome}
+use Rattle.gypsy_semantics.specs.Meaning.{Done, Unfinished, then_do, either_way, caught, round_end, returned, if_room, evaluate, main_end, meaning}
 
 -- ---- a program with 0 in all its places
 

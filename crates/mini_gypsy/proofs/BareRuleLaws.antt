@@ -1,39 +1,24 @@
 -- Which static rules a source breaks doesn't depend on the places in it.
 use Rattle.std.proofs.Common.{◌≡◌, ℕ, ◌+◌, ℤ, pos, List, [], ◌∷◌, ◌++◌, map, length, Bool, true, false, Some, None, Option, refl, sym, ap, ap₂, subst, ◌∙◌}
-use Rattle.std.specs.Prelude.{not, ◌&&◌, ◌||◌, ◌==◌, nat_lt, option_map, is_none, if◌then◌else◌}
-use Rattle.std.specs.List.{list_any, flat_map}
-use Rattle.std.specs.Str.{bytes_eq}
-use Rattle.std.proofs.lemmas.List.{length-map, map-append}
-use Rattle.std.proofs.lemmas.Option.{slice_get-map}
-use Rattle.stack_text.specs.Names.{is_among, place_among}
-use Rattle.stack_text.specs.declared.breach.Breach.{Breach}
-use Rattle.stack_text.specs.declared.name.Named.{Named}
-use Rattle.stack_text.specs.declared.shape.Kind.{Kind}
-use Rattle.stack_text.specs.declared.shape.Kind.TheVariants.{Integer, Character}
-use Rattle.stack_text.specs.Breaches.{when}
+use Rattle.std.{specs.Prelude.{not, ◌&&◌, ◌||◌, ◌==◌, nat_lt, option_map, is_none, if◌then◌else◌}, specs.List.{list_any, flat_map}, specs.Str.bytes_eq}
+use Rattle.std.{proofs.lemmas.List.{length-map, map-append}, proofs.lemmas.Option.slice_get-map}
+use Rattle.stack_text.{specs.Names.{is_among, place_among}, specs.declared.breach.Breach.Breach, specs.declared.name.Named.Named}
+use Rattle.stack_text.{specs.declared.shape.Kind.Kind, specs.declared.shape.Kind.TheVariants.{Integer, Character}, specs.Breaches.when}
 use Rattle.stack_text.specs.Grammar.Printed.{unplaced_name}
-use Rattle.gypsy_syntax.specs.declared.literal.Decl.{Decl}
-use Rattle.gypsy_syntax.specs.declared.literal.TypeText.{TypeText}
-use Rattle.gypsy_syntax.specs.declared.slot.Form.{Form}
-use Rattle.gypsy_syntax.specs.declared.slot.Form.TheVariants.{Simple, Array, Literal}
-use Rattle.gypsy_syntax.specs.declared.slot.Slot.{Slot}
-use Rattle.gypsy_syntax.specs.Effects.{same_int}
+use Rattle.gypsy_syntax.{specs.declared.literal.Decl.Decl, specs.declared.literal.TypeText.TypeText, specs.declared.slot.Form.Form}
+use Rattle.gypsy_syntax.{specs.declared.slot.Form.TheVariants.{Simple, Array, Literal}, specs.declared.slot.Slot.Slot, specs.Effects.same_int}
 use Rattle.gypsy_syntax.specs.Places.{unplaced_type, unplaced_literal, unplaced_literals, unplaced_arg, unplaced_decl, unplaced_local, unplaced_stmt}
-use Rattle.gypsy_syntax.specs.Places.{unplaced_stmts, unplaced_proc, without_places}
-use Rattle.gypsy_syntax.specs.Predefined.{slots_of}
-use Rattle.gypsy_syntax.specs.Ranges.{is_in_range}
-use Rattle.gypsy_syntax.specs.Resolved.{variable_names, variable_types, procedure_names, is_leave_name, is_routine_name, is_space_name}
-use Rattle.gypsy_syntax.specs.Sources.{LiteralOf, LiteralsOf, integer, truth, character, array, no_items, item, literal_place, ArgOf, variable, constant}
-use Rattle.gypsy_syntax.specs.Sources.{arg_place}
-use Rattle.gypsy_syntax.specs.Sources.{StmtOf, StmtsOf, no_op, signal, seq, loop, branch, begin, call, predef, no_parts, part, LocalOf, ProcOf, SourceOf}
-use Rattle.gypsy_syntax.specs.Resolved.{procedure_at, procedure_named}
-use Rattle.gypsy_check.specs.Arguments.{kind_of_type, kind_of_literal, kind_of, is_wanted, settled_by, is_undeclared}
-use Rattle.gypsy_check.specs.Declarations.{is_predefined, type_at, type_of, is_condition, variables_of, conditions_of, repeats}
-use Rattle.gypsy_check.specs.Rules.{literal_breaches, items_breaches, raised_breaches, handled_breaches, handlers_breaches, undeclared, is_of_type}
-use Rattle.gypsy_check.specs.Rules.{test_breaches, actuals_breaches, data_breaches, callee_breaches, actual_name_breaches, call_breaches}
-use Rattle.gypsy_check.specs.Rules.{slots_breaches, argument_breaches, predef_breaches, statement_breaches, parts_breaches, is_reserved, condition_breaches}
-use Rattle.gypsy_check.specs.Rules.{type_breaches, local_breaches, variable_breaches, condition_name_breaches, size_breaches, procedure_breaches, name_breaches}
-use Rattle.gypsy_check.specs.Rules.{violations}
+use Rattle.gypsy_syntax.{specs.Places.{unplaced_stmts, unplaced_proc, without_places}, specs.Predefined.slots_of, specs.Ranges.is_in_range}
+use Rattle.gypsy_syntax.specs.Resolved.{variable_names, variable_types, procedure_names, is_leave_name, is_routine_name, is_space_name, procedure_at}
+use Rattle.gypsy_syntax.{specs.Resolved.procedure_named, specs.Sources.{LiteralOf, LiteralsOf, integer, truth, character, array, no_items, item, literal_place}}
+use Rattle.gypsy_syntax.specs.Sources.{ArgOf, variable, constant, arg_place, StmtOf, StmtsOf, no_op, signal, seq, loop, branch, begin, call, predef, no_parts}
+use Rattle.gypsy_syntax.specs.Sources.{part, LocalOf, ProcOf, SourceOf}
+use Rattle.gypsy_check.{specs.Arguments.{kind_of_type, kind_of_literal, kind_of, is_wanted, settled_by, is_undeclared}, specs.Declarations.is_predefined}
+use Rattle.gypsy_check.{specs.Declarations.{type_at, type_of, is_condition, variables_of, conditions_of, repeats}, specs.Rules.literal_breaches}
+use Rattle.gypsy_check.specs.Rules.{items_breaches, raised_breaches, handled_breaches, handlers_breaches, undeclared, is_of_type, test_breaches}
+use Rattle.gypsy_check.specs.Rules.{actuals_breaches, data_breaches, callee_breaches, actual_name_breaches, call_breaches, slots_breaches, argument_breaches}
+use Rattle.gypsy_check.specs.Rules.{predef_breaches, statement_breaches, parts_breaches, is_reserved, condition_breaches, type_breaches, local_breaches}
+use Rattle.gypsy_check.specs.Rules.{variable_breaches, condition_name_breaches, size_breaches, procedure_breaches, name_breaches, violations}
 use Rattle.gypsy_check.specs.Types.{same_type, is_boolean, has_length, is_of_kind, are_of_kind, item_number, suits, words_of_length, words_of_types}
 use Rattle.mini_gypsy.proofs.PlaceLaws.{map_over, kind_same, variables_same, conditions_same, procedures_same}
 

@@ -1,7 +1,6 @@
 -- Worked programs.
 use Rattle.std.proofs.Common.{refl}
-use Rattle.mini_gypsy.specs.Examples.{ProgramsDo}
-use Rattle.mini_gypsy.specs.Meant.{expression_value, infix_worth, program_run}
+use Rattle.mini_gypsy.{specs.Examples.ProgramsDo, specs.Meant.{expression_value, infix_worth, program_run}}
 
 pub programs_do : ProgramsDo
 unfolding program_run expression_value infix_worth

@@ -1,33 +1,18 @@
 -- The lowered source keeps the form.
 use Rattle.std.proofs.Common.{◌≡◌, ℕ, zero, suc, ◌+◌, ◌*◌, ◌^◌, ◌<◌, ◌≤◌, max, List, [], ◌∷◌, ◌++◌, map, length, true, Some, refl, ap, arith}
-use Rattle.std.specs.Prelude.{slice_get, pos, All, IsTrue}
-use Rattle.std.specs.List.{sum_by}
-use Rattle.std.proofs.lemmas.Bool.{lt-ltb}
-use Rattle.std.proofs.lemmas.List.Sums.{sum_by-cons}
+use Rattle.std.{specs.Prelude.{slice_get, pos, All, IsTrue}, specs.List.sum_by, proofs.lemmas.Bool.lt-ltb, proofs.lemmas.List.Sums.sum_by-cons}
 use Rattle.std.proofs.lemmas.List.Elements.{All-nil, All-cons}
-use Rattle.stack_text.specs.Grammar.Parts.{IsNamed}
-use Rattle.stack_text.specs.Names.{is_name}
-use Rattle.gypsy_syntax.specs.Fits.{FitsDecl, FitsLocal, FitsStatement, FitsStatements, FitsProcedure, FitsForm}
-use Rattle.gypsy_syntax.proofs.FitsLaws.{two_fit, three_fit}
-use Rattle.gypsy_syntax.specs.Made.{statements, new_seq, new_predef}
-use Rattle.gypsy_syntax.specs.ProgramFits.{Each}
-use Rattle.gypsy_syntax.specs.Sizes.{deepest, parts_size, local_size, procedure_size, text_size}
-use Rattle.gypsy_syntax.specs.Sources.{integer, truth, constant, LocalOf, StmtOf}
-use Rattle.mini_syntax.specs.declared.program.Declared.{Declared}
-use Rattle.mini_syntax.specs.declared.sort.Sort.{Sort}
-use Rattle.mini_syntax.specs.declared.sort.Sort.TheVariants.{Int, Bool}
-use Rattle.mini_syntax.specs.Language.{Exp, Variable, Number, Truth, Before, Between, Stmt, Nothing, Then, Assign, While, If}
-use Rattle.mini_syntax.specs.Lawful.{IsLawful, levels, size_of, part_count}
+use Rattle.stack_text.{specs.Grammar.Parts.IsNamed, specs.Names.is_name}
+use Rattle.gypsy_syntax.{specs.Fits.{FitsDecl, FitsLocal, FitsStatement, FitsStatements, FitsProcedure, FitsForm}, proofs.FitsLaws.{two_fit, three_fit}}
+use Rattle.gypsy_syntax.{specs.Made.{statements, new_seq, new_predef}, specs.ProgramFits.Each, specs.Sizes.{deepest, parts_size, local_size, procedure_size}}
+use Rattle.gypsy_syntax.{specs.Sizes.text_size, specs.Sources.{integer, truth, constant, LocalOf, StmtOf}}
+use Rattle.mini_syntax.{specs.declared.program.Declared.Declared, specs.declared.sort.Sort.Sort, specs.declared.sort.Sort.TheVariants.{Int, Bool}}
+use Rattle.mini_syntax.{specs.Language.{Exp, Variable, Number, Truth, Before, Between, Stmt, Nothing, Then, Assign, While, If}, specs.Lawful.{IsLawful, levels}}
+use Rattle.mini_syntax.{specs.Lawful.{size_of, part_count, nth_name}, specs.Names.is_variable_name, specs.Sorted.{depth, depths, IsWellSorted, AreFine}}
+use Rattle.mini_syntax.{specs.Operands.{sort_of, prefix_sort, infix_sort}, proofs.VariableLaws.variable_is_name}
 use Rattle.mini_gypsy.specs.Lowered.{decl_of, temporary_local, locals_from, temporary_name, temporaries, argument, set_name, value_parts, statement_parts}
-use Rattle.mini_gypsy.specs.Lowered.{block_parts, choice_parts, leave, main_procedure, lowered}
-use Rattle.mini_syntax.specs.Lawful.{nth_name}
-use Rattle.mini_syntax.specs.Names.{is_variable_name}
-use Rattle.mini_syntax.specs.Sorted.{depth, depths, IsWellSorted, AreFine}
-use Rattle.mini_gypsy.specs.Steps.{prefix_row, infix_row}
-use Rattle.mini_syntax.specs.Operands.{sort_of, prefix_sort, infix_sort}
-use Rattle.mini_syntax.proofs.VariableLaws.{variable_is_name}
-use Rattle.mini_gypsy.proofs.NameLaws.{all_named, temporary_is_name}
-use Rattle.mini_gypsy.proofs.ResolveLaws.{depth_some}
+use Rattle.mini_gypsy.{specs.Lowered.{block_parts, choice_parts, leave, main_procedure, lowered}, specs.Steps.{prefix_row, infix_row}}
+use Rattle.mini_gypsy.{proofs.NameLaws.{all_named, temporary_is_name}, proofs.ResolveLaws.depth_some}
 
 -- ---- names
 

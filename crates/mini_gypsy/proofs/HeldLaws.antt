@@ -1,22 +1,15 @@
 -- The values of variables, as worths of their sorts.
-use Rattle.std.proofs.Common.{◌≡◌, ℕ, zero, suc, ◌<◌, List, [], ◌∷◌, length, true, false, Some, refl, ap, subst, arith}
-use Rattle.std.specs.Prelude.{slice_get, slice_set, ◌+ℤ◌, ◌-ℤ◌, ◌*ℤ◌}
+use Rattle.std.{proofs.Common.{◌≡◌, ℕ, zero, suc, ◌<◌, List, [], ◌∷◌, length, true, false, Some, refl, ap, subst, arith}, specs.Prelude.{slice_get, slice_set}}
+use Rattle.std.specs.Prelude.{◌+ℤ◌, ◌-ℤ◌, ◌*ℤ◌}
 use Rattle.std.specs.Prelude as std
-use Rattle.stack_text.specs.Values.{ValueOf}
-use Rattle.stack_text.specs.declared.shape.Kind.TheVariants.{Integer}
-use Rattle.gypsy_syntax.specs.Effects.{Normal, integer_value, truth_value, value_at}
-use Rattle.gypsy_syntax.specs.Ranges.{is_in_range}
-use Rattle.mini_syntax.specs.declared.sort.Sort.{Sort}
-use Rattle.mini_syntax.specs.declared.sort.Sort.TheVariants.{Int, Bool}
-use Rattle.mini_syntax.specs.declared.operator.Prefix.{Prefix}
-use Rattle.mini_syntax.specs.declared.operator.Prefix.TheVariants.{Not, Minus}
-use Rattle.mini_syntax.specs.declared.operator.Infix.{Infix}
-use Rattle.mini_syntax.specs.declared.operator.Infix.TheVariants.{Or, And, AtMost, Equals, Add, Subtract, Multiply}
-use Rattle.mini_syntax.specs.Language.{Exp, Variable, Before, Between}
+use Rattle.stack_text.{specs.Values.ValueOf, specs.declared.shape.Kind.TheVariants.Integer}
+use Rattle.gypsy_syntax.{specs.Effects.{Normal, integer_value, truth_value, value_at}, specs.Ranges.is_in_range}
+use Rattle.mini_syntax.{specs.declared.sort.Sort.Sort, specs.declared.sort.Sort.TheVariants.{Int, Bool}, specs.declared.operator.Prefix.Prefix}
+use Rattle.mini_syntax.{specs.declared.operator.Prefix.TheVariants.{Not, Minus}, specs.declared.operator.Infix.Infix}
+use Rattle.mini_syntax.{specs.declared.operator.Infix.TheVariants.{Or, And, AtMost, Equals, Add, Subtract, Multiply}, specs.Language.{Exp, Variable, Before}}
+use Rattle.mini_syntax.{specs.Language.Between, specs.Operands.{sort_of, prefix_sort, infix_sort}}
 use Rattle.mini_syntax.specs.Language as language
-use Rattle.mini_gypsy.specs.Meant.{Worth, Number, Truth, Fault, number_worth, prefix_worth, infix_worth, worth_in, expression_value}
-use Rattle.mini_syntax.specs.Operands.{sort_of, prefix_sort, infix_sort}
-use Rattle.mini_gypsy.proofs.RowLaws.{effect_of}
+use Rattle.mini_gypsy.{specs.Meant.{Worth, Number, Truth, Fault, number_worth, prefix_worth, infix_worth, worth_in, expression_value}, proofs.RowLaws.effect_of}
 
 -- a worth of the sort, or a fault
 abbrev pub HasSort : Sort → Worth → Type 0

@@ -1,16 +1,11 @@
 -- Lists that are made item by item.
 use Rattle.std.proofs.Common.{◌≡◌, ◌+◌, ◌-◌, ◌<◌, ◌≤◌, ℕ, suc, List, [], ◌∷◌, ◌++◌, drop, get_or, length, map, sym, ap, subst, ◌∙◌, append_assoc, append-nil}
-use Rattle.std.proofs.Common.{arith}
-use Rattle.std.proofs.lemmas.List.{drop_all}
-use Rattle.stack_text.proofs.Loops.{drop-item}
-use Rattle.stack_text.proofs.SharedLaws.{seen_more}
+use Rattle.std.{proofs.Common.arith, proofs.lemmas.List.drop_all}
+use Rattle.stack_text.{proofs.Loops.drop-item, proofs.SharedLaws.seen_more}
 use Rattle.gypsy_syntax.specs.Sources.{LocalOf, StmtOf}
-use Rattle.mini_syntax.specs.declared.program.Statement.{Statement}
-use Rattle.mini_syntax.specs.declared.sort.Sort.{Sort}
+use Rattle.mini_syntax.{specs.declared.program.Statement.Statement, specs.declared.sort.Sort.Sort, specs.ProgramView.{block_in, statement_in}}
+use Rattle.mini_syntax.specs.Sorted.{AreFine, depths}
 use Rattle.mini_gypsy.specs.Lowered.{locals_from, statement_parts, temporary_local}
-use Rattle.mini_syntax.specs.ProgramView.{block_in, statement_in}
-use Rattle.mini_syntax.specs.Sorted.{AreFine}
-use Rattle.mini_syntax.specs.Sorted.{depths}
 
 pub locals_more : {X : Type 0} (see : X → LocalOf) (items new : List X) (x : X) (s : Sort) (k : ℕ) (all : List LocalOf) → k < depths
     → new ≡ items ++ x ∷ [] → see x ≡ temporary_local s k → map see items ++ locals_from s k (depths - k) ≡ all

@@ -1,23 +1,12 @@
 -- What a text becomes.
 use Rattle.std.proofs.Common.{◌≡◌, ℕ, List, Ok, Err, length, sym, ap, subst, ◌∙◌, arith}
-use Rattle.gypsy_syntax.specs.GypsyReading.{KeepsForm}
-use Rattle.gypsy_syntax.specs.Printed.{gypsy_text}
-use Rattle.gypsy_syntax.specs.Resolved.{program_of}
-use Rattle.gypsy_syntax.specs.Sources.{SourceOf}
+use Rattle.gypsy_syntax.{specs.GypsyReading.KeepsForm, specs.Printed.gypsy_text, specs.Resolved.program_of, specs.Sources.SourceOf}
 use Rattle.gypsy_syntax.proofs.ReadAgainLaws.{gypsy_text_reads}
-use Rattle.mini_syntax.specs.MiniReading.{IsFault, TextReading, ReadsText, faultless, faulty}
-use Rattle.mini_syntax.specs.Breaches.{body_of, declared_of}
-use Rattle.mini_syntax.specs.declared.program.Declared.{Declared}
+use Rattle.mini_syntax.{specs.MiniReading.{IsFault, TextReading, ReadsText, faultless, faulty}, specs.Breaches.{body_of, declared_of}}
+use Rattle.mini_syntax.{specs.declared.program.Declared.Declared, specs.Grammar.InfixProgram, specs.Lawful.IsLawful, specs.ProgramView.block_in}
+use Rattle.mini_syntax.{proofs.OneAnswerLaws.{either_way, one_fault}, proofs.OneProgramLaws.program_is}
 use Rattle.mini_syntax.specs.declared.program.InfixProgram as made
-use Rattle.mini_syntax.specs.Grammar.{InfixProgram}
-use Rattle.mini_syntax.specs.Lawful.{IsLawful}
-use Rattle.mini_syntax.specs.ProgramView.{block_in}
-use Rattle.mini_syntax.proofs.OneAnswerLaws.{either_way, one_fault}
-use Rattle.mini_syntax.proofs.OneProgramLaws.{program_is}
-use Rattle.mini_gypsy.specs.Lowered.{lowered}
-use Rattle.mini_gypsy.specs.Promises.{Lowers, MeansSame}
-use Rattle.mini_gypsy.specs.Stored.{lowering_by, source_for}
-use Rattle.mini_gypsy.proofs.MeaningLaws.{means_same}
+use Rattle.mini_gypsy.{specs.Lowered.lowered, specs.Promises.{Lowers, MeansSame}, specs.Stored.{lowering_by, source_for}, proofs.MeaningLaws.means_same}
 use Rattle.mini_gypsy.proofs.TextLaws.{lowered_short}
 
 -- a program that was read is lawful

@@ -1,40 +1,22 @@
 -- The lowered source means what the program does.
 use Rattle.std.proofs.Common.{◌≡◌, ℕ, zero, suc, ◌*◌, List, [], ◌∷◌, ◌++◌, map, length, take, true, false, Some, None, refl, sym, ap, ap₂, subst, ◌∙◌}
-use Rattle.std.specs.Prelude.{ℤ, pos, negsuc, ◌==◌, ◌||◌, ◌&&◌}
+use Rattle.std.{specs.Prelude.{ℤ, pos, negsuc, ◌==◌, ◌||◌, ◌&&◌}, specs.List.list_all, proofs.lemmas.Bool.eqb-true, proofs.Math.Seq.take-append_seam}
 use Rattle.std.specs.Prelude as std
-use Rattle.std.specs.List.{list_all}
-use Rattle.std.proofs.lemmas.Bool.{eqb-true}
-use Rattle.std.proofs.Math.Seq.{take-append_seam}
-use Rattle.stack_text.specs.Names.{place_among}
-use Rattle.stack_text.specs.declared.shape.Kind.{Kind}
-use Rattle.stack_text.specs.declared.shape.Kind.TheVariants.{Integer, Boolean}
-use Rattle.stack_text.specs.declared.shape.Shape.{Shape}
-use Rattle.stack_text.specs.Values.{ValueOf, item_count}
-use Rattle.stack_text.proofs.SharedLaws.{one_item}
-use Rattle.gypsy_syntax.specs.declared.literal.Decl.{Decl}
-use Rattle.gypsy_syntax.specs.Effects.{integer_value, truth_value, item_of_value, is_true_value, same_int}
-use Rattle.gypsy_syntax.specs.Ranges.{is_in_range}
-use Rattle.gypsy_syntax.specs.ValuesFit.{ValueFits, VarsFit}
-use Rattle.gypsy_syntax.specs.Programs.{Program, Leave, Routine, Space, simple, proc_at}
-use Rattle.gypsy_syntax.specs.Programs as gypsy
+use Rattle.stack_text.{specs.Names.place_among, specs.declared.shape.Kind.Kind, specs.declared.shape.Kind.TheVariants.{Integer, Boolean}}
+use Rattle.stack_text.{specs.declared.shape.Shape.Shape, specs.Values.{ValueOf, item_count}, proofs.SharedLaws.one_item}
+use Rattle.gypsy_syntax.{specs.declared.literal.Decl.Decl, specs.Effects.{integer_value, truth_value, item_of_value, is_true_value, same_int}}
+use Rattle.gypsy_syntax.{specs.Ranges.is_in_range, specs.ValuesFit.{ValueFits, VarsFit}, specs.Programs.{Program, Leave, Routine, Space, simple, proc_at}}
 use Rattle.gypsy_syntax.specs.Resolved.{program_of, shape_of, truth_item, statement_of, local_value}
+use Rattle.gypsy_syntax.specs.Programs as gypsy
 use Rattle.gypsy_space.specs.Needs.{StackSizes, main_used}
-use Rattle.gypsy_semantics.specs.Calls.{main_start, main_formals, main_way, is_passed_on}
-use Rattle.gypsy_semantics.specs.Meaning.{MeaningOutcome, Done, Unfinished, evaluate, main_end, meaning}
-use Rattle.mini_syntax.specs.declared.program.Declared.{Declared}
-use Rattle.mini_syntax.specs.declared.sort.Sort.{Sort}
-use Rattle.mini_syntax.specs.declared.sort.Sort.TheVariants.{Int, Bool}
-use Rattle.mini_syntax.specs.Language.{Stmt}
-use Rattle.mini_syntax.specs.Lawful.{IsLawful}
-use Rattle.mini_gypsy.specs.Lowered.{kind_of, decl_of, locals_from, temporaries, statement_parts, main_procedure, lowered}
-use Rattle.mini_gypsy.specs.Meant.{worth_in, program_run}
-use Rattle.mini_gypsy.specs.Promises.{MeansSame}
-use Rattle.mini_gypsy.specs.Steps.{in_turn, block_of, statement_steps}
-use Rattle.mini_syntax.specs.Sorted.{depths}
-use Rattle.mini_gypsy.proofs.NameLaws.{all_named, knows}
-use Rattle.mini_gypsy.proofs.ResolveLaws.{all_in_turn, statements_are}
-use Rattle.mini_gypsy.proofs.HeldLaws.{Holds, AreHeld, held_length}
-use Rattle.mini_gypsy.proofs.StatementLaws.{Follows, statements_follow}
+use Rattle.gypsy_semantics.{specs.Calls.{main_start, main_formals, main_way, is_passed_on}, specs.Meaning.{MeaningOutcome, Done, Unfinished, evaluate}}
+use Rattle.gypsy_semantics.specs.Meaning.{main_end, meaning}
+use Rattle.mini_syntax.{specs.declared.program.Declared.Declared, specs.declared.sort.Sort.Sort, specs.declared.sort.Sort.TheVariants.{Int, Bool}}
+use Rattle.mini_syntax.{specs.Language.Stmt, specs.Lawful.IsLawful, specs.Sorted.depths}
+use Rattle.mini_gypsy.{specs.Lowered.{kind_of, decl_of, locals_from, temporaries, statement_parts, main_procedure, lowered}, specs.Meant.worth_in}
+use Rattle.mini_gypsy.{specs.Meant.program_run, specs.Promises.MeansSame, specs.Steps.{in_turn, block_of, statement_steps}, proofs.NameLaws.{all_named, knows}}
+use Rattle.mini_gypsy.{proofs.ResolveLaws.{all_in_turn, statements_are}, proofs.HeldLaws.{Holds, AreHeld, held_length}, proofs.StatementLaws.Follows}
+use Rattle.mini_gypsy.proofs.StatementLaws.{statements_follow}
 
 -- ---- values that fit are held
 

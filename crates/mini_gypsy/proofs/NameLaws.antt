@@ -1,31 +1,16 @@
 -- Where the names of main's variables stand: the declared ones, and then the temporaries.
 use Rattle.std.proofs.Common.{◌≡◌, ℕ, zero, suc, ◌+◌, ◌<◌, List, [], ◌∷◌, ◌++◌, map, length, cond, bytes_eq, Bool, true, false, Option, Some, None, is_none}
-use Rattle.std.proofs.Common.{option_map, refl, sym, ap, ◌∙◌, arith, true≢false}
-use Rattle.std.specs.Prelude.{slice_get, ◌==◌, ◌&&◌, ◌||◌, nat_le, IsTrue}
-use Rattle.std.specs.List.{list_all}
-use Rattle.std.proofs.lemmas.Bool.{agree_below_at, eqb-true, and_parts}
-use Rattle.std.proofs.lemmas.Slice.Eq.{bytes_eq-Decides}
-use Rattle.stack_text.specs.Names.{is_name, begins_with_letter, is_among, place_among}
+use Rattle.std.{proofs.Common.{option_map, refl, sym, ap, ◌∙◌, arith, true≢false}, specs.Prelude.{slice_get, ◌==◌, ◌&&◌, ◌||◌, nat_le, IsTrue}}
+use Rattle.std.{specs.List.list_all, proofs.lemmas.Bool.{agree_below_at, eqb-true, and_parts}, proofs.lemmas.Slice.Eq.bytes_eq-Decides}
 use Rattle.std.proofs.lemmas.Option.{slice_get_within}
-use Rattle.stack_text.proofs.SharedLaws.{and_false, get_front}
-use Rattle.gypsy_syntax.specs.declared.literal.TypeText.{TypeText}
-use Rattle.gypsy_syntax.specs.Made.{new_simple}
-use Rattle.gypsy_syntax.specs.ProgramFits.{Each}
-use Rattle.gypsy_syntax.specs.declared.literal.Decl.{Decl}
-use Rattle.gypsy_syntax.specs.Resolved.{variable_names, variable_types}
-use Rattle.gypsy_syntax.specs.Sources.{LocalOf, ProcOf}
-use Rattle.gypsy_check.specs.Declarations.{type_at, type_of}
-use Rattle.gypsy_check.proofs.LookupLaws.{place_cons}
-use Rattle.mini_syntax.specs.declared.program.Declared.{Declared}
-use Rattle.mini_syntax.specs.declared.sort.Sort.{Sort}
+use Rattle.stack_text.{specs.Names.{is_name, begins_with_letter, is_among, place_among}, proofs.SharedLaws.{and_false, get_front}}
+use Rattle.gypsy_syntax.{specs.declared.literal.TypeText.TypeText, specs.Made.new_simple, specs.ProgramFits.Each, specs.declared.literal.Decl.Decl}
+use Rattle.gypsy_syntax.{specs.Resolved.{variable_names, variable_types}, specs.Sources.{LocalOf, ProcOf}}
+use Rattle.gypsy_check.{specs.Declarations.{type_at, type_of}, proofs.LookupLaws.place_cons}
+use Rattle.mini_syntax.{specs.declared.program.Declared.Declared, specs.declared.sort.Sort.Sort, specs.Sorted.depths, specs.Lawful.{AreApart, nth_name}}
+use Rattle.mini_syntax.{specs.Names.{is_variable_name, is_word_byte, word_named}, specs.Language.Stmt}
 use Rattle.mini_syntax.specs.declared.sort.Sort.TheVariants as sort
-use Rattle.mini_gypsy.specs.Steps.{temporary}
-use Rattle.mini_syntax.specs.Sorted.{depths}
-use Rattle.mini_syntax.specs.Lawful.{AreApart}
-use Rattle.mini_syntax.specs.Names.{is_variable_name, is_word_byte, word_named}
-use Rattle.mini_syntax.specs.Language.{Stmt}
-use Rattle.mini_gypsy.specs.Lowered.{main_procedure, decl_of, kind_of, temporary_name, temporaries, locals_from, letter_of}
-use Rattle.mini_syntax.specs.Lawful.{nth_name}
+use Rattle.mini_gypsy.{specs.Steps.temporary, specs.Lowered.{main_procedure, decl_of, kind_of, temporary_name, temporaries, locals_from, letter_of}}
 
 -- a name is itself, and another isn't
 pub same_name : (name : List ℕ) → bytes_eq name name ≡ true

@@ -1,18 +1,11 @@
 -- What is appended for an expression, part by part.
-use Rattle.std.proofs.Common.{◌≡◌, ℕ, suc, List, [], ◌∷◌, ◌++◌, map, sym, ap, ap₂, ◌∙◌, append_assoc}
-use Rattle.std.proofs.lemmas.List.{map-append}
-use Rattle.gypsy_syntax.specs.declared.statement.Stmt.{Stmt as Made}
-use Rattle.gypsy_syntax.specs.Made.{new_predef, new_seq}
-use Rattle.gypsy_syntax.specs.Sources.{loop, no_op, StmtOf}
+use Rattle.std.{proofs.Common.{◌≡◌, ℕ, suc, List, [], ◌∷◌, ◌++◌, map, sym, ap, ap₂, ◌∙◌, append_assoc}, proofs.lemmas.List.map-append}
+use Rattle.gypsy_syntax.{specs.declared.statement.Stmt.Stmt as Made, specs.Made.{new_predef, new_seq}, specs.Sources.{loop, no_op, StmtOf}}
 use Rattle.gypsy_syntax.specs.Views.SourceView.{stmt_of}
-use Rattle.mini_syntax.specs.declared.operator.Infix.{Infix}
-use Rattle.mini_syntax.specs.declared.operator.Prefix.{Prefix}
-use Rattle.mini_syntax.specs.declared.sort.Sort.{Sort}
-use Rattle.mini_syntax.specs.Language.{Exp, Before, Between, Stmt, Assign, While, If}
+use Rattle.mini_syntax.{specs.declared.operator.Infix.Infix, specs.declared.operator.Prefix.Prefix, specs.declared.sort.Sort.Sort, specs.Language.{Exp, Before}}
+use Rattle.mini_syntax.{specs.Language.{Between, Stmt, Assign, While, If}, specs.Lawful.nth_name, specs.Operands.{infix_sort, prefix_sort, sort_of}}
 use Rattle.mini_gypsy.specs.Lowered.{argument, block_parts, choice_parts, leave, set_name, statement_parts, temporary_name, value_parts}
-use Rattle.mini_syntax.specs.Lawful.{nth_name}
 use Rattle.mini_gypsy.specs.Steps.{infix_row, prefix_row}
-use Rattle.mini_syntax.specs.Operands.{infix_sort, prefix_sort, sort_of}
 
 -- one more
 pub one_pushed : (old new : List Made) (made : Made) (s : StmtOf) → new ≡ old ++ made ∷ [] → stmt_of made ≡ s → map stmt_of new ≡ map stmt_of old ++ s ∷ []

@@ -1,21 +1,15 @@
 -- What a source is, by positions in place of names, is the same but for places as of the source without places.
-use Rattle.std.proofs.Common.{◌≡◌, ℕ, ℤ, List, [], ◌∷◌, ◌++◌, map, refl, sym, ap, ap₂, ◌∙◌}
-use Rattle.std.specs.Prelude.{if◌then◌else◌}
-use Rattle.std.specs.Option.{unwrap_or}
+use Rattle.std.{proofs.Common.{◌≡◌, ℕ, ℤ, List, [], ◌∷◌, ◌++◌, map, refl, sym, ap, ap₂, ◌∙◌}, specs.Prelude.if◌then◌else◌, specs.Option.unwrap_or}
 use Rattle.std.proofs.lemmas.List.{length-map}
-use Rattle.stack_text.specs.declared.name.Named.{Named}
-use Rattle.stack_text.specs.declared.shape.Kind.TheVariants.{Integer}
-use Rattle.stack_text.specs.Grammar.Printed.{unplaced_name}
-use Rattle.gypsy_syntax.specs.declared.literal.Decl.{Decl}
-use Rattle.gypsy_syntax.specs.Places.{unplaced_literal, unplaced_literals, unplaced_arg, unplaced_decl, unplaced_local, unplaced_stmt, unplaced_stmts}
-use Rattle.gypsy_syntax.specs.Places.{unplaced_proc, without_places}
-use Rattle.gypsy_syntax.specs.Programs.{Leave, Routine, Space, Declared, Var, Lit, simple}
-use Rattle.gypsy_syntax.specs.Programs.{Signal, Seq, Loop, If, Begin, Call, Apply}
-use Rattle.gypsy_syntax.specs.Resolved.{position_of, variable_names, condition_names, procedure_names, shape_of, item_of, items_of_all, value_items}
-use Rattle.gypsy_syntax.specs.Resolved.{literal_kind, literal_value, local_value, is_leave_name, is_routine_name, is_space_name, cond_of, variable_of}
-use Rattle.gypsy_syntax.specs.Resolved.{argument_of, statement_of, statement_of_all, procedure_of, program_of}
-use Rattle.gypsy_syntax.specs.Sources.{LiteralOf, LiteralsOf, integer, truth, character, array, no_items, item, ArgOf, variable, constant}
-use Rattle.gypsy_syntax.specs.Sources.{StmtOf, StmtsOf, no_op, signal, seq, loop, branch, begin, call, predef, no_parts, part, LocalOf, ProcOf, SourceOf}
+use Rattle.stack_text.{specs.declared.name.Named.Named, specs.declared.shape.Kind.TheVariants.Integer, specs.Grammar.Printed.unplaced_name}
+use Rattle.gypsy_syntax.{specs.declared.literal.Decl.Decl, specs.Places.{unplaced_literal, unplaced_literals, unplaced_arg, unplaced_decl, unplaced_local}}
+use Rattle.gypsy_syntax.{specs.Places.{unplaced_stmt, unplaced_stmts, unplaced_proc, without_places}, specs.Programs.{Leave, Routine, Space, Declared, Var}}
+use Rattle.gypsy_syntax.{specs.Programs.{Lit, simple, Signal, Seq, Loop, If, Begin, Call, Apply}, specs.Resolved.{position_of, variable_names, condition_names}}
+use Rattle.gypsy_syntax.specs.Resolved.{procedure_names, shape_of, item_of, items_of_all, value_items, literal_kind, literal_value, local_value, is_leave_name}
+use Rattle.gypsy_syntax.specs.Resolved.{is_routine_name, is_space_name, cond_of, variable_of, argument_of, statement_of, statement_of_all, procedure_of}
+use Rattle.gypsy_syntax.{specs.Resolved.program_of, specs.Sources.{LiteralOf, LiteralsOf, integer, truth, character, array, no_items, item, ArgOf, variable}}
+use Rattle.gypsy_syntax.specs.Sources.{constant, StmtOf, StmtsOf, no_op, signal, seq, loop, branch, begin, call, predef, no_parts, part, LocalOf, ProcOf}
+use Rattle.gypsy_syntax.specs.Sources.{SourceOf}
 use Rattle.mini_gypsy.proofs.BareLaws.{bare_statement, bare_procedure, bare_program}
 
 -- what a list's items give, where each is changed first to one that gives what it gave

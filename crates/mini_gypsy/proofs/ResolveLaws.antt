@@ -1,25 +1,17 @@
 -- The lowered source has positions where the steps have them.
 use Rattle.std.proofs.Common.{◌≡◌, ℕ, suc, ◌+◌, ◌<◌, ◌≤◌, List, [], ◌∷◌, ◌++◌, map, length, Option, Some, unwrap_or, refl, ap, ap₂, ◌∙◌, arith}
-use Rattle.std.specs.Prelude.{slice_get, pos}
-use Rattle.std.proofs.lemmas.List.{map-append}
+use Rattle.std.{specs.Prelude.{slice_get, pos}, proofs.lemmas.List.map-append}
 use Rattle.stack_text.specs.Names.{place_among}
-use Rattle.gypsy_syntax.specs.declared.predef.Predef.{Predef}
+use Rattle.gypsy_syntax.{specs.declared.predef.Predef.Predef, specs.Effects.{integer_value, truth_value}, specs.Made.{statements, new_predef}}
+use Rattle.gypsy_syntax.{specs.Programs.{Arg, Var, Lit}, specs.Resolved.{variable_names, argument_of, statement_of, statement_of_all}, specs.Sources.ArgOf}
+use Rattle.gypsy_syntax.specs.Sources.{StmtOf, ProcOf, SourceOf}
 use Rattle.gypsy_syntax.specs.declared.predef.Predef.TheVariants as row
-use Rattle.gypsy_syntax.specs.Effects.{integer_value, truth_value}
-use Rattle.gypsy_syntax.specs.Made.{statements, new_predef}
-use Rattle.gypsy_syntax.specs.Programs.{Arg, Var, Lit}
 use Rattle.gypsy_syntax.specs.Programs as gypsy
-use Rattle.gypsy_syntax.specs.Resolved.{variable_names, argument_of, statement_of, statement_of_all}
-use Rattle.gypsy_syntax.specs.Sources.{ArgOf, StmtOf, ProcOf, SourceOf}
-use Rattle.mini_syntax.specs.declared.sort.Sort.{Sort}
-use Rattle.mini_syntax.specs.declared.sort.Sort.TheVariants.{Int, Bool}
-use Rattle.mini_syntax.specs.Language.{Exp, Variable, Number, Truth, Before, Between, Stmt, Nothing, Then, Assign, While, If}
-use Rattle.mini_gypsy.specs.Lowered.{temporary_name, argument, set_name, value_parts, statement_parts, block_parts, choice_parts, leave}
-use Rattle.mini_syntax.specs.Lawful.{nth_name}
-use Rattle.mini_syntax.specs.Sorted.{depth, IsWellSorted, AreFine}
-use Rattle.mini_gypsy.specs.Steps.{in_turn, temporary_at, prefix_row, infix_row, set_variable, value_steps, statement_steps, block_of, choice_of}
-use Rattle.mini_syntax.specs.Sorted.{depths}
-use Rattle.mini_syntax.specs.Operands.{sort_of, prefix_sort, infix_sort}
+use Rattle.mini_syntax.{specs.declared.sort.Sort.Sort, specs.declared.sort.Sort.TheVariants.{Int, Bool}, specs.Language.{Exp, Variable, Number, Truth, Before}}
+use Rattle.mini_syntax.{specs.Language.{Between, Stmt, Nothing, Then, Assign, While, If}, specs.Lawful.nth_name, specs.Sorted.{depth, IsWellSorted, AreFine}}
+use Rattle.mini_syntax.{specs.Sorted.depths, specs.Operands.{sort_of, prefix_sort, infix_sort}}
+use Rattle.mini_gypsy.{specs.Lowered.{temporary_name, argument, set_name, value_parts, statement_parts, block_parts, choice_parts, leave}, specs.Steps.in_turn}
+use Rattle.mini_gypsy.specs.Steps.{temporary_at, prefix_row, infix_row, set_variable, value_steps, statement_steps, block_of, choice_of}
 use Rattle.mini_gypsy.proofs.NameLaws.{Knows}
 
 -- parts in turn

@@ -1,24 +1,17 @@
 -- Each operator's predefined procedure does what the operator does.
-use Rattle.std.proofs.Common.{◌≡◌, ℕ, ℤ, ◌+ℤ◌, ◌-ℤ◌, ◌*ℤ◌, neg_ℤ, List, [], ◌∷◌, true, false, not, ◌||◌, ◌&&◌, refl, ap}
-use Rattle.std.specs.Prelude.{Bool}
+use Rattle.std.{proofs.Common.{◌≡◌, ℕ, ℤ, ◌+ℤ◌, ◌-ℤ◌, ◌*ℤ◌, neg_ℤ, List, [], ◌∷◌, true, false, not, ◌||◌, ◌&&◌, refl, ap}, specs.Prelude.Bool}
 use Rattle.std.specs.Prelude as std
-use Rattle.stack_text.specs.Values.{ValueOf}
-use Rattle.stack_text.specs.declared.shape.Kind.TheVariants.{Integer}
-use Rattle.gypsy_syntax.specs.Predefined.{effect_by}
-use Rattle.gypsy_syntax.specs.Effects.{Effect, Normal, integer_value, truth_value, value_at, number_effect, is_true_value, are_same}
+use Rattle.stack_text.{specs.Values.ValueOf, specs.declared.shape.Kind.TheVariants.Integer}
+use Rattle.gypsy_syntax.{specs.Predefined.effect_by, specs.Effects.{Effect, Normal, integer_value, truth_value, value_at, number_effect, is_true_value}}
+use Rattle.gypsy_syntax.{specs.Effects.are_same, specs.Ranges.is_in_range, specs.Programs.{Arg, Var}}
 use Rattle.gypsy_syntax.specs.Effects as effect
-use Rattle.gypsy_syntax.specs.Ranges.{is_in_range}
-use Rattle.gypsy_syntax.specs.Programs.{Arg, Var}
-use Rattle.gypsy_semantics.specs.Calls.{target_of}
-use Rattle.gypsy_semantics.specs.Meaning.{applied}
+use Rattle.gypsy_semantics.{specs.Calls.target_of, specs.Meaning.applied}
 use Rattle.mini_syntax.specs.declared.sort.Sort.TheVariants as sort
-use Rattle.mini_syntax.specs.declared.operator.Prefix.{Prefix}
-use Rattle.mini_syntax.specs.declared.operator.Prefix.TheVariants.{Not, Minus}
-use Rattle.mini_syntax.specs.declared.operator.Infix.{Infix}
-use Rattle.mini_syntax.specs.declared.operator.Infix.TheVariants.{Or, And, AtMost, Equals, Add, Subtract, Multiply}
-use Rattle.mini_syntax.specs.Operands.{prefix_takes, infix_takes}
-use Rattle.mini_gypsy.specs.Meant.{Worth, Number, Truth, Fault, number_worth, prefix_worth, infix_worth, same_truth, assigned}
-use Rattle.mini_gypsy.specs.Steps.{prefix_row, infix_row}
+use Rattle.mini_syntax.{specs.declared.operator.Prefix.Prefix, specs.declared.operator.Prefix.TheVariants.{Not, Minus}, specs.declared.operator.Infix.Infix}
+use Rattle.mini_syntax.{specs.declared.operator.Infix.TheVariants.{Or, And, AtMost, Equals, Add, Subtract, Multiply}, specs.Operands.prefix_takes}
+use Rattle.mini_syntax.specs.Operands.{infix_takes}
+use Rattle.mini_gypsy.{specs.Meant.{Worth, Number, Truth, Fault, number_worth, prefix_worth, infix_worth, same_truth, assigned}, specs.Steps.prefix_row}
+use Rattle.mini_gypsy.specs.Steps.{infix_row}
 
 abbrev pub effect_of : Worth → Effect
 effect_of (Number z) = Normal (integer_value z)

@@ -1,45 +1,24 @@
 -- The lowered source breaks no static rule.
 use Rattle.std.proofs.Common.{◌≡◌, ℕ, zero, suc, ◌+◌, ◌^◌, ◌<◌, ◌≤◌, List, [], ◌∷◌, ◌++◌, map, length, bytes_eq, true, false, Some, refl, ap, ap₂, arith}
-use Rattle.std.specs.Prelude.{pos, ◌||◌}
+use Rattle.std.{specs.Prelude.{pos, ◌||◌}, specs.List.flat_map, proofs.lemmas.Bool.{lt-ltb, le-ltb, or_parts}}
 use Rattle.std.specs.Prelude as std
-use Rattle.std.specs.List.{flat_map}
-use Rattle.std.proofs.lemmas.Bool.{lt-ltb, le-ltb, or_parts}
-use Rattle.stack_text.specs.Names.{is_among, place_among}
-use Rattle.stack_text.specs.declared.breach.Breach.{Breach}
-use Rattle.stack_text.specs.declared.name.Named.{Named}
-use Rattle.stack_text.specs.Breaches.{when}
+use Rattle.stack_text.{specs.Names.{is_among, place_among}, specs.declared.breach.Breach.Breach, specs.declared.name.Named.Named, specs.Breaches.when}
 use Rattle.stack_text.proofs.SharedLaws.{rule_fails, append_none, both_none}
-use Rattle.gypsy_syntax.specs.declared.literal.Decl.{Decl}
-use Rattle.gypsy_syntax.specs.declared.literal.TypeText.{TypeText}
+use Rattle.gypsy_syntax.{specs.declared.literal.Decl.Decl, specs.declared.literal.TypeText.TypeText, specs.Keywords.{keyword_name, form_named, predef_named}}
+use Rattle.gypsy_syntax.{specs.Made.{statements, new_seq, new_predef, new_simple}, specs.Predefined.slots_of, specs.ProgramFits.Each, specs.Sources.integer}
+use Rattle.gypsy_syntax.specs.Sources.{truth, constant, loop, LocalOf, StmtOf, ProcOf, SourceOf}
 use Rattle.gypsy_syntax.specs.declared.predef.Predef.TheVariants as row
-use Rattle.gypsy_syntax.specs.Keywords.{keyword_name, form_named, predef_named}
-use Rattle.gypsy_syntax.specs.Made.{statements, new_seq, new_predef, new_simple}
-use Rattle.gypsy_syntax.specs.Predefined.{slots_of}
-use Rattle.gypsy_syntax.specs.ProgramFits.{Each}
-use Rattle.gypsy_syntax.specs.Sources.{integer, truth, constant, loop, LocalOf, StmtOf, ProcOf, SourceOf}
-use Rattle.gypsy_check.specs.Declarations.{type_of, repeats}
-use Rattle.gypsy_check.specs.Rules.{predef_breaches, statement_breaches, parts_breaches, type_breaches, local_breaches, procedure_breaches, violations}
-use Rattle.gypsy_check.specs.Types.{words_of_types}
-use Rattle.mini_syntax.specs.declared.program.Declared.{Declared}
-use Rattle.mini_syntax.specs.declared.sort.Sort.{Sort}
-use Rattle.mini_syntax.specs.declared.sort.Sort.TheVariants.{Int, Bool}
-use Rattle.mini_syntax.specs.declared.operator.Prefix.{Prefix}
-use Rattle.mini_syntax.specs.declared.operator.Prefix.TheVariants.{Not, Minus}
-use Rattle.mini_syntax.specs.declared.operator.Infix.{Infix}
-use Rattle.mini_syntax.specs.declared.operator.Infix.TheVariants.{Or, And, AtMost, Equals, Add, Subtract, Multiply}
-use Rattle.mini_syntax.specs.Operands.{prefix_takes, infix_takes}
-use Rattle.mini_syntax.specs.Language.{Exp, Variable, Number, Truth, Before, Between, Stmt, Nothing, Then, Assign, While, If}
-use Rattle.mini_syntax.specs.Lawful.{AreApart, IsLawful}
+use Rattle.gypsy_check.{specs.Declarations.{type_of, repeats}, specs.Rules.{predef_breaches, statement_breaches, parts_breaches, type_breaches, local_breaches}}
+use Rattle.gypsy_check.{specs.Rules.{procedure_breaches, violations}, specs.Types.words_of_types}
+use Rattle.mini_syntax.{specs.declared.program.Declared.Declared, specs.declared.sort.Sort.Sort, specs.declared.sort.Sort.TheVariants.{Int, Bool}}
+use Rattle.mini_syntax.{specs.declared.operator.Prefix.Prefix, specs.declared.operator.Prefix.TheVariants.{Not, Minus}, specs.declared.operator.Infix.Infix}
+use Rattle.mini_syntax.{specs.declared.operator.Infix.TheVariants.{Or, And, AtMost, Equals, Add, Subtract, Multiply}, specs.Operands.prefix_takes}
+use Rattle.mini_syntax.{specs.Operands.{infix_takes, sort_of, prefix_sort, infix_sort}, specs.Language.{Exp, Variable, Number, Truth, Before, Between, Stmt}}
+use Rattle.mini_syntax.{specs.Language.{Nothing, Then, Assign, While, If}, specs.Lawful.{AreApart, IsLawful, nth_name}, specs.Names.is_variable_name}
+use Rattle.mini_syntax.specs.Sorted.{depth, IsWellSorted, AreFine, depths}
 use Rattle.mini_gypsy.specs.Lowered.{kind_of, decl_of, locals_from, temporary_name, temporaries, argument, set_name, value_parts, statement_parts, block_parts}
-use Rattle.mini_gypsy.specs.Lowered.{choice_parts, leave, main_procedure, lowered}
-use Rattle.mini_syntax.specs.Lawful.{nth_name}
-use Rattle.mini_syntax.specs.Names.{is_variable_name}
-use Rattle.mini_syntax.specs.Sorted.{depth, IsWellSorted, AreFine}
-use Rattle.mini_gypsy.specs.Steps.{prefix_row, infix_row}
-use Rattle.mini_syntax.specs.Sorted.{depths}
-use Rattle.mini_syntax.specs.Operands.{sort_of, prefix_sort, infix_sort}
-use Rattle.mini_gypsy.proofs.NameLaws.{all_named, Knows, knows, marked}
-use Rattle.mini_gypsy.proofs.ResolveLaws.{depth_some}
+use Rattle.mini_gypsy.{specs.Lowered.{choice_parts, leave, main_procedure, lowered}, specs.Steps.{prefix_row, infix_row}, proofs.NameLaws.{all_named, Knows}}
+use Rattle.mini_gypsy.{proofs.NameLaws.{knows, marked}, proofs.ResolveLaws.depth_some}
 
 module _ (q : SourceOf) (p : ProcOf) where
   set_clean : (s : Sort) (a b : List ℕ) → type_of p a ≡ Some (new_simple 0 (kind_of s)) → type_of p b ≡ Some (new_simple 0 (kind_of s)) →

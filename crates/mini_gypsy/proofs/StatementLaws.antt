@@ -3,24 +3,18 @@ use Rattle.std.proofs.Common.{◌≡◌, ℕ, zero, suc, ◌*◌, ◌<◌, List,
 use Rattle.std.specs.Prelude.{slice_get, slice_set}
 use Rattle.std.specs.Prelude as std
 use Rattle.stack_text.specs.Values.{ValueOf}
-use Rattle.gypsy_syntax.specs.Predefined.{predef_effect, effect_by}
-use Rattle.gypsy_syntax.specs.Effects.{integer_value, truth_value, value_at, is_true_value}
+use Rattle.gypsy_syntax.{specs.Predefined.{predef_effect, effect_by}, specs.Effects.{integer_value, truth_value, value_at, is_true_value}}
 use Rattle.gypsy_syntax.specs.Programs.{Program, Leave, Routine, Space, Declared}
 use Rattle.gypsy_syntax.specs.Programs as gypsy
 use Rattle.gypsy_space.specs.Needs.{StackSizes}
-use Rattle.gypsy_semantics.specs.Calls.{CurrentCondition, values_of, target_of}
-use Rattle.gypsy_semantics.specs.Meaning.{MeaningOutcome, Done, Unfinished, evaluate, then_do, either_way, round_end}
-use Rattle.mini_syntax.specs.declared.sort.Sort.{Sort}
-use Rattle.mini_syntax.specs.declared.sort.Sort.TheVariants.{Bool}
-use Rattle.mini_syntax.specs.Language.{Exp, Stmt, Nothing, Then, Assign, While, If}
-use Rattle.mini_gypsy.specs.Meant.{Worth, Number, Truth, Fault, worth_in, expression_value, assigned, by_test, program_run}
-use Rattle.mini_syntax.specs.Sorted.{IsFine, AreFine}
-use Rattle.mini_gypsy.specs.Steps.{in_turn, temporary, temporary_at, set_variable, value_steps, block_of, choice_of, statement_steps}
-use Rattle.mini_syntax.specs.Sorted.{depths}
-use Rattle.mini_syntax.specs.Operands.{sort_of}
-use Rattle.mini_gypsy.proofs.StateLaws.{read_temporary, write_declared, turn_append, turn_one}
-use Rattle.mini_gypsy.proofs.HeldLaws.{HasSort, Holds, AreHeld, held_length, held_there, held_set, value_sort, number_again, truth_again}
-use Rattle.mini_gypsy.proofs.ValueLaws.{Puts, ended, values_put}
+use Rattle.gypsy_semantics.{specs.Calls.{CurrentCondition, values_of, target_of}, specs.Meaning.{MeaningOutcome, Done, Unfinished, evaluate, then_do}}
+use Rattle.gypsy_semantics.specs.Meaning.{either_way, round_end}
+use Rattle.mini_syntax.{specs.declared.sort.Sort.Sort, specs.declared.sort.Sort.TheVariants.Bool, specs.Language.{Exp, Stmt, Nothing, Then, Assign, While, If}}
+use Rattle.mini_syntax.{specs.Sorted.{IsFine, AreFine, depths}, specs.Operands.sort_of}
+use Rattle.mini_gypsy.{specs.Meant.{Worth, Number, Truth, Fault, worth_in, expression_value, assigned, by_test, program_run}, specs.Steps.{in_turn, temporary}}
+use Rattle.mini_gypsy.{specs.Steps.{temporary_at, set_variable, value_steps, block_of, choice_of, statement_steps}, proofs.StateLaws.read_temporary}
+use Rattle.mini_gypsy.{proofs.StateLaws.{write_declared, turn_append, turn_one}, proofs.HeldLaws.{HasSort, Holds, AreHeld, held_length, held_there, held_set}}
+use Rattle.mini_gypsy.{proofs.HeldLaws.{value_sort, number_again, truth_again}, proofs.ValueLaws.{Puts, ended, values_put}}
 
 -- normal or routineerror
 abbrev pub IsEnd : CurrentCondition → Type 0

@@ -1,33 +1,14 @@
 -- What is stored of a program is read again, breaks no static rule, and means what the program does.
-use Rattle.std.proofs.Common.{◌≡◌, ◌≤◌, ℕ, ◌+◌, ◌*◌, List, length, subst, ◌∙◌, arith}
-use Rattle.std.specs.Prelude.{◌^◌}
-use Rattle.stack_text.specs.declared.shape.Shape.{Shape}
-use Rattle.stack_text.specs.Trees.{node_count}
-use Rattle.gypsy_syntax.specs.GypsyReading.{KeepsForm}
-use Rattle.gypsy_syntax.specs.Printed.{tree_of}
+use Rattle.std.{proofs.Common.{◌≡◌, ◌≤◌, ℕ, ◌+◌, ◌*◌, List, length, subst, ◌∙◌, arith}, specs.Prelude.◌^◌}
+use Rattle.stack_text.{specs.declared.shape.Shape.Shape, specs.Trees.node_count}
+use Rattle.gypsy_syntax.{specs.GypsyReading.KeepsForm, specs.Printed.tree_of, specs.Resolved.program_of, specs.ValuesFit.VarsFit, proofs.MadeLaws.fits_keeps}
+use Rattle.gypsy_syntax.{proofs.ReadAgainLaws.gypsy_text_reads, proofs.SizeLaws.text_over}
 use Rattle.gypsy_syntax.specs.Programs as gypsy
-use Rattle.gypsy_syntax.specs.Resolved.{program_of}
-use Rattle.gypsy_syntax.specs.ValuesFit.{VarsFit}
-use Rattle.gypsy_syntax.proofs.MadeLaws.{fits_keeps}
-use Rattle.gypsy_syntax.proofs.ReadAgainLaws.{gypsy_text_reads}
-use Rattle.gypsy_syntax.proofs.SizeLaws.{text_over}
-use Rattle.mini_syntax.specs.MiniReading.{IsFaultless}
-use Rattle.mini_syntax.specs.Breaches.{body_of, declared_of}
-use Rattle.mini_syntax.specs.declared.program.Declared.{Declared}
-use Rattle.mini_syntax.specs.Grammar.{InfixProgram}
-use Rattle.mini_syntax.specs.Language.{Stmt}
-use Rattle.mini_syntax.specs.Lawful.{IsLawful}
-use Rattle.mini_syntax.proofs.LimitLaws.{free_is_lawful}
-use Rattle.mini_gypsy.specs.Lowered.{lowered}
-use Rattle.mini_gypsy.proofs.FormLaws.{lowered_fits, lowered_small}
-use Rattle.mini_gypsy.proofs.MeaningLaws.{lowered_means}
-use Rattle.mini_gypsy.proofs.RuleLaws.{lowered_clean}
-use Rattle.mini_gypsy.proofs.TextLaws.{lowered_short}
-use Rattle.mini_gypsy.specs.Stored.{source_for}
-use Rattle.mini_gypsy.specs.Stored.{MeansAlways, StandsFor, stored_text}
-use Rattle.mini_gypsy.proofs.BareLaws.{bare_program, same_meaning, same_shapes}
-use Rattle.mini_gypsy.proofs.PlaceLaws.{bare_same}
-use Rattle.mini_gypsy.proofs.BareRuleLaws.{none_broken}
+use Rattle.mini_syntax.{specs.MiniReading.IsFaultless, specs.Breaches.{body_of, declared_of}, specs.declared.program.Declared.Declared}
+use Rattle.mini_syntax.{specs.Grammar.InfixProgram, specs.Language.Stmt, specs.Lawful.IsLawful, proofs.LimitLaws.free_is_lawful}
+use Rattle.mini_gypsy.{specs.Lowered.lowered, proofs.FormLaws.{lowered_fits, lowered_small}, proofs.MeaningLaws.lowered_means, proofs.RuleLaws.lowered_clean}
+use Rattle.mini_gypsy.{proofs.TextLaws.lowered_short, specs.Stored.{source_for, MeansAlways, StandsFor, stored_text}, proofs.BareLaws.bare_program}
+use Rattle.mini_gypsy.{proofs.BareLaws.{same_meaning, same_shapes}, proofs.PlaceLaws.bare_same, proofs.BareRuleLaws.none_broken}
 
 lowered_keeps : (ds : List Declared) (s : Stmt) → IsLawful ds s → KeepsForm (lowered ds s)
 lowered_keeps ds s lawful =

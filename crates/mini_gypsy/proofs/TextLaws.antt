@@ -1,35 +1,19 @@
 -- How long the text of the lowered source is.
 use Rattle.std.proofs.Common.{◌≡◌, ℕ, zero, suc, ◌+◌, ◌*◌, ◌^◌, ◌<◌, ◌≤◌, List, [], ◌∷◌, ◌++◌, map, length, true, false, Some, refl, arith, length-append}
-use Rattle.std.specs.Prelude.{slice_get, pos, codes}
+use Rattle.std.{specs.Prelude.{slice_get, pos, codes}, specs.Fmt.{decimal, digits}, proofs.lemmas.Fmt.length-decimal-le}
 use Rattle.std.specs.Prelude as std
-use Rattle.std.specs.Fmt.{decimal, digits}
-use Rattle.std.proofs.lemmas.Fmt.{length-decimal-le}
-use Rattle.stack_text.specs.Trees.{Node, Nodes, atom, list, none, more}
-use Rattle.stack_text.specs.TreeText.{tree_text, spaced_text}
-use Rattle.stack_text.specs.Views.TreeView.{nodes}
+use Rattle.stack_text.{specs.Trees.{Node, Nodes, atom, list, none, more}, specs.TreeText.{tree_text, spaced_text}, specs.Views.TreeView.nodes}
 use Rattle.stack_text.specs.Grammar.Printed.{list_tree, tree_of_all}
-use Rattle.gypsy_syntax.specs.declared.predef.Predef.{Predef}
+use Rattle.gypsy_syntax.{specs.declared.predef.Predef.Predef, specs.Keywords.keyword_name, specs.Made.{statements, new_seq, new_predef}}
+use Rattle.gypsy_syntax.{specs.Predefined.predef_name, specs.Printed.{decl_tree, gypsy_text, local_tree, proc_text, stmt_tree, stmt_trees}}
+use Rattle.gypsy_syntax.{specs.ProgramFits.Each, specs.Sources.{integer, truth, constant, loop, no_op, StmtOf}}
 use Rattle.gypsy_syntax.specs.declared.predef.Predef.TheVariants as row
-use Rattle.gypsy_syntax.specs.Keywords.{keyword_name}
-use Rattle.gypsy_syntax.specs.Made.{statements, new_seq, new_predef}
-use Rattle.gypsy_syntax.specs.Predefined.{predef_name}
-use Rattle.gypsy_syntax.specs.Printed.{decl_tree, gypsy_text, local_tree, proc_text, stmt_tree, stmt_trees}
-use Rattle.gypsy_syntax.specs.ProgramFits.{Each}
-use Rattle.gypsy_syntax.specs.Sources.{integer, truth, constant, loop, no_op, StmtOf}
-use Rattle.mini_syntax.specs.declared.program.Declared.{Declared}
-use Rattle.mini_syntax.specs.declared.sort.Sort.{Sort}
-use Rattle.mini_syntax.specs.declared.sort.Sort.TheVariants.{Int, Bool}
-use Rattle.mini_syntax.specs.Language.{Exp, Variable, Number, Truth, Before, Between, Stmt, Nothing, Then, Assign, While, If}
-use Rattle.mini_gypsy.proofs.NameLaws.{all_named}
-use Rattle.mini_gypsy.specs.Lowered.{decl_of, locals_from, temporaries, temporary_name, argument, set_name, value_parts, statement_parts, block_parts}
-use Rattle.mini_gypsy.specs.Lowered.{choice_parts, leave, main_procedure, lowered}
-use Rattle.mini_syntax.specs.Lawful.{nth_name}
-use Rattle.mini_syntax.specs.Lawful.{IsLawful}
-use Rattle.mini_syntax.specs.Names.{is_variable_name}
-use Rattle.mini_syntax.specs.Sorted.{IsWellSorted, AreFine}
-use Rattle.mini_syntax.specs.Spelled.{exp_bytes, stmt_bytes, declared_bytes, program_bytes}
-use Rattle.mini_gypsy.specs.Steps.{prefix_row, infix_row}
-use Rattle.mini_syntax.specs.Operands.{sort_of, prefix_sort, infix_sort}
+use Rattle.mini_syntax.{specs.declared.program.Declared.Declared, specs.declared.sort.Sort.Sort, specs.declared.sort.Sort.TheVariants.{Int, Bool}}
+use Rattle.mini_syntax.{specs.Language.{Exp, Variable, Number, Truth, Before, Between, Stmt, Nothing, Then, Assign, While, If}, specs.Lawful.nth_name}
+use Rattle.mini_syntax.{specs.Lawful.IsLawful, specs.Names.is_variable_name, specs.Sorted.{IsWellSorted, AreFine}, specs.Spelled.{exp_bytes, stmt_bytes}}
+use Rattle.mini_syntax.{specs.Spelled.{declared_bytes, program_bytes}, specs.Operands.{sort_of, prefix_sort, infix_sort}}
+use Rattle.mini_gypsy.{proofs.NameLaws.all_named, specs.Lowered.{decl_of, locals_from, temporaries, temporary_name, argument, set_name, value_parts}}
+use Rattle.mini_gypsy.{specs.Lowered.{statement_parts, block_parts, choice_parts, leave, main_procedure, lowered}, specs.Steps.{prefix_row, infix_row}}
 
 -- the bytes of statements, with a space before each
 abbrev pub parts_length : List StmtOf → ℕ

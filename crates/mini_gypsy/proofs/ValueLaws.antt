@@ -1,32 +1,21 @@
 -- What the steps of an expression do: its worth comes to the temporary of its sort at a depth, and none below it changes.
 use Rattle.std.proofs.Common.{◌≡◌, ◌≢◌, ℕ, suc, ◌+◌, ◌*◌, ◌<◌, ◌≤◌, List, [], ◌∷◌, ◌++◌, length, true, Some, None, refl, sym, ap, ap₂, subst, ◌∙◌, arith}
-use Rattle.std.specs.Prelude.{slice_set, pos}
-use Rattle.std.proofs.lemmas.List.{length-set, get_or-set_same, get_or-set_other}
+use Rattle.std.{specs.Prelude.{slice_set, pos}, proofs.lemmas.List.{length-set, get_or-set_same, get_or-set_other}}
 use Rattle.stack_text.specs.Values.{ValueOf}
-use Rattle.gypsy_syntax.specs.declared.predef.Predef.{Predef}
+use Rattle.gypsy_syntax.{specs.declared.predef.Predef.Predef, specs.Predefined.{effect_by, predef_effect}, specs.Effects.{Normal, integer_value, truth_value}}
+use Rattle.gypsy_syntax.{specs.Effects.{value_at, no_value}, specs.Programs.{Program, Arg, Var, Lit, Routine}}
 use Rattle.gypsy_syntax.specs.declared.predef.Predef.TheVariants as row
-use Rattle.gypsy_syntax.specs.Predefined.{effect_by, predef_effect}
-use Rattle.gypsy_syntax.specs.Effects.{Normal, integer_value, truth_value, value_at, no_value}
-use Rattle.gypsy_syntax.specs.Programs.{Program, Arg, Var, Lit, Routine}
 use Rattle.gypsy_syntax.specs.Programs as gypsy
 use Rattle.gypsy_space.specs.Needs.{StackSizes}
-use Rattle.gypsy_semantics.specs.Calls.{values_of}
-use Rattle.gypsy_semantics.specs.Meaning.{MeaningOutcome, Done, evaluate, then_do, applied}
-use Rattle.mini_syntax.specs.declared.sort.Sort.{Sort}
-use Rattle.mini_syntax.specs.declared.sort.Sort.TheVariants.{Int, Bool}
-use Rattle.mini_syntax.specs.declared.operator.Prefix.{Prefix}
-use Rattle.mini_syntax.specs.declared.operator.Infix.{Infix}
-use Rattle.mini_syntax.specs.Operands.{prefix_takes, infix_takes}
-use Rattle.mini_syntax.specs.Language.{Exp, Variable, Before, Between}
+use Rattle.gypsy_semantics.{specs.Calls.values_of, specs.Meaning.{MeaningOutcome, Done, evaluate, then_do, applied}}
+use Rattle.mini_syntax.{specs.declared.sort.Sort.Sort, specs.declared.sort.Sort.TheVariants.{Int, Bool}, specs.declared.operator.Prefix.Prefix}
+use Rattle.mini_syntax.{specs.declared.operator.Infix.Infix, specs.Operands.{prefix_takes, infix_takes, sort_of, prefix_sort, infix_sort}, specs.Language.Exp}
+use Rattle.mini_syntax.{specs.Language.{Variable, Before, Between}, specs.Sorted.{IsWellSorted, depth, depths}}
 use Rattle.mini_syntax.specs.Language as language
-use Rattle.mini_gypsy.specs.Meant.{Worth, Number, Truth, Fault, prefix_worth, infix_worth, worth_in, expression_value, assigned}
-use Rattle.mini_syntax.specs.Sorted.{IsWellSorted, depth}
-use Rattle.mini_gypsy.specs.Steps.{in_turn, temporary, temporary_at, prefix_row, infix_row, value_steps}
-use Rattle.mini_syntax.specs.Sorted.{depths}
-use Rattle.mini_syntax.specs.Operands.{sort_of, prefix_sort, infix_sort}
-use Rattle.mini_gypsy.proofs.StateLaws.{read_declared, read_temporary, write_temporary, turn_append, turn_one}
-use Rattle.mini_gypsy.proofs.RowLaws.{effect_of, applied_worth, prefix_number, prefix_truth, infix_numbers, infix_truths, no_mixed, no_mixed_either}
-use Rattle.mini_gypsy.proofs.RowLaws.{prefix_fault, infix_fault, infix_second}
+use Rattle.mini_gypsy.{specs.Meant.{Worth, Number, Truth, Fault, prefix_worth, infix_worth, worth_in, expression_value, assigned}, specs.Steps.in_turn}
+use Rattle.mini_gypsy.{specs.Steps.{temporary, temporary_at, prefix_row, infix_row, value_steps}, proofs.StateLaws.{read_declared, read_temporary}}
+use Rattle.mini_gypsy.{proofs.StateLaws.{write_temporary, turn_append, turn_one}, proofs.RowLaws.{effect_of, applied_worth, prefix_number, prefix_truth}}
+use Rattle.mini_gypsy.proofs.RowLaws.{infix_numbers, infix_truths, no_mixed, no_mixed_either, prefix_fault, infix_fault, infix_second}
 use Rattle.mini_gypsy.proofs.HeldLaws.{HasSort, Holds, AreHeld, held_there, held_effect, value_sort}
 
 -- with routineerror where it is a fault

@@ -1,10 +1,8 @@
 -- Worked programs: what they do.
 use Rattle.std.specs.Prelude.{◌≡◌, pos, [], ◌∷◌, Some, None, true, false}
-use Rattle.gypsy_syntax.specs.Effects.{integer_value, truth_value}
-use Rattle.gypsy_syntax.specs.Programs.{Routine}
+use Rattle.gypsy_syntax.specs.{Effects.{integer_value, truth_value}, Programs.{Routine}}
 use Rattle.gypsy_semantics.specs.Meaning.{Done, Unfinished}
-use Rattle.mini_syntax.specs.declared.sort.Sort.TheVariants.{Int}
-use Rattle.mini_syntax.specs.declared.operator.Infix.TheVariants.{AtMost, Add, Subtract, Multiply}
+use Rattle.mini_syntax.specs.{declared.sort.Sort.TheVariants.{Int}, declared.operator.Infix.TheVariants.{AtMost, Add, Subtract, Multiply}}
 use Rattle.mini_syntax.specs.Language.{Stmt, Variable, Number, Between, Nothing, Then, Assign, While}
 use Rattle.mini_gypsy.specs.Meant.{program_run}
 

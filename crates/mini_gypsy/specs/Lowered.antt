@@ -1,22 +1,15 @@
 -- The source that a program of the infix language becomes: a procedure `main`, whose formals are the declared variables, and whose
 -- locals are the temporaries.
 use Rattle.std.specs.Prelude.{ℕ, zero, suc, pos, ◌+◌, ◌/◌, ◌%◌, List, [], ◌∷◌, ◌++◌, map, false, codes}
-use Rattle.stack_text.specs.declared.shape.Kind.{Kind}
-use Rattle.stack_text.specs.declared.shape.Kind.TheVariants.{Integer, Boolean}
-use Rattle.stack_text.specs.Grammar.Printed.{unplaced}
-use Rattle.gypsy_syntax.specs.declared.literal.Decl.{Decl}
+use Rattle.stack_text.specs.{declared.shape.Kind.{Kind}, declared.shape.Kind.TheVariants.{Integer, Boolean}, Grammar.Printed.{unplaced}}
+use Rattle.gypsy_syntax.specs.{declared.literal.Decl.{Decl}, Made.{new_simple, new_decl, new_seq, new_branch, new_predef, new_proc}}
+use Rattle.gypsy_syntax.specs.{Made.{new_source}, Sources.{LiteralOf, integer, truth, ArgOf, variable, constant, StmtOf, no_op, signal}}
+use Rattle.gypsy_syntax.specs.Sources.{loop, LocalOf, ProcOf, SourceOf}
 use Rattle.gypsy_syntax.specs.declared.predef.Predef.TheVariants as row
-use Rattle.gypsy_syntax.specs.Made.{new_simple, new_decl, new_seq, new_branch, new_predef, new_proc, new_source}
-use Rattle.gypsy_syntax.specs.Sources.{LiteralOf, integer, truth, ArgOf, variable, constant, StmtOf, no_op, signal, loop}
-use Rattle.gypsy_syntax.specs.Sources.{LocalOf, ProcOf, SourceOf}
-use Rattle.mini_syntax.specs.declared.program.Declared.{Declared}
-use Rattle.mini_syntax.specs.declared.sort.Sort.{Sort}
-use Rattle.mini_syntax.specs.declared.sort.Sort.TheVariants.{Int, Bool}
-use Rattle.mini_syntax.specs.Lawful.{nth_name}
-use Rattle.mini_syntax.specs.Language.{Exp, Variable, Number, Truth, Before, Between, Stmt, Nothing, Then, Assign, While, If}
+use Rattle.mini_syntax.specs.{declared.program.Declared.{Declared}, declared.sort.Sort.{Sort}, declared.sort.Sort.TheVariants.{Int, Bool}}
+use Rattle.mini_syntax.specs.{Lawful.{nth_name}, Language.{Exp, Variable, Number, Truth, Before, Between, Stmt, Nothing, Then, Assign}}
+use Rattle.mini_syntax.specs.{Language.{While, If}, Sorted.{depths}, Operands.{sort_of, prefix_sort, infix_sort}}
 use Rattle.mini_gypsy.specs.Steps.{prefix_row, infix_row}
-use Rattle.mini_syntax.specs.Sorted.{depths}
-use Rattle.mini_syntax.specs.Operands.{sort_of, prefix_sort, infix_sort}
 
 abbrev pub kind_of : Sort → Kind
 kind_of Int = Integer

@@ -1,20 +1,15 @@
 -- The meaning of the infix language: what an expression is worth, and what a program does to its variables.
-use Rattle.std.specs.Prelude.{ℕ, zero, suc, ℤ, pos, ◌+ℤ◌, ◌-ℤ◌, ◌*ℤ◌, neg_ℤ, int_le, List, slice_set, Some, None}
-use Rattle.std.specs.Prelude.{Bool, true, false, not, ◌&&◌, ◌||◌, if◌then◌else◌}
-use Rattle.std.specs.Ordering.{int_eq}
-use Rattle.stack_text.specs.declared.shape.Kind.TheVariants.{Integer}
-use Rattle.stack_text.specs.Values.{ValueOf}
-use Rattle.gypsy_syntax.specs.Effects.{integer_value, truth_value, item_of_value, is_true_value, value_at}
-use Rattle.gypsy_syntax.specs.Ranges.{is_in_range}
+use Rattle.std.specs.Prelude.{ℕ, zero, suc, ℤ, pos, ◌+ℤ◌, ◌-ℤ◌, ◌*ℤ◌, neg_ℤ, int_le, List, slice_set, Some, None, Bool, true, false, not}
+use Rattle.std.specs.{Prelude.{◌&&◌, ◌||◌, if◌then◌else◌}, Ordering.{int_eq}}
+use Rattle.stack_text.specs.{declared.shape.Kind.TheVariants.{Integer}, Values.{ValueOf}}
+use Rattle.gypsy_syntax.specs.{Effects.{integer_value, truth_value, item_of_value, is_true_value, value_at}, Ranges.{is_in_range}}
 use Rattle.gypsy_syntax.specs.Programs.{Routine}
 use Rattle.gypsy_semantics.specs.Meaning.{MeaningOutcome, Done, Unfinished, then_do, either_way}
-use Rattle.mini_syntax.specs.declared.sort.Sort.{Sort}
+use Rattle.mini_syntax.specs.{declared.sort.Sort.{Sort}, declared.operator.Prefix.{Prefix}, declared.operator.Prefix.TheVariants.{Not}}
+use Rattle.mini_syntax.specs.{declared.operator.Prefix.TheVariants.{Minus}, declared.operator.Infix.{Infix}}
+use Rattle.mini_syntax.specs.{declared.operator.Infix.TheVariants.{Or, And, AtMost, Equals, Add, Subtract, Multiply}, Language.{Exp}}
+use Rattle.mini_syntax.specs.Language.{Variable, Before, Between, Stmt, Nothing, Then, Assign, While, If}
 use Rattle.mini_syntax.specs.declared.sort.Sort.TheVariants as sort
-use Rattle.mini_syntax.specs.declared.operator.Prefix.{Prefix}
-use Rattle.mini_syntax.specs.declared.operator.Prefix.TheVariants.{Not, Minus}
-use Rattle.mini_syntax.specs.declared.operator.Infix.{Infix}
-use Rattle.mini_syntax.specs.declared.operator.Infix.TheVariants.{Or, And, AtMost, Equals, Add, Subtract, Multiply}
-use Rattle.mini_syntax.specs.Language.{Exp, Variable, Before, Between, Stmt, Nothing, Then, Assign, While, If}
 use Rattle.mini_syntax.specs.Language as language
 
 -- what an expression is worth: a number, a truth value, or a fault

@@ -1,21 +1,12 @@
 -- What is promised of the lowering.
 use Rattle.std.specs.Prelude.{◌≡◌, ◌+◌, ◌*◌, ◌≤◌, ℕ, List, length, ◌↔◌}
 use Rattle.stack_text.specs.Values.{ValueOf}
-use Rattle.gypsy_syntax.specs.GypsyReading.{ReadsAs}
-use Rattle.gypsy_syntax.specs.Printed.{gypsy_text}
+use Rattle.gypsy_syntax.specs.{GypsyReading.{ReadsAs}, Printed.{gypsy_text}, Resolved.{program_of}, Sources.{SourceOf}}
 use Rattle.gypsy_syntax.specs.Programs as gypsy
-use Rattle.gypsy_syntax.specs.Resolved.{program_of}
-use Rattle.gypsy_syntax.specs.Sources.{SourceOf}
 use Rattle.gypsy_space.specs.Needs.{StackSizes}
-use Rattle.gypsy_semantics.specs.Calls.{CurrentCondition}
-use Rattle.gypsy_semantics.specs.Views.Fitting.{CanStart}
-use Rattle.gypsy_semantics.specs.Meaning.{Done, meaning}
-use Rattle.mini_syntax.specs.MiniReading.{IsFaultless}
-use Rattle.mini_syntax.specs.Breaches.{body_of, declared_of}
-use Rattle.mini_syntax.specs.Grammar.{InfixProgram}
-use Rattle.mini_syntax.specs.Language.{Stmt}
-use Rattle.mini_gypsy.specs.Lowered.{lowered}
-use Rattle.mini_gypsy.specs.Meant.{program_run}
+use Rattle.gypsy_semantics.specs.{Calls.{CurrentCondition}, Views.Fitting.{CanStart}, Meaning.{Done, meaning}}
+use Rattle.mini_syntax.specs.{MiniReading.{IsFaultless}, Breaches.{body_of, declared_of}, Grammar.{InfixProgram}, Language.{Stmt}}
+use Rattle.mini_gypsy.specs.{Lowered.{lowered}, Meant.{program_run}}
 
 -- for all values and sizes with which a run can start, and every bound, the program of Micro-Gypsy is done exactly where the program of
 -- the infix language is, and in the same way; in fact its meaning is the run

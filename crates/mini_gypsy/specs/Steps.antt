@@ -1,20 +1,14 @@
 -- The lowering, with positions in place of names. Beside the declared variables main has temporaries: one of each sort for
 -- each depth of an expression.
 use Rattle.std.specs.Prelude.{ℕ, pos, suc, ◌+◌, List, [], ◌∷◌, ◌++◌}
-use Rattle.gypsy_syntax.specs.declared.predef.Predef.{Predef}
+use Rattle.gypsy_syntax.specs.{declared.predef.Predef.{Predef}, Effects.{integer_value, truth_value}, Programs.{Leave, Var, Lit}}
 use Rattle.gypsy_syntax.specs.declared.predef.Predef.TheVariants as row
-use Rattle.gypsy_syntax.specs.Effects.{integer_value, truth_value}
-use Rattle.gypsy_syntax.specs.Programs.{Leave, Var, Lit}
 use Rattle.gypsy_syntax.specs.Programs as gypsy
-use Rattle.mini_syntax.specs.declared.sort.Sort.{Sort}
-use Rattle.mini_syntax.specs.declared.sort.Sort.TheVariants.{Int, Bool}
-use Rattle.mini_syntax.specs.declared.operator.Prefix.{Prefix}
-use Rattle.mini_syntax.specs.declared.operator.Prefix.TheVariants.{Not, Minus}
-use Rattle.mini_syntax.specs.declared.operator.Infix.{Infix}
-use Rattle.mini_syntax.specs.declared.operator.Infix.TheVariants.{Or, And, AtMost, Equals, Add, Subtract, Multiply}
-use Rattle.mini_syntax.specs.Language.{Exp, Variable, Number, Truth, Before, Between, Stmt, Nothing, Then, Assign, While, If}
-use Rattle.mini_syntax.specs.Operands.{prefix_sort, infix_sort, sort_of}
-use Rattle.mini_syntax.specs.Sorted.{depths}
+use Rattle.mini_syntax.specs.{declared.sort.Sort.{Sort}, declared.sort.Sort.TheVariants.{Int, Bool}, declared.operator.Prefix.{Prefix}}
+use Rattle.mini_syntax.specs.{declared.operator.Prefix.TheVariants.{Not, Minus}, declared.operator.Infix.{Infix}}
+use Rattle.mini_syntax.specs.{declared.operator.Infix.TheVariants.{Or, And, AtMost, Equals, Add, Subtract, Multiply}, Language.{Exp}}
+use Rattle.mini_syntax.specs.Language.{Variable, Number, Truth, Before, Between, Stmt, Nothing, Then, Assign, While, If}
+use Rattle.mini_syntax.specs.{Operands.{prefix_sort, infix_sort, sort_of}, Sorted.{depths}}
 
 -- the place of a sort's temporary at a depth, among the temporaries, and after n declared variables
 abbrev pub temporary : Sort → ℕ → ℕ

@@ -1,24 +1,15 @@
 -- The source that a text of the infix language becomes, and that what is stored of it means what the program does.
 use Rattle.std.specs.Prelude.{◌≡◌, ℕ, List, [], Result, Ok, Err}
-use Rattle.stack_text.specs.declared.breach.Breach.{Breach}
-use Rattle.stack_text.specs.Values.{ValueOf}
-use Rattle.gypsy_syntax.specs.GypsyReading.{gypsy_in}
-use Rattle.gypsy_syntax.specs.Places.{without_places}
-use Rattle.gypsy_syntax.specs.Printed.{gypsy_text}
-use Rattle.gypsy_syntax.specs.Programs.{proc_at}
+use Rattle.stack_text.specs.{declared.breach.Breach.{Breach}, Values.{ValueOf}}
+use Rattle.gypsy_syntax.specs.{GypsyReading.{gypsy_in}, Places.{without_places}, Printed.{gypsy_text}, Programs.{proc_at}}
+use Rattle.gypsy_syntax.specs.{Resolved.{program_of}, Sources.{SourceOf}, ValuesFit.{VarsFit}}
 use Rattle.gypsy_syntax.specs.Programs as gypsy
-use Rattle.gypsy_syntax.specs.Resolved.{program_of}
-use Rattle.gypsy_syntax.specs.Sources.{SourceOf}
-use Rattle.gypsy_syntax.specs.ValuesFit.{VarsFit}
 use Rattle.gypsy_check.specs.Rules.{violations}
 use Rattle.gypsy_space.specs.Needs.{StackSizes}
 use Rattle.gypsy_semantics.specs.Meaning.{meaning}
-use Rattle.mini_syntax.specs.MiniReading.{TextReading, faultless, faulty}
-use Rattle.mini_syntax.specs.Breaches.{body_of, declared_of}
-use Rattle.mini_syntax.specs.Grammar.{InfixProgram}
+use Rattle.mini_syntax.specs.{MiniReading.{TextReading, faultless, faulty}, Breaches.{body_of, declared_of}, Grammar.{InfixProgram}}
 use Rattle.mini_syntax.specs.Language.{Stmt}
-use Rattle.mini_gypsy.specs.Meant.{program_run}
-use Rattle.mini_gypsy.specs.Lowered.{lowered}
+use Rattle.mini_gypsy.specs.{Meant.{program_run}, Lowered.{lowered}}
 
 -- the source that a program becomes
 abbrev pub source_for : InfixProgram → SourceOf

@@ -1,17 +1,10 @@
 //! Laws of the lowering. The functions do nothing: their clauses hold of all programs.
 
 ghost use Rattle.std.specs.Prelude.{◌≡◌, ℕ, ◌≤◌, ◌^◌, List, length};
-ghost use Rattle.gypsy_syntax.specs.Resolved.{program_of};
-ghost use Rattle.gypsy_syntax.specs.Sources.{SourceOf};
-ghost use Rattle.mini_syntax.specs.MiniReading.{IsFault, IsFaultless};
-ghost use Rattle.mini_syntax.specs.Grammar.{InfixProgram};
-ghost use Rattle.mini_syntax.specs.declared.program.Declared.{Declared};
-ghost use Rattle.mini_syntax.specs.Language.{Stmt};
+ghost use Rattle.gypsy_syntax.specs.{Resolved.{program_of}, Sources.{SourceOf}};
+ghost use Rattle.mini_syntax.specs.{MiniReading.{IsFault, IsFaultless}, Grammar.{InfixProgram}, declared.program.Declared.{Declared}, Language.{Stmt}};
 ghost use Rattle.mini_syntax.specs.Lawful.{IsLawful};
-ghost use Rattle.mini_gypsy.specs.Examples.{ProgramsDo};
-ghost use Rattle.mini_gypsy.specs.Lowered.{lowered};
-ghost use Rattle.mini_gypsy.specs.Promises.{Lowers, MeansSame};
-ghost use Rattle.mini_gypsy.specs.Stored.{StandsFor, stored_text};
+ghost use Rattle.mini_gypsy.specs.{Examples.{ProgramsDo}, Lowered.{lowered}, Promises.{Lowers, MeansSame}, Stored.{StandsFor, stored_text}};
 
 /// The lowered source means what the program does, at every bound.
 pub fn lowering_means_the_same()

@@ -4,11 +4,8 @@ ghost use Rattle.std.specs.Prelude.{◌≡◌, ◌≤◌, ◌^◌, IfOk, length}
 ghost use Rattle.stack_heap.specs.Heaps.{IfOkUnless};
 ghost use Rattle.gypsy_syntax.specs.Views.SourceView.{proc_of, source_of};
 ghost use Rattle.gypsy_check.specs.Accepted.{IsAccepted};
-ghost use Rattle.mini_syntax.specs.Lawful.{IsLawful};
-ghost use Rattle.mini_gypsy.specs.Lowered.{lowered, main_procedure};
-ghost use Rattle.mini_gypsy.specs.Promises.{Lowers};
-ghost use Rattle.mini_syntax.specs.MiniReading.{RefusesTextUnless};
-ghost use Rattle.mini_syntax.specs.ProgramView.{block_in};
+ghost use Rattle.mini_syntax.specs.{Lawful.{IsLawful}, MiniReading.{RefusesTextUnless}, ProgramView.{block_in}};
+ghost use Rattle.mini_gypsy.specs.{Lowered.{lowered, main_procedure}, Promises.{Lowers}};
 
 use crate::statements::block;
 use crate::temporaries::{formals, temporaries};

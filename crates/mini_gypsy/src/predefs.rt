@@ -2,9 +2,7 @@
 
 ghost use Rattle.std.specs.Prelude.{◌≡◌, [], ◌∷◌};
 ghost use Rattle.stack_heap.specs.Heaps.{IfOkUnless};
-ghost use Rattle.gypsy_syntax.specs.Made.{new_predef};
-ghost use Rattle.gypsy_syntax.specs.Sources.{constant, variable};
-ghost use Rattle.gypsy_syntax.specs.Views.SourceView.{literal_of, stmt_of};
+ghost use Rattle.gypsy_syntax.specs.{Made.{new_predef}, Sources.{constant, variable}, Views.SourceView.{literal_of, stmt_of}};
 
 use gypsy_syntax::{Arg, Literal, Predef, Stmt};
 use stack_heap::Heap;

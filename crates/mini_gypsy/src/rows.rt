@@ -1,8 +1,7 @@
 //! What operators and sorts become.
 
 ghost use Rattle.std.specs.Prelude.{◌≡◌};
-ghost use Rattle.mini_gypsy.specs.Lowered.{kind_of, letter_of};
-ghost use Rattle.mini_gypsy.specs.Steps.{infix_row, prefix_row};
+ghost use Rattle.mini_gypsy.specs.{Lowered.{kind_of, letter_of}, Steps.{infix_row, prefix_row}};
 
 use gypsy_syntax::Predef;
 use mini_syntax::{Infix, Prefix, Sort};

@@ -2,16 +2,10 @@
 
 ghost use Rattle.std.specs.Prelude.{◌≡◌, ◌<◌, ◌++◌, [], ◌∷◌, length, map, slice_get, Some};
 ghost use Rattle.stack_heap.specs.Heaps.{IfOkUnless, OnOkUnless};
-ghost use Rattle.gypsy_syntax.specs.Made.{new_seq};
-ghost use Rattle.gypsy_syntax.specs.Sources.{loop, no_op};
-ghost use Rattle.gypsy_syntax.specs.Views.SourceView.{stmt_of};
-ghost use Rattle.mini_syntax.specs.declared.sort.Sort.TheVariants.{Bool};
-ghost use Rattle.mini_syntax.specs.Language.{Assign};
+ghost use Rattle.gypsy_syntax.specs.{Made.{new_seq}, Sources.{loop, no_op}, Views.SourceView.{stmt_of}};
+ghost use Rattle.mini_syntax.specs.{declared.sort.Sort.TheVariants.{Bool}, Language.{Assign}, Lawful.{nth_name}, ProgramView.{block_in, exp_of, statement_in}};
+ghost use Rattle.mini_syntax.specs.{Sorted.{AreFine, IsFine}, Operands.{sort_of}};
 ghost use Rattle.mini_gypsy.specs.Lowered.{block_parts, choice_parts, leave, set_name, statement_parts, temporary_name, value_parts};
-ghost use Rattle.mini_syntax.specs.Lawful.{nth_name};
-ghost use Rattle.mini_syntax.specs.ProgramView.{block_in, exp_of, statement_in};
-ghost use Rattle.mini_syntax.specs.Sorted.{AreFine, IsFine};
-ghost use Rattle.mini_syntax.specs.Operands.{sort_of};
 
 use crate::predefs::call_two;
 use crate::temporaries::{temporary, variable};

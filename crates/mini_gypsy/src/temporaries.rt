@@ -3,11 +3,9 @@
 ghost use Rattle.std.specs.Prelude.{◌≡◌, ◌++◌, ◌<◌, length, map};
 ghost use Rattle.stack_heap.specs.Heaps.{IfOkUnless, OnOkUnless};
 ghost use Rattle.stack_text.specs.Grammar.Printed.{unplaced};
-ghost use Rattle.gypsy_syntax.specs.Made.{new_decl, new_simple};
-ghost use Rattle.gypsy_syntax.specs.Views.SourceView.{local_of};
+ghost use Rattle.gypsy_syntax.specs.{Made.{new_decl, new_simple}, Views.SourceView.{local_of}};
 ghost use Rattle.mini_gypsy.specs.Lowered.{decl_of, kind_of, locals_from, temporaries, temporary_local, temporary_name};
-ghost use Rattle.mini_syntax.specs.Lawful.{nth_name};
-ghost use Rattle.mini_syntax.specs.Sorted.{depths};
+ghost use Rattle.mini_syntax.specs.{Lawful.{nth_name}, Sorted.{depths}};
 
 use crate::rows::{kind_of, letter_of};
 use gypsy_syntax::{Decl, Literal, Local, TypeText};

@@ -3,17 +3,10 @@
 ghost use Rattle.std.specs.Prelude.{◌≡◌, ◌+◌, ◌<◌, ◌≤◌, ◌++◌, [], ◌∷◌, length, map, pos, suc};
 ghost use Rattle.stack_heap.specs.Heaps.{IfOkUnless, OnOkUnless};
 ghost use Rattle.gypsy_syntax.specs.declared.predef.Predef.TheVariants as row;
-ghost use Rattle.gypsy_syntax.specs.Made.{new_predef};
-ghost use Rattle.gypsy_syntax.specs.Sources.{constant, integer, truth};
-ghost use Rattle.gypsy_syntax.specs.Views.SourceView.{stmt_of};
-ghost use Rattle.mini_syntax.specs.declared.sort.Sort.TheVariants.{Bool, Int};
-ghost use Rattle.mini_gypsy.specs.Lowered.{argument, set_name, temporary_name, value_parts};
-ghost use Rattle.mini_syntax.specs.Lawful.{nth_name};
-ghost use Rattle.mini_syntax.specs.ProgramView.{exp_of};
-ghost use Rattle.mini_syntax.specs.Sorted.{depth as depth_of, IsWellSorted};
-ghost use Rattle.mini_gypsy.specs.Steps.{infix_row, prefix_row};
-ghost use Rattle.mini_syntax.specs.Sorted.{depths};
-ghost use Rattle.mini_syntax.specs.Operands.{infix_sort, prefix_sort};
+ghost use Rattle.gypsy_syntax.specs.{Made.{new_predef}, Sources.{constant, integer, truth}, Views.SourceView.{stmt_of}};
+ghost use Rattle.mini_syntax.specs.{declared.sort.Sort.TheVariants.{Bool, Int}, Lawful.{nth_name}, ProgramView.{exp_of}, Sorted.{depth as depth_of}};
+ghost use Rattle.mini_syntax.specs.{Sorted.{IsWellSorted, depths}, Operands.{infix_sort, prefix_sort}};
+ghost use Rattle.mini_gypsy.specs.{Lowered.{argument, set_name, temporary_name, value_parts}, Steps.{infix_row, prefix_row}};
 
 use crate::predefs::{call_constant, call_three, call_two};
 use crate::rows::{infix_row, prefix_row};

@@ -1,18 +1,11 @@
 -- Each text of the infix language is a program that breaks no rule, or has a fault.
 use Rattle.std.proofs.Common.{◌≡◌, inl, inr, ℕ, List, [], true, false, Option, Some, None, length, refl, sym, ap, ◌∙◌}
 use Rattle.std.specs.Prelude as std
-use Rattle.stack_text.specs.declared.breach.Breach.{Breach}
-use Rattle.stack_text.specs.Breaches.{least}
-use Rattle.stack_text.proofs.BreachLaws.{none_least}
-use Rattle.mini_syntax.specs.declared.expected.Expected.{Expected}
-use Rattle.mini_syntax.specs.MiniReading.{of_tokens, of_program, IsRead, TextReading, faultless, faulty}
-use Rattle.mini_syntax.specs.Breaches.{breaches}
-use Rattle.mini_syntax.specs.Expected.{at_start, is_over, taken}
-use Rattle.mini_syntax.specs.Grammar.{IsProgram, InfixProgram}
-use Rattle.mini_syntax.specs.Tokens.{place_of, tokens_in}
-use Rattle.mini_syntax.proofs.ExpectedLaws.{end_of, over_end, program_taken}
-use Rattle.mini_syntax.proofs.GoesOnLaws.{is_whole}
-use Rattle.mini_syntax.proofs.TokenLaws.{FreeAfter, Walked, stops, ends_so, walk}
+use Rattle.stack_text.{specs.declared.breach.Breach.Breach, specs.Breaches.least, proofs.BreachLaws.none_least}
+use Rattle.mini_syntax.{specs.declared.expected.Expected.Expected, specs.MiniReading.{of_tokens, of_program, IsRead, TextReading, faultless, faulty}}
+use Rattle.mini_syntax.{specs.Breaches.breaches, specs.Expected.{at_start, is_over, taken}, specs.Grammar.{IsProgram, InfixProgram}, specs.Tokens.place_of}
+use Rattle.mini_syntax.{specs.Tokens.tokens_in, proofs.ExpectedLaws.{end_of, over_end, program_taken}, proofs.GoesOnLaws.is_whole, proofs.TokenLaws.FreeAfter}
+use Rattle.mini_syntax.proofs.TokenLaws.{Walked, stops, ends_so, walk}
 
 -- a program is never at its end where more is expected
 not_over : (text : List ℕ) (st : List Expected) → taken (Some at_start) (tokens_in text) ≡ Some st → is_over st ≡ false → (p : InfixProgram)

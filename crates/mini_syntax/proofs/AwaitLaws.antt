@@ -1,27 +1,19 @@
 -- What the tokens that are left complete, token by token and tree by tree.
-use Rattle.std.proofs.Common.{◌≡◌, ◌≢◌, ℕ, List, [], ◌∷◌, ◌++◌, Option, Some, None, true, false, refl, sym, ap, ◌∙◌}
-use Rattle.std.specs.Prelude.{◌&&◌}
+use Rattle.std.{proofs.Common.{◌≡◌, ◌≢◌, ℕ, List, [], ◌∷◌, ◌++◌, Option, Some, None, true, false, refl, sym, ap, ◌∙◌}, specs.Prelude.◌&&◌}
 use Rattle.std.specs.Prelude as std
 use Rattle.mini_syntax.specs.declared.blocks.StatementKind.TheVariants as a_statement
-use Rattle.mini_syntax.specs.declared.expected.Expected.{Expected}
+use Rattle.mini_syntax.{specs.declared.expected.Expected.Expected, specs.declared.lexer.TokenKind.TokenKind, specs.declared.mark.Mark.Mark}
+use Rattle.mini_syntax.{specs.declared.sort.Sort.Sort, specs.declared.operator.Infix.Infix, specs.declared.operator.Prefix.Prefix, specs.Expected.is_over}
+use Rattle.mini_syntax.{specs.Expected.{may_be_empty, same_mark, taken, takes}, specs.Internal.Lexemes.next_kind, specs.Precedence.{compared_after, infix_of}}
+use Rattle.mini_syntax.{specs.Precedence.may_follow, specs.Internal.Phrases.{Completes, factor_kind, sort_declared, statement_kind}, specs.Tokens.Token}
+use Rattle.mini_syntax.{specs.Tokens.{mark_at, word_at, kind_of, place_of, token_of}, proofs.ExpectedLaws.{Leads, none_follows, none_taken, operator_refused}}
+use Rattle.mini_syntax.{proofs.ExpectedLaws.operator_taken, proofs.GoesOnLaws.{bytes_of, same_marks, token_is}}
 use Rattle.mini_syntax.specs.declared.expected.Expected.TheVariants as wants
 use Rattle.mini_syntax.specs.declared.expressions.FactorKind.TheVariants as a_factor
-use Rattle.mini_syntax.specs.declared.lexer.TokenKind.{TokenKind}
 use Rattle.mini_syntax.specs.declared.lexer.TokenKind.TheVariants as kind
-use Rattle.mini_syntax.specs.declared.mark.Mark.{Mark}
 use Rattle.mini_syntax.specs.declared.mark.Mark.TheVariants as mark
-use Rattle.mini_syntax.specs.declared.sort.Sort.{Sort}
 use Rattle.mini_syntax.specs.declared.word.Word.TheVariants as word
-use Rattle.mini_syntax.specs.declared.operator.Infix.{Infix}
-use Rattle.mini_syntax.specs.declared.operator.Prefix.{Prefix}
 use Rattle.mini_syntax.specs.declared.operator.Prefix.TheVariants as before
-use Rattle.mini_syntax.specs.Expected.{is_over, may_be_empty, same_mark, taken, takes}
-use Rattle.mini_syntax.specs.Internal.Lexemes.{next_kind}
-use Rattle.mini_syntax.specs.Precedence.{compared_after, infix_of, may_follow}
-use Rattle.mini_syntax.specs.Internal.Phrases.{Completes, factor_kind, sort_declared, statement_kind}
-use Rattle.mini_syntax.specs.Tokens.{Token, mark_at, word_at, kind_of, place_of, token_of}
-use Rattle.mini_syntax.proofs.ExpectedLaws.{Leads, none_follows, none_taken, operator_refused, operator_taken}
-use Rattle.mini_syntax.proofs.GoesOnLaws.{bytes_of, same_marks, token_is}
 
 -- ---- trees and tokens in front
 

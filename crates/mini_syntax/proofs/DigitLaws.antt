@@ -1,8 +1,7 @@
 -- The number that digits write, digit by digit.
 use Rattle.std.proofs.Common.{◌≡◌, ℕ, ◌+◌, ◌-◌, ◌*◌, ◌≤◌, ◌<◌, List, [], ◌∷◌, length, drop, get_or, true, false, cond, Some, None, refl, sym, ap, ◌∙◌, arith}
+use Rattle.std.{proofs.lemmas.Bool.{lt-ltb, ltb-true}, proofs.lemmas.List.drop_more}
 use Rattle.std.specs.Prelude as std
-use Rattle.std.proofs.lemmas.Bool.{lt-ltb, ltb-true}
-use Rattle.std.proofs.lemmas.List.{drop_more}
 use Rattle.mini_syntax.specs.Breaches.{is_too_large, number_after, number_of}
 
 -- more digits make no number smaller

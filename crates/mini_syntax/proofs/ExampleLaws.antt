@@ -1,7 +1,6 @@
 -- Worked texts.
 use Rattle.std.proofs.Common.{refl}
-use Rattle.mini_syntax.specs.Examples.{TextsAre}
-use Rattle.mini_syntax.specs.Tokens.{tokens}
+use Rattle.mini_syntax.{specs.Examples.TextsAre, specs.Tokens.tokens}
 
 pub texts_are : TextsAre
 unfolding tokens

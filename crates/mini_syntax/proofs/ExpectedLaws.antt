@@ -1,26 +1,20 @@
 -- The tokens of every program are taken, one after the other; so where a token isn't taken, no program goes on with it.
 use Rattle.std.proofs.Common.{◌≡◌, ℕ, ◌≤◌, List, [], ◌∷◌, ◌++◌, Option, Some, None, true, false, cond, refl, sym, ap, subst, ◌∙◌, append_assoc, arith}
-use Rattle.std.specs.Prelude.{◌&&◌, nat_le}
+use Rattle.std.{specs.Prelude.{◌&&◌, nat_le}, proofs.lemmas.Bool.{and_parts, leb-true}, proofs.lemmas.List.append-nil}
 use Rattle.std.specs.Prelude as std
-use Rattle.std.proofs.lemmas.Bool.{and_parts, leb-true}
-use Rattle.std.proofs.lemmas.List.{append-nil}
-use Rattle.mini_syntax.specs.declared.expected.Answer.TheVariants.{Refused, Then}
-use Rattle.mini_syntax.specs.declared.expected.Expected.{Expected}
+use Rattle.mini_syntax.{specs.declared.expected.Answer.TheVariants.{Refused, Then}, specs.declared.expected.Expected.Expected}
+use Rattle.mini_syntax.{specs.declared.lexer.TokenKind.TokenKind, specs.declared.operator.Infix.Infix, specs.declared.operator.Prefix.Prefix}
+use Rattle.mini_syntax.{specs.declared.operator.Prefix.TheVariants.{Not, Minus}, specs.Expected.{answered, infix_answer, takes, taken, at_start, is_over}}
+use Rattle.mini_syntax.{specs.Expected.{expression, a_block}, specs.Grammar.{Expression, variable, number, truth, unary, binary, group, binds}}
+use Rattle.mini_syntax.specs.Grammar.{expression_level, expression_tokens, prefix_token, Form, assign, loop, branch, Block, block, Forms, no_forms, form, Decl}
+use Rattle.mini_syntax.specs.Grammar.{InfixProgram, GoesOn, form_binds, block_binds, forms_bind, form_tokens, block_tokens, forms_tokens, decl_tokens}
+use Rattle.mini_syntax.{specs.Grammar.{decls_tokens, program_tokens}, specs.Precedence.{compared_after, infix_of, infix_token, level_of, may_follow}}
+use Rattle.mini_syntax.{specs.Tokens.{Token, name_at, number_at, word_at, mark_at, kind_of}, proofs.PrecedenceLaws.{Allows, after, after_sum, allows_closer}}
+use Rattle.mini_syntax.proofs.PrecedenceLaws.{allows_right, allows_sum, bound_parts, infix_seen, left_below, may_come}
 use Rattle.mini_syntax.specs.declared.expected.Expected.TheVariants as wants
 use Rattle.mini_syntax.specs.declared.expected.Push.TheVariants as push
-use Rattle.mini_syntax.specs.declared.lexer.TokenKind.{TokenKind}
 use Rattle.mini_syntax.specs.declared.mark.Mark.TheVariants as mark
-use Rattle.mini_syntax.specs.declared.operator.Infix.{Infix}
-use Rattle.mini_syntax.specs.declared.operator.Prefix.{Prefix}
-use Rattle.mini_syntax.specs.declared.operator.Prefix.TheVariants.{Not, Minus}
 use Rattle.mini_syntax.specs.declared.word.Word.TheVariants as word
-use Rattle.mini_syntax.specs.Expected.{answered, infix_answer, takes, taken, at_start, is_over, expression, a_block}
-use Rattle.mini_syntax.specs.Grammar.{Expression, variable, number, truth, unary, binary, group, binds, expression_level, expression_tokens, prefix_token}
-use Rattle.mini_syntax.specs.Grammar.{Form, assign, loop, branch, Block, block, Forms, no_forms, form, Decl, InfixProgram, GoesOn}
-use Rattle.mini_syntax.specs.Grammar.{form_binds, block_binds, forms_bind, form_tokens, block_tokens, forms_tokens, decl_tokens, decls_tokens, program_tokens}
-use Rattle.mini_syntax.specs.Precedence.{compared_after, infix_of, infix_token, level_of, may_follow}
-use Rattle.mini_syntax.specs.Tokens.{Token, name_at, number_at, word_at, mark_at, kind_of}
-use Rattle.mini_syntax.proofs.PrecedenceLaws.{Allows, after, after_sum, allows_closer, allows_right, allows_sum, bound_parts, infix_seen, left_below, may_come}
 
 -- the tokens lead from one stack to another, whatever follows
 pub record Leads (from : List Expected) (ts : List Token) (to : List Expected) : Type 0 where

@@ -1,27 +1,19 @@
 -- Tokens that are taken go on to a program: what is still expected can be given, and each token taken is put in front of it.
 use Rattle.std.proofs.Common.{◌≡◌, ℕ, ◌≤◌, List, [], ◌∷◌, ◌++◌, Option, Some, None, true, false, cond, refl, sym, ap, ap₂, subst, ◌∙◌, append_assoc, arith}
-use Rattle.std.specs.Prelude.{◌&&◌, codes, nat_le}
+use Rattle.std.{specs.Prelude.{◌&&◌, codes, nat_le}, proofs.lemmas.Bool.{leb-true, leb-false}, proofs.lemmas.List.append-nil}
 use Rattle.std.specs.Prelude as std
-use Rattle.std.proofs.lemmas.Bool.{leb-true, leb-false}
-use Rattle.std.proofs.lemmas.List.{append-nil}
-use Rattle.mini_syntax.specs.declared.expected.Expected.{Expected}
-use Rattle.mini_syntax.specs.declared.expected.Expected.TheVariants as wants
-use Rattle.mini_syntax.specs.declared.lexer.TokenKind.{TokenKind}
-use Rattle.mini_syntax.specs.declared.lexer.TokenKind.TheVariants as kind
-use Rattle.mini_syntax.specs.declared.mark.Mark.{Mark}
-use Rattle.mini_syntax.specs.declared.mark.Mark.TheVariants as mark
-use Rattle.mini_syntax.specs.declared.operator.Infix.{Infix}
-use Rattle.mini_syntax.specs.declared.operator.Prefix.{Prefix}
-use Rattle.mini_syntax.specs.declared.operator.Prefix.TheVariants.{Not, Minus}
-use Rattle.mini_syntax.specs.declared.word.Word.TheVariants as word
-use Rattle.mini_syntax.specs.Expected.{takes, taken, at_start, is_over, same_mark, expression, a_block}
-use Rattle.mini_syntax.specs.Grammar.{Expression, variable, number, truth, unary, binary, group, binds, expression_level, expression_tokens}
-use Rattle.mini_syntax.specs.Grammar.{assign, loop, branch, block, Forms, no_forms, form, Decl, InfixProgram, GoesOn}
-use Rattle.mini_syntax.specs.Grammar.{forms_bind, forms_tokens, decls_tokens, program_tokens}
-use Rattle.mini_syntax.specs.Precedence.{compared_after, infix_of, infix_token, level_of, may_follow, right_level}
-use Rattle.mini_syntax.specs.Tokens.{Token, name_at, number_at, word_at, mark_at, wrong_at, kind_of, place_of, token_of}
-use Rattle.mini_syntax.proofs.ExpectedLaws.{none_follows, none_taken, operator_refused, operator_taken}
+use Rattle.mini_syntax.{specs.declared.expected.Expected.Expected, specs.declared.lexer.TokenKind.TokenKind, specs.declared.mark.Mark.Mark}
+use Rattle.mini_syntax.{specs.declared.operator.Infix.Infix, specs.declared.operator.Prefix.Prefix, specs.declared.operator.Prefix.TheVariants.{Not, Minus}}
+use Rattle.mini_syntax.{specs.Expected.{takes, taken, at_start, is_over, same_mark, expression, a_block}, specs.Grammar.{Expression, variable, number, truth}}
+use Rattle.mini_syntax.specs.Grammar.{unary, binary, group, binds, expression_level, expression_tokens, assign, loop, branch, block, Forms, no_forms, form}
+use Rattle.mini_syntax.{specs.Grammar.{Decl, InfixProgram, GoesOn, forms_bind, forms_tokens, decls_tokens, program_tokens}, specs.Precedence.compared_after}
+use Rattle.mini_syntax.{specs.Precedence.{infix_of, infix_token, level_of, may_follow, right_level}, specs.Tokens.{Token, name_at, number_at, word_at, mark_at}}
+use Rattle.mini_syntax.{specs.Tokens.{wrong_at, kind_of, place_of, token_of}, proofs.ExpectedLaws.{none_follows, none_taken, operator_refused, operator_taken}}
 use Rattle.mini_syntax.proofs.PrecedenceLaws.{Bound, after, after_sum, both, bound_made, bound_parts, infix_is, left_close, one_above, unary_bound}
+use Rattle.mini_syntax.specs.declared.expected.Expected.TheVariants as wants
+use Rattle.mini_syntax.specs.declared.lexer.TokenKind.TheVariants as kind
+use Rattle.mini_syntax.specs.declared.mark.Mark.TheVariants as mark
+use Rattle.mini_syntax.specs.declared.word.Word.TheVariants as word
 
 -- ---- tokens by their kinds
 

@@ -1,18 +1,10 @@
 -- What is made of operands that were read.
 use Rattle.std.proofs.Common.{ℕ, List, ◌++◌, Option, ap, ap₂, ◌∙◌}
-use Rattle.stack_text.specs.declared.breach.Breach.{Breach}
-use Rattle.stack_text.specs.Breaches.{least, lesser_of}
-use Rattle.stack_text.proofs.BreachLaws.{notes_more}
-use Rattle.mini_syntax.specs.declared.operator.Infix.{Infix}
-use Rattle.mini_syntax.specs.declared.operator.Prefix.{Prefix}
-use Rattle.mini_syntax.specs.declared.program.Declared.{Declared}
-use Rattle.mini_syntax.specs.declared.sort.Sort.{Sort}
-use Rattle.mini_syntax.specs.declared.typed.Typed.{Typed}
-use Rattle.mini_syntax.specs.Breaches.{expression_breaches, expression_sort, infix_breaches, prefix_breaches}
-use Rattle.mini_syntax.specs.Grammar.{Expression, unary, binary}
-use Rattle.mini_syntax.specs.Language.{Before, Between}
-use Rattle.mini_syntax.specs.Internal.Combined.{IsInfix, IsPrefix}
-use Rattle.mini_syntax.specs.Internal.Phrases.{IsTyped}
+use Rattle.stack_text.{specs.declared.breach.Breach.Breach, specs.Breaches.{least, lesser_of}, proofs.BreachLaws.notes_more}
+use Rattle.mini_syntax.{specs.declared.operator.Infix.Infix, specs.declared.operator.Prefix.Prefix, specs.declared.program.Declared.Declared}
+use Rattle.mini_syntax.{specs.declared.sort.Sort.Sort, specs.declared.typed.Typed.Typed, specs.Breaches.{expression_breaches, expression_sort, infix_breaches}}
+use Rattle.mini_syntax.{specs.Breaches.prefix_breaches, specs.Grammar.{Expression, unary, binary}, specs.Language.{Before, Between}}
+use Rattle.mini_syntax.{specs.Internal.Combined.{IsInfix, IsPrefix}, specs.Internal.Phrases.IsTyped}
 
 module _ (ds : List Declared) (place : ℕ) (b1 b2 b3 : Option Breach) where
   pub unary_typed : (op : Prefix) (e : Expression) (operand typed : Typed) → IsTyped ds e b1 b2 operand → IsPrefix place op operand b2 b3 typed →

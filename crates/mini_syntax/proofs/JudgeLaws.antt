@@ -1,30 +1,19 @@
 -- What is judged token by token is what keeps a text from being a program.
 use Rattle.std.proofs.Common.{◌≡◌, ◌⊎◌, inl, inr, ℕ, ◌+◌, ◌-◌, ◌<◌, ◌≤◌, List, [], ◌∷◌, ◌++◌, length, drop, map, true, false, cond, Option, Some, None, refl}
-use Rattle.std.proofs.Common.{sym, ap, subst, ◌∙◌, append_assoc, arith}
-use Rattle.std.specs.Prelude.{nat_le, reverse}
+use Rattle.std.{proofs.Common.{sym, ap, subst, ◌∙◌, append_assoc, arith}, specs.Prelude.{nat_le, reverse}, specs.List.slice_range, proofs.lemmas.Bool.leb-true}
+use Rattle.std.{proofs.lemmas.Bool.{leb-false, and_parts}, proofs.lemmas.List.{append-nil, length-append, map_push}}
 use Rattle.std.specs.Prelude as std
-use Rattle.std.specs.List.{slice_range}
-use Rattle.std.proofs.lemmas.Bool.{leb-true, leb-false, and_parts}
-use Rattle.std.proofs.lemmas.List.{append-nil, length-append, map_push}
-use Rattle.mini_syntax.specs.declared.expected.Expected.{Expected}
-use Rattle.mini_syntax.specs.declared.judging.Counts.{Counts}
-use Rattle.mini_syntax.specs.declared.lexeme.Lexeme.{Lexeme}
-use Rattle.mini_syntax.specs.declared.lexer.TokenKind.{TokenKind}
-use Rattle.mini_syntax.specs.declared.lexer.TokenKind.TheVariants as kind
-use Rattle.mini_syntax.specs.declared.lexer.TokenSpan.{TokenSpan}
-use Rattle.mini_syntax.specs.Expected.{at_start, is_over, taken, takes}
+use Rattle.mini_syntax.{specs.declared.expected.Expected.Expected, specs.declared.judging.Counts.Counts, specs.declared.lexeme.Lexeme.Lexeme}
+use Rattle.mini_syntax.{specs.declared.lexer.TokenKind.TokenKind, specs.declared.lexer.TokenSpan.TokenSpan, specs.Expected.{at_start, is_over, taken, takes}}
 use Rattle.mini_syntax.specs.Faults.{AreFree, BreaksAt, BreaksFirst, EndsEarly, blocks, brackets, count_of, no_program, no_token, open_blocks, open_brackets}
-use Rattle.mini_syntax.specs.Faults.{operators, too_many}
-use Rattle.mini_syntax.specs.Faults.{begins_expression, closes_block, closes_bracket, is_operator, opens_block, opens_bracket}
-use Rattle.mini_syntax.specs.Grammar.{GoesOn, IsProgram, InfixProgram}
-use Rattle.mini_syntax.specs.Internal.Judging.{counted, IsBelow, counts_of, is_over_limit, is_wrong, Judges, limit_of, tally}
-use Rattle.mini_syntax.specs.Internal.Judging as judging
-use Rattle.mini_syntax.specs.Internal.Lexemes.{token_seen}
-use Rattle.mini_syntax.specs.Tokens.{Token, name_at, number_at, word_at, mark_at, wrong_at, kind_of, place_of, token_of, tokens, tokens_in, between}
-use Rattle.mini_syntax.specs.Internal.TokenSpans.{FindsToken, token_in}
-use Rattle.mini_syntax.proofs.ExpectedLaws.{end_of, not_taken, over_end, program_taken, taken_append}
-use Rattle.mini_syntax.proofs.GoesOnLaws.{goes_on, is_whole}
+use Rattle.mini_syntax.specs.Faults.{operators, too_many, begins_expression, closes_block, closes_bracket, is_operator, opens_block, opens_bracket}
+use Rattle.mini_syntax.{specs.Grammar.{GoesOn, IsProgram, InfixProgram}, specs.Internal.Judging.{counted, IsBelow, counts_of, is_over_limit, is_wrong, Judges}}
+use Rattle.mini_syntax.{specs.Internal.Judging.{limit_of, tally}, specs.Internal.Lexemes.token_seen, specs.Tokens.{Token, name_at, number_at, word_at, mark_at}}
+use Rattle.mini_syntax.{specs.Tokens.{wrong_at, kind_of, place_of, token_of, tokens, tokens_in, between}, specs.Internal.TokenSpans.{FindsToken, token_in}}
+use Rattle.mini_syntax.{proofs.ExpectedLaws.{end_of, not_taken, over_end, program_taken, taken_append}, proofs.GoesOnLaws.{goes_on, is_whole}}
 use Rattle.mini_syntax.proofs.LimitLaws.{count_append, operators_append}
+use Rattle.mini_syntax.specs.declared.lexer.TokenKind.TheVariants as kind
+use Rattle.mini_syntax.specs.Internal.Judging as judging
 
 -- ---- counts
 

@@ -1,36 +1,21 @@
 -- A program within the limits that breaks no rule can be lowered.
 use Rattle.std.proofs.Common.{◌≡◌, ℕ, zero, suc, ◌+◌, ◌^◌, ◌<◌, ◌≤◌, max, List, [], ◌∷◌, ◌++◌, map, length, bytes_eq, true, false, cond, Option, Some, None}
-use Rattle.std.proofs.Common.{is_none, is_some, option_map, refl, sym, ap, ap₂, subst, ◌∙◌, append_assoc, arith}
-use Rattle.std.specs.Prelude.{slice_get, ◌==◌, ◌&&◌}
+use Rattle.std.{proofs.Common.{is_none, is_some, option_map, refl, sym, ap, ap₂, subst, ◌∙◌, append_assoc, arith}, specs.Prelude.{slice_get, ◌==◌, ◌&&◌}}
+use Rattle.std.{specs.List.list_all, proofs.lemmas.Bool.{eqb-false, ltb-false}, proofs.lemmas.List.length-append, proofs.lemmas.Slice.Eq.bytes_eq-Decides}
 use Rattle.std.specs.Prelude as std
-use Rattle.std.specs.List.{list_all}
-use Rattle.std.proofs.lemmas.Bool.{eqb-false, ltb-false}
-use Rattle.std.proofs.lemmas.List.{length-append}
-use Rattle.std.proofs.lemmas.Slice.Eq.{bytes_eq-Decides}
-use Rattle.stack_text.specs.Breaches.{when}
-use Rattle.stack_text.proofs.SharedLaws.{rule_holds, rule_fails}
+use Rattle.stack_text.{specs.Breaches.when, proofs.SharedLaws.{rule_holds, rule_fails}}
 use Rattle.mini_syntax.specs.Breaches.{breaches, body_of, decl_breaches, decls_breaches, declared_by, declared_of, is_too_large, named_from, names_of}
 use Rattle.mini_syntax.specs.Breaches.{number_of, or_first, variable_named, sort_named, infix_breaches, prefix_breaches, same_sort, assigns_breaches}
-use Rattle.mini_syntax.specs.Breaches.{test_breaches}
-use Rattle.mini_syntax.specs.Breaches.{expression_breaches, expression_sort, expression_exp}
-use Rattle.mini_syntax.specs.Breaches.{form_breaches, block_breaches, forms_breaches, form_stmt, block_stmt, forms_stmt}
-use Rattle.mini_syntax.specs.declared.program.Declared.{Declared}
-use Rattle.mini_syntax.specs.declared.scope.Variable.{Variable}
-use Rattle.mini_syntax.specs.declared.sort.Sort.{Sort}
-use Rattle.mini_syntax.specs.declared.sort.Sort.TheVariants.{Int, Bool}
-use Rattle.mini_syntax.specs.declared.operator.Prefix.{Prefix}
-use Rattle.mini_syntax.specs.declared.operator.Infix.{Infix}
-use Rattle.mini_syntax.specs.Grammar.{Expression, variable, number, truth, unary, binary, group}
-use Rattle.mini_syntax.specs.Grammar.{Form, assign, loop, branch, Block, block, Forms, no_forms, form, Decl, InfixProgram}
-use Rattle.mini_syntax.specs.Operands.{prefix_takes, infix_takes, prefix_sort, infix_sort, sort_of}
-use Rattle.mini_syntax.specs.Language.{Exp}
-use Rattle.mini_syntax.specs.Language as language
-use Rattle.mini_syntax.specs.Lawful.{AreApart, IsLawful, levels, part_count, nth_name}
-use Rattle.mini_syntax.specs.Internal.Limits.{expression_operators}
-use Rattle.mini_syntax.specs.Internal.Limits.{form_blocks, block_blocks, forms_blocks, FormIsSmall, BlockIsSmall, FormsAreSmall, KeepsLimits}
-use Rattle.mini_syntax.specs.Names.{is_variable_name}
-use Rattle.mini_syntax.specs.Sorted.{depth, IsWellSorted, IsFine, AreFine}
+use Rattle.mini_syntax.specs.Breaches.{test_breaches, expression_breaches, expression_sort, expression_exp, form_breaches, block_breaches, forms_breaches}
+use Rattle.mini_syntax.{specs.Breaches.{form_stmt, block_stmt, forms_stmt}, specs.declared.program.Declared.Declared, specs.declared.scope.Variable.Variable}
+use Rattle.mini_syntax.{specs.declared.sort.Sort.Sort, specs.declared.sort.Sort.TheVariants.{Int, Bool}, specs.declared.operator.Prefix.Prefix}
+use Rattle.mini_syntax.{specs.declared.operator.Infix.Infix, specs.Grammar.{Expression, variable, number, truth, unary, binary, group, Form, assign, loop}}
+use Rattle.mini_syntax.{specs.Grammar.{branch, Block, block, Forms, no_forms, form, Decl, InfixProgram}, specs.Operands.{prefix_takes, infix_takes}}
+use Rattle.mini_syntax.{specs.Operands.{prefix_sort, infix_sort, sort_of}, specs.Language.Exp, specs.Lawful.{AreApart, IsLawful, levels, part_count, nth_name}}
+use Rattle.mini_syntax.specs.Internal.Limits.{expression_operators, form_blocks, block_blocks, forms_blocks, FormIsSmall, BlockIsSmall, FormsAreSmall}
+use Rattle.mini_syntax.{specs.Internal.Limits.KeepsLimits, specs.Names.is_variable_name, specs.Sorted.{depth, IsWellSorted, IsFine, AreFine}}
 use Rattle.mini_syntax.proofs.EmptyLaws.{two, three}
+use Rattle.mini_syntax.specs.Language as language
 
 -- ---- how deep an expression is
 

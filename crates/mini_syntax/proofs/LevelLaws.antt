@@ -1,26 +1,17 @@
 -- An expression in the making: what was read of it, and one more operator with its right operand.
 use Rattle.std.proofs.Common.{◌≡◌, ◌≤◌, ℕ, List, [], ◌∷◌, ◌++◌, length, Option, Some, None, true, sym, ap, ◌∙◌, append_assoc, arith}
-use Rattle.std.specs.Prelude as std
 use Rattle.std.proofs.lemmas.List.{length-append}
+use Rattle.std.specs.Prelude as std
 use Rattle.stack_text.specs.declared.breach.Breach.{Breach}
-use Rattle.mini_syntax.specs.declared.expected.Expected.{Expected}
-use Rattle.mini_syntax.specs.declared.expected.Expected.TheVariants as wants
-use Rattle.mini_syntax.specs.declared.lexeme.Lexeme.{Lexeme}
-use Rattle.mini_syntax.specs.declared.operator.Infix.{Infix}
-use Rattle.mini_syntax.specs.declared.program.Declared.{Declared}
-use Rattle.mini_syntax.specs.declared.typed.Typed.{Typed}
-use Rattle.mini_syntax.specs.Expected.{expression}
-use Rattle.mini_syntax.specs.Grammar.{Expression, binary, binds, expression_level, expression_tokens}
-use Rattle.mini_syntax.specs.Precedence.{compared_after, infix_of, infix_token, level_of, right_level}
-use Rattle.mini_syntax.specs.Internal.Combined.{IsInfix}
-use Rattle.mini_syntax.specs.Internal.Lexemes.{next_kind, token_seen}
-use Rattle.mini_syntax.specs.Internal.Phrases.{Awaits, AwaitsOperand, Completes, IsTyped, Reads, infix_within}
-use Rattle.mini_syntax.specs.Tokens.{Token}
-use Rattle.mini_syntax.proofs.AwaitLaws.{Operates, moved, operates}
-use Rattle.mini_syntax.proofs.ExpectedLaws.{expression_leads}
-use Rattle.mini_syntax.proofs.JoinLaws.{binary_typed}
-use Rattle.mini_syntax.proofs.PrecedenceLaws.{after, allows_right, allows_sum, bound_made, infix_is, left_close, none_within, one_above, within_is}
+use Rattle.mini_syntax.{specs.declared.expected.Expected.Expected, specs.declared.lexeme.Lexeme.Lexeme, specs.declared.operator.Infix.Infix}
+use Rattle.mini_syntax.{specs.declared.program.Declared.Declared, specs.declared.typed.Typed.Typed, specs.Expected.expression, specs.Grammar.Expression}
+use Rattle.mini_syntax.{specs.Grammar.{binary, binds, expression_level, expression_tokens}, specs.Precedence.{compared_after, infix_of, infix_token, level_of}}
+use Rattle.mini_syntax.{specs.Precedence.right_level, specs.Internal.Combined.IsInfix, specs.Internal.Lexemes.{next_kind, token_seen}}
+use Rattle.mini_syntax.{specs.Internal.Phrases.{Awaits, AwaitsOperand, Completes, IsTyped, Reads, infix_within}, specs.Tokens.Token, proofs.AwaitLaws.Operates}
+use Rattle.mini_syntax.{proofs.AwaitLaws.{moved, operates}, proofs.ExpectedLaws.expression_leads, proofs.JoinLaws.binary_typed, proofs.PrecedenceLaws.after}
+use Rattle.mini_syntax.proofs.PrecedenceLaws.{allows_right, allows_sum, bound_made, infix_is, left_close, none_within, one_above, within_is}
 use Rattle.mini_syntax.proofs.ReadingLaws.{kind_seen}
+use Rattle.mini_syntax.specs.declared.expected.Expected.TheVariants as wants
 
 pub first_operand : {ts : List Token} → AwaitsOperand ts → Awaits (wants.Operand ∷ []) ts
 first_operand a = record { rest = wants.MoreExpression a.compared ∷ a.rest; completes = a.completes }

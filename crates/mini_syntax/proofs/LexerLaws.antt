@@ -1,25 +1,16 @@
 -- One byte of a text after the other.
 use Rattle.std.proofs.Common.{◌≡◌, ℕ, ◌+◌, ◌-◌, ◌<◌, ◌≤◌, List, [], ◌∷◌, ◌++◌, length, get_or, drop, ⊎_elim, true, false, cond, Option, Some, None, refl, sym}
-use Rattle.std.proofs.Common.{ap, subst, ◌∙◌, append_assoc, arith}
-use Rattle.std.specs.Prelude.{◌==◌, ◌||◌}
+use Rattle.std.{proofs.Common.{ap, subst, ◌∙◌, append_assoc, arith}, specs.Prelude.{◌==◌, ◌||◌}, specs.Char.{is_ascii_alphabetic, is_ascii_digit}}
+use Rattle.std.{specs.Int.is_in_range, specs.List.slice_range, proofs.lemmas.Bool.{cases_lt, eqb-true}, proofs.lemmas.List.{drop_more, drop_all, length-take}}
+use Rattle.std.proofs.lemmas.List.{append-nil}
 use Rattle.std.specs.Prelude as std
-use Rattle.std.specs.Char.{is_ascii_alphabetic, is_ascii_digit}
-use Rattle.std.specs.Int.{is_in_range}
-use Rattle.std.specs.List.{slice_range}
-use Rattle.std.proofs.lemmas.Bool.{cases_lt, eqb-true}
-use Rattle.std.proofs.lemmas.List.{drop_more, drop_all, length-take, append-nil}
 use Rattle.stack_text.proofs.TokenLaws.{slice_range-more}
-use Rattle.mini_syntax.specs.declared.lexer.Run.{Run}
+use Rattle.mini_syntax.{specs.declared.lexer.Run.Run, specs.declared.lexer.TokenSpan.TokenSpan, specs.declared.mark.Mark.Mark, specs.Names.is_word_byte}
+use Rattle.mini_syntax.specs.Tokens.{Token, number_at, mark_at, Mode, after_fresh, begins, fresh, is_blank, is_pair, mark_of, mark_token, next, longest_run}
+use Rattle.mini_syntax.{specs.Tokens.{tokens, word_kind, word_token}, specs.Internal.TokenSpans.{FindsToken, run_mode, run_test}, proofs.SpanLaws.no_pair}
 use Rattle.mini_syntax.specs.declared.lexer.Run.TheVariants as runs
 use Rattle.mini_syntax.specs.declared.lexer.TokenKind.TheVariants as kind
-use Rattle.mini_syntax.specs.declared.lexer.TokenSpan.{TokenSpan}
-use Rattle.mini_syntax.specs.declared.mark.Mark.{Mark}
-use Rattle.mini_syntax.specs.Names.{is_word_byte}
-use Rattle.mini_syntax.specs.Tokens.{Token, number_at, mark_at, Mode, after_fresh, begins, fresh, is_blank, is_pair, mark_of, mark_token, next, longest_run}
-use Rattle.mini_syntax.specs.Tokens.{tokens, word_kind, word_token}
 use Rattle.mini_syntax.specs.Tokens as mode
-use Rattle.mini_syntax.specs.Internal.TokenSpans.{FindsToken, run_mode, run_test}
-use Rattle.mini_syntax.proofs.SpanLaws.{no_pair}
 
 -- ---- one byte
 

@@ -1,28 +1,19 @@
 -- A program of whose tokens none breaks rule 3 or 4 is within the limits.
 use Rattle.std.proofs.Common.{◌≡◌, ℕ, suc, ◌+◌, ◌<◌, ◌≤◌, max, List, [], ◌∷◌, ◌++◌, true, false, cond, refl, sym, ap, subst, ◌∙◌, append_assoc, ⊎_elim, arith}
-use Rattle.std.specs.Prelude.{◌^◌, length}
+use Rattle.std.{specs.Prelude.{◌^◌, length}, proofs.lemmas.Bool.cases_lt, proofs.lemmas.List.append-nil}
 use Rattle.std.specs.Prelude as std
-use Rattle.std.proofs.lemmas.Bool.{cases_lt}
-use Rattle.std.proofs.lemmas.List.{append-nil}
-use Rattle.mini_syntax.specs.Breaches.{breaches}
-use Rattle.mini_syntax.specs.declared.lexer.TokenKind.{TokenKind}
-use Rattle.mini_syntax.specs.declared.mark.Mark.TheVariants as mark
-use Rattle.mini_syntax.specs.declared.operator.Infix.{Infix}
-use Rattle.mini_syntax.specs.declared.operator.Infix.TheVariants.{Or}
-use Rattle.mini_syntax.specs.declared.operator.Prefix.{Prefix}
-use Rattle.mini_syntax.specs.declared.operator.Prefix.TheVariants.{Not, Minus}
-use Rattle.mini_syntax.specs.declared.word.Word.{Word}
-use Rattle.mini_syntax.specs.declared.word.Word.TheVariants as word
-use Rattle.mini_syntax.specs.Faults.{AreFree, blocks, brackets, too_many, begins_expression, closes_block, closes_bracket, count_of, is_operator, open_blocks}
-use Rattle.mini_syntax.specs.Faults.{open_brackets, operators, operators_from, opens_block, opens_bracket}
-use Rattle.mini_syntax.specs.Grammar.{Expression, unary, binary, group, expression_tokens, prefix_token}
-use Rattle.mini_syntax.specs.Grammar.{Form, assign, loop, branch, Block, block, Forms, no_forms, form, Decl, InfixProgram, GoesOn, IsProgram}
-use Rattle.mini_syntax.specs.Grammar.{form_tokens, block_tokens, forms_tokens, decl_tokens, decls_tokens, program_tokens}
-use Rattle.mini_syntax.specs.Precedence.{infix_token}
-use Rattle.mini_syntax.specs.Internal.Limits.{expression_operators, expression_brackets, IsSmall, FormIsSmall, BlockIsSmall, FormsAreSmall}
-use Rattle.mini_syntax.specs.Internal.Limits.{form_blocks, block_blocks, forms_blocks}
-use Rattle.mini_syntax.specs.Tokens.{Token, name_at, word_at, mark_at, kind_of, tokens_in}
+use Rattle.mini_syntax.{specs.Breaches.breaches, specs.declared.lexer.TokenKind.TokenKind, specs.declared.operator.Infix.Infix}
+use Rattle.mini_syntax.{specs.declared.operator.Infix.TheVariants.Or, specs.declared.operator.Prefix.Prefix, specs.declared.operator.Prefix.TheVariants.Not}
+use Rattle.mini_syntax.{specs.declared.operator.Prefix.TheVariants.Minus, specs.declared.word.Word.Word, specs.Faults.{AreFree, blocks, brackets, too_many}}
+use Rattle.mini_syntax.specs.Faults.{begins_expression, closes_block, closes_bracket, count_of, is_operator, open_blocks, open_brackets, operators}
+use Rattle.mini_syntax.{specs.Faults.{operators_from, opens_block, opens_bracket}, specs.Grammar.{Expression, unary, binary, group, expression_tokens}}
+use Rattle.mini_syntax.specs.Grammar.{prefix_token, Form, assign, loop, branch, Block, block, Forms, no_forms, form, Decl, InfixProgram, GoesOn, IsProgram}
+use Rattle.mini_syntax.{specs.Grammar.{form_tokens, block_tokens, forms_tokens, decl_tokens, decls_tokens, program_tokens}, specs.Precedence.infix_token}
+use Rattle.mini_syntax.specs.Internal.Limits.{expression_operators, expression_brackets, IsSmall, FormIsSmall, BlockIsSmall, FormsAreSmall, form_blocks}
+use Rattle.mini_syntax.{specs.Internal.Limits.{block_blocks, forms_blocks}, specs.Tokens.{Token, name_at, word_at, mark_at, kind_of, tokens_in}}
 use Rattle.mini_syntax.proofs.SpanLaws.{IsShort, text_is_lawful}
+use Rattle.mini_syntax.specs.declared.mark.Mark.TheVariants as mark
+use Rattle.mini_syntax.specs.declared.word.Word.TheVariants as word
 
 -- ---- each token within the limits, after those before it
 

@@ -1,14 +1,9 @@
 -- What the code does with its stack, whose top is last, is what is done with what is expected.
-use Rattle.std.proofs.Common.{◌≡◌, List, [], ◌∷◌, ◌++◌, Some, None, true, false, refl, sym, ap, ◌∙◌}
-use Rattle.std.specs.Prelude.{◌&&◌, reverse}
-use Rattle.std.specs.Prelude as std
-use Rattle.std.specs.List.{list_all}
+use Rattle.std.{proofs.Common.{◌≡◌, List, [], ◌∷◌, ◌++◌, Some, None, true, false, refl, sym, ap, ◌∙◌}, specs.Prelude.{◌&&◌, reverse}, specs.List.list_all}
 use Rattle.std.proofs.lemmas.List.{reverse-append}
-use Rattle.mini_syntax.specs.declared.expected.Answer.{Answer}
-use Rattle.mini_syntax.specs.declared.expected.Answer.TheVariants.{Refused, LeftOut, Then}
-use Rattle.mini_syntax.specs.declared.expected.Expected.{Expected}
-use Rattle.mini_syntax.specs.declared.expected.Push.{Push}
-use Rattle.mini_syntax.specs.declared.lexer.TokenKind.{TokenKind}
+use Rattle.std.specs.Prelude as std
+use Rattle.mini_syntax.{specs.declared.expected.Answer.Answer, specs.declared.expected.Answer.TheVariants.{Refused, LeftOut, Then}}
+use Rattle.mini_syntax.{specs.declared.expected.Expected.Expected, specs.declared.expected.Push.Push, specs.declared.lexer.TokenKind.TokenKind}
 use Rattle.mini_syntax.specs.Expected.{answer_of, answered, is_over, may_be_empty, pushed, takes}
 
 -- what is pushed last comes first

@@ -1,12 +1,8 @@
 -- A text has one answer: a fault, or none.
 use Rattle.std.proofs.Common.{◌≡◌, ℕ, List, Some, None, sym, ap, ◌∙◌}
-use Rattle.stack_text.specs.declared.breach.Breach.{Breach}
-use Rattle.stack_text.specs.Breaches.{least}
-use Rattle.mini_syntax.specs.MiniReading.{IsFault, of_tokens, of_program, IsFaultless}
-use Rattle.mini_syntax.specs.Breaches.{breaches}
-use Rattle.mini_syntax.specs.Grammar.{InfixProgram}
-use Rattle.mini_syntax.proofs.OneFaultLaws.{none, one}
-use Rattle.mini_syntax.proofs.OneProgramLaws.{program_is}
+use Rattle.stack_text.{specs.declared.breach.Breach.Breach, specs.Breaches.least}
+use Rattle.mini_syntax.{specs.MiniReading.{IsFault, of_tokens, of_program, IsFaultless}, specs.Breaches.breaches, specs.Grammar.InfixProgram}
+use Rattle.mini_syntax.{proofs.OneFaultLaws.{none, one}, proofs.OneProgramLaws.program_is}
 
 pub one_fault : (text : List ℕ) (rule place other there : ℕ) → IsFault text rule place → IsFault text other there → (rule ≡ other) × (place ≡ there)
 one_fault text rule place other there (of_tokens f) (of_tokens g) = one text rule place other there f g

@@ -1,8 +1,7 @@
 -- A text has at most one fault of its tokens, and none where it is a program's whose tokens break no rule.
 use Rattle.std.proofs.Common.{◌≡◌, inl, inr, ℕ, ◌≤◌, List, [], ◌∷◌, ◌++◌, refl, sym, ap, subst, ◌∙◌, arith}
-use Rattle.mini_syntax.specs.Faults.{AreFree, BreaksAt, BreaksFirst, IsTextFault}
-use Rattle.mini_syntax.specs.Grammar.{IsProgram, InfixProgram}
-use Rattle.mini_syntax.specs.Tokens.{Token, place_of, tokens_in}
+use Rattle.mini_syntax.{specs.Faults.{AreFree, BreaksAt, BreaksFirst, IsTextFault}, specs.Grammar.{IsProgram, InfixProgram}, specs.Tokens.{Token, place_of}}
+use Rattle.mini_syntax.specs.Tokens.{tokens_in}
 
 -- two tokens of one list are the same, or one of them comes first
 data Order (a b : List Token) (t u : Token) : Type 0 where

@@ -1,26 +1,19 @@
 -- A text is one program at most. An expression's tokens are read from left to right, with what stands before the operand that comes
 -- next; so each expression is what reading its tokens gives.
-use Rattle.std.proofs.Common.{◌≡◌, ◌≢◌, ℕ, ◌<◌, ◌≤◌, List, [], ◌∷◌, ◌++◌, true, false, cond, Option, Some, None, refl, sym, ap, ap₂, subst, ◌∙◌}
-use Rattle.std.proofs.Common.{append_assoc, arith}
-use Rattle.std.specs.Prelude.{◌&&◌, nat_le}
+use Rattle.std.proofs.Common.{◌≡◌, ◌≢◌, ℕ, ◌<◌, ◌≤◌, List, [], ◌∷◌, ◌++◌, true, false, cond, Option, Some, None, refl, sym, ap, ap₂, subst, ◌∙◌, append_assoc}
+use Rattle.std.{proofs.Common.arith, specs.Prelude.{◌&&◌, nat_le}, proofs.lemmas.Bool.{and_parts, le-leb, leb-true, lt-leb}, proofs.lemmas.List.append-nil}
 use Rattle.std.specs.Prelude as std
-use Rattle.std.proofs.lemmas.Bool.{and_parts, le-leb, leb-true, lt-leb}
-use Rattle.std.proofs.lemmas.List.{append-nil}
 use denote.Struct.Props.{props}
-use Rattle.mini_syntax.specs.declared.lexer.TokenKind.{TokenKind}
+use Rattle.mini_syntax.{specs.declared.lexer.TokenKind.TokenKind, specs.declared.operator.Infix.Infix, specs.declared.operator.Prefix.Prefix}
+use Rattle.mini_syntax.{specs.declared.operator.Prefix.TheVariants.{Not, Minus}, specs.Grammar.{Expression, variable, number, truth, unary, binary, group}}
+use Rattle.mini_syntax.specs.Grammar.{binds, expression_level, expression_tokens, prefix_token, Form, assign, loop, branch, Block, block, Forms, no_forms, form}
+use Rattle.mini_syntax.specs.Grammar.{Decl, InfixProgram, IsProgram, form_binds, block_binds, forms_bind, form_tokens, block_tokens, forms_tokens, decls_tokens}
+use Rattle.mini_syntax.{specs.Grammar.program_tokens, specs.Precedence.{any_level, infix_of, infix_token, level_of}, specs.Internal.Lexemes.next_kind}
+use Rattle.mini_syntax.{specs.Tokens.{Token, name_at, number_at, word_at, mark_at, kind_of, place_of}, proofs.PrecedenceLaws.{bound_parts, infix_place}}
+use Rattle.mini_syntax.proofs.PrecedenceLaws.{infix_seen, left_below, level_in, one_above}
 use Rattle.mini_syntax.specs.declared.lexer.TokenKind.TheVariants as kind
 use Rattle.mini_syntax.specs.declared.mark.Mark.TheVariants as mark
-use Rattle.mini_syntax.specs.declared.operator.Infix.{Infix}
-use Rattle.mini_syntax.specs.declared.operator.Prefix.{Prefix}
-use Rattle.mini_syntax.specs.declared.operator.Prefix.TheVariants.{Not, Minus}
 use Rattle.mini_syntax.specs.declared.word.Word.TheVariants as word
-use Rattle.mini_syntax.specs.Grammar.{Expression, variable, number, truth, unary, binary, group, binds, expression_level, expression_tokens, prefix_token}
-use Rattle.mini_syntax.specs.Grammar.{Form, assign, loop, branch, Block, block, Forms, no_forms, form, Decl, InfixProgram, IsProgram}
-use Rattle.mini_syntax.specs.Grammar.{form_binds, block_binds, forms_bind, form_tokens, block_tokens, forms_tokens, decls_tokens, program_tokens}
-use Rattle.mini_syntax.specs.Precedence.{any_level, infix_of, infix_token, level_of}
-use Rattle.mini_syntax.specs.Internal.Lexemes.{next_kind}
-use Rattle.mini_syntax.specs.Tokens.{Token, name_at, number_at, word_at, mark_at, kind_of, place_of}
-use Rattle.mini_syntax.proofs.PrecedenceLaws.{bound_parts, infix_place, infix_seen, left_below, level_in, one_above}
 
 -- ---- what stands before
 

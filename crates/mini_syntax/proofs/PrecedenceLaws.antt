@@ -1,18 +1,14 @@
 -- How closely operators bind: their tokens, the levels of their operands, and where a comparison may come.
-use Rattle.std.proofs.Common.{◌≡◌, ℕ, suc, ◌<◌, ◌≤◌, List, true, false, cond, Option, Some, None, refl, sym, ap, ap₂, subst, ◌∙◌, arith}
-use Rattle.std.specs.Prelude.{◌&&◌, not, nat_le}
+use Rattle.std.{proofs.Common.{◌≡◌, ℕ, suc, ◌<◌, ◌≤◌, List, true, false, cond, Option, Some, None, refl, sym, ap, ap₂, subst, ◌∙◌, arith}, specs.Prelude.◌&&◌}
+use Rattle.std.{specs.Prelude.{not, nat_le}, proofs.lemmas.Bool.{and_parts, leb-true, leb-false, le-leb}}
 use Rattle.std.specs.Prelude as std
-use Rattle.std.proofs.lemmas.Bool.{and_parts, leb-true, leb-false, le-leb}
-use Rattle.mini_syntax.specs.declared.lexer.TokenKind.{TokenKind}
+use Rattle.mini_syntax.{specs.declared.lexer.TokenKind.TokenKind, specs.declared.operator.Infix.Infix, specs.declared.operator.Infix.TheVariants.{Or, And}}
+use Rattle.mini_syntax.{specs.declared.operator.Infix.TheVariants.{AtMost, Equals, Add, Subtract, Multiply}, specs.Grammar.{Expression, binary, binds}}
+use Rattle.mini_syntax.{specs.Grammar.expression_level, specs.Precedence.{any_level, compared_after, infix_of, infix_token, left_level, level_of, may_follow}}
+use Rattle.mini_syntax.{specs.Precedence.right_level, specs.Internal.Phrases.within, specs.Tokens.{kind_of, place_of, token_of}}
 use Rattle.mini_syntax.specs.declared.lexer.TokenKind.TheVariants as kind
 use Rattle.mini_syntax.specs.declared.mark.Mark.TheVariants as mark
-use Rattle.mini_syntax.specs.declared.operator.Infix.{Infix}
-use Rattle.mini_syntax.specs.declared.operator.Infix.TheVariants.{Or, And, AtMost, Equals, Add, Subtract, Multiply}
 use Rattle.mini_syntax.specs.declared.word.Word.TheVariants as word
-use Rattle.mini_syntax.specs.Grammar.{Expression, binary, binds, expression_level}
-use Rattle.mini_syntax.specs.Precedence.{any_level, compared_after, infix_of, infix_token, left_level, level_of, may_follow, right_level}
-use Rattle.mini_syntax.specs.Internal.Phrases.{within}
-use Rattle.mini_syntax.specs.Tokens.{kind_of, place_of, token_of}
 
 -- ---- tokens
 

@@ -1,27 +1,15 @@
 -- A whole program that was read, and what that says of its text.
 use Rattle.std.proofs.Common.{◌≡◌, ℕ, ◌^◌, ◌<◌, ◌≤◌, List, [], ◌++◌, map, length, Option, Some, None, Err, true, sym, ap, ◌∙◌, arith}
 use Rattle.std.proofs.lemmas.List.{append-nil, length-map}
-use Rattle.stack_text.specs.declared.breach.Breach.{Breach}
-use Rattle.stack_text.specs.Breaches.{least, lesser_of}
-use Rattle.stack_text.proofs.BreachLaws.{none_least, notes_more}
-use Rattle.mini_syntax.specs.MiniReading.{IsFault, IsRead, ReadsText, RefusesTextUnless, of_program, of_tokens}
-use Rattle.mini_syntax.specs.Breaches.{body_of, breaches, declared_of, decls_breaches, forms_breaches, forms_stmt}
-use Rattle.mini_syntax.specs.Internal.Declaring.{ReadsDecls, ReadsProgram, are_proper}
-use Rattle.mini_syntax.specs.declared.fault.MiniFault.{MiniFault}
-use Rattle.mini_syntax.specs.declared.fault.MiniFault.TheVariants.{Memory, Refused}
-use Rattle.mini_syntax.specs.declared.lexeme.Lexeme.{Lexeme}
-use Rattle.mini_syntax.specs.declared.program.Declared.{Declared}
-use Rattle.mini_syntax.specs.declared.program.Statement.{Statement}
-use Rattle.mini_syntax.specs.declared.reading.Reading.{Reading}
-use Rattle.mini_syntax.specs.Faults.{AreFree}
-use Rattle.mini_syntax.specs.Grammar.{IsProgram, InfixProgram, decls_tokens, forms_tokens, program_tokens}
-use Rattle.mini_syntax.specs.Internal.Judging.{RefusesUnless}
-use Rattle.mini_syntax.specs.Internal.Lexemes.{token_seen}
-use Rattle.mini_syntax.specs.Internal.Phrases.{ReadsForms}
-use Rattle.mini_syntax.specs.ProgramView.{block_in}
-use Rattle.mini_syntax.specs.Tokens.{Token, between, tokens_in}
-use Rattle.mini_syntax.proofs.LimitLaws.{free_is_lawful}
-use Rattle.mini_syntax.proofs.SpanLaws.{all_good, tokens_few}
+use Rattle.stack_text.{specs.declared.breach.Breach.Breach, specs.Breaches.{least, lesser_of}, proofs.BreachLaws.{none_least, notes_more}}
+use Rattle.mini_syntax.{specs.MiniReading.{IsFault, IsRead, ReadsText, RefusesTextUnless, of_program, of_tokens}, specs.Breaches.{body_of, breaches}}
+use Rattle.mini_syntax.{specs.Breaches.{declared_of, decls_breaches, forms_breaches, forms_stmt}, specs.Internal.Declaring.{ReadsDecls, ReadsProgram}}
+use Rattle.mini_syntax.{specs.Internal.Declaring.are_proper, specs.declared.fault.MiniFault.MiniFault, specs.declared.fault.MiniFault.TheVariants.Memory}
+use Rattle.mini_syntax.{specs.declared.fault.MiniFault.TheVariants.Refused, specs.declared.lexeme.Lexeme.Lexeme, specs.declared.program.Declared.Declared}
+use Rattle.mini_syntax.{specs.declared.program.Statement.Statement, specs.declared.reading.Reading.Reading, specs.Faults.AreFree, specs.Grammar.IsProgram}
+use Rattle.mini_syntax.{specs.Grammar.{InfixProgram, decls_tokens, forms_tokens, program_tokens}, specs.Internal.Judging.RefusesUnless}
+use Rattle.mini_syntax.{specs.Internal.Lexemes.token_seen, specs.Internal.Phrases.ReadsForms, specs.ProgramView.block_in, specs.Tokens.{Token, between}}
+use Rattle.mini_syntax.{specs.Tokens.tokens_in, proofs.LimitLaws.free_is_lawful, proofs.SpanLaws.{all_good, tokens_few}}
 
 -- declarations and statements are a program where no token is left
 pub record WholeRead (ts : List Token) (ds : List Declared) (body : List Statement) (breach : Option Breach) : Type 0 where

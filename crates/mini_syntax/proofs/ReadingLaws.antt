@@ -1,43 +1,26 @@
 -- What the reader has read, step by step: what the next tokens complete, and the tree that they make.
 use Rattle.std.proofs.Common.{◌≡◌, ℕ, suc, ◌+◌, ◌<◌, ◌≤◌, List, [], ◌∷◌, ◌++◌, map, length, Option, Some, None, is_none, true, false, refl, sym, ap, ap₂, ◌∙◌}
-use Rattle.std.proofs.Common.{append_assoc, arith}
-use Rattle.std.specs.Prelude.{◌&&◌, option_map}
+use Rattle.std.{proofs.Common.{append_assoc, arith}, specs.Prelude.{◌&&◌, option_map}, proofs.lemmas.Bool.and_parts, proofs.lemmas.List.append-nil}
+use Rattle.std.proofs.lemmas.List.{length-append, map_push}
 use Rattle.std.specs.Prelude as std
-use Rattle.std.proofs.lemmas.Bool.{and_parts}
-use Rattle.std.proofs.lemmas.List.{append-nil, length-append, map_push}
-use Rattle.stack_text.specs.declared.breach.Breach.{Breach}
-use Rattle.stack_text.specs.Breaches.{Notes, least, lesser_of, when}
-use Rattle.stack_text.proofs.BreachLaws.{notes_more, notes_none}
+use Rattle.stack_text.{specs.declared.breach.Breach.Breach, specs.Breaches.{Notes, least, lesser_of, when}, proofs.BreachLaws.{notes_more, notes_none}}
 use Rattle.mini_syntax.specs.Breaches.{assigns_breaches, block_breaches, block_stmt, declared_by, decl_breaches, decls_breaches, expression_breaches}
 use Rattle.mini_syntax.specs.Breaches.{expression_exp, expression_sort, form_breaches, form_stmt, forms_breaches, forms_stmt, or_first, sort_named}
-use Rattle.mini_syntax.specs.Breaches.{test_breaches, variable_named}
-use Rattle.mini_syntax.specs.Internal.Declaring.{ReadsDecl, ReadsDecls}
-use Rattle.mini_syntax.specs.declared.expected.Expected.{Expected}
+use Rattle.mini_syntax.{specs.Breaches.{test_breaches, variable_named}, specs.Internal.Declaring.{ReadsDecl, ReadsDecls}}
+use Rattle.mini_syntax.{specs.declared.expected.Expected.Expected, specs.declared.lexeme.Lexeme.Lexeme, specs.declared.lexer.TokenKind.TokenKind}
+use Rattle.mini_syntax.{specs.declared.program.Declared.Declared, specs.declared.program.Statement.Statement, specs.declared.scope.Variable.Variable}
+use Rattle.mini_syntax.{specs.declared.sort.Sort.Sort, specs.declared.typed.Typed.Typed, specs.Expected.expression, specs.Grammar.{Expression, binds}}
+use Rattle.mini_syntax.specs.Grammar.{expression_level, form_binds, block_binds, forms_bind, Form, assign, loop, branch, block, Forms, no_forms, form, Decl}
+use Rattle.mini_syntax.{specs.Grammar.{block_tokens, decl_tokens, decls_tokens, expression_tokens, form_tokens, forms_tokens}, specs.Language.{Exp, Stmt}}
+use Rattle.mini_syntax.{specs.Language.{Nothing, Then}, specs.Precedence.{any_level, infix_of}, specs.Internal.Lexemes.{next_kind, token_seen}}
+use Rattle.mini_syntax.{specs.Internal.Phrases.{Completes, IsTyped, Reads, ReadsBlock, ReadsForm, ReadsForms}, specs.ProgramView.{block_in, exp_of}}
+use Rattle.mini_syntax.{specs.ProgramView.statement_in, specs.Tokens.{Token, name_at, word_at, mark_at, kind_of, token_of}, proofs.AwaitLaws.moved}
+use Rattle.mini_syntax.{proofs.AwaitLaws.no_operator, proofs.ExpectedLaws.expression_leads, proofs.PrecedenceLaws.{after, both, none_at_all, none_closest}}
 use Rattle.mini_syntax.specs.declared.expected.Expected.TheVariants as wants
-use Rattle.mini_syntax.specs.declared.lexeme.Lexeme.{Lexeme}
-use Rattle.mini_syntax.specs.declared.lexer.TokenKind.{TokenKind}
 use Rattle.mini_syntax.specs.declared.lexer.TokenKind.TheVariants as kind
 use Rattle.mini_syntax.specs.declared.mark.Mark.TheVariants as mark
-use Rattle.mini_syntax.specs.declared.program.Declared.{Declared}
-use Rattle.mini_syntax.specs.declared.program.Statement.{Statement}
-use Rattle.mini_syntax.specs.declared.scope.Variable.{Variable}
-use Rattle.mini_syntax.specs.declared.sort.Sort.{Sort}
-use Rattle.mini_syntax.specs.declared.typed.Typed.{Typed}
 use Rattle.mini_syntax.specs.declared.word.Word.TheVariants as word
-use Rattle.mini_syntax.specs.Expected.{expression}
-use Rattle.mini_syntax.specs.Grammar.{Expression, binds, expression_level, form_binds, block_binds, forms_bind}
-use Rattle.mini_syntax.specs.Grammar.{Form, assign, loop, branch, block, Forms, no_forms, form, Decl}
-use Rattle.mini_syntax.specs.Grammar.{block_tokens, decl_tokens, decls_tokens, expression_tokens, form_tokens, forms_tokens}
-use Rattle.mini_syntax.specs.Language.{Exp, Stmt, Nothing, Then}
 use Rattle.mini_syntax.specs.Language as language
-use Rattle.mini_syntax.specs.Precedence.{any_level, infix_of}
-use Rattle.mini_syntax.specs.Internal.Lexemes.{next_kind, token_seen}
-use Rattle.mini_syntax.specs.Internal.Phrases.{Completes, IsTyped, Reads, ReadsBlock, ReadsForm, ReadsForms}
-use Rattle.mini_syntax.specs.ProgramView.{block_in, exp_of, statement_in}
-use Rattle.mini_syntax.specs.Tokens.{Token, name_at, word_at, mark_at, kind_of, token_of}
-use Rattle.mini_syntax.proofs.AwaitLaws.{moved, no_operator}
-use Rattle.mini_syntax.proofs.ExpectedLaws.{expression_leads}
-use Rattle.mini_syntax.proofs.PrecedenceLaws.{after, both, none_at_all, none_closest}
 
 -- ---- one token
 

@@ -1,10 +1,8 @@
 -- The table of variables, one declaration after the other.
 use Rattle.std.proofs.Common.{◌≡◌, ℕ, suc, ◌+◌, List, [], ◌∷◌, ◌++◌, length, Option, Some, None, true, false, cond, refl, sym, ap, ◌∙◌, arith}
-use Rattle.std.specs.Prelude as std
 use Rattle.std.specs.Str.{bytes_eq}
-use Rattle.mini_syntax.specs.Breaches.{named_from, variable_named}
-use Rattle.mini_syntax.specs.declared.program.Declared.{Declared}
-use Rattle.mini_syntax.specs.declared.scope.Variable.{Variable}
+use Rattle.std.specs.Prelude as std
+use Rattle.mini_syntax.{specs.Breaches.{named_from, variable_named}, specs.declared.program.Declared.Declared, specs.declared.scope.Variable.Variable}
 use Rattle.stack_text.specs.Options.{first_or}
 
 -- one declaration more

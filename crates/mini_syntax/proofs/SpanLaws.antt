@@ -1,49 +1,28 @@
 -- What a text's length and its tokens say of its program.
 use Rattle.std.proofs.Common.{◌≡◌, ℕ, suc, ◌+◌, ◌^◌, ◌≤◌, max, List, [], ◌∷◌, ◌++◌, map, length, find, true, false, cond, Option, Some, None, is_none, bytes_eq}
-use Rattle.std.proofs.Common.{refl, sym, ap, ap₂, ◌∙◌, arith}
-use Rattle.std.specs.Prelude.{◌&&◌, ◌==◌, nat_le}
+use Rattle.std.{proofs.Common.{refl, sym, ap, ap₂, ◌∙◌, arith}, specs.Prelude.{◌&&◌, ◌==◌, nat_le}, specs.Char.{is_ascii_alphabetic, is_ascii_digit}}
+use Rattle.std.{specs.Char.{is_ascii_lowercase, is_ascii_uppercase}, specs.List.list_all, proofs.lemmas.List.length-append}
+use Rattle.std.{proofs.lemmas.Slice.Eq.bytes_eq-Decides, proofs.lemmas.Bool.and_parts}
 use Rattle.std.specs.Prelude as std
-use Rattle.std.specs.Char.{is_ascii_alphabetic, is_ascii_digit, is_ascii_lowercase, is_ascii_uppercase}
-use Rattle.std.specs.List.{list_all}
-use Rattle.std.proofs.lemmas.List.{length-append}
-use Rattle.std.proofs.lemmas.Slice.Eq.{bytes_eq-Decides}
-use Rattle.std.proofs.lemmas.Bool.{and_parts}
-use Rattle.stack_text.specs.Breaches.{when}
-use Rattle.stack_text.specs.Names.{begins_with_letter}
-use Rattle.stack_text.proofs.SharedLaws.{rule_fails}
-use Rattle.stack_text.proofs.NumberedNameLaws.{letter_passes}
+use Rattle.stack_text.{specs.Breaches.when, specs.Names.begins_with_letter, proofs.SharedLaws.rule_fails, proofs.NumberedNameLaws.letter_passes}
 use Rattle.mini_syntax.specs.Breaches.{breaches, body_of, decls_breaches, declared_by, declared_of, variable_named, sort_named, infix_breaches, prefix_breaches}
-use Rattle.mini_syntax.specs.Breaches.{assigns_breaches, test_breaches}
-use Rattle.mini_syntax.specs.Breaches.{expression_breaches, expression_sort, expression_exp}
-use Rattle.mini_syntax.specs.Breaches.{form_breaches, block_breaches, forms_breaches, form_stmt, block_stmt, forms_stmt}
-use Rattle.mini_syntax.specs.Internal.Declaring.{are_proper, is_proper}
+use Rattle.mini_syntax.specs.Breaches.{assigns_breaches, test_breaches, expression_breaches, expression_sort, expression_exp, form_breaches, block_breaches}
+use Rattle.mini_syntax.{specs.Breaches.{forms_breaches, form_stmt, block_stmt, forms_stmt}, specs.Internal.Declaring.{are_proper, is_proper}}
+use Rattle.mini_syntax.{specs.declared.mark.Mark.Mark, specs.declared.word.Word.Word, specs.declared.program.Declared.Declared, specs.declared.sort.Sort.Sort}
+use Rattle.mini_syntax.{specs.declared.sort.Sort.TheVariants.{Int, Bool}, specs.declared.operator.Prefix.Prefix, specs.declared.operator.Prefix.TheVariants.Not}
+use Rattle.mini_syntax.{specs.declared.operator.Prefix.TheVariants.Minus, specs.declared.operator.Infix.Infix, specs.declared.operator.Infix.TheVariants.Or}
+use Rattle.mini_syntax.specs.Grammar.{Expression, variable, number, truth, unary, binary, group, expression_tokens, prefix_token, Form, assign, loop, branch}
+use Rattle.mini_syntax.specs.Grammar.{Block, block, Forms, no_forms, form, Decl, InfixProgram, IsProgram, form_tokens, block_tokens, forms_tokens, decls_tokens}
+use Rattle.mini_syntax.{specs.Language.{Exp, Stmt}, specs.Lawful.{IsLawful, part_count, size_of}, specs.Internal.Limits.{FormsAreSmall, forms_blocks}}
+use Rattle.mini_syntax.{specs.Names.{is_variable_name, is_word_byte, spelling, word_named, words}, specs.Precedence.infix_token, specs.Spelled.bytes_of_all}
+use Rattle.mini_syntax.{specs.Spelled.{declared_bytes, exp_bytes, program_bytes, stmt_bytes, token_bytes}, specs.Tokens.{Token, number_at, word_at, mark_at}}
+use Rattle.mini_syntax.specs.Tokens.{Mode, after_fresh, begins, fresh, is_blank, is_pair, mark_of, mark_token, named_kind, next, longest_run, token_of, tokens}
+use Rattle.mini_syntax.{specs.Tokens.{tokens_in, word_token}, proofs.EmptyLaws.{two, three}, proofs.LawfulLaws.{name_there, rules_make_lawful}}
 use Rattle.mini_syntax.specs.declared.lexer.TokenKind.TheVariants as kind
-use Rattle.mini_syntax.specs.declared.mark.Mark.{Mark}
 use Rattle.mini_syntax.specs.declared.mark.Mark.TheVariants as mark
-use Rattle.mini_syntax.specs.declared.word.Word.{Word}
 use Rattle.mini_syntax.specs.declared.word.Word.TheVariants as word
-use Rattle.mini_syntax.specs.declared.program.Declared.{Declared}
-use Rattle.mini_syntax.specs.declared.sort.Sort.{Sort}
-use Rattle.mini_syntax.specs.declared.sort.Sort.TheVariants.{Int, Bool}
-use Rattle.mini_syntax.specs.declared.operator.Prefix.{Prefix}
-use Rattle.mini_syntax.specs.declared.operator.Prefix.TheVariants.{Not, Minus}
-use Rattle.mini_syntax.specs.declared.operator.Infix.{Infix}
-use Rattle.mini_syntax.specs.declared.operator.Infix.TheVariants.{Or}
-use Rattle.mini_syntax.specs.Grammar.{Expression, variable, number, truth, unary, binary, group, expression_tokens, prefix_token}
-use Rattle.mini_syntax.specs.Grammar.{Form, assign, loop, branch, Block, block, Forms, no_forms, form, Decl, InfixProgram, IsProgram}
-use Rattle.mini_syntax.specs.Grammar.{form_tokens, block_tokens, forms_tokens, decls_tokens}
-use Rattle.mini_syntax.specs.Language.{Exp, Stmt}
 use Rattle.mini_syntax.specs.Language as language
-use Rattle.mini_syntax.specs.Lawful.{IsLawful, part_count, size_of}
-use Rattle.mini_syntax.specs.Internal.Limits.{FormsAreSmall, forms_blocks}
-use Rattle.mini_syntax.specs.Names.{is_variable_name, is_word_byte, spelling, word_named, words}
-use Rattle.mini_syntax.specs.Precedence.{infix_token}
-use Rattle.mini_syntax.specs.Spelled.{bytes_of_all, declared_bytes, exp_bytes, program_bytes, stmt_bytes, token_bytes}
-use Rattle.mini_syntax.specs.Tokens.{Token, number_at, word_at, mark_at, Mode, after_fresh, begins, fresh, is_blank, is_pair, mark_of, mark_token, named_kind}
-use Rattle.mini_syntax.specs.Tokens.{next, longest_run, token_of, tokens, tokens_in, word_token}
 use Rattle.mini_syntax.specs.Tokens as mode
-use Rattle.mini_syntax.proofs.EmptyLaws.{two, three}
-use Rattle.mini_syntax.proofs.LawfulLaws.{name_there, rules_make_lawful}
 
 -- ---- the bytes of the tokens are those of the text, or fewer
 

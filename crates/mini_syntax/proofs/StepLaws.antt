@@ -1,40 +1,24 @@
 -- What the reader awaits after each part of a program, and the factors, statements and declarations that it makes of the parts.
 use Rattle.std.proofs.Common.{◌≡◌, ◌≢◌, ℕ, List, [], ◌∷◌, ◌++◌, Option, Some, None, true, false, refl, sym, ap, ap₂, ◌∙◌, append_assoc, arith}
-use Rattle.std.specs.Prelude.{◌==◌, is_some, length}
-use Rattle.std.proofs.lemmas.Bool.{and_parts}
-use Rattle.stack_text.specs.declared.breach.Breach.{Breach}
-use Rattle.stack_text.specs.Breaches.{Notes, when}
-use Rattle.stack_text.proofs.BreachLaws.{notes_more}
-use Rattle.mini_syntax.specs.Breaches.{decl_breaches, variable_named}
-use Rattle.mini_syntax.specs.Internal.Combined.{IsPrefix}
-use Rattle.mini_syntax.specs.Internal.Declaring.{ReadsDecl, ReadsDecls, are_proper, is_proper}
-use Rattle.mini_syntax.specs.declared.expected.Expected.{Expected}
-use Rattle.mini_syntax.specs.declared.expected.Expected.TheVariants as wants
-use Rattle.mini_syntax.specs.declared.lexeme.Lexeme.{Lexeme}
-use Rattle.mini_syntax.specs.declared.lexer.TokenKind.{TokenKind}
-use Rattle.mini_syntax.specs.declared.lexer.TokenKind.TheVariants as kind
-use Rattle.mini_syntax.specs.declared.mark.Mark.{Mark}
-use Rattle.mini_syntax.specs.declared.mark.Mark.TheVariants as mark
-use Rattle.mini_syntax.specs.declared.operator.Prefix.{Prefix}
-use Rattle.mini_syntax.specs.declared.operator.Prefix.TheVariants.{Not, Minus}
-use Rattle.mini_syntax.specs.declared.program.Declared.{Declared}
-use Rattle.mini_syntax.specs.declared.program.Statement.{Statement}
-use Rattle.mini_syntax.specs.declared.sort.Sort.{Sort}
-use Rattle.mini_syntax.specs.declared.typed.Typed.{Typed}
-use Rattle.mini_syntax.specs.declared.word.Word.TheVariants as word
-use Rattle.mini_syntax.specs.Expected.{a_block, at_start, expression, may_be_empty, taken, takes}
-use Rattle.mini_syntax.specs.Grammar.{unary, group, prefix_token, Decl, InfixProgram}
+use Rattle.std.{specs.Prelude.{◌==◌, is_some, length}, proofs.lemmas.Bool.and_parts}
+use Rattle.stack_text.{specs.declared.breach.Breach.Breach, specs.Breaches.{Notes, when}, proofs.BreachLaws.notes_more}
+use Rattle.mini_syntax.{specs.Breaches.{decl_breaches, variable_named}, specs.Internal.Combined.IsPrefix, specs.Internal.Declaring.{ReadsDecl, ReadsDecls}}
+use Rattle.mini_syntax.{specs.Internal.Declaring.{are_proper, is_proper}, specs.declared.expected.Expected.Expected, specs.declared.lexeme.Lexeme.Lexeme}
+use Rattle.mini_syntax.{specs.declared.lexer.TokenKind.TokenKind, specs.declared.mark.Mark.Mark, specs.declared.operator.Prefix.Prefix}
+use Rattle.mini_syntax.{specs.declared.operator.Prefix.TheVariants.{Not, Minus}, specs.declared.program.Declared.Declared}
+use Rattle.mini_syntax.{specs.declared.program.Statement.Statement, specs.declared.sort.Sort.Sort, specs.declared.typed.Typed.Typed, specs.Expected.a_block}
+use Rattle.mini_syntax.{specs.Expected.{at_start, expression, may_be_empty, taken, takes}, specs.Grammar.{unary, group, prefix_token, Decl, InfixProgram}}
 use Rattle.mini_syntax.specs.Grammar.{block_tokens, decl_tokens, decls_tokens, expression_tokens, form_tokens, forms_tokens, program_tokens}
-use Rattle.mini_syntax.specs.Internal.Lexemes.{next_kind, token_seen}
-use Rattle.mini_syntax.specs.Names.{is_variable_name}
-use Rattle.mini_syntax.specs.Precedence.{any_level, infix_of}
-use Rattle.mini_syntax.specs.Internal.Phrases.{Awaits, Completes, Reads, ReadsBlock, ReadsForm, ReadsForms, factor_kind}
-use Rattle.mini_syntax.specs.Tokens.{Token, name_at, word_at, mark_at, kind_of, place_of}
-use Rattle.mini_syntax.proofs.AwaitLaws.{after_mark, moved, next_is_else, next_is_mark, next_is_name, next_is_operand, not_over, prefix_kind, stepped}
-use Rattle.mini_syntax.proofs.ExpectedLaws.{block_leads, decl_leads, decls_lead, end_of, form_leads, forms_leads, over_end, program_taken}
-use Rattle.mini_syntax.proofs.JoinLaws.{unary_typed}
-use Rattle.mini_syntax.proofs.PrecedenceLaws.{none_closest, unary_bound}
-use Rattle.mini_syntax.proofs.ReadingLaws.{after_expression, kind_seen, token_by_kind}
+use Rattle.mini_syntax.{specs.Internal.Lexemes.{next_kind, token_seen}, specs.Names.is_variable_name, specs.Precedence.{any_level, infix_of}}
+use Rattle.mini_syntax.{specs.Internal.Phrases.{Awaits, Completes, Reads, ReadsBlock, ReadsForm, ReadsForms, factor_kind}, specs.Tokens.{Token, name_at}}
+use Rattle.mini_syntax.{specs.Tokens.{word_at, mark_at, kind_of, place_of}, proofs.AwaitLaws.{after_mark, moved, next_is_else, next_is_mark, next_is_name}}
+use Rattle.mini_syntax.{proofs.AwaitLaws.{next_is_operand, not_over, prefix_kind, stepped}, proofs.ExpectedLaws.{block_leads, decl_leads, decls_lead, end_of}}
+use Rattle.mini_syntax.{proofs.ExpectedLaws.{form_leads, forms_leads, over_end, program_taken}, proofs.JoinLaws.unary_typed, proofs.PrecedenceLaws.none_closest}
+use Rattle.mini_syntax.{proofs.PrecedenceLaws.unary_bound, proofs.ReadingLaws.{after_expression, kind_seen, token_by_kind}}
+use Rattle.mini_syntax.specs.declared.expected.Expected.TheVariants as wants
+use Rattle.mini_syntax.specs.declared.lexer.TokenKind.TheVariants as kind
+use Rattle.mini_syntax.specs.declared.mark.Mark.TheVariants as mark
+use Rattle.mini_syntax.specs.declared.word.Word.TheVariants as word
 
 -- ---- what is awaited
 

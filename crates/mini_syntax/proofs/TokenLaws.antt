@@ -1,19 +1,11 @@
 -- A token after others breaks a rule, or a program goes on with it; so from left to right a first token breaks one, or none does.
 use Rattle.std.proofs.Common.{◌≡◌, ℕ, ◌≤◌, List, [], ◌∷◌, ◌++◌, true, false, Option, Some, None, refl, sym, ap, subst, ◌∙◌, append_assoc, arith}
-use Rattle.std.specs.Prelude.{◌&&◌, nat_le}
+use Rattle.std.{specs.Prelude.{◌&&◌, nat_le}, proofs.lemmas.Bool.{leb-true, le-leb, and_parts}, proofs.lemmas.List.append-nil}
 use Rattle.std.specs.Prelude as std
-use Rattle.std.proofs.lemmas.Bool.{leb-true, le-leb, and_parts}
-use Rattle.std.proofs.lemmas.List.{append-nil}
-use Rattle.mini_syntax.specs.declared.expected.Expected.{Expected}
-use Rattle.mini_syntax.specs.Expected.{at_start, taken, takes}
-use Rattle.mini_syntax.specs.Faults.{BreaksAt, blocks, brackets, no_program, no_token, open_blocks, open_brackets, operators, too_many}
-use Rattle.mini_syntax.specs.Faults.{is_operator, opens_block, opens_bracket}
-use Rattle.mini_syntax.specs.Grammar.{GoesOn}
-use Rattle.mini_syntax.specs.Internal.Judging.{is_wrong}
-use Rattle.mini_syntax.specs.Tokens.{Token, name_at, number_at, word_at, mark_at, wrong_at, kind_of}
-use Rattle.mini_syntax.proofs.ExpectedLaws.{not_taken}
-use Rattle.mini_syntax.proofs.GoesOnLaws.{goes_on}
-use Rattle.mini_syntax.proofs.JudgeLaws.{taken_one}
+use Rattle.mini_syntax.{specs.declared.expected.Expected.Expected, specs.Expected.{at_start, taken, takes}, specs.Faults.{BreaksAt, blocks, brackets}}
+use Rattle.mini_syntax.specs.Faults.{no_program, no_token, open_blocks, open_brackets, operators, too_many, is_operator, opens_block, opens_bracket}
+use Rattle.mini_syntax.{specs.Grammar.GoesOn, specs.Internal.Judging.is_wrong, specs.Tokens.{Token, name_at, number_at, word_at, mark_at, wrong_at, kind_of}}
+use Rattle.mini_syntax.{proofs.ExpectedLaws.not_taken, proofs.GoesOnLaws.goes_on, proofs.JudgeLaws.taken_one}
 
 -- ---- one token
 

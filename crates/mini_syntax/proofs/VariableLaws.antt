@@ -1,14 +1,11 @@
 -- A variable's name is a name of the other languages.
-use Rattle.std.proofs.Common.{◌≡◌, ℕ, ◌≤◌, List, [], ◌∷◌, length, bytes_eq, true, false, cond, Some, None, is_none, refl, ap₂, arith}
-use Rattle.std.specs.Prelude.{codes, ◌||◌, ◌&&◌, ◌==◌, nat_le, IsTrue}
+use Rattle.std.{proofs.Common.{◌≡◌, ℕ, ◌≤◌, List, [], ◌∷◌, length, bytes_eq, true, false, cond, Some, None, is_none, refl, ap₂, arith}, specs.Prelude.codes}
+use Rattle.std.{specs.Prelude.{◌||◌, ◌&&◌, ◌==◌, nat_le, IsTrue}, specs.Char.is_ascii_alphanumeric, specs.List.list_all, proofs.lemmas.Bool.{le-leb, leb-true}}
+use Rattle.std.proofs.lemmas.Bool.{and_parts}
 use Rattle.std.specs.Prelude as std
-use Rattle.std.specs.Char.{is_ascii_alphanumeric}
-use Rattle.std.specs.List.{list_all}
-use Rattle.std.proofs.lemmas.Bool.{le-leb, leb-true, and_parts}
 use Rattle.stack_text.specs.Names.{is_name, is_name_byte, begins_with_letter, is_truth_word, name_of}
-use Rattle.mini_syntax.specs.declared.sort.Sort.TheVariants.{Int, Bool}
+use Rattle.mini_syntax.{specs.declared.sort.Sort.TheVariants.{Int, Bool}, specs.Names.{is_variable_name, is_word_byte, word_named}}
 use Rattle.mini_syntax.specs.declared.word.Word.TheVariants as word
-use Rattle.mini_syntax.specs.Names.{is_variable_name, is_word_byte, word_named}
 
 word_byte : (alnum dash line star dollar : std.Bool) → (alnum || line) ≡ true → (alnum || (((dash || line) || star) || dollar)) ≡ true
 word_byte true dash line star dollar e = refl

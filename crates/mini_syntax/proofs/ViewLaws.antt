@@ -1,12 +1,10 @@
 -- What clauses see of statements with blocks.
 use Rattle.std.proofs.Common.{◌≡◌, refl, ap, ap₂, ◌∙◌}
-use Rattle.mini_syntax.specs.declared.program.Exp.{Exp}
-use Rattle.mini_syntax.specs.declared.program.Statement.{Row_of-Statement, end_of-Statement, more_of-Statement, items-the_row-Statement}
-use Rattle.mini_syntax.specs.declared.program.Statement.{items_hidden-the_row-Statement-0}
-use Rattle.mini_syntax.specs.declared.program.Statement.TheBlock.{hidden-the_row-Statement-0}
-use Rattle.mini_syntax.specs.declared.program.Statement.TheVariants.{While as MadeWhile, If as MadeIf}
-use Rattle.mini_syntax.specs.Language.{Then, While, If}
-use Rattle.mini_syntax.specs.ProgramView.{block_in, exp_of, row_in, statement_in}
+use Rattle.mini_syntax.{specs.declared.program.Exp.Exp, specs.declared.program.Statement.{Row_of-Statement, end_of-Statement, more_of-Statement}}
+use Rattle.mini_syntax.specs.declared.program.Statement.{items-the_row-Statement, items_hidden-the_row-Statement-0}
+use Rattle.mini_syntax.{specs.declared.program.Statement.TheBlock.hidden-the_row-Statement-0, specs.declared.program.Statement.TheVariants.While as MadeWhile}
+use Rattle.mini_syntax.{specs.declared.program.Statement.TheVariants.If as MadeIf, specs.Language.{Then, While, If}, specs.ProgramView.{block_in, exp_of}}
+use Rattle.mini_syntax.specs.ProgramView.{row_in, statement_in}
 
 row_listed : (n : _) (k : Row_of-Statement n) → row_in k ≡ block_in (items-the_row-Statement n k)
 row_listed n end_of-Statement = refl

@@ -1,23 +1,15 @@
 -- What is wrong with a program: a name declared earlier (5), a name that isn't declared (6), an operator, `:=`, `while` or `if` with
 -- operands of wrong sorts, where these are known (7), a number over 2147483647 (8), and the name of variable 101 (9). The least place
 -- decides, and then the least rule. And the program with positions in place of names.
-use Rattle.std.specs.Prelude.{ℕ, ◌+◌, ◌-◌, ◌*◌, List, [], ◌∷◌, ◌++◌, length, map, true, false, not, ◌==◌, nat_lt, if◌then◌else◌}
-use Rattle.std.specs.Prelude.{Option, Some, None, is_none, is_some, option_map}
+use Rattle.std.specs.Prelude.{ℕ, ◌+◌, ◌-◌, ◌*◌, List, [], ◌∷◌, ◌++◌, length, map, true, false, not, ◌==◌, nat_lt, if◌then◌else◌, Option}
+use Rattle.std.specs.{Prelude.{Some, None, is_none, is_some, option_map}, Str.{bytes_eq}}
 use Rattle.std.specs.Prelude as std
-use Rattle.std.specs.Str.{bytes_eq}
-use Rattle.mini_syntax.specs.InfixLimits.{most_infix_variables}
-use Rattle.stack_text.specs.declared.breach.Breach.{Breach}
-use Rattle.stack_text.specs.Breaches.{when}
-use Rattle.mini_syntax.specs.declared.program.Declared.{Declared}
-use Rattle.mini_syntax.specs.declared.scope.Variable.{Variable}
-use Rattle.mini_syntax.specs.declared.sort.Sort.{Sort}
-use Rattle.mini_syntax.specs.declared.sort.Sort.TheVariants.{Int, Bool}
-use Rattle.mini_syntax.specs.declared.operator.Prefix.{Prefix}
-use Rattle.mini_syntax.specs.declared.operator.Infix.{Infix}
-use Rattle.mini_syntax.specs.Grammar.{Expression, variable, number, truth, unary, binary, group}
-use Rattle.mini_syntax.specs.Grammar.{Form, assign, loop, branch, Block, block, Forms, no_forms, form, Decl, InfixProgram}
-use Rattle.mini_syntax.specs.Operands.{prefix_takes, infix_takes, prefix_sort, infix_sort}
-use Rattle.mini_syntax.specs.Language.{Exp, Stmt}
+use Rattle.mini_syntax.specs.{InfixLimits.{most_infix_variables}, declared.program.Declared.{Declared}, declared.scope.Variable.{Variable}}
+use Rattle.mini_syntax.specs.{declared.sort.Sort.{Sort}, declared.sort.Sort.TheVariants.{Int, Bool}, declared.operator.Prefix.{Prefix}}
+use Rattle.mini_syntax.specs.{declared.operator.Infix.{Infix}, Grammar.{Expression, variable, number, truth, unary, binary, group, Form}}
+use Rattle.mini_syntax.specs.Grammar.{assign, loop, branch, Block, block, Forms, no_forms, form, Decl, InfixProgram}
+use Rattle.mini_syntax.specs.{Operands.{prefix_takes, infix_takes, prefix_sort, infix_sort}, Language.{Exp, Stmt}}
+use Rattle.stack_text.specs.{declared.breach.Breach.{Breach}, Breaches.{when}}
 use Rattle.mini_syntax.specs.Language as language
 
 -- the declared variables, in order

@@ -1,11 +1,9 @@
 -- Worked texts: their tokens, and what is wrong with them.
 use Rattle.std.specs.Prelude.{◌≡◌, [], ◌∷◌, codes, refl}
-use Rattle.mini_syntax.specs.Breaches.{breaches}
+use Rattle.mini_syntax.specs.{Breaches.{breaches}, declared.operator.Infix.TheVariants.{Add}, declared.sort.Sort.TheVariants.{Int}}
+use Rattle.mini_syntax.specs.{Grammar.{variable, binary, assign, no_forms, form, IsProgram, InfixProgram}, Tokens.{name_at, number_at}}
+use Rattle.mini_syntax.specs.Tokens.{mark_at, wrong_at, tokens_in}
 use Rattle.mini_syntax.specs.declared.mark.Mark.TheVariants as mark
-use Rattle.mini_syntax.specs.declared.operator.Infix.TheVariants.{Add}
-use Rattle.mini_syntax.specs.declared.sort.Sort.TheVariants.{Int}
-use Rattle.mini_syntax.specs.Grammar.{variable, binary, assign, no_forms, form, IsProgram, InfixProgram}
-use Rattle.mini_syntax.specs.Tokens.{name_at, number_at, mark_at, wrong_at, tokens_in}
 
 -- `int x; x := x + y;`
 abbrev pub adds_undeclared : InfixProgram

@@ -3,20 +3,15 @@
 use Rattle.std.specs.Prelude.{◌≡◌, List, [], ◌∷◌, reverse, Option, Some, None, Bool, true, false, if◌then◌else◌, Result, Ok, Err}
 use Rattle.std.specs.List.{list_all}
 use Rattle.stack_text.specs.declared.memory.Memory.{Memory}
-use Rattle.mini_syntax.specs.declared.expected.Answer.{Answer}
-use Rattle.mini_syntax.specs.declared.expected.Answer.TheVariants.{Refused, LeftOut, Then}
-use Rattle.mini_syntax.specs.declared.expected.Expected.{Expected}
-use Rattle.mini_syntax.specs.declared.expected.Expected.TheVariants as wants
-use Rattle.mini_syntax.specs.declared.expected.Push.{Push}
-use Rattle.mini_syntax.specs.declared.expected.Push.TheVariants as push
-use Rattle.mini_syntax.specs.declared.lexer.TokenKind.{TokenKind}
-use Rattle.mini_syntax.specs.declared.lexer.TokenKind.TheVariants as kind
-use Rattle.mini_syntax.specs.declared.mark.Mark.{Mark}
-use Rattle.mini_syntax.specs.declared.mark.Mark.TheVariants as mark
-use Rattle.mini_syntax.specs.declared.operator.Infix.{Infix}
-use Rattle.mini_syntax.specs.declared.word.Word.TheVariants as word
-use Rattle.mini_syntax.specs.Precedence.{compared_after, infix_of, may_follow}
+use Rattle.mini_syntax.specs.{declared.expected.Answer.{Answer}, declared.expected.Answer.TheVariants.{Refused, LeftOut, Then}}
+use Rattle.mini_syntax.specs.{declared.expected.Expected.{Expected}, declared.expected.Push.{Push}, declared.lexer.TokenKind.{TokenKind}}
+use Rattle.mini_syntax.specs.{declared.mark.Mark.{Mark}, declared.operator.Infix.{Infix}, Precedence.{compared_after, infix_of, may_follow}}
 use Rattle.mini_syntax.specs.Tokens.{Token, kind_of}
+use Rattle.mini_syntax.specs.declared.expected.Expected.TheVariants as wants
+use Rattle.mini_syntax.specs.declared.expected.Push.TheVariants as push
+use Rattle.mini_syntax.specs.declared.lexer.TokenKind.TheVariants as kind
+use Rattle.mini_syntax.specs.declared.mark.Mark.TheVariants as mark
+use Rattle.mini_syntax.specs.declared.word.Word.TheVariants as word
 
 -- an expression begins with an operand, and goes on with operators and operands, or with none
 abbrev pub expression : List Expected → List Expected

@@ -2,12 +2,11 @@
 -- on, or the text's end where it ends too early (2), a bracket or brace that opens level 41 of its kind (3), and operator 41 of one
 -- expression (4). The first that comes decides, and at one place the least rule.
 use Rattle.std.specs.Prelude.{◌≡◌, ℕ, ◌+◌, ◌-◌, ◌≤◌, ◌⊎◌, List, [], ◌∷◌, ◌++◌, length, Bool, true, false, if◌then◌else◌}
-use Rattle.mini_syntax.specs.declared.lexer.TokenKind.{TokenKind}
+use Rattle.mini_syntax.specs.{declared.lexer.TokenKind.{TokenKind}, Grammar.{InfixProgram, IsProgram, GoesOn}, Tokens.{Token, wrong_at}}
+use Rattle.mini_syntax.specs.Tokens.{place_of, kind_of, tokens_in}
 use Rattle.mini_syntax.specs.declared.lexer.TokenKind.TheVariants as kind
 use Rattle.mini_syntax.specs.declared.mark.Mark.TheVariants as mark
 use Rattle.mini_syntax.specs.declared.word.Word.TheVariants as word
-use Rattle.mini_syntax.specs.Grammar.{InfixProgram, IsProgram, GoesOn}
-use Rattle.mini_syntax.specs.Tokens.{Token, wrong_at, place_of, kind_of, tokens_in}
 
 abbrev pub opens_bracket : TokenKind → Bool
 opens_bracket (kind.Mark mark.Open) = true

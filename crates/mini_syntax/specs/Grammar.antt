@@ -2,13 +2,11 @@
 -- have the same tokens. An expression is a tree, and how closely its operators bind is a test of it.
 use Rattle.std.specs.Prelude.{ℕ, List, [], ◌∷◌, ◌++◌, ◌≡◌, Bool, true, ◌&&◌, nat_le}
 use Rattle.mini_syntax.specs.declared.mark.Mark.TheVariants as mark
-use Rattle.mini_syntax.specs.declared.operator.Infix.{Infix}
-use Rattle.mini_syntax.specs.declared.operator.Prefix.{Prefix}
-use Rattle.mini_syntax.specs.declared.operator.Prefix.TheVariants.{Not, Minus}
-use Rattle.mini_syntax.specs.declared.sort.Sort.{Sort}
+use Rattle.mini_syntax.specs.{declared.operator.Infix.{Infix}, declared.operator.Prefix.{Prefix}}
+use Rattle.mini_syntax.specs.{declared.operator.Prefix.TheVariants.{Not, Minus}, declared.sort.Sort.{Sort}, Precedence.{level_of}}
+use Rattle.mini_syntax.specs.{Precedence.{left_level, right_level, infix_token}, Tokens.{Token, name_at, number_at, word_at, mark_at}}
+use Rattle.mini_syntax.specs.Tokens.{tokens_in}
 use Rattle.mini_syntax.specs.declared.word.Word.TheVariants as word
-use Rattle.mini_syntax.specs.Precedence.{level_of, left_level, right_level, infix_token}
-use Rattle.mini_syntax.specs.Tokens.{Token, name_at, number_at, word_at, mark_at, tokens_in}
 
 -- EXP = FACTOR | EXP INFIX EXP
 -- FACTOR = NAME | NUMBER | "true" | "false" | "not" FACTOR | "-" FACTOR | "(" EXP ")"

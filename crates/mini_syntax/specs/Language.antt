@@ -1,8 +1,6 @@
 -- Programs of the infix language, with a variable's sort and its position among the declarations in place of its name.
 use Rattle.std.specs.Prelude.{ℕ, Bool}
-use Rattle.mini_syntax.specs.declared.sort.Sort.{Sort}
-use Rattle.mini_syntax.specs.declared.operator.Prefix.{Prefix}
-use Rattle.mini_syntax.specs.declared.operator.Infix.{Infix}
+use Rattle.mini_syntax.specs.{declared.sort.Sort.{Sort}, declared.operator.Prefix.{Prefix}, declared.operator.Infix.{Infix}}
 
 pub data Exp : Type 0 where
   Variable : (sort : Sort) (i : ℕ) → Exp

@@ -1,13 +1,10 @@
 -- Programs that break no rule.
-use Rattle.std.specs.Prelude.{◌≡◌, ℕ, suc, ◌+◌, ◌≤◌, ◌<◌, List, [], ◌∷◌, map, length, max, get_or, true, false}
-use Rattle.std.specs.List.{list_all}
+use Rattle.std.specs.{Prelude.{◌≡◌, ℕ, suc, ◌+◌, ◌≤◌, ◌<◌, List, [], ◌∷◌, map, length, max, get_or, true, false}, List.{list_all}}
 use Rattle.std.specs.Str.{bytes_eq}
-use Rattle.mini_syntax.specs.InfixLimits.{most_infix_variables}
-use Rattle.stack_text.specs.SharedLimits.{most_text}
-use Rattle.mini_syntax.specs.declared.program.Declared.{Declared}
-use Rattle.mini_syntax.specs.Language.{Exp, Variable, Number, Truth, Before, Between, Stmt, Nothing, Then, Assign, While, If}
-use Rattle.mini_syntax.specs.Names.{is_variable_name}
+use Rattle.mini_syntax.specs.{InfixLimits.{most_infix_variables}, declared.program.Declared.{Declared}, Language.{Exp, Variable, Number}}
+use Rattle.mini_syntax.specs.{Language.{Truth, Before, Between, Stmt, Nothing, Then, Assign, While, If}, Names.{is_variable_name}}
 use Rattle.mini_syntax.specs.Sorted.{AreFine}
+use Rattle.stack_text.specs.SharedLimits.{most_text}
 
 abbrev pub nth_name : List (List ℕ) → ℕ → List ℕ
 nth_name names i = get_or names i []

@@ -1,18 +1,11 @@
 -- What reading a text returns: its program, or what is wrong with it.
 use Rattle.std.specs.Prelude.{◌≡◌, ℕ, ◌≤◌, List, [], length, Some, Result, Ok, Err}
-use Rattle.stack_text.specs.declared.breach.Breach.{Breach}
-use Rattle.stack_text.specs.Breaches.{least}
-use Rattle.mini_syntax.specs.declared.fault.MiniFault.{MiniFault}
-use Rattle.mini_syntax.specs.declared.fault.MiniFault.TheVariants.{Refused, Memory}
-use Rattle.mini_syntax.specs.declared.program.InfixProgram.{InfixProgram}
-use Rattle.mini_syntax.specs.Breaches.{body_of, breaches, declared_of}
-use Rattle.mini_syntax.specs.Faults.{AreFree, IsTextFault}
-use Rattle.mini_syntax.specs.Grammar.{IsProgram}
-use Rattle.mini_syntax.specs.Grammar as grammar
-use Rattle.mini_syntax.specs.Lawful.{IsLawful}
-use Rattle.mini_syntax.specs.ProgramView.{block_in}
-use Rattle.mini_syntax.specs.Spelled.{program_bytes}
+use Rattle.stack_text.specs.{declared.breach.Breach.{Breach}, Breaches.{least}}
+use Rattle.mini_syntax.specs.{declared.fault.MiniFault.{MiniFault}, declared.fault.MiniFault.TheVariants.{Refused, Memory}}
+use Rattle.mini_syntax.specs.{declared.program.InfixProgram.{InfixProgram}, Breaches.{body_of, breaches, declared_of}, Faults.{AreFree}}
+use Rattle.mini_syntax.specs.{Faults.{IsTextFault}, Grammar.{IsProgram}, Lawful.{IsLawful}, ProgramView.{block_in}, Spelled.{program_bytes}}
 use Rattle.mini_syntax.specs.Tokens.{tokens_in}
+use Rattle.mini_syntax.specs.Grammar as grammar
 
 -- the text is the program, and none of its tokens breaks a rule
 pub record IsRead (text : List ℕ) (p : grammar.InfixProgram) : Type 0 where

@@ -1,12 +1,9 @@
 -- Names and words of the infix language.
-use Rattle.std.specs.Prelude.{ℕ, List, [], ◌∷◌, length, Bool, true, false, ◌&&◌, ◌||◌, ◌==◌, nat_le, Option, is_none, codes}
-use Rattle.std.specs.List.{find, list_all}
-use Rattle.std.specs.Str.{bytes_eq}
-use Rattle.std.specs.Char.{is_ascii_alphanumeric}
-use Rattle.mini_syntax.specs.InfixLimits.{most_infix_name_bytes}
+use Rattle.std.specs.{Prelude.{ℕ, List, [], ◌∷◌, length, Bool, true, false, ◌&&◌, ◌||◌, ◌==◌, nat_le, Option, is_none, codes}, List.{find}}
+use Rattle.std.specs.{List.{list_all}, Str.{bytes_eq}, Char.{is_ascii_alphanumeric}}
+use Rattle.mini_syntax.specs.{InfixLimits.{most_infix_name_bytes}, declared.word.Word.{Word}}
 use Rattle.stack_text.specs.Names.{begins_with_letter}
 use Rattle.mini_syntax.specs.declared.sort.Sort.TheVariants as sort
-use Rattle.mini_syntax.specs.declared.word.Word.{Word}
 use Rattle.mini_syntax.specs.declared.word.Word.TheVariants as word
 
 -- a letter, a digit or `_`

@@ -1,13 +1,10 @@
 -- What operators take and give.
 use Rattle.std.specs.Prelude.{true, false}
 use Rattle.std.specs.Prelude as std
-use Rattle.mini_syntax.specs.declared.sort.Sort.{Sort}
-use Rattle.mini_syntax.specs.declared.sort.Sort.TheVariants.{Int, Bool}
-use Rattle.mini_syntax.specs.declared.operator.Prefix.{Prefix}
-use Rattle.mini_syntax.specs.declared.operator.Prefix.TheVariants.{Not, Minus}
-use Rattle.mini_syntax.specs.declared.operator.Infix.{Infix}
-use Rattle.mini_syntax.specs.declared.operator.Infix.TheVariants.{Or, And, AtMost, Equals, Add, Subtract, Multiply}
-use Rattle.mini_syntax.specs.Language.{Exp, Variable, Number, Truth, Before, Between}
+use Rattle.mini_syntax.specs.{declared.sort.Sort.{Sort}, declared.sort.Sort.TheVariants.{Int, Bool}, declared.operator.Prefix.{Prefix}}
+use Rattle.mini_syntax.specs.{declared.operator.Prefix.TheVariants.{Not, Minus}, declared.operator.Infix.{Infix}}
+use Rattle.mini_syntax.specs.{declared.operator.Infix.TheVariants.{Or, And, AtMost, Equals, Add, Subtract, Multiply}, Language.{Exp}}
+use Rattle.mini_syntax.specs.Language.{Variable, Number, Truth, Before, Between}
 
 -- the sort of its operand
 abbrev pub prefix_takes : Prefix → Sort → std.Bool

@@ -1,12 +1,11 @@
 -- The operators between operands: their tokens, and how closely they bind.
 use Rattle.std.specs.Prelude.{ℕ, ◌-◌, Bool, true, false, not, if◌then◌else◌, Option, Some, None}
-use Rattle.mini_syntax.specs.declared.lexer.TokenKind.{TokenKind}
+use Rattle.mini_syntax.specs.{declared.lexer.TokenKind.{TokenKind}, declared.operator.Infix.{Infix}}
+use Rattle.mini_syntax.specs.{declared.operator.Infix.TheVariants.{Or, And, AtMost, Equals, Add, Subtract, Multiply}, Tokens.{Token}}
+use Rattle.mini_syntax.specs.Tokens.{word_at, mark_at}
 use Rattle.mini_syntax.specs.declared.lexer.TokenKind.TheVariants as kind
 use Rattle.mini_syntax.specs.declared.mark.Mark.TheVariants as mark
-use Rattle.mini_syntax.specs.declared.operator.Infix.{Infix}
-use Rattle.mini_syntax.specs.declared.operator.Infix.TheVariants.{Or, And, AtMost, Equals, Add, Subtract, Multiply}
 use Rattle.mini_syntax.specs.declared.word.Word.TheVariants as word
-use Rattle.mini_syntax.specs.Tokens.{Token, word_at, mark_at}
 
 -- an operator of a lower level binds closer
 abbrev pub level_of : Infix → ℕ

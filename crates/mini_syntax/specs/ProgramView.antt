@@ -1,8 +1,8 @@
 -- What clauses see of the code's programs.
 use Rattle.std.specs.Prelude.{List, [], ◌∷◌}
 use Rattle.mini_syntax.specs.declared.program.Exp.{Exp, Variable, Number, Truth, Before', Between'}
-use Rattle.mini_syntax.specs.declared.program.Statement.{Statement, Assign, While', If'}
-use Rattle.mini_syntax.specs.declared.program.Statement.{Row_of-Statement, end_of-Statement, more_of-Statement}
+use Rattle.mini_syntax.specs.declared.program.Statement.{Statement, Assign, While', If', Row_of-Statement, end_of-Statement}
+use Rattle.mini_syntax.specs.declared.program.Statement.{more_of-Statement}
 use Rattle.mini_syntax.specs.Language as seen
 
 abbrev pub exp_of : Exp → seen.Exp

@@ -1,9 +1,8 @@
 -- Programs in which each operator, test and assignment has what it takes, and no expression is too deep.
 use Rattle.std.specs.Prelude.{◌≡◌, ℕ, suc, ◌≤◌, ◌<◌, ◌^◌, List, slice_get, max, Some, true}
-use Rattle.mini_syntax.specs.declared.sort.Sort.{Sort}
-use Rattle.mini_syntax.specs.declared.sort.Sort.TheVariants.{Bool}
-use Rattle.mini_syntax.specs.Language.{Exp, Variable, Number, Truth, Before, Between, Stmt, Nothing, Then, Assign, While, If}
-use Rattle.mini_syntax.specs.Operands.{prefix_takes, infix_takes, sort_of}
+use Rattle.mini_syntax.specs.{declared.sort.Sort.{Sort}, declared.sort.Sort.TheVariants.{Bool}, Language.{Exp, Variable, Number, Truth}}
+use Rattle.mini_syntax.specs.{Language.{Before, Between, Stmt, Nothing, Then, Assign, While, If}, Operands.{prefix_takes, infix_takes}}
+use Rattle.mini_syntax.specs.Operands.{sort_of}
 
 -- how deep an expression is at most: it has 40 operators
 abbrev pub depths : ℕ

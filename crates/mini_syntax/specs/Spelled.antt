@@ -1,10 +1,8 @@
 -- How many bytes the tokens of a program have at least.
 use Rattle.std.specs.Prelude.{ℕ, ◌+◌, List, [], ◌∷◌, map, length, max, Some, if◌then◌else◌}
-use Rattle.mini_syntax.specs.declared.program.Declared.{Declared}
-use Rattle.mini_syntax.specs.Language.{Exp, Variable, Number, Truth, Before, Between, Stmt, Nothing, Then, Assign, While, If}
-use Rattle.mini_syntax.specs.Lawful.{nth_name}
-use Rattle.mini_syntax.specs.Names.{spelling}
-use Rattle.mini_syntax.specs.Tokens.{Token, name_at, number_at, word_at, mark_at, wrong_at, is_pair}
+use Rattle.mini_syntax.specs.{declared.program.Declared.{Declared}, Language.{Exp, Variable, Number, Truth, Before, Between, Stmt, Nothing}}
+use Rattle.mini_syntax.specs.{Language.{Then, Assign, While, If}, Lawful.{nth_name}, Names.{spelling}, Tokens.{Token, name_at, number_at}}
+use Rattle.mini_syntax.specs.Tokens.{word_at, mark_at, wrong_at, is_pair}
 
 -- a name has its bytes, a number and an operator one or more, and a truth value four or more
 abbrev pub exp_bytes : List (List ℕ) → Exp → ℕ

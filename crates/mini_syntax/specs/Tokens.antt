@@ -1,13 +1,10 @@
 -- The tokens of a text of the infix language, with the places of their first bytes.
 use Rattle.std.specs.Prelude.{ℕ, ◌+◌, List, [], ◌∷◌, ◌++◌, length, Bool, true, false, ◌==◌, ◌||◌, nat_le, if◌then◌else◌, Option, Some, None}
 use Rattle.std.specs.Char.{is_ascii_alphabetic, is_ascii_digit}
-use Rattle.mini_syntax.specs.InfixLimits.{most_infix_name_bytes}
-use Rattle.mini_syntax.specs.declared.lexer.TokenKind.{TokenKind}
+use Rattle.mini_syntax.specs.{InfixLimits.{most_infix_name_bytes}, declared.lexer.TokenKind.{TokenKind}, declared.mark.Mark.{Mark}}
+use Rattle.mini_syntax.specs.{declared.word.Word.{Word}, Names.{is_word_byte, word_named}}
 use Rattle.mini_syntax.specs.declared.lexer.TokenKind.TheVariants as kind
-use Rattle.mini_syntax.specs.declared.mark.Mark.{Mark}
 use Rattle.mini_syntax.specs.declared.mark.Mark.TheVariants as mark
-use Rattle.mini_syntax.specs.declared.word.Word.{Word}
-use Rattle.mini_syntax.specs.Names.{is_word_byte, word_named}
 
 -- a name; a number with its digits; a word of the language; a mark; or what is no token: a byte with which none begins, or a name
 -- that is too long

@@ -3,13 +3,10 @@
 ghost use Rattle.std.specs.Prelude.{◌≡◌, [], ◌∷◌, Some};
 ghost use Rattle.stack_heap.specs.Heaps.{IfOkUnless};
 ghost use Rattle.stack_text.specs.Breaches.{Notes};
-ghost use Rattle.mini_syntax.specs.Breaches.{assigns_breaches, test_breaches};
+ghost use Rattle.mini_syntax.specs.{Breaches.{assigns_breaches, test_breaches}, Expected.{a_block}, Internal.Lexemes.{left_of, next_kind}};
+ghost use Rattle.mini_syntax.specs.{Internal.Phrases.{Awaits, ReadsBlock, ReadsForm, ReadsForms, statement_kind}, Internal.Scopes.{IsScope}};
 ghost use Rattle.mini_syntax.specs.declared.blocks.StatementKind.TheVariants as a_statement;
 ghost use Rattle.mini_syntax.specs.declared.expected.Expected.TheVariants as wants;
-ghost use Rattle.mini_syntax.specs.Expected.{a_block};
-ghost use Rattle.mini_syntax.specs.Internal.Lexemes.{left_of, next_kind};
-ghost use Rattle.mini_syntax.specs.Internal.Phrases.{Awaits, ReadsBlock, ReadsForm, ReadsForms, statement_kind};
-ghost use Rattle.mini_syntax.specs.Internal.Scopes.{IsScope};
 
 use crate::expressions::expression;
 use crate::lexeme::Cursor;

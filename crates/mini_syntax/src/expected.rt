@@ -1,8 +1,7 @@
 //! What may come next in a program, token by token.
 
-ghost use Rattle.std.specs.Prelude.{◌≡◌, reverse};
+ghost use Rattle.std.specs.{Prelude.{◌≡◌, reverse}, List.{list_all}};
 ghost use Rattle.stack_heap.specs.Heaps.{IfOkUnless};
-ghost use Rattle.std.specs.List.{list_all};
 ghost use Rattle.mini_syntax.specs.Expected.{answer_of, is_over, may_be_empty, more, PushesUnless, Takes, wanted};
 ghost use Rattle.mini_syntax.specs.declared.expected.Expected.TheVariants as wants;
 

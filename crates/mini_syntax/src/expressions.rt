@@ -3,11 +3,8 @@
 ghost use Rattle.std.specs.Prelude.{◌≡◌, [], ◌∷◌};
 ghost use Rattle.stack_heap.specs.Heaps.{IfOkUnless};
 ghost use Rattle.mini_syntax.specs.declared.expected.Expected.TheVariants as wants;
-ghost use Rattle.mini_syntax.specs.Expected.{expression};
-ghost use Rattle.mini_syntax.specs.Precedence.{any_level};
-ghost use Rattle.mini_syntax.specs.Internal.Lexemes.{left_of};
-ghost use Rattle.mini_syntax.specs.Internal.Phrases.{Awaits, AwaitsOperand, factor_kind, infix_within, Reads};
-ghost use Rattle.mini_syntax.specs.Internal.Scopes.{IsScope};
+ghost use Rattle.mini_syntax.specs.{Expected.{expression}, Precedence.{any_level}, Internal.Lexemes.{left_of}, Internal.Phrases.{Awaits, AwaitsOperand}};
+ghost use Rattle.mini_syntax.specs.{Internal.Phrases.{factor_kind, infix_within, Reads}, Internal.Scopes.{IsScope}};
 
 use crate::lexeme::Cursor;
 use crate::lexer::TokenKind;

@@ -2,14 +2,10 @@
 
 ghost use Rattle.std.specs.Prelude.{◌≡◌, ◌+◌, ◌<◌, ◌≤◌, ◌^◌, ◌++◌, ◌∷◌, length, map, reverse, [], IfOk, if◌then◌else◌};
 ghost use Rattle.stack_heap.specs.Heaps.{IfOkUnless, OnOkUnless};
-ghost use Rattle.mini_syntax.specs.declared.fault.MiniFault.TheVariants.{Refused};
-ghost use Rattle.mini_syntax.specs.Expected.{at_start};
-ghost use Rattle.mini_syntax.specs.Faults.{AreFree, begins_expression, closes_block, closes_bracket, is_operator, opens_block, opens_bracket};
-ghost use Rattle.mini_syntax.specs.Grammar.{IsProgram, InfixProgram};
+ghost use Rattle.mini_syntax.specs.{declared.fault.MiniFault.TheVariants.{Refused}, Expected.{at_start}, Faults.{AreFree, begins_expression, closes_block}};
+ghost use Rattle.mini_syntax.specs.{Faults.{closes_bracket, is_operator, opens_block, opens_bracket}, Grammar.{IsProgram, InfixProgram}};
 ghost use Rattle.mini_syntax.specs.Internal.Judging.{counted, counts_of, IsBelow, is_over_limit, Judges, limit_of, RefusesUnless, tally};
-ghost use Rattle.mini_syntax.specs.Internal.Lexemes.{token_seen};
-ghost use Rattle.mini_syntax.specs.Tokens.{tokens_in};
-ghost use Rattle.mini_syntax.specs.Internal.TokenSpans.{token_in};
+ghost use Rattle.mini_syntax.specs.{Internal.Lexemes.{token_seen}, Tokens.{tokens_in}, Internal.TokenSpans.{token_in}};
 
 use crate::expected::{Expected, is_over, take};
 use crate::fault::MiniFault;

@@ -1,12 +1,8 @@
 //! Laws of the text. The functions do nothing: their clauses hold of all texts.
 
 ghost use Rattle.std.specs.Prelude.{◌≡◌, ℕ, List, None, Some, true};
-ghost use Rattle.mini_syntax.specs.MiniReading.{IsFault, IsFaultless, TextReading};
-ghost use Rattle.mini_syntax.specs.declared.expected.Expected.{Expected};
-ghost use Rattle.mini_syntax.specs.Examples.{TextsAre};
-ghost use Rattle.mini_syntax.specs.Expected.{at_start, is_over, taken};
-ghost use Rattle.mini_syntax.specs.Grammar.{GoesOn, IsProgram, InfixProgram, program_tokens};
-ghost use Rattle.mini_syntax.specs.Tokens.{Token};
+ghost use Rattle.mini_syntax.specs.{MiniReading.{IsFault, IsFaultless, TextReading}, declared.expected.Expected.{Expected}, Examples.{TextsAre}};
+ghost use Rattle.mini_syntax.specs.{Expected.{at_start, is_over, taken}, Grammar.{GoesOn, IsProgram, InfixProgram, program_tokens}, Tokens.{Token}};
 
 /// What is expected token by token decides what no program goes on with, and what is a program: tokens that are all taken
 /// go on to a program, others don't; and they are one exactly where nothing more is expected.

@@ -24,9 +24,7 @@ pub struct Cursor<'t, 'a> {
 impl<'t, 'a> Cursor<'t, 'a> {
     ghost use Rattle.std.specs.Prelude.{◌≡◌, ◌≢◌, [], ◌∷◌};
     ghost use Rattle.mini_syntax.specs.declared.expected.Expected.TheVariants as wants;
-    ghost use Rattle.mini_syntax.specs.Internal.Lexemes.{left_of, next_kind, token_seen};
-    ghost use Rattle.mini_syntax.specs.Internal.Phrases.{Awaits};
-    ghost use Rattle.mini_syntax.specs.Tokens.{mark_at};
+    ghost use Rattle.mini_syntax.specs.{Internal.Lexemes.{left_of, next_kind, token_seen}, Internal.Phrases.{Awaits}, Tokens.{mark_at}};
 
     /// What the next token is, and `Wrong` where none is left.
     #[tactic(auto, using(crate::proofs::ReadingLaws::kind_seen))]

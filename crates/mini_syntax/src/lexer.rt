@@ -2,8 +2,8 @@
 
 ghost use Rattle.std.specs.Prelude.{◌≡◌, ◌+◌, ◌<◌, ◌≤◌, ◌^◌, Some, if◌then◌else◌, length, drop, get_or, slice_range, false, [], IfNone, IfSome};
 ghost use Rattle.std.specs.Char.{is_ascii_alphabetic, is_ascii_digit};
-ghost use Rattle.mini_syntax.specs.Tokens.{between, is_blank, is_pair, mark_of, longest_run, second_is, tokens, word_kind};
-ghost use Rattle.mini_syntax.specs.Internal.TokenSpans.{FindsToken, run_mode, run_test};
+ghost use Rattle.mini_syntax.specs.{Tokens.{between, is_blank, is_pair, mark_of, longest_run, second_is, tokens, word_kind}, Internal.TokenSpans.{FindsToken}};
+ghost use Rattle.mini_syntax.specs.Internal.TokenSpans.{run_mode, run_test};
 
 use crate::mark::Mark;
 use crate::word::{Word, word_named};

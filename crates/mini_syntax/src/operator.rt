@@ -53,8 +53,7 @@ impl Prefix {
 
 impl Infix {
     ghost use Rattle.std.specs.Prelude.{◌≡◌};
-    ghost use Rattle.mini_syntax.specs.Operands.{infix_sort};
-    ghost use Rattle.mini_syntax.specs.Precedence.{compared_after, level_of, may_follow, right_level};
+    ghost use Rattle.mini_syntax.specs.{Operands.{infix_sort}, Precedence.{compared_after, level_of, may_follow, right_level}};
 
     /// The sort of the result.
     pub fn sort(self) -> Sort

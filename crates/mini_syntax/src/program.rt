@@ -76,8 +76,7 @@ pub struct InfixProgram {
 
 impl Exp {
     ghost use Rattle.std.specs.Prelude.{◌≡◌};
-    ghost use Rattle.mini_syntax.specs.ProgramView.{exp_of};
-    ghost use Rattle.mini_syntax.specs.Operands.{sort_of};
+    ghost use Rattle.mini_syntax.specs.{ProgramView.{exp_of}, Operands.{sort_of}};
 
     /// The sort of what the expression is worth.
     pub fn sort(&self) -> Sort

@@ -2,13 +2,10 @@
 
 ghost use Rattle.std.specs.Prelude.{◌≡◌, ◌<◌, ◌≤◌, ◌^◌, [], ◌∷◌, length, map, IfOk, OnOk, Some, true};
 ghost use Rattle.stack_heap.specs.Heaps.{IfOkUnless, OnOkUnless};
-ghost use Rattle.mini_syntax.specs.MiniReading.{ReadsText, RefusesTextUnless};
-ghost use Rattle.mini_syntax.specs.Internal.Declaring.{are_proper, ReadsDecl, ReadsDecls, ReadsProgram};
+ghost use Rattle.mini_syntax.specs.{MiniReading.{ReadsText, RefusesTextUnless}, Internal.Declaring.{are_proper, ReadsDecl, ReadsDecls, ReadsProgram}};
+ghost use Rattle.mini_syntax.specs.{Internal.Lexemes.{left_of, next_kind, token_seen}, Internal.Phrases.{Awaits, sort_declared}, Internal.Scopes.{IsScope}};
 ghost use Rattle.mini_syntax.specs.declared.expected.Expected.TheVariants as wants;
 ghost use Rattle.mini_syntax.specs.Grammar as grammar;
-ghost use Rattle.mini_syntax.specs.Internal.Lexemes.{left_of, next_kind, token_seen};
-ghost use Rattle.mini_syntax.specs.Internal.Phrases.{Awaits, sort_declared};
-ghost use Rattle.mini_syntax.specs.Internal.Scopes.{IsScope};
 
 use crate::blocks::statements;
 use crate::fault::MiniFault;

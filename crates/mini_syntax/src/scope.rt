@@ -2,9 +2,7 @@
 
 ghost use Rattle.std.specs.Prelude.{◌≡◌, ◌<◌, ◌^◌, ◌++◌, [], ◌∷◌, length, OnOk, option_map};
 ghost use Rattle.stack_heap.specs.Heaps.{OnOkUnless};
-ghost use Rattle.mini_syntax.specs.Breaches.{or_first, variable_named};
-ghost use Rattle.mini_syntax.specs.declared.program.Declared.{Declared};
-ghost use Rattle.mini_syntax.specs.Internal.Scopes.{IsScope};
+ghost use Rattle.mini_syntax.specs.{Breaches.{or_first, variable_named}, declared.program.Declared.{Declared}, Internal.Scopes.{IsScope}};
 
 use crate::program::Declared;
 use crate::sort::Sort;

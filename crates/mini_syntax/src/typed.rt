@@ -2,15 +2,10 @@
 
 ghost use Rattle.std.specs.Prelude.{◌≡◌, ℕ, ◌*◌, ◌+◌, ◌-◌, ◌≤◌, List, Option, Some, None, if◌then◌else◌};
 ghost use Rattle.stack_heap.specs.Heaps.{IfOkUnless};
-ghost use Rattle.stack_text.specs.Breaches.{Notes};
-ghost use Rattle.stack_text.specs.declared.breach.Breach.{Breach};
-ghost use Rattle.mini_syntax.specs.Breaches.{infix_breaches, is_too_large, number_of, prefix_breaches};
-ghost use Rattle.mini_syntax.specs.Internal.Combined.{IsInfix, IsPrefix};
-ghost use Rattle.mini_syntax.specs.declared.program.Declared.{Declared};
-ghost use Rattle.mini_syntax.specs.Grammar.{number, truth, variable};
-ghost use Rattle.mini_syntax.specs.Operands.{infix_takes, prefix_takes};
-ghost use Rattle.mini_syntax.specs.Internal.Phrases.{IsTyped};
-ghost use Rattle.mini_syntax.specs.Internal.Scopes.{IsScope};
+ghost use Rattle.stack_text.specs.{Breaches.{Notes}, declared.breach.Breach.{Breach}};
+ghost use Rattle.mini_syntax.specs.{Breaches.{infix_breaches, is_too_large, number_of, prefix_breaches}, Internal.Combined.{IsInfix, IsPrefix}};
+ghost use Rattle.mini_syntax.specs.{declared.program.Declared.{Declared}, Grammar.{number, truth, variable}, Operands.{infix_takes, prefix_takes}};
+ghost use Rattle.mini_syntax.specs.{Internal.Phrases.{IsTyped}, Internal.Scopes.{IsScope}};
 
 use crate::operator::{Infix, Prefix};
 use crate::program::Exp;

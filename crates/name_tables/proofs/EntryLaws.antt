@@ -1,9 +1,6 @@
 -- Entries of borrowed names: what is found, and what is entered.
-use Rattle.std.proofs.Common.{◌≡◌, Bor, ℕ, List, [], ◌∷◌, Option, Some, None, Bool, true, false, cond}
-use Rattle.std.proofs.Common.{is_some, bytes_eq, refl, sym, ap, ◌∙◌}
-use Rattle.std.specs.Map.{lookup}
-use Rattle.std.proofs.lemmas.Bool.{true≢false}
-use Rattle.std.proofs.lemmas.Slice.Eq.{bytes_eq-Decides}
+use Rattle.std.proofs.Common.{◌≡◌, Bor, ℕ, List, [], ◌∷◌, Option, Some, None, Bool, true, false, cond, is_some, bytes_eq, refl, sym, ap, ◌∙◌}
+use Rattle.std.{specs.Map.lookup, proofs.lemmas.Bool.true≢false, proofs.lemmas.Slice.Eq.bytes_eq-Decides}
 use Rattle.stack_text.specs.Options.{first_or}
 use Rattle.name_tables.specs.Entries.{Entries, look_up, entries_now}
 

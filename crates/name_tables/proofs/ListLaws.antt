@@ -1,10 +1,8 @@
 -- A list of borrowed names: what is found, and what is entered.
-use Rattle.std.proofs.Common.{◌≡◌, Bor, ℕ, zero, suc, ◌+◌, ◌<◌, List, [], ◌∷◌, ◌++◌, map, length, get_or, take, Bool, true, false, cond, not, ◌||◌}
-use Rattle.std.proofs.Common.{bytes_eq, refl, sym, ap, ◌∙◌, arith}
-use Rattle.std.specs.List.{list_any, position, IsDistinct}
-use Rattle.std.proofs.lemmas.List.{map_push, length-map, take_more, take-map}
-use Rattle.stack_text.specs.Names.{is_among, place_among}
-use Rattle.stack_text.proofs.SharedLaws.{no_earlier, place_among-map}
+use Rattle.std.proofs.Common.{◌≡◌, Bor, ℕ, zero, suc, ◌+◌, ◌<◌, List, [], ◌∷◌, ◌++◌, map, length, get_or, take, Bool, true, false, cond, not, ◌||◌, bytes_eq}
+use Rattle.std.{proofs.Common.{refl, sym, ap, ◌∙◌, arith}, specs.List.{list_any, position, IsDistinct}, proofs.lemmas.List.{map_push, length-map, take_more}}
+use Rattle.std.proofs.lemmas.List.{take-map}
+use Rattle.stack_text.{specs.Names.{is_among, place_among}, proofs.SharedLaws.{no_earlier, place_among-map}}
 use Rattle.name_tables.specs.Lists.{with_name}
 
 abbrev Keys : Type 0

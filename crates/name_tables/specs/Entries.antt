@@ -1,8 +1,5 @@
 -- Names with their values.
-use Rattle.std.specs.Prelude.{ℕ, List, map, Option}
-use Rattle.std.specs.Borrow.{Bor}
-use Rattle.std.specs.Map.{lookup}
-use Rattle.std.specs.Str.{bytes_eq}
+use Rattle.std.specs.{Prelude.{ℕ, List, map, Option}, Borrow.{Bor}, Map.{lookup}, Str.{bytes_eq}}
 
 abbrev pub Entries : Type 0 → Type 0
 Entries V = List (List ℕ × V)

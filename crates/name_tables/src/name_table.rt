@@ -1,7 +1,6 @@
 //! A table of names.
 
-ghost use Rattle.std.specs.Prelude.{◌≡◌, ℕ, List, [], OnOk, OnErr, is_some};
-ghost use Rattle.std.specs.Str.{bytes_eq};
+ghost use Rattle.std.specs.{Prelude.{◌≡◌, ℕ, List, [], OnOk, OnErr, is_some}, Str.{bytes_eq}};
 ghost use Rattle.stack_heap.specs.Heaps.{IfOkUnless, IsSmallItem};
 ghost use Rattle.stack_text.specs.Options.{first_or};
 ghost use Rattle.name_tables.specs.Entries.{look_up};

@@ -1,28 +1,20 @@
 -- The words of areas and the targets of jumps are no more than the atoms and lists of the system's tree.
-use Rattle.std.proofs.Common.{◌≡◌, ℕ, ◌+◌, ◌<◌, ◌≤◌, ◌^◌, List, [], ◌∷◌, map, length, Option, Some, None, refl, sym, ap, ◌∙◌, arith}
-use Rattle.std.specs.List.{sum_by}
-use Rattle.std.proofs.lemmas.List.{length-map}
-use Rattle.std.proofs.lemmas.List.Sums.{sum_by-cons}
-use Rattle.stack_text.specs.declared.name.Named.{Named}
-use Rattle.stack_text.specs.Trees.{Node, atom, list, node_count, node_counts}
-use Rattle.stack_text.specs.Views.TreeView.{nodes}
-use Rattle.piton_words.specs.declared.word.Word.{Word}
-use Rattle.piton_syntax.specs.declared.op.PitonOp.{PitonOp}
-use Rattle.piton_syntax.specs.declared.op.PitonOp.TheVariants as op
-use Rattle.piton_syntax.specs.declared.test_kind.TestFamily.{TestFamily}
-use Rattle.piton_syntax.specs.declared.test_kind.TestFamily.TheVariants as family
-use Rattle.piton_syntax.specs.Operations.{op_name, op_arguments}
+use Rattle.std.{proofs.Common.{◌≡◌, ℕ, ◌+◌, ◌<◌, ◌≤◌, ◌^◌, List, [], ◌∷◌, map, length, Option, Some, None, refl, sym, ap, ◌∙◌, arith}, specs.List.sum_by}
+use Rattle.std.{proofs.lemmas.List.length-map, proofs.lemmas.List.Sums.sum_by-cons}
+use Rattle.stack_text.{specs.declared.name.Named.Named, specs.Trees.{Node, atom, list, node_count, node_counts}, specs.Views.TreeView.nodes}
 use Rattle.stack_text.specs.Grammar.Printed.{tree_of_all}
-use Rattle.piton_syntax.specs.Printed.{word_tree, argument_tree, labelled_tree, instruction_tree, program_tree, area_tree, tree_of}
-use Rattle.piton_syntax.specs.Systems.{InstrOf, ProgramOf, AreaOf, SystemOf}
-use Rattle.piton_check.specs.declared.resolved.ResolvedArg.{ResolvedArg}
+use Rattle.piton_words.specs.declared.word.Word.{Word}
+use Rattle.piton_syntax.{specs.declared.op.PitonOp.PitonOp, specs.declared.test_kind.TestFamily.TestFamily, specs.Operations.{op_name, op_arguments}}
+use Rattle.piton_syntax.{specs.Printed.{word_tree, argument_tree, labelled_tree, instruction_tree, program_tree, area_tree, tree_of}, specs.Systems.InstrOf}
+use Rattle.piton_syntax.specs.Systems.{ProgramOf, AreaOf, SystemOf}
+use Rattle.piton_syntax.specs.declared.op.PitonOp.TheVariants as op
+use Rattle.piton_syntax.specs.declared.test_kind.TestFamily.TheVariants as family
+use Rattle.piton_check.{specs.declared.resolved.ResolvedArg.ResolvedArg, specs.Instruction.{Instruction, instruction_of, instruction_view, program_view}}
+use Rattle.piton_check.specs.Instruction.{system_view, with_word, with_number, with_local, with_place, with_area, with_program, with_test, place_of}
+use Rattle.piton_check.{specs.Meaning.name_kind, specs.Resolved.{resolved, resolved_word, resolved_area, resolved_argument, resolved_instruction}}
+use Rattle.piton_check.{specs.Resolved.resolved_program, specs.Sound.{target_count, program_targets, all_targets, all_words}}
 use Rattle.piton_check.specs.declared.resolved.ResolvedArg.TheVariants as arg
 use Rattle.piton_check.specs.Instruction as seen
-use Rattle.piton_check.specs.Instruction.{Instruction, instruction_of, instruction_view, program_view, system_view, with_word, with_number, with_local}
-use Rattle.piton_check.specs.Instruction.{with_place, with_area, with_program, with_test, place_of}
-use Rattle.piton_check.specs.Meaning.{name_kind}
-use Rattle.piton_check.specs.Resolved.{resolved, resolved_word, resolved_area, resolved_argument, resolved_instruction, resolved_program}
-use Rattle.piton_check.specs.Sound.{target_count, program_targets, all_targets, all_words}
 
 -- ---- sums
 

@@ -1,36 +1,25 @@
 -- Places change nothing.
 use Rattle.std.proofs.Common.{◌≡◌, ℕ, ◌+◌, ◌-◌, max, List, [], ◌∷◌, ◌++◌, map, length, get_or, Bool, true, false, not, cond, nat_lt, Option, Some, None}
-use Rattle.std.proofs.Common.{option_map, refl, sym, ap, ap₂, ◌∙◌, subst}
-use Rattle.std.specs.Prelude.{is_some, slice_get, unwrap_or}
-use Rattle.std.specs.Option.{is_none}
-use Rattle.std.specs.List.{flat_map, position_or_len}
-use Rattle.std.proofs.lemmas.List.{length-map, map-append}
-use Rattle.std.proofs.lemmas.Option.{slice_get-map}
-use Rattle.stack_text.specs.SharedLimits.{most_stack}
-use Rattle.stack_text.specs.Options.{◌>>=◌}
-use Rattle.stack_text.specs.Breaches.{when}
-use Rattle.stack_text.specs.declared.breach.Breach.{Breach}
-use Rattle.piton_words.specs.declared.word.Word.TheVariants as word
-use Rattle.piton_syntax.specs.declared.argument.ArgKind.{ArgKind}
-use Rattle.piton_syntax.specs.declared.argument.ArgKind.TheVariants as kind
-use Rattle.piton_syntax.specs.declared.argument.ArgText.{ArgText}
-use Rattle.piton_syntax.specs.declared.argument.ArgText.TheVariants as text
-use Rattle.piton_syntax.specs.declared.word_text.WordItem.{WordItem}
-use Rattle.piton_syntax.specs.declared.word_text.WordItem.TheVariants as item
-use Rattle.piton_syntax.specs.declared.word_text.WordText.{WordText}
-use Rattle.piton_syntax.specs.Operations.{op_arguments}
-use Rattle.piton_syntax.specs.Systems.{InstrOf, ProgramOf, AreaOf, SystemOf, unplaced_item, unplaced_word, unplaced_argument, unplaced_instruction}
-use Rattle.piton_syntax.specs.Systems.{unplaced_temporary, unplaced_program, unplaced_area, without_places}
+use Rattle.std.{proofs.Common.{option_map, refl, sym, ap, ap₂, ◌∙◌, subst}, specs.Prelude.{is_some, slice_get, unwrap_or}, specs.Option.is_none}
+use Rattle.std.{specs.List.{flat_map, position_or_len}, proofs.lemmas.List.{length-map, map-append}, proofs.lemmas.Option.slice_get-map}
+use Rattle.stack_text.{specs.SharedLimits.most_stack, specs.Options.◌>>=◌, specs.Breaches.when, specs.declared.breach.Breach.Breach}
 use Rattle.stack_text.specs.Grammar.Printed.{unplaced_name}
+use Rattle.piton_words.specs.declared.word.Word.TheVariants as word
+use Rattle.piton_syntax.{specs.declared.argument.ArgKind.ArgKind, specs.declared.argument.ArgText.ArgText, specs.declared.word_text.WordItem.WordItem}
+use Rattle.piton_syntax.{specs.declared.word_text.WordText.WordText, specs.Operations.op_arguments, specs.Systems.{InstrOf, ProgramOf, AreaOf, SystemOf}}
+use Rattle.piton_syntax.specs.Systems.{unplaced_item, unplaced_word, unplaced_argument, unplaced_instruction, unplaced_temporary, unplaced_program}
+use Rattle.piton_syntax.specs.Systems.{unplaced_area, without_places}
+use Rattle.piton_syntax.specs.declared.argument.ArgKind.TheVariants as kind
+use Rattle.piton_syntax.specs.declared.argument.ArgText.TheVariants as text
+use Rattle.piton_syntax.specs.declared.word_text.WordItem.TheVariants as item
 use Rattle.piton_check.specs.declared.resolved.ResolvedArg.TheVariants as arg
 use Rattle.piton_check.specs.Declarations.{Declaration, area_name, program_name, formal_name, temporary_name, label_name, area_names, program_names}
-use Rattle.piton_check.specs.Declarations.{local_names, label_names, is_named, first_of, repeat_of, repeats}
-use Rattle.piton_check.specs.Meaning.{position_in, area_lengths, program_lengths, word_of, name_kind, name_of}
-use Rattle.piton_check.specs.Places.{BreakAlike, PlacesChangeNothing}
+use Rattle.piton_check.{specs.Declarations.{local_names, label_names, is_named, first_of, repeat_of, repeats}, specs.Meaning.{position_in, area_lengths}}
+use Rattle.piton_check.{specs.Meaning.{program_lengths, word_of, name_kind, name_of}, specs.Places.{BreakAlike, PlacesChangeNothing}}
 use Rattle.piton_check.specs.Resolved.{resolved_word, resolved_temporary, resolved_area, resolved_argument, resolved_instruction, resolved_program}
-use Rattle.piton_check.specs.Resolved.{resolved_number, resolved}
-use Rattle.piton_check.specs.Violations.{word_breaches, temporary_breaches, area_breaches, name_rule, argument_breaches, instruction_breaches, end_breaches}
-use Rattle.piton_check.specs.Violations.{program_breaches, main_of, main_breaches, is_within, first_frame, size_breaches, violations}
+use Rattle.piton_check.{specs.Resolved.{resolved_number, resolved}, specs.Violations.{word_breaches, temporary_breaches, area_breaches, name_rule}}
+use Rattle.piton_check.specs.Violations.{argument_breaches, instruction_breaches, end_breaches, program_breaches, main_of, main_breaches, is_within}
+use Rattle.piton_check.specs.Violations.{first_frame, size_breaches, violations}
 
 -- 1. Declarations.
 

@@ -1,19 +1,11 @@
 -- Instructions and programs, part by part.
-use Rattle.std.proofs.Common.{◌≡◌, ◌-◌, List, [], ◌++◌, length, slice_get, Option, ap, ◌∙◌}
-use Rattle.std.specs.List.{flat_map}
-use Rattle.stack_text.specs.declared.name.Named.{Named}
-use Rattle.piton_syntax.specs.declared.word_text.WordText.{WordText}
-use Rattle.piton_syntax.specs.declared.argument.ArgKind.{ArgKind}
-use Rattle.piton_syntax.specs.declared.argument.ArgText.{ArgText}
-use Rattle.piton_syntax.specs.declared.argument.Arguments.{Arguments}
-use Rattle.piton_syntax.specs.Operations.{op_arguments}
-use Rattle.piton_syntax.specs.Systems.{InstrOf, ProgramOf, SystemOf}
-use Rattle.stack_text.specs.declared.breach.Breach.{Breach}
-use Rattle.stack_text.specs.Breaches.{lesser_of, least, Notes}
-use Rattle.piton_check.specs.Meaning.{name_kind}
-use Rattle.piton_check.specs.Violations.{argument_breaches, instruction_breaches, temporary_breaches, end_breaches, program_breaches}
-use Rattle.piton_check.specs.Declarations.{local_names, label_names, repeats}
+use Rattle.std.{proofs.Common.{◌≡◌, ◌-◌, List, [], ◌++◌, length, slice_get, Option, ap, ◌∙◌}, specs.List.flat_map}
+use Rattle.stack_text.{specs.declared.name.Named.Named, specs.declared.breach.Breach.Breach, specs.Breaches.{lesser_of, least, Notes}}
 use Rattle.stack_text.proofs.BreachLaws.{notes_more}
+use Rattle.piton_syntax.{specs.declared.word_text.WordText.WordText, specs.declared.argument.ArgKind.ArgKind, specs.declared.argument.ArgText.ArgText}
+use Rattle.piton_syntax.{specs.declared.argument.Arguments.Arguments, specs.Operations.op_arguments, specs.Systems.{InstrOf, ProgramOf, SystemOf}}
+use Rattle.piton_check.{specs.Meaning.name_kind, specs.Violations.{argument_breaches, instruction_breaches, temporary_breaches, end_breaches, program_breaches}}
+use Rattle.piton_check.specs.Declarations.{local_names, label_names, repeats}
 
 -- an instruction's breaches are those of its arguments
 pub instruction_noted : (s : SystemOf) (p : ProgramOf) (i j : InstrOf) (k : ArgKind) (a : Arguments) (texts : List ArgText) (x y : Option Breach)

@@ -1,57 +1,37 @@
 -- A system that fits the form and breaks no rule is sound: all that its resolved form names exists.
 use Rattle.std.proofs.Common.{◌≡◌, ℕ, zero, suc, ◌+◌, ◌-◌, ◌<◌, ◌≤◌, ◌^◌, max, Bool, true, false, not, cond, ltb, leb, List, [], ◌∷◌, ◌++◌, map, length, get_or}
-use Rattle.std.proofs.Common.{slice_get, Option, Some, None, All, unwrap_or, true≢false, refl, sym, ap, subst, ◌∙◌, arith}
-use Rattle.std.specs.Prelude.{ℤ, pos, negsuc, IsTrue}
-use Rattle.std.specs.List.{flat_map}
-use Rattle.std.specs.Option.{is_none, option_map}
-use Rattle.std.proofs.lemmas.Bool.{ltb-true, ltb-false, leb-true, lt-ltb, not-false}
-use Rattle.std.proofs.lemmas.List.{length-map, length-append, get_or-map}
-use Rattle.std.proofs.lemmas.List.Elements.{All-nil, All-cons, All-map}
-use Rattle.std.proofs.lemmas.List.Quantifiers.{position-Some}
-use Rattle.stack_text.proofs.OptionLaws.{bind_some}
-use Rattle.stack_text.specs.declared.name.Named.{Named}
-use Rattle.std.proofs.lemmas.Bool.{and_parts}
+use Rattle.std.{proofs.Common.{slice_get, Option, Some, None, All, unwrap_or, true≢false, refl, sym, ap, subst, ◌∙◌, arith}, specs.Prelude.{ℤ, pos, negsuc}}
+use Rattle.std.{specs.Prelude.IsTrue, specs.List.flat_map, specs.Option.{is_none, option_map}, proofs.lemmas.Bool.{ltb-true, ltb-false, leb-true, lt-ltb}}
+use Rattle.std.{proofs.lemmas.Bool.{not-false, and_parts}, proofs.lemmas.List.{length-map, length-append, get_or-map}, proofs.lemmas.List.Elements.All-nil}
+use Rattle.std.{proofs.lemmas.List.Elements.{All-cons, All-map}, proofs.lemmas.List.Quantifiers.position-Some, proofs.lemmas.Option.same_Some}
+use Rattle.std.proofs.lemmas.Option.{slice_get-get_or, cond_some}
+use Rattle.stack_text.{proofs.OptionLaws.bind_some, specs.declared.name.Named.Named, specs.Trees.node_count, specs.declared.breach.Breach.Breach}
+use Rattle.stack_text.{specs.Breaches.when, specs.Options.◌>>=◌, proofs.SharedLaws.{rule_fails, some_of, append_none, get_map}}
 use Rattle.fm_words.specs.Word.{is_int, unsigned_32, signed_32}
 use Rattle.piton_words.specs.declared.word.Word.{Word}
 use Rattle.piton_words.specs.declared.word.Word.TheVariants as word
-use Rattle.piton_syntax.specs.declared.argument.ArgKind.{ArgKind}
+use Rattle.piton_syntax.{specs.declared.argument.ArgKind.ArgKind, specs.declared.argument.ArgText.ArgText, specs.declared.argument.Arguments.TheVariants.One}
+use Rattle.piton_syntax.{specs.declared.argument.Arguments.TheVariants.{TestAndLabel, OneOrMore}, specs.declared.op.PitonOp.PitonOp}
+use Rattle.piton_syntax.{specs.declared.test_kind.TestFamily.TestFamily, specs.declared.word_text.Number.Number, specs.declared.word_text.WordText.WordText}
+use Rattle.piton_syntax.{specs.declared.word_text.WordItem.WordItem, specs.Fits.{FitsArgument, FitsArguments, FitsInstruction, FitsProgram, FitsForm}}
+use Rattle.piton_syntax.{specs.Operations.{row_of, op_arguments}, specs.Systems.{InstrOf, ProgramOf, AreaOf, SystemOf}, specs.Printed.tree_of}
 use Rattle.piton_syntax.specs.declared.argument.ArgKind.TheVariants as kind
-use Rattle.piton_syntax.specs.declared.argument.ArgText.{ArgText}
 use Rattle.piton_syntax.specs.declared.argument.ArgText.TheVariants as text
-use Rattle.piton_syntax.specs.declared.argument.Arguments.TheVariants.{One, TestAndLabel, OneOrMore}
-use Rattle.piton_syntax.specs.declared.op.PitonOp.{PitonOp}
 use Rattle.piton_syntax.specs.declared.op.PitonOp.TheVariants as op
-use Rattle.piton_syntax.specs.declared.test_kind.TestFamily.{TestFamily}
 use Rattle.piton_syntax.specs.declared.test_kind.TestFamily.TheVariants as family
-use Rattle.piton_syntax.specs.declared.word_text.Number.{Number}
-use Rattle.piton_syntax.specs.declared.word_text.WordText.{WordText}
-use Rattle.piton_syntax.specs.declared.word_text.WordItem.{WordItem}
 use Rattle.piton_syntax.specs.declared.word_text.WordItem.TheVariants as item
-use Rattle.piton_syntax.specs.Fits.{FitsArgument, FitsArguments, FitsInstruction, FitsProgram, FitsForm}
-use Rattle.piton_syntax.specs.Operations.{row_of, op_arguments}
-use Rattle.piton_syntax.specs.Systems.{InstrOf, ProgramOf, AreaOf, SystemOf}
-use Rattle.stack_text.specs.Trees.{node_count}
-use Rattle.piton_syntax.specs.Printed.{tree_of}
-use Rattle.piton_check.proofs.CountLaws.{few_parts}
-use Rattle.stack_text.specs.declared.breach.Breach.{Breach}
-use Rattle.piton_check.specs.declared.resolved.ResolvedArg.{ResolvedArg}
-use Rattle.piton_check.specs.declared.resolved.ResolvedArg.TheVariants as arg
-use Rattle.stack_text.specs.Breaches.{when}
-use Rattle.piton_check.specs.Declarations.{Declaration, area_name, program_name, formal_name, temporary_name, label_name, is_named, area_names, program_names}
-use Rattle.piton_check.specs.Declarations.{local_names, label_names, first_of, repeats}
-use Rattle.piton_check.specs.Instruction as seen
-use Rattle.piton_check.specs.Instruction.{Instruction, instruction_of, instruction_view, program_view, system_view, with_word, with_number, with_local}
-use Rattle.piton_check.specs.Instruction.{with_place, with_area, with_program, with_test, place_of}
-use Rattle.stack_text.specs.Options.{◌>>=◌}
-use Rattle.std.proofs.lemmas.Option.{same_Some, slice_get-get_or, cond_some}
-use Rattle.stack_text.proofs.SharedLaws.{rule_fails, some_of, append_none, get_map}
-use Rattle.piton_check.specs.Meaning.{position_in, area_lengths, program_lengths, word_of, name_kind, count_of}
-use Rattle.piton_check.specs.Resolved.{resolved, resolved_word, resolved_temporary, resolved_area, resolved_argument, resolved_instruction, resolved_program}
-use Rattle.piton_check.specs.Resolved.{resolved_number}
+use Rattle.piton_check.{proofs.CountLaws.few_parts, specs.declared.resolved.ResolvedArg.ResolvedArg, specs.Declarations.{Declaration, area_name, program_name}}
+use Rattle.piton_check.specs.Declarations.{formal_name, temporary_name, label_name, is_named, area_names, program_names, local_names, label_names, first_of}
+use Rattle.piton_check.{specs.Declarations.repeats, specs.Instruction.{Instruction, instruction_of, instruction_view, program_view, system_view, with_word}}
+use Rattle.piton_check.{specs.Instruction.{with_number, with_local, with_place, with_area, with_program, with_test, place_of}, specs.Meaning.position_in}
+use Rattle.piton_check.{specs.Meaning.{area_lengths, program_lengths, word_of, name_kind, count_of}, specs.Resolved.{resolved, resolved_word}}
+use Rattle.piton_check.specs.Resolved.{resolved_temporary, resolved_area, resolved_argument, resolved_instruction, resolved_program, resolved_number}
 use Rattle.piton_check.specs.Sound.{Exists, IsPlace, IsLocal, IsArea, IsProgram, IsCount, IsPlaced, IsEnd, IsSoundProgram, IsMain, IsSound, local_count}
 use Rattle.piton_check.specs.Violations.{word_breaches, temporary_breaches, area_breaches, argument_breaches, instruction_breaches, is_end, end_breaches}
 use Rattle.piton_check.specs.Violations.{program_breaches, main_of, main_breaches, is_within, first_frame, size_breaches, name_breaches, part_breaches}
 use Rattle.piton_check.specs.Violations.{violations}
+use Rattle.piton_check.specs.declared.resolved.ResolvedArg.TheVariants as arg
+use Rattle.piton_check.specs.Instruction as seen
 
 -- the views of a system and of a program of it
 abbrev view_of : SystemOf → seen.SystemView

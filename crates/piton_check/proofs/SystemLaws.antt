@@ -1,18 +1,12 @@
 -- Systems, part by part.
-use Rattle.std.proofs.Common.{◌≡◌, ℕ, unwrap_or, List, [], ◌++◌, map, max, length, not, Option, ap, ◌∙◌}
-use Rattle.std.specs.List.{flat_map}
-use Rattle.piton_syntax.specs.declared.word_text.Number.{Number}
-use Rattle.piton_syntax.specs.declared.word_text.WordText.{WordText}
-use Rattle.piton_syntax.specs.Systems.{ProgramOf, AreaOf, SystemOf}
-use Rattle.stack_text.specs.declared.breach.Breach.{Breach}
-use Rattle.stack_text.specs.Breaches.{when, lesser_of, least, Notes}
-use Rattle.piton_check.specs.Declarations.{area_name, program_name, area_names, program_names, repeats}
-use Rattle.piton_check.specs.Violations.{word_breaches, area_breaches, program_breaches, main_of, main_breaches, first_frame, is_within, size_breaches}
-use Rattle.piton_check.specs.Violations.{name_breaches, part_breaches}
+use Rattle.std.{proofs.Common.{◌≡◌, ℕ, unwrap_or, List, [], ◌++◌, map, max, length, not, Option, ap, ◌∙◌}, specs.List.flat_map}
+use Rattle.piton_syntax.{specs.declared.word_text.Number.Number, specs.declared.word_text.WordText.WordText, specs.Systems.{ProgramOf, AreaOf, SystemOf}}
+use Rattle.stack_text.{specs.declared.breach.Breach.Breach, specs.Breaches.{when, lesser_of, least, Notes}, proofs.BreachLaws.notes_more}
+use Rattle.piton_check.{specs.Declarations.{area_name, program_name, area_names, program_names, repeats, first_of}, specs.Violations.word_breaches}
+use Rattle.piton_check.specs.Violations.{area_breaches, program_breaches, main_of, main_breaches, first_frame, is_within, size_breaches, name_breaches}
+use Rattle.piton_check.{specs.Violations.part_breaches, specs.Resolved.{ResolvedProgramOf, ResolvedOf, resolved, resolved_number, resolved_area, resolved_word}}
+use Rattle.piton_check.specs.Resolved.{resolved_program}
 use Rattle.piton_words.specs.declared.word.Word.{Word}
-use Rattle.piton_check.specs.Declarations.{first_of}
-use Rattle.piton_check.specs.Resolved.{ResolvedProgramOf, ResolvedOf, resolved, resolved_number, resolved_area, resolved_word, resolved_program}
-use Rattle.stack_text.proofs.BreachLaws.{notes_more}
 
 pub names_noted : (s : SystemOf) (items : List AreaOf) (ps : List ProgramOf) (a b c : Option Breach) → items ≡ s.areas → ps ≡ s.programs →
     Notes a (repeats 2 [] (map area_name items)) b → Notes b (repeats 1 [] (map program_name ps)) c → Notes a (name_breaches s) c

@@ -1,15 +1,10 @@
 -- Tables of names, one name after the other.
 use Rattle.std.proofs.Common.{◌≡◌, ℕ, suc, ◌+◌, ◌<◌, List, [], ◌∷◌, ◌++◌, map, length, get_or, take, Option, Some, None, Bool, true, false, cond, is_some}
-use Rattle.std.proofs.Common.{position, refl, sym, ap, ◌∙◌, append_assoc, arith}
-use Rattle.std.specs.List.{position_from}
-use Rattle.std.proofs.lemmas.Iterator.Adapters.{position_from-zero}
+use Rattle.std.{proofs.Common.{position, refl, sym, ap, ◌∙◌, append_assoc, arith}, specs.List.position_from, proofs.lemmas.Iterator.Adapters.position_from-zero}
 use Rattle.std.proofs.lemmas.List.{append-nil, map_push, take_more, length-append, length-map, length-take-le}
-use Rattle.stack_text.specs.declared.breach.Breach.{Breach}
-use Rattle.stack_text.specs.Breaches.{when, lesser_of, least, Notes}
-use Rattle.piton_check.specs.Declarations.{Declaration, is_named, first_of, repeat_of, repeats}
-use Rattle.piton_check.specs.Tables.{repeated}
-use Rattle.stack_text.specs.Options.{first_or}
+use Rattle.stack_text.{specs.declared.breach.Breach.Breach, specs.Breaches.{when, lesser_of, least, Notes}, specs.Options.first_or}
 use Rattle.stack_text.proofs.BreachLaws.{notes_more}
+use Rattle.piton_check.{specs.Declarations.{Declaration, is_named, first_of, repeat_of, repeats}, specs.Tables.repeated}
 
 -- ---- the position of one more
 

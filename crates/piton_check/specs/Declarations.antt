@@ -1,11 +1,7 @@
 -- What a system declares, in order, and where a name was declared first.
-use Rattle.std.specs.Prelude.{ℕ, List, [], ◌∷◌, ◌++◌, map, Option, Some, None, Bool, false, position, is_some}
-use Rattle.std.specs.Str.{bytes_eq}
-use Rattle.stack_text.specs.declared.name.Named.{Named}
-use Rattle.piton_syntax.specs.declared.word_text.WordText.{WordText}
-use Rattle.piton_syntax.specs.Systems.{InstrOf, ProgramOf, AreaOf, SystemOf}
-use Rattle.stack_text.specs.declared.breach.Breach.{Breach}
-use Rattle.stack_text.specs.Breaches.{when}
+use Rattle.std.specs.{Prelude.{ℕ, List, [], ◌∷◌, ◌++◌, map, Option, Some, None, Bool, false, position, is_some}, Str.{bytes_eq}}
+use Rattle.stack_text.specs.{declared.name.Named.{Named}, declared.breach.Breach.{Breach}, Breaches.{when}}
+use Rattle.piton_syntax.specs.{declared.word_text.WordText.{WordText}, Systems.{InstrOf, ProgramOf, AreaOf, SystemOf}}
 
 -- a name with the place of its breach if it repeats another; an instruction without a label declares none
 abbrev pub Declaration : Type 0

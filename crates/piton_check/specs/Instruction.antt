@@ -1,16 +1,13 @@
 -- Systems as the definitions of later layers see them: each instruction with what it needs, and positions in place of names.
 use Rattle.std.specs.Prelude.{ℕ, List, [], ◌∷◌, map, Option, Some, None}
-use Rattle.piton_words.specs.declared.word.Word.{Word}
-use Rattle.piton_words.specs.declared.op.WordOp.{WordOp}
-use Rattle.piton_syntax.specs.declared.op.PitonOp.{PitonOp}
-use Rattle.piton_syntax.specs.declared.op.PitonOp.TheVariants as op
-use Rattle.piton_syntax.specs.declared.test_kind.TestFamily.{TestFamily}
-use Rattle.piton_syntax.specs.declared.test_kind.TestFamily.TheVariants as family
+use Rattle.piton_words.specs.{declared.word.Word.{Word}, declared.op.WordOp.{WordOp}}
+use Rattle.piton_syntax.specs.{declared.op.PitonOp.{PitonOp}, declared.test_kind.TestFamily.{TestFamily}}
 use Rattle.piton_syntax.specs.declared.test_kind.TestKind.{TestKind}
-use Rattle.piton_check.specs.declared.resolved.ResolvedArg.{ResolvedArg}
+use Rattle.piton_syntax.specs.declared.op.PitonOp.TheVariants as op
+use Rattle.piton_syntax.specs.declared.test_kind.TestFamily.TheVariants as family
+use Rattle.piton_check.specs.{declared.resolved.ResolvedArg.{ResolvedArg}, WordOperations.{word_operation}, Resolved.{ResolvedInstrOf}}
+use Rattle.piton_check.specs.Resolved.{ResolvedProgramOf, ResolvedOf}
 use Rattle.piton_check.specs.declared.resolved.ResolvedArg.TheVariants as arg
-use Rattle.piton_check.specs.WordOperations.{word_operation}
-use Rattle.piton_check.specs.Resolved.{ResolvedInstrOf, ResolvedProgramOf, ResolvedOf}
 
 -- A place is the position of an instruction in its program, an offset that of a word in the frame.
 pub data Instruction : Type 0 where

@@ -1,21 +1,17 @@
 -- What the words, names and numbers of a system mean: positions of first declarations, and numbers in range.
-use Rattle.std.specs.Prelude.{ℕ, ℤ, List, map, length, get_or, Option, Some, None, nat_lt, nat_le, if◌then◌else◌}
-use Rattle.std.specs.Option.{option_map}
-use Rattle.stack_text.specs.SharedLimits.{most_stack}
+use Rattle.std.specs.{Prelude.{ℕ, ℤ, List, map, length, get_or, Option, Some, None, nat_lt, nat_le, if◌then◌else◌}, Option.{option_map}}
+use Rattle.stack_text.specs.{SharedLimits.{most_stack}, Options.{◌>>=◌}}
 use Rattle.fm_words.specs.Word.{signed_32, unsigned_32}
 use Rattle.piton_words.specs.declared.word.Word.{Word}
 use Rattle.piton_words.specs.declared.word.Word.TheVariants as word
-use Rattle.piton_syntax.specs.declared.argument.ArgKind.{ArgKind}
-use Rattle.piton_syntax.specs.declared.argument.ArgKind.TheVariants as kind
-use Rattle.piton_syntax.specs.declared.argument.Arguments.{Arguments}
+use Rattle.piton_syntax.specs.{declared.argument.ArgKind.{ArgKind}, declared.argument.Arguments.{Arguments}}
 use Rattle.piton_syntax.specs.declared.argument.Arguments.TheVariants.{Zero, One, TestAndLabel, OneOrMore}
-use Rattle.piton_syntax.specs.declared.word_text.WordItem.{WordItem}
+use Rattle.piton_syntax.specs.{declared.word_text.WordItem.{WordItem}, Systems.{ProgramOf, SystemOf}}
+use Rattle.piton_syntax.specs.declared.argument.ArgKind.TheVariants as kind
 use Rattle.piton_syntax.specs.declared.word_text.WordItem.TheVariants as item
-use Rattle.piton_syntax.specs.Systems.{ProgramOf, SystemOf}
-use Rattle.piton_check.specs.declared.resolved.ResolvedArg.{ResolvedArg}
+use Rattle.piton_check.specs.{declared.resolved.ResolvedArg.{ResolvedArg}, Declarations.{area_names, program_names, local_names}}
+use Rattle.piton_check.specs.Declarations.{label_names, first_of}
 use Rattle.piton_check.specs.declared.resolved.ResolvedArg.TheVariants as arg
-use Rattle.stack_text.specs.Options.{◌>>=◌}
-use Rattle.piton_check.specs.Declarations.{area_names, program_names, local_names, label_names, first_of}
 
 -- a number that is a position in a list of that length
 abbrev pub position_in : ℕ → ℤ → Option ℕ

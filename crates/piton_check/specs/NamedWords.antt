@@ -1,17 +1,11 @@
 -- Words as the text of Piton has them, with names in place of positions.
-use Rattle.std.specs.Prelude.{ℕ, ℤ, pos, List, [], ◌∷◌, ◌++◌, unwrap_or, slice_get}
-use Rattle.std.specs.List.{flat_map}
-use Rattle.std.specs.Option.{option_map}
-use Rattle.stack_text.specs.Grammar.Printed.{unplaced}
-use Rattle.stack_text.specs.TreeText.{tree_text}
+use Rattle.std.specs.{Prelude.{ℕ, ℤ, pos, List, [], ◌∷◌, ◌++◌, unwrap_or, slice_get}, List.{flat_map}, Option.{option_map}}
+use Rattle.stack_text.specs.{Grammar.Printed.{unplaced}, TreeText.{tree_text}}
 use Rattle.piton_words.specs.declared.word.Word.{Word}
 use Rattle.piton_words.specs.declared.word.Word.TheVariants as word
-use Rattle.piton_syntax.specs.declared.word_text.Number.{Number}
-use Rattle.piton_syntax.specs.declared.word_text.WordItem.{WordItem}
+use Rattle.piton_syntax.specs.{declared.word_text.Number.{Number}, declared.word_text.WordItem.{WordItem}}
+use Rattle.piton_syntax.specs.{declared.word_text.WordText.{WordText}, Printed.{word_tree}, Systems.{AreaOf, ProgramOf, SystemOf}}
 use Rattle.piton_syntax.specs.declared.word_text.WordItem.TheVariants as item
-use Rattle.piton_syntax.specs.declared.word_text.WordText.{WordText}
-use Rattle.piton_syntax.specs.Printed.{word_tree}
-use Rattle.piton_syntax.specs.Systems.{AreaOf, ProgramOf, SystemOf}
 
 -- The name of the area or the program at a position. Where there is none, which no word of a run names, the main program's name
 -- stands for it.

@@ -1,14 +1,9 @@
 -- What checking a system returns, and what is known of one that was checked.
 use Rattle.std.specs.Prelude.{◌≡◌, [], Some}
-use Rattle.piton_syntax.specs.PitonReading.{KeepsForm}
-use Rattle.piton_syntax.specs.Systems.{SystemOf}
-use Rattle.piton_check.specs.declared.fault.CheckFault.{CheckFault}
-use Rattle.piton_check.specs.declared.fault.CheckFault.TheVariants.{Violation, Memory}
+use Rattle.piton_syntax.specs.{PitonReading.{KeepsForm}, Systems.{SystemOf}}
+use Rattle.piton_check.specs.{declared.fault.CheckFault.{CheckFault}, declared.fault.CheckFault.TheVariants.{Violation, Memory}}
+use Rattle.piton_check.specs.{Instruction.{system_view}, Resolved.{ResolvedOf, resolved}, Sound.{IsSound}, Violations.{violations}}
 use Rattle.stack_text.specs.Breaches.{least}
-use Rattle.piton_check.specs.Instruction.{system_view}
-use Rattle.piton_check.specs.Resolved.{ResolvedOf, resolved}
-use Rattle.piton_check.specs.Sound.{IsSound}
-use Rattle.piton_check.specs.Violations.{violations}
 
 pub record CheckedOf : Type 0 where
   pub system : SystemOf

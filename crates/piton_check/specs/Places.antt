@@ -2,8 +2,7 @@
 use Rattle.std.specs.Prelude.{◌≡◌, List, map}
 use Rattle.stack_text.specs.declared.breach.Breach.{Breach}
 use Rattle.piton_syntax.specs.Systems.{SystemOf, without_places}
-use Rattle.piton_check.specs.Resolved.{resolved}
-use Rattle.piton_check.specs.Violations.{violations}
+use Rattle.piton_check.specs.{Resolved.{resolved}, Violations.{violations}}
 
 -- the same rules are broken, as often and in the same order
 abbrev pub BreakAlike : List Breach → List Breach → Type 0

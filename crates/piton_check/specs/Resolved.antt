@@ -4,18 +4,14 @@ use Rattle.std.specs.Prelude.{ℕ, ℤ, List, map, length, unwrap_or, false}
 use Rattle.piton_words.specs.declared.word.Word.{Word}
 use Rattle.piton_words.specs.declared.word.Word.TheVariants as word
 use Rattle.stack_text.specs.declared.name.Named.{Named}
-use Rattle.piton_syntax.specs.declared.argument.ArgKind.{ArgKind}
-use Rattle.piton_syntax.specs.declared.argument.ArgText.{ArgText}
+use Rattle.piton_syntax.specs.{declared.argument.ArgKind.{ArgKind}, declared.argument.ArgText.{ArgText}, declared.op.PitonOp.{PitonOp}}
+use Rattle.piton_syntax.specs.{declared.word_text.WordText.{WordText}, Operations.{op_arguments}, Systems.{InstrOf, ProgramOf, AreaOf}}
+use Rattle.piton_syntax.specs.Systems.{SystemOf}
 use Rattle.piton_syntax.specs.declared.argument.ArgText.TheVariants as text
-use Rattle.piton_syntax.specs.declared.op.PitonOp.{PitonOp}
-use Rattle.piton_syntax.specs.declared.word_text.WordText.{WordText}
-use Rattle.piton_syntax.specs.Operations.{op_arguments}
-use Rattle.piton_syntax.specs.Systems.{InstrOf, ProgramOf, AreaOf, SystemOf}
-use Rattle.piton_check.specs.declared.resolved.ResolvedArg.{ResolvedArg}
+use Rattle.piton_check.specs.{declared.resolved.ResolvedArg.{ResolvedArg}, Declarations.{program_names, first_of}, Meaning.{word_of}}
+use Rattle.piton_check.specs.Meaning.{name_kind, name_of, count_of}
 use Rattle.piton_check.specs.declared.resolved.ResolvedArg.TheVariants as arg
-use Rattle.piton_check.specs.Declarations.{program_names, first_of}
 use Rattle.fm_words.specs.Word.{unsigned_32}
-use Rattle.piton_check.specs.Meaning.{word_of, name_kind, name_of, count_of}
 
 pub record ResolvedInstrOf : Type 0 where
   pub op : PitonOp

@@ -1,15 +1,14 @@
 -- What is known of a checked system: all that it names exists, and its numbers are within their limits.
 use Rattle.std.specs.Prelude.{◌≡◌, ℕ, ◌+◌, ◌-◌, ◌<◌, ◌≤◌, ◌^◌, [], length, map, get_or, slice_get, Some, All, Contains, IsTrue}
 use Rattle.std.specs.List.{sum_by}
-use Rattle.piton_syntax.specs.Limits.{most_instructions, most_areas, most_programs, most_program_variables}
+use Rattle.piton_syntax.specs.{Limits.{most_instructions, most_areas, most_programs, most_program_variables}, Operations.{tests_of}}
 use Rattle.stack_text.specs.SharedLimits.{most_stack}
 use Rattle.fm_words.specs.Word.{is_int}
 use Rattle.piton_words.specs.declared.word.Word.{Word}
 use Rattle.piton_words.specs.declared.word.Word.TheVariants as word
-use Rattle.piton_syntax.specs.Operations.{tests_of}
 use Rattle.piton_check.specs.Instruction.{Instruction, PushConstant, PushLocal, PopLocal, SetLocal, PushGlobal, PopGlobal, SetGlobal}
-use Rattle.piton_check.specs.Instruction.{PushTempStkIndex, PopStar, NoOp, Jump, JumpIfTempStkFull, JumpIfTempStkEmpty, JumpCase}
-use Rattle.piton_check.specs.Instruction.{Pushj, Popj, TestAndJump, Call, Ret, ProgramView, SystemView}
+use Rattle.piton_check.specs.Instruction.{PushTempStkIndex, PopStar, NoOp, Jump, JumpIfTempStkFull, JumpIfTempStkEmpty, JumpCase, Pushj}
+use Rattle.piton_check.specs.Instruction.{Popj, TestAndJump, Call, Ret, ProgramView, SystemView}
 
 -- how many words an area has, how many instructions a program, and how many words a program's variables take
 abbrev pub area_length : SystemView → ℕ → ℕ

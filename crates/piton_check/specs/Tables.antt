@@ -1,13 +1,10 @@
 -- Tables of names, each with the position of the name's first declaration.
 use Rattle.std.specs.Prelude.{◌≡◌, ℕ, ◌+◌, ◌≤◌, ◌^◌, List, [], length, slice_get, Option, Some, None, is_some}
-use Rattle.piton_syntax.specs.Systems.{ProgramOf, SystemOf}
-use Rattle.piton_syntax.specs.Limits.{most_instructions}
+use Rattle.piton_syntax.specs.{Systems.{ProgramOf, SystemOf}, Limits.{most_instructions}}
 use Rattle.name_tables.specs.Entries.{Entries, look_up}
-use Rattle.stack_text.specs.declared.breach.Breach.{Breach}
-use Rattle.stack_text.specs.Breaches.{when}
+use Rattle.stack_text.specs.{declared.breach.Breach.{Breach}, Breaches.{when}}
 use Rattle.piton_check.specs.Declarations.{Declaration, first_of, program_names, area_names, local_names, label_names}
-use Rattle.piton_check.specs.declared.names.Names.{Names}
-use Rattle.piton_check.specs.declared.names.Scope.{Scope}
+use Rattle.piton_check.specs.{declared.names.Names.{Names}, declared.names.Scope.{Scope}}
 
 -- a name for which a position is known
 abbrev pub repeated : (List ℕ → Option ℕ) → ℕ → Declaration → List Breach

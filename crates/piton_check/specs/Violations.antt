@@ -1,24 +1,16 @@
 -- All breaches of the static rules Q1 to Q14 in a system.
-use Rattle.std.specs.Prelude.{ℕ, ◌+◌, ◌-◌, ◌^◌, max, ℤ, pos, negsuc, List, [], ◌++◌, length, Option, Some, None, Bool, true, false}
-use Rattle.std.specs.Prelude.{not, ◌&&◌, nat_lt, nat_le, slice_get}
-use Rattle.std.specs.List.{flat_map}
-use Rattle.std.specs.Option.{is_none}
-use Rattle.stack_text.specs.SharedLimits.{most_stack}
-use Rattle.stack_text.specs.declared.name.Named.{Named}
-use Rattle.piton_syntax.specs.declared.argument.ArgKind.{ArgKind}
-use Rattle.piton_syntax.specs.declared.argument.ArgKind.TheVariants as kind
-use Rattle.piton_syntax.specs.declared.argument.ArgText.{ArgText}
-use Rattle.piton_syntax.specs.declared.argument.ArgText.TheVariants as text
-use Rattle.piton_syntax.specs.declared.op.PitonOp.{PitonOp}
-use Rattle.piton_syntax.specs.declared.op.PitonOp.TheVariants as op
-use Rattle.piton_syntax.specs.declared.word_text.WordText.{WordText}
-use Rattle.piton_syntax.specs.Operations.{op_arguments}
-use Rattle.piton_syntax.specs.Systems.{InstrOf, ProgramOf, AreaOf, SystemOf}
-use Rattle.stack_text.specs.declared.breach.Breach.{Breach}
-use Rattle.stack_text.specs.Breaches.{when}
-use Rattle.piton_check.specs.Declarations.{area_names, program_names, local_names, label_names, first_of, repeats}
+use Rattle.std.specs.Prelude.{ℕ, ◌+◌, ◌-◌, ◌^◌, max, ℤ, pos, negsuc, List, [], ◌++◌, length, Option, Some, None, Bool, true, false, not}
+use Rattle.std.specs.{Prelude.{◌&&◌, nat_lt, nat_le, slice_get}, List.{flat_map}, Option.{is_none}}
+use Rattle.stack_text.specs.{SharedLimits.{most_stack}, declared.name.Named.{Named}, declared.breach.Breach.{Breach}, Breaches.{when}}
 use Rattle.stack_text.specs.Options.{◌>>=◌}
-use Rattle.piton_check.specs.Meaning.{word_of, name_kind, name_of, count_of}
+use Rattle.piton_syntax.specs.{declared.argument.ArgKind.{ArgKind}, declared.argument.ArgText.{ArgText}, declared.op.PitonOp.{PitonOp}}
+use Rattle.piton_syntax.specs.{declared.word_text.WordText.{WordText}, Operations.{op_arguments}, Systems.{InstrOf, ProgramOf, AreaOf}}
+use Rattle.piton_syntax.specs.Systems.{SystemOf}
+use Rattle.piton_syntax.specs.declared.argument.ArgKind.TheVariants as kind
+use Rattle.piton_syntax.specs.declared.argument.ArgText.TheVariants as text
+use Rattle.piton_syntax.specs.declared.op.PitonOp.TheVariants as op
+use Rattle.piton_check.specs.{Declarations.{area_names, program_names, local_names, label_names, first_of, repeats}, Meaning.{word_of}}
+use Rattle.piton_check.specs.Meaning.{name_kind, name_of, count_of}
 
 -- Q11: a word means nothing
 abbrev pub word_breaches : SystemOf → WordText → List Breach

@@ -1,14 +1,10 @@
 //! Arguments and instructions.
 
-ghost use Rattle.std.specs.Prelude.{◌≡◌, map, OnOk};
-ghost use Rattle.std.specs.List.{flat_map};
+ghost use Rattle.std.specs.{Prelude.{◌≡◌, map, OnOk}, List.{flat_map}};
 ghost use Rattle.stack_heap.specs.Heaps.{IfOkUnless};
 ghost use Rattle.stack_text.specs.Breaches.{Notes};
-ghost use Rattle.piton_check.specs.Declarations.{label_names, local_names, first_of};
-ghost use Rattle.piton_check.specs.Meaning.{count_of, name_kind, name_of};
-ghost use Rattle.piton_check.specs.Resolved.{resolved_argument, resolved_instruction};
-ghost use Rattle.piton_check.specs.Tables.{KnowsProgram};
-ghost use Rattle.piton_check.specs.Violations.{name_rule, argument_breaches, instruction_breaches};
+ghost use Rattle.piton_check.specs.{Declarations.{label_names, local_names, first_of}, Meaning.{count_of, name_kind, name_of}, Resolved.{resolved_argument}};
+ghost use Rattle.piton_check.specs.{Resolved.{resolved_instruction}, Tables.{KnowsProgram}, Violations.{name_rule, argument_breaches, instruction_breaches}};
 
 use crate::names::Scope;
 use crate::resolved::{ResolvedArg, ResolvedInstr};

@@ -1,12 +1,9 @@
 //! Tables of names, each with the position of its first declaration.
 
-ghost use Rattle.std.specs.Prelude.{◌≡◌, ℕ, ◌+◌, ◌≤◌, ◌^◌, List, [], ◌++◌, length, map, is_some, OnOk};
-ghost use Rattle.std.specs.Str.{bytes_eq};
+ghost use Rattle.std.specs.{Prelude.{◌≡◌, ℕ, ◌+◌, ◌≤◌, ◌^◌, List, [], ◌++◌, length, map, is_some, OnOk}, Str.{bytes_eq}};
 ghost use Rattle.stack_heap.specs.Heaps.{OnOkUnless};
-ghost use Rattle.stack_text.specs.Breaches.{when, Notes};
-ghost use Rattle.piton_check.specs.Declarations.{declaration, formal_name, temporary_name, label_name, is_named, repeats};
-ghost use Rattle.piton_check.specs.Tables.{repeated, Knows};
-ghost use Rattle.stack_text.specs.Options.{first_or};
+ghost use Rattle.stack_text.specs.{Breaches.{when, Notes}, Options.{first_or}};
+ghost use Rattle.piton_check.specs.{Declarations.{declaration, formal_name, temporary_name, label_name, is_named, repeats}, Tables.{repeated, Knows}};
 ghost use Rattle.name_tables.specs.Entries.{look_up};
 
 use name_tables::{NameKeys, NameTable};

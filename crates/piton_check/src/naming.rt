@@ -1,6 +1,5 @@
 //! Words as the text of Piton has them, with names in place of positions.
-ghost use Rattle.std.specs.Prelude.{◌≡◌, ◌++◌, pos, slice_get};
-ghost use Rattle.std.specs.Option.{option_map};
+ghost use Rattle.std.specs.{Prelude.{◌≡◌, ◌++◌, pos, slice_get}, Option.{option_map}};
 ghost use Rattle.stack_heap.specs.Heaps.{IfOkUnless, OnOkUnless};
 ghost use Rattle.piton_check.specs.NamedWords.{area_name_at, program_name_at, number_item, named_item, named_word, word_text, words_line};
 

@@ -1,13 +1,10 @@
 //! Programs.
 
-ghost use Rattle.std.specs.Prelude.{◌≡◌, ◌+◌, ◌-◌, ◌++◌, [], length, map, slice_get, IfOk, OnOk};
-ghost use Rattle.std.specs.List.{flat_map};
+ghost use Rattle.std.specs.{Prelude.{◌≡◌, ◌+◌, ◌-◌, ◌++◌, [], length, map, slice_get, IfOk, OnOk}, List.{flat_map}};
 ghost use Rattle.stack_heap.specs.Heaps.{IfOkUnless};
 ghost use Rattle.stack_text.specs.Breaches.{Notes};
-ghost use Rattle.piton_check.specs.Resolved.{resolved_program};
-ghost use Rattle.piton_check.specs.Declarations.{label_names, local_names, repeats};
-ghost use Rattle.piton_check.specs.Tables.{IsSmall, AreSmall, Knows, KnowsSystem, KnowsProgram};
-ghost use Rattle.piton_check.specs.Violations.{is_end, end_breaches, program_breaches};
+ghost use Rattle.piton_check.specs.{Resolved.{resolved_program}, Declarations.{label_names, local_names, repeats}, Tables.{IsSmall, AreSmall, Knows}};
+ghost use Rattle.piton_check.specs.{Tables.{KnowsSystem, KnowsProgram}, Violations.{is_end, end_breaches, program_breaches}};
 
 use crate::argument::instructions;
 use crate::names::{Names, Scope, declare_labels, declare_locals, label_keys, local_keys};

@@ -1,13 +1,10 @@
 //! Systems.
 
-ghost use Rattle.std.specs.Prelude.{◌≡◌, ◌+◌, not, map, IfOk, OnOk};
-ghost use Rattle.std.specs.List.{flat_map};
-ghost use Rattle.std.specs.Option.{option_map};
+ghost use Rattle.std.specs.{Prelude.{◌≡◌, ◌+◌, not, map, IfOk, OnOk}, List.{flat_map}, Option.{option_map}};
 ghost use Rattle.stack_heap.specs.Heaps.{IfOkUnless};
 ghost use Rattle.stack_text.specs.Breaches.{when, Notes};
-ghost use Rattle.piton_check.specs.Resolved.{resolved, resolved_area, resolved_number};
-ghost use Rattle.piton_check.specs.Tables.{IsSmallSystem, KnowsSystem};
-ghost use Rattle.piton_check.specs.Violations.{area_breaches, first_frame, is_within, main_breaches, main_of, name_breaches, part_breaches, size_breaches, violations};
+ghost use Rattle.piton_check.specs.{Resolved.{resolved, resolved_area, resolved_number}, Tables.{IsSmallSystem, KnowsSystem}, Violations.{area_breaches}};
+ghost use Rattle.piton_check.specs.Violations.{first_frame, is_within, main_breaches, main_of, name_breaches, part_breaches, size_breaches, violations};
 
 use crate::names::{Names, declare_each, keys_of};
 use crate::program::programs;

@@ -1,15 +1,11 @@
 //! Numbers and words.
 
-ghost use Rattle.std.specs.Prelude.{◌≡◌, map, get_or, OnOk};
-ghost use Rattle.std.specs.List.{flat_map};
+ghost use Rattle.std.specs.{Prelude.{◌≡◌, map, get_or, OnOk}, List.{flat_map}};
 ghost use Rattle.stack_heap.specs.Heaps.{IfOkUnless};
 ghost use Rattle.stack_text.specs.Breaches.{Notes};
-ghost use Rattle.piton_check.specs.Declarations.{area_names, program_names, first_of};
+ghost use Rattle.piton_check.specs.{Declarations.{area_names, program_names, first_of}, Meaning.{position_in, area_lengths, program_lengths, word_of}};
+ghost use Rattle.piton_check.specs.{Resolved.{resolved_word, resolved_temporary}, Tables.{KnowsSystem}, Violations.{word_breaches, temporary_breaches}};
 ghost use Rattle.fm_words.specs.Word.{unsigned_32, signed_32};
-ghost use Rattle.piton_check.specs.Meaning.{position_in, area_lengths, program_lengths, word_of};
-ghost use Rattle.piton_check.specs.Resolved.{resolved_word, resolved_temporary};
-ghost use Rattle.piton_check.specs.Tables.{KnowsSystem};
-ghost use Rattle.piton_check.specs.Violations.{word_breaches, temporary_breaches};
 
 use crate::names::Names;
 use piton_syntax::{System, WordItem, WordText};

@@ -2,12 +2,8 @@
 
 ghost use Rattle.std.specs.Prelude.{◌≡◌, ◌++◌, ◌^◌, ◌≤◌, IfOk, OnOk};
 ghost use Rattle.stack_heap.specs.Heaps.{IfOkUnless, OnOkUnless};
-ghost use Rattle.piton_semantics.specs.Fits.{system_in};
-ghost use Rattle.piton_semantics.specs.Groups.{IsOfGroup};
-ghost use Rattle.piton_semantics.specs.Placed.{placed};
-ghost use Rattle.piton_semantics.specs.Stands.{DoesStepsAt};
-ghost use Rattle.piton_semantics.specs.Templates.{code_pieces, operation_code, pieces_at};
-ghost use Rattle.piton_semantics.specs.declared.group.Group.TheVariants.{Word};
+ghost use Rattle.piton_semantics.specs.{Fits.{system_in}, Groups.{IsOfGroup}, Placed.{placed}, Stands.{DoesStepsAt}, Templates.{code_pieces, operation_code}};
+ghost use Rattle.piton_semantics.specs.{Templates.{pieces_at}, declared.group.Group.TheVariants.{Word}};
 
 use fm_code::template::{
     carry_code, div2_code, eq_code, lt_code, mult2_carry_code, no_op_code, not_bool_code, one_code,

@@ -1,14 +1,8 @@
 -- A checked system has few places and few locals.
-use Rattle.std.proofs.Common.{◌≡◌, ℕ, ◌+◌, ◌<◌, ◌≤◌, Some, sym, subst, arith}
-use Rattle.std.specs.Prelude.{◌^◌}
-use Rattle.std.proofs.lemmas.Option.{slice_get_within}
-use Rattle.piton_check.specs.PitonChecking.{CheckedOf, IsChecked}
-use Rattle.piton_check.specs.Instruction.{Instruction, SystemView, system_view}
-use Rattle.piton_check.specs.Resolved.{ResolvedOf}
+use Rattle.std.{proofs.Common.{◌≡◌, ℕ, ◌+◌, ◌<◌, ◌≤◌, Some, sym, subst, arith}, specs.Prelude.◌^◌, proofs.lemmas.Option.slice_get_within}
+use Rattle.piton_check.{specs.PitonChecking.{CheckedOf, IsChecked}, specs.Instruction.{Instruction, SystemView, system_view}, specs.Resolved.ResolvedOf}
 use Rattle.piton_check.specs.Sound.{IsSound}
-use Rattle.piton_semantics.specs.State.{program_of, instruction_at, variables_of}
-use Rattle.piton_semantics.specs.Fits.{system_in}
-use Rattle.piton_semantics.proofs.SoundLaws.{known}
+use Rattle.piton_semantics.{specs.State.{program_of, instruction_at, variables_of}, specs.Fits.system_in, proofs.SoundLaws.known}
 
 pub next_fits : (s : SystemView) → IsSound s → (program place : ℕ) (instruction : Instruction) → instruction_at s program place ≡ Some instruction
     → place + 1 < 2 ^ 32

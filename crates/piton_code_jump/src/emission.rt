@@ -2,15 +2,9 @@
 
 ghost use Rattle.std.specs.Prelude.{◌≡◌, ◌+◌, ◌++◌, ◌^◌, ◌<◌, ◌≤◌, IfOk, OnOk, map};
 ghost use Rattle.stack_heap.specs.Heaps.{IfOkUnless, OnOkUnless};
-ghost use Rattle.piton_check.specs.Instruction.{place_of};
-ghost use Rattle.piton_check.specs.declared.piece.Piece.TheVariants.{Place};
-ghost use Rattle.piton_semantics.specs.Fits.{system_in};
-ghost use Rattle.piton_semantics.specs.Groups.{IsOfGroup, only_of};
-ghost use Rattle.piton_semantics.specs.PitonInstr.{decoded_view};
-ghost use Rattle.piton_semantics.specs.Placed.{placed};
-ghost use Rattle.piton_semantics.specs.Stands.{DoesStepsAt};
-ghost use Rattle.piton_semantics.specs.Templates.{condition_of, jump_case_pieces, pieces_of, pieces_at};
-ghost use Rattle.piton_semantics.specs.declared.group.Group.TheVariants.{Jump};
+ghost use Rattle.piton_check.specs.{Instruction.{place_of}, declared.piece.Piece.TheVariants.{Place}};
+ghost use Rattle.piton_semantics.specs.{Fits.{system_in}, Groups.{IsOfGroup, only_of}, PitonInstr.{decoded_view}, Placed.{placed}, Stands.{DoesStepsAt}};
+ghost use Rattle.piton_semantics.specs.{Templates.{condition_of, jump_case_pieces, pieces_of, pieces_at}, declared.group.Group.TheVariants.{Jump}};
 
 use crate::row::{
     push_call, push_jump_if_top, push_pop_call, push_ret, push_table_jump, push_test,

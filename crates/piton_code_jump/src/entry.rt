@@ -2,9 +2,7 @@
 
 ghost use Rattle.std.specs.Prelude.{◌≡◌, ◌<◌, ◌++◌, length};
 ghost use Rattle.stack_heap.specs.Heaps.{IfOkUnless, OnOkUnless};
-ghost use Rattle.piton_semantics.specs.Fits.{system_in};
-ghost use Rattle.piton_semantics.specs.State.{program_of};
-ghost use Rattle.piton_semantics.specs.Templates.{temporary_pieces, formal_pieces, entered_pieces, prelude_pieces};
+ghost use Rattle.piton_semantics.specs.{Fits.{system_in}, State.{program_of}, Templates.{temporary_pieces, formal_pieces, entered_pieces, prelude_pieces}};
 
 use fm_code::word::{literal, mov, pop, push, reg};
 use piton_check::{Checked, Piece};

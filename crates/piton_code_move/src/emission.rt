@@ -3,13 +3,8 @@
 ghost use Rattle.std.specs.Prelude.{◌≡◌, ◌+◌, ◌++◌, ◌^◌, ◌<◌, ◌≤◌, ℕ, IfOk, OnOk};
 ghost use Rattle.stack_heap.specs.Heaps.{IfOkUnless, OnOkUnless};
 ghost use Rattle.piton_check.specs.Instruction.{PushTempStkIndex};
-ghost use Rattle.piton_semantics.specs.Fits.{system_in};
-ghost use Rattle.piton_semantics.specs.Groups.{IsOfGroup, only_of};
-ghost use Rattle.piton_semantics.specs.PitonInstr.{decoded_view};
-ghost use Rattle.piton_semantics.specs.Placed.{placed};
-ghost use Rattle.piton_semantics.specs.Stands.{DoesStepsAt};
-ghost use Rattle.piton_semantics.specs.Templates.{pieces_of, pieces_at};
-ghost use Rattle.piton_semantics.specs.declared.group.Group.TheVariants.{Move};
+ghost use Rattle.piton_semantics.specs.{Fits.{system_in}, Groups.{IsOfGroup, only_of}, PitonInstr.{decoded_view}, Placed.{placed}, Stands.{DoesStepsAt}};
+ghost use Rattle.piton_semantics.specs.{Templates.{pieces_of, pieces_at}, declared.group.Group.TheVariants.{Move}};
 
 use crate::row::{push_end, push_free, push_global, push_local};
 use fm_code::template::{deposit_code, fetch_code, no_op_code, pop_code, popn_code};

@@ -1,22 +1,15 @@
 -- The words of a sound system are few enough for their sums to be numbers of 64 bits.
-use Rattle.std.proofs.Common.{◌≡◌, ℕ, zero, suc, ◌+◌, ◌<◌, ◌≤◌, List, [], ◌∷◌, length, map, refl, sym, ap, ◌∙◌, subst, arith}
-use Rattle.std.specs.Prelude.{◌*◌, ◌^◌, take, slice_get, get_or, Some, Vec, sum_by}
-use Rattle.std.proofs.lemmas.List.Recursion.{is_sum_by}
-use Rattle.std.proofs.lemmas.List.Sums.{sum_by-cons, sum_by-take-le}
-use Rattle.std.proofs.lemmas.Simd.{map-map}
-use Rattle.piton_words.specs.declared.word.Word.{Word}
-use Rattle.piton_words.specs.declared.op.WordOp.{WordOp}
+use Rattle.std.{proofs.Common.{◌≡◌, ℕ, zero, suc, ◌+◌, ◌<◌, ◌≤◌, List, [], ◌∷◌, length, map, refl, sym, ap, ◌∙◌, subst, arith}, specs.Prelude.{◌*◌, ◌^◌, take}}
+use Rattle.std.{specs.Prelude.{slice_get, get_or, Some, Vec, sum_by}, proofs.lemmas.List.Recursion.is_sum_by, proofs.lemmas.List.Sums.sum_by-cons}
+use Rattle.std.{proofs.lemmas.List.Sums.sum_by-take-le, proofs.lemmas.Simd.map-map}
+use Rattle.piton_words.{specs.declared.word.Word.Word, specs.declared.op.WordOp.WordOp}
 use Rattle.piton_words.specs.declared.op.WordOp.TheVariants as word_op
-use Rattle.piton_check.specs.PitonChecking.{CheckedOf, IsChecked}
-use Rattle.piton_check.specs.Resolved.{ResolvedInstrOf, ResolvedProgramOf, ResolvedOf}
+use Rattle.piton_check.{specs.PitonChecking.{CheckedOf, IsChecked}, specs.Resolved.{ResolvedInstrOf, ResolvedProgramOf, ResolvedOf}}
+use Rattle.piton_check.{specs.Instruction.{Instruction, ProgramView, SystemView, instruction_view, program_view, system_view}, specs.Sound.IsSound}
+use Rattle.piton_check.specs.Sound.{IsSoundProgram, target_count, program_targets}
 use Rattle.piton_check.specs.Instruction as i
-use Rattle.piton_check.specs.Instruction.{Instruction, ProgramView, SystemView, instruction_view, program_view, system_view}
-use Rattle.piton_check.specs.Sound.{IsSound, IsSoundProgram, target_count, program_targets}
-use Rattle.piton_semantics.specs.Fits.{Each, system_in}
-use Rattle.piton_semantics.specs.StateView.{words_in}
-use Rattle.piton_semantics.proofs.SoundLaws.{all_each}
-use Rattle.piton_semantics.specs.Placed.{instruction_size, instructions_size, program_size, programs_size, areas_size}
-use Rattle.piton_semantics.specs.Step.{operation_cost}
+use Rattle.piton_semantics.{specs.Fits.{Each, system_in}, specs.StateView.words_in, proofs.SoundLaws.all_each, specs.Placed.instruction_size}
+use Rattle.piton_semantics.{specs.Placed.{instructions_size, program_size, programs_size, areas_size}, specs.Step.operation_cost}
 
 -- ---- sizes as sums
 

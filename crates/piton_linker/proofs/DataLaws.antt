@@ -1,11 +1,9 @@
 -- The numbers of the data of a placed system.
 use Rattle.std.proofs.Common.{◌≡◌, ℕ, zero, suc, ◌+◌, ◌-◌, ◌<◌, Some, List, [], ◌∷◌, ◌++◌, length, take, reverse, sym, ap, ◌∙◌, arith, append_assoc}
-use Rattle.std.specs.Prelude.{get_or, slice_get}
-use Rattle.std.proofs.lemmas.List.{append-nil, length-reverse, get_or-reverse}
+use Rattle.std.{specs.Prelude.{get_or, slice_get}, proofs.lemmas.List.{append-nil, length-reverse, get_or-reverse}}
 use Rattle.piton_words.specs.declared.word.Word.{Word}
 use Rattle.piton_check.specs.Instruction.{SystemView}
-use Rattle.piton_semantics.specs.Addresses.{word_number, numbers}
-use Rattle.piton_semantics.specs.Placed.{addresses_of}
+use Rattle.piton_semantics.{specs.Addresses.{word_number, numbers}, specs.Placed.addresses_of}
 use Rattle.piton_linker.specs.Tables.{areas_words}
 
 pub numbers_more : (s : SystemView) (k w : ℕ) (ws : List Word) (d : Word) → w ≡ word_number (addresses_of s) (get_or ws k d) → k < length ws

@@ -1,22 +1,13 @@
 -- What filling does to words so far, where a word more or a fix-up more comes behind them.
 use Rattle.std.proofs.Common.{◌≡◌, ℕ, zero, suc, ◌+◌, ◌<◌, ◌≤◌, Bool, true, false, ◌==◌, if◌then◌else◌, Some, None, List, [], ◌∷◌, ◌++◌, length, map, take, set}
-use Rattle.std.proofs.Common.{refl, sym, ap, ◌∙◌, subst, arith, length-append, length-set}
-use Rattle.std.specs.Prelude.{get_or, slice_get}
-use Rattle.std.proofs.lemmas.Bool.{eqb-true}
-use Rattle.std.proofs.lemmas.List.{set-append_left}
-use Rattle.std.proofs.Math.Seq.{set-append_seam}
-use Rattle.piton_check.specs.declared.piece.Piece.{Piece}
-use Rattle.piton_check.specs.declared.piece.Piece.TheVariants.{Code, Number, Place, Entry, Area, TempEnd, TempStart, CtrlStart, Table}
-use Rattle.piton_check.specs.Instruction.{Instruction, SystemView}
-use Rattle.piton_semantics.specs.Fits.{Each}
-use Rattle.piton_semantics.proofs.EachLaws.{each_append}
-use Rattle.piton_semantics.specs.Addresses.{Addresses}
-use Rattle.piton_semantics.specs.State.{program_of}
-use Rattle.piton_semantics.specs.Placed.{entry_of, address_of_place, instruction_size, instructions_size, prelude_size, addresses_of}
-use Rattle.piton_semantics.specs.Templates.{word_of}
-use Rattle.piton_linker.specs.declared.draft.FixUp.{FixUp}
-use Rattle.piton_linker.specs.Tables.{starts, row_at, PieceExists}
-use Rattle.piton_linker.specs.Drafts.{IsRow, known_word, DraftOf, filled, drafted, IsFixUp, IsDraft}
+use Rattle.std.{proofs.Common.{refl, sym, ap, ◌∙◌, subst, arith, length-append, length-set}, specs.Prelude.{get_or, slice_get}, proofs.lemmas.Bool.eqb-true}
+use Rattle.std.{proofs.lemmas.List.set-append_left, proofs.Math.Seq.set-append_seam}
+use Rattle.piton_check.{specs.declared.piece.Piece.Piece, specs.declared.piece.Piece.TheVariants.{Code, Number, Place, Entry, Area, TempEnd, TempStart}}
+use Rattle.piton_check.{specs.declared.piece.Piece.TheVariants.{CtrlStart, Table}, specs.Instruction.{Instruction, SystemView}}
+use Rattle.piton_semantics.{specs.Fits.Each, proofs.EachLaws.each_append, specs.Addresses.Addresses, specs.State.program_of, specs.Placed.entry_of}
+use Rattle.piton_semantics.{specs.Placed.{address_of_place, instruction_size, instructions_size, prelude_size, addresses_of}, specs.Templates.word_of}
+use Rattle.piton_linker.{specs.declared.draft.FixUp.FixUp, specs.Tables.{starts, row_at, PieceExists}, specs.Drafts.{IsRow, known_word, DraftOf, filled}}
+use Rattle.piton_linker.specs.Drafts.{drafted, IsFixUp, IsDraft}
 
 pub length-filled : (A : Addresses) (ws : List ℕ) (fs : List FixUp) → length (filled A ws fs) ≡ length ws
 length-filled A ws [] = refl

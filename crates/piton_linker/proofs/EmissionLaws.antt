@@ -1,26 +1,15 @@
 -- What is known of the pieces of a checked system's places and preludes, in its resolved form.
 use Rattle.std.proofs.Common.{◌≡◌, ℕ, zero, suc, ◌+◌, ◌<◌, ◌≤◌, Some, List, [], ◌∷◌, ◌++◌, length, take, refl, sym, ap, ◌∙◌, subst, arith, length-append}
-use Rattle.std.proofs.Common.{append_assoc}
-use Rattle.std.specs.Prelude.{◌^◌, slice_get, slice_index_or}
-use Rattle.std.proofs.lemmas.List.{append-nil}
-use Rattle.piton_check.specs.PitonChecking.{CheckedOf, IsChecked}
-use Rattle.piton_check.specs.Resolved.{ResolvedOf}
-use Rattle.piton_check.specs.Instruction.{Instruction, ProgramView, SystemView, system_view}
-use Rattle.piton_check.specs.Sound.{IsSound, local_count}
-use Rattle.piton_semantics.specs.State.{program_of, instruction_at}
-use Rattle.piton_semantics.specs.Fits.{Each, IsPlace, system_in}
-use Rattle.piton_semantics.proofs.SoundLaws.{known}
-use Rattle.piton_semantics.specs.Addresses.{Addresses}
+use Rattle.std.{proofs.Common.append_assoc, specs.Prelude.{◌^◌, slice_get, slice_index_or}, proofs.lemmas.List.append-nil}
+use Rattle.piton_check.{specs.PitonChecking.{CheckedOf, IsChecked}, specs.Resolved.ResolvedOf, specs.Instruction.{Instruction, ProgramView, SystemView}}
+use Rattle.piton_check.{specs.Instruction.system_view, specs.Sound.{IsSound, local_count}}
+use Rattle.piton_semantics.{specs.State.{program_of, instruction_at}, specs.Fits.{Each, IsPlace, system_in}, proofs.SoundLaws.known, specs.Addresses.Addresses}
 use Rattle.piton_semantics.specs.Placed.{entry_of, address_of_place, final_pc_of, prelude_size, instruction_size, instructions_size, programs_size}
-use Rattle.piton_semantics.specs.Placed.{addresses_of}
-use Rattle.piton_semantics.specs.Templates.{pieces_of, pieces_by, pieces_at, prelude_pieces, words_of, template, prelude_words, instructions_words}
-use Rattle.piton_semantics.specs.Templates.{program_words, programs_words}
-use Rattle.piton_semantics.proofs.SizeLaws.{length-words_of, length-template, length-prelude_pieces, length-prelude_words, length-instructions_words}
-use Rattle.piton_semantics.proofs.SizeLaws.{length-programs_words}
-use Rattle.piton_semantics.proofs.AddressLaws.{program_there}
-use Rattle.piton_semantics.proofs.ReadyLaws.{programs_end}
-use Rattle.piton_linker.specs.Tables.{words_at, PieceExists}
-use Rattle.piton_linker.proofs.NameLaws.{pieces_named, prelude_named}
+use Rattle.piton_semantics.{specs.Placed.addresses_of, specs.Templates.{pieces_of, pieces_by, pieces_at, prelude_pieces, words_of, template, prelude_words}}
+use Rattle.piton_semantics.{specs.Templates.{instructions_words, program_words, programs_words}, proofs.SizeLaws.{length-words_of, length-template}}
+use Rattle.piton_semantics.proofs.SizeLaws.{length-prelude_pieces, length-prelude_words, length-instructions_words, length-programs_words}
+use Rattle.piton_semantics.{proofs.AddressLaws.program_there, proofs.ReadyLaws.programs_end}
+use Rattle.piton_linker.{specs.Tables.{words_at, PieceExists}, proofs.NameLaws.{pieces_named, prelude_named}}
 
 -- the instruction at a place
 found_at : (is : List Instruction) (k : ℕ) → k < length is → (x : Instruction) × (slice_get is k ≡ Some x)

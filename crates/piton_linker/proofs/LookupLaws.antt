@@ -1,17 +1,13 @@
 -- What a table of addresses has, and how it grows.
-use Rattle.std.proofs.Common.{◌≡◌, ℕ, zero, suc, ◌+◌, ◌<◌, ◌≤◌, Some, List, [], ◌∷◌, ◌++◌, length, map, take, refl, sym, ap, ◌∙◌, arith}
-use Rattle.std.specs.Prelude.{◌^◌, unwrap_or, get_or, slice_get, slice_index_or, sum_by}
-use Rattle.std.proofs.lemmas.List.Sums.{sum_by-cons}
+use Rattle.std.{proofs.Common.{◌≡◌, ℕ, zero, suc, ◌+◌, ◌<◌, ◌≤◌, Some, List, [], ◌∷◌, ◌++◌, length, map, take, refl, sym, ap, ◌∙◌, arith}, specs.Prelude.◌^◌}
+use Rattle.std.{specs.Prelude.{unwrap_or, get_or, slice_get, slice_index_or, sum_by}, proofs.lemmas.List.Sums.sum_by-cons}
 use Rattle.piton_words.specs.declared.word.Word.{Word}
 use Rattle.piton_check.specs.Instruction.{Instruction, ProgramView, SystemView}
-use Rattle.piton_semantics.specs.State.{no_program, program_of}
-use Rattle.piton_semantics.specs.Fits.{IsPlace}
-use Rattle.piton_semantics.specs.Placed.{instruction_size, instructions_size, prelude_size, program_size, programs_size, entry_of, address_of_place}
-use Rattle.piton_semantics.specs.Placed.{address_of_area, areas_start, end_of}
-use Rattle.piton_semantics.proofs.AddressLaws.{program_there}
-use Rattle.piton_linker.specs.Tables.{TableOf, starts, row_at, place_rows, table_of, place_by, place_in}
-use Rattle.piton_semantics.proofs.ReadyLaws.{area_end}
-use Rattle.piton_linker.proofs.BoundLaws.{areas_sum, instructions_sum, programs_sum}
+use Rattle.piton_semantics.{specs.State.{no_program, program_of}, specs.Fits.IsPlace, specs.Placed.{instruction_size, instructions_size, prelude_size}}
+use Rattle.piton_semantics.specs.Placed.{program_size, programs_size, entry_of, address_of_place, address_of_area, areas_start, end_of}
+use Rattle.piton_semantics.{proofs.AddressLaws.program_there, proofs.ReadyLaws.area_end}
+use Rattle.piton_linker.{specs.Tables.{TableOf, starts, row_at, place_rows, table_of, place_by, place_in}, proofs.BoundLaws.{areas_sum, instructions_sum}}
+use Rattle.piton_linker.proofs.BoundLaws.{programs_sum}
 
 -- the next address, where so many words stand before
 pub starts_more : {X : Type 0} (size : X → ℕ) (a k : ℕ) (xs : List X) → k < length xs

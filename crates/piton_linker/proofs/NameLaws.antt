@@ -1,20 +1,14 @@
 -- What the pieces of placed code name is in the system.
-use Rattle.std.proofs.Common.{◌≡◌, ℕ, zero, suc, ◌+◌, ◌<◌, Some, List, [], ◌∷◌, ◌++◌, length, map, take, sym, ap, ◌∙◌, arith}
-use Rattle.std.specs.Prelude.{get_or, slice_get, replicate}
-use Rattle.std.proofs.lemmas.Option.{slice_get-get_or}
-use Rattle.piton_semantics.specs.Placed.{addresses_of}
-use Rattle.piton_words.specs.declared.word.Word.{Word}
-use Rattle.piton_words.specs.declared.word.Word.TheVariants.{Int, Nat, Bitv, Bool as Truth, Addr, Pc, Subr}
-use Rattle.piton_semantics.specs.Templates.{operation_code}
+use Rattle.std.{proofs.Common.{◌≡◌, ℕ, zero, suc, ◌+◌, ◌<◌, Some, List, [], ◌∷◌, ◌++◌, length, map, take, sym, ap, ◌∙◌, arith}, specs.Prelude.get_or}
+use Rattle.std.{specs.Prelude.{slice_get, replicate}, proofs.lemmas.Option.slice_get-get_or}
+use Rattle.piton_semantics.{specs.Placed.addresses_of, specs.Templates.{operation_code, word_piece, code_pieces, literal_pieces, pieces_of, temporary_pieces}}
+use Rattle.piton_semantics.{specs.Templates.{prelude_pieces, word_of, words_of}, specs.Fits.{Each, IsPlace, IsWordOf, IsInstructionOf}}
+use Rattle.piton_semantics.proofs.EachLaws.{each_append}
+use Rattle.piton_words.{specs.declared.word.Word.Word, specs.declared.word.Word.TheVariants.{Int, Nat, Bitv, Bool as Truth, Addr, Pc, Subr}}
 use Rattle.fm_code.specs.InstructionWords.{mov, push, pop, literal}
 use Rattle.piton_check.specs.Instruction as i
-use Rattle.piton_check.specs.Instruction.{Instruction, ProgramView, SystemView}
-use Rattle.piton_semantics.specs.Fits.{Each, IsPlace, IsWordOf, IsInstructionOf}
-use Rattle.piton_semantics.proofs.EachLaws.{each_append}
-use Rattle.piton_check.specs.declared.piece.Piece.{Piece}
-use Rattle.piton_check.specs.declared.piece.Piece.TheVariants.{Code, Place}
-use Rattle.piton_semantics.specs.Templates.{word_piece, code_pieces, literal_pieces, pieces_of, temporary_pieces, prelude_pieces}
-use Rattle.piton_semantics.specs.Templates.{word_of, words_of}
+use Rattle.piton_check.{specs.Instruction.{Instruction, ProgramView, SystemView}, specs.declared.piece.Piece.Piece, specs.declared.piece.Piece.TheVariants.Code}
+use Rattle.piton_check.specs.declared.piece.Piece.TheVariants.{Place}
 use Rattle.piton_linker.specs.Tables.{PieceExists}
 
 pub word_named : (s : SystemView) (w : Word) → IsWordOf s w → PieceExists s (word_piece w)

@@ -1,14 +1,10 @@
 -- The rows of the table are the addresses of the instructions.
-use Rattle.std.proofs.Common.{◌≡◌, ℕ, suc, ◌+◌, Some, List, [], ◌∷◌, map, refl, ap, ◌∙◌, arith}
-use Rattle.std.specs.Prelude.{slice_get}
+use Rattle.std.{proofs.Common.{◌≡◌, ℕ, suc, ◌+◌, Some, List, [], ◌∷◌, map, refl, ap, ◌∙◌, arith}, specs.Prelude.slice_get}
 use Rattle.std.proofs.lemmas.Option.{get_or_from_slice_get}
 use Rattle.piton_check.specs.Instruction.{Instruction, ProgramView, SystemView}
-use Rattle.piton_semantics.specs.State.{no_program, program_of}
-use Rattle.piton_semantics.specs.Placed.{instruction_size, prelude_size, program_size, entry_of, address_of_place}
+use Rattle.piton_semantics.{specs.State.{no_program, program_of}, specs.Placed.{instruction_size, prelude_size, program_size, entry_of, address_of_place}}
 use Rattle.piton_semantics.proofs.PlacingLaws.{size_next}
-use Rattle.piton_linker.specs.Layouts.{places_from, places_of}
-use Rattle.piton_linker.specs.Tables.{starts, place_rows, table_of}
-use Rattle.piton_linker.proofs.BoundLaws.{programs_next}
+use Rattle.piton_linker.{specs.Layouts.{places_from, places_of}, specs.Tables.{starts, place_rows, table_of}, proofs.BoundLaws.programs_next}
 
 -- those of one program, from a place on
 row_from : (s : SystemView) (program place a : ℕ) (is : List Instruction) → a ≡ address_of_place s program place

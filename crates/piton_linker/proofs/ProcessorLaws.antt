@@ -1,31 +1,16 @@
 -- Each run of Piton is one of the processor, from its placed words.
-use Rattle.std.proofs.Common.{◌≡◌, ℕ, zero, suc, ◌+◌, ◌-◌, ◌<◌, ◌≤◌, Ok, Err, List, [], ◌∷◌, refl, sym, ap, ◌∙◌, subst, arith}
-use Rattle.std.specs.Prelude.{◌^◌, IsOk, Result}
-use Rattle.fm_machine.specs.State.{Fm}
-use Rattle.fm_machine.specs.Run.{fm_run, Avoids}
+use Rattle.std.{proofs.Common.{◌≡◌, ℕ, zero, suc, ◌+◌, ◌-◌, ◌<◌, ◌≤◌, Ok, Err, List, [], ◌∷◌, refl, sym, ap, ◌∙◌, subst, arith}, specs.Prelude.{◌^◌, IsOk}}
+use Rattle.std.specs.Prelude.{Result}
+use Rattle.fm_machine.{specs.State.Fm, specs.Run.{fm_run, Avoids}, specs.declared.fault.Outside.Outside}
 use Rattle.fm_machine.specs.Step as machine_step
-use Rattle.fm_machine.specs.declared.fault.Outside.{Outside}
 use Rattle.fm_machine.proofs.RunLaws as machine
 use Rattle.fm_code.proofs.RunLaws.{arrives_then, arrives_at_once}
-use Rattle.piton_check.specs.Instruction.{SystemView}
-use Rattle.piton_check.specs.PitonChecking.{CheckedOf, IsChecked}
-use Rattle.piton_check.specs.Sound.{IsSound}
-use Rattle.piton_semantics.specs.State.{Frame, PitonState}
-use Rattle.piton_semantics.specs.Views.{then_on}
-use Rattle.piton_semantics.specs.InstructionRows.{Row}
-use Rattle.piton_semantics.specs.Step.{piton_step, piton_run, step_cost, run_cost, cost_after}
-use Rattle.piton_semantics.specs.StateView.{started}
-use Rattle.piton_semantics.specs.Fits.{IsPlace, IsState, system_in}
-use Rattle.piton_semantics.specs.Placed.{placed, final_pc_of, end_of, addresses_of, loaded}
-use Rattle.piton_semantics.specs.Stands.{address_from, Stands, Simulates}
-use Rattle.piton_semantics.proofs.KeepLaws.{step_kept}
-use Rattle.piton_semantics.proofs.RunLaws.{run_kept}
-use Rattle.piton_semantics.proofs.SeenLaws.{opening_seen}
-use Rattle.piton_semantics.proofs.SoundLaws.{known, words_known}
-use Rattle.piton_semantics.proofs.SizeLaws.{code_ends}
-use Rattle.piton_semantics.proofs.OpeningLaws.{opening_stands}
-use Rattle.piton_semantics.proofs.ReadyLaws.{place_below, end_fits}
-use Rattle.piton_semantics.proofs.StepViewLaws.{refused, by_ok}
+use Rattle.piton_check.{specs.Instruction.SystemView, specs.PitonChecking.{CheckedOf, IsChecked}, specs.Sound.IsSound}
+use Rattle.piton_semantics.{specs.State.{Frame, PitonState}, specs.Views.then_on, specs.InstructionRows.Row, specs.Step.{piton_step, piton_run, step_cost}}
+use Rattle.piton_semantics.{specs.Step.{run_cost, cost_after}, specs.StateView.started, specs.Fits.{IsPlace, IsState, system_in}, specs.Placed.placed}
+use Rattle.piton_semantics.{specs.Placed.{final_pc_of, end_of, addresses_of, loaded}, specs.Stands.{address_from, Stands, Simulates}, proofs.KeepLaws.step_kept}
+use Rattle.piton_semantics.{proofs.RunLaws.run_kept, proofs.SeenLaws.opening_seen, proofs.SoundLaws.{known, words_known}, proofs.SizeLaws.code_ends}
+use Rattle.piton_semantics.{proofs.OpeningLaws.opening_stands, proofs.ReadyLaws.{place_below, end_fits}, proofs.StepViewLaws.{refused, by_ok}}
 use Rattle.piton_semantics.proofs.StepLaws.{step_simulated}
 use Rattle.piton_linker.specs.Theorem.{RunsOnProcessor, PitonRunsOnProcessor}
 

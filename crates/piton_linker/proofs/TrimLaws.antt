@@ -1,6 +1,6 @@
 -- Words up to the last that isn't zero.
-use Rattle.std.proofs.Common.{◌≡◌, ◌≢◌, ℕ, zero, suc, ◌+◌, ◌-◌, ◌<◌, List, [], ◌∷◌, ◌++◌, length, take, refl, sym, ap, ◌∙◌, arith}
-use Rattle.std.specs.Prelude.{get_or, replicate}
+use Rattle.std.{proofs.Common.{◌≡◌, ◌≢◌, ℕ, zero, suc, ◌+◌, ◌-◌, ◌<◌, List, [], ◌∷◌, ◌++◌, length, take, refl, sym, ap, ◌∙◌, arith}, specs.Prelude.get_or}
+use Rattle.std.specs.Prelude.{replicate}
 use Rattle.piton_linker.specs.Layouts.{before_zeros, trimmed}
 
 -- a zero more at the end changes nothing

@@ -1,14 +1,9 @@
 -- Internal: what a pass over the programs leaves open, and how that is filled once all addresses are known.
 use Rattle.std.specs.Prelude.{◌≡◌, ℕ, ◌+◌, ◌<◌, List, [], ◌∷◌, length, slice_get, slice_set, Option, Some, None, ◌==◌, if◌then◌else◌}
-use Rattle.piton_check.specs.declared.piece.Piece.{Piece}
-use Rattle.piton_check.specs.declared.piece.Piece.TheVariants.{Code, Number, Place, Table}
+use Rattle.piton_check.specs.{declared.piece.Piece.{Piece}, declared.piece.Piece.TheVariants.{Code, Number, Place, Table}}
 use Rattle.piton_check.specs.Instruction.{SystemView}
-use Rattle.piton_semantics.specs.Fits.{Each}
-use Rattle.piton_semantics.specs.Addresses.{Addresses}
-use Rattle.piton_semantics.specs.Placed.{address_of_place, addresses_of}
-use Rattle.piton_semantics.specs.Templates.{word_of}
-use Rattle.piton_linker.specs.declared.draft.FixUp.{FixUp}
-use Rattle.piton_linker.specs.Tables.{PieceExists}
+use Rattle.piton_semantics.specs.{Fits.{Each}, Addresses.{Addresses}, Placed.{address_of_place, addresses_of}, Templates.{word_of}}
+use Rattle.piton_linker.specs.{declared.draft.FixUp.{FixUp}, Tables.{PieceExists}}
 
 -- the addresses of a program's first places
 abbrev pub IsRow : SystemView → ℕ → List ℕ → Type 0

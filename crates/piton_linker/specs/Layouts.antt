@@ -1,8 +1,7 @@
 -- What laying out and linking return.
 use Rattle.std.specs.Prelude.{◌≡◌, ℕ, zero, ◌+◌, ◌<◌, List, [], ◌∷◌}
 use Rattle.fm_words.specs.WindowLimit.{most_window}
-use Rattle.piton_linker.specs.declared.fault.LinkFault.{LinkFault}
-use Rattle.piton_linker.specs.declared.fault.LinkFault.TheVariants.{Large, Memory}
+use Rattle.piton_linker.specs.{declared.fault.LinkFault.{LinkFault}, declared.fault.LinkFault.TheVariants.{Large, Memory}}
 use Rattle.piton_linker.specs.declared.placement.Layout.{Layout}
 use Rattle.piton_check.specs.Instruction.{Instruction, ProgramView, SystemView}
 use Rattle.piton_semantics.specs.Placed.{placed, final_pc_of, areas_start, ctrl_start, temp_start, end_of, address_of_place}

@@ -1,15 +1,12 @@
 -- Internal: the addresses of all places, programs and areas of a placed system, as the code lists them.
 use Rattle.std.specs.Prelude.{ℕ, ◌+◌, ◌<◌, List, [], ◌∷◌, length, map, get_or, slice_get, Option, Some, None}
 use Rattle.piton_words.specs.declared.word.Word.{Word}
-use Rattle.piton_check.specs.Instruction.{ProgramView, SystemView}
-use Rattle.piton_semantics.specs.Fits.{IsPlace}
+use Rattle.piton_check.specs.{Instruction.{ProgramView, SystemView}, declared.piece.Piece.{Piece}, declared.piece.Piece.TheVariants.{Place}}
+use Rattle.piton_check.specs.declared.piece.Piece.TheVariants.{Entry, Area}
+use Rattle.piton_semantics.specs.{Fits.{IsPlace}, Addresses.{numbers}, Placed.{address_of_place, instruction_size, prelude_size}}
+use Rattle.piton_semantics.specs.{Placed.{program_size, areas_start, ctrl_start, temp_start, end_of, addresses_of}, Templates.{words_of}}
+use Rattle.piton_semantics.specs.Templates.{pieces_at}
 use Rattle.fm_code.specs.Areas.{joined}
-use Rattle.piton_check.specs.declared.piece.Piece.{Piece}
-use Rattle.piton_check.specs.declared.piece.Piece.TheVariants.{Place, Entry, Area}
-use Rattle.piton_semantics.specs.Addresses.{numbers}
-use Rattle.piton_semantics.specs.Placed.{address_of_place, instruction_size, prelude_size, program_size}
-use Rattle.piton_semantics.specs.Placed.{areas_start, ctrl_start, temp_start, end_of, addresses_of}
-use Rattle.piton_semantics.specs.Templates.{words_of, pieces_at}
 
 -- the address of each of parts of these sizes, the first of which stands at an address
 abbrev pub starts : ℕ → List ℕ → List ℕ

@@ -2,16 +2,10 @@
 use Rattle.std.specs.Prelude.{◌≡◌, ◌↔◌, ℕ, ◌≤◌, List, [], Ok, IsOk}
 use Rattle.fm_words.specs.WindowLimit.{most_window}
 use Rattle.piton_words.specs.declared.word.Word.{Word}
-use Rattle.fm_machine.specs.State.{Fm}
-use Rattle.fm_machine.specs.Run.{fm_run, pc_of, Avoids}
-use Rattle.piton_check.specs.Instruction.{SystemView}
-use Rattle.piton_check.specs.Sound.{IsSound}
-use Rattle.piton_semantics.specs.State.{PitonState}
-use Rattle.piton_semantics.specs.Step.{piton_run, run_cost}
-use Rattle.piton_semantics.specs.Fits.{IsInitialStack}
-use Rattle.piton_semantics.specs.StateView.{started}
-use Rattle.piton_semantics.specs.Placed.{placed, final_pc_of, loaded}
-use Rattle.piton_semantics.specs.Stands.{Stands}
+use Rattle.fm_machine.specs.{State.{Fm}, Run.{fm_run, pc_of, Avoids}}
+use Rattle.piton_check.specs.{Instruction.{SystemView}, Sound.{IsSound}}
+use Rattle.piton_semantics.specs.{State.{PitonState}, Step.{piton_run, run_cost}, Fits.{IsInitialStack}, StateView.{started}}
+use Rattle.piton_semantics.specs.{Placed.{placed, final_pc_of, loaded}, Stands.{Stands}}
 
 -- After n instructions from m the processor stands for p. None of them was outside the window. The program counter is the
 -- final one exactly where p has halted, and it was that at no count below n.

@@ -3,12 +3,8 @@
 ghost use Rattle.std.specs.Prelude.{◌≡◌, ◌++◌, ◌<◌, ◌^◌, map, reverse};
 ghost use Rattle.stack_heap.specs.Heaps.{OnOkUnless};
 ghost use Rattle.piton_check.specs.Instruction.{system_view};
-ghost use Rattle.piton_semantics.specs.Fits.{Each, IsWordOf};
-ghost use Rattle.piton_semantics.specs.StateView.{words_in};
-ghost use Rattle.piton_semantics.specs.Addresses.{word_number, numbers};
-ghost use Rattle.piton_semantics.specs.Placed.{end_of, addresses_of};
-ghost use Rattle.piton_linker.specs.Tables.{areas_words};
-ghost use Rattle.piton_linker.specs.Tables.{table_of};
+ghost use Rattle.piton_semantics.specs.{Fits.{Each, IsWordOf}, StateView.{words_in}, Addresses.{word_number, numbers}, Placed.{end_of, addresses_of}};
+ghost use Rattle.piton_linker.specs.Tables.{areas_words, table_of};
 
 use crate::table::{Table, word};
 use piton_check::Resolved;

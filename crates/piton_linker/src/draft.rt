@@ -3,11 +3,8 @@
 ghost use Rattle.std.specs.Prelude.{◌≡◌, ◌+◌, ◌<◌, ◌^◌, ◌++◌, ◌∷◌, [], OnOk, length};
 ghost use Rattle.stack_heap.specs.Heaps.{OnOkUnless};
 ghost use Rattle.piton_check.specs.Instruction.{system_view};
-ghost use Rattle.piton_semantics.specs.Fits.{Each};
-ghost use Rattle.piton_semantics.specs.Placed.{end_of, addresses_of};
-ghost use Rattle.piton_semantics.specs.Templates.{word_of, words_of};
-ghost use Rattle.piton_linker.specs.Drafts.{IsRow, known_place, known_word, filled, drafted, IsFixUp, IsDraft};
-ghost use Rattle.piton_linker.specs.Tables.{table_of, PieceExists};
+ghost use Rattle.piton_semantics.specs.{Fits.{Each}, Placed.{end_of, addresses_of}, Templates.{word_of, words_of}};
+ghost use Rattle.piton_linker.specs.{Drafts.{IsRow, known_place, known_word, filled, drafted, IsFixUp, IsDraft}, Tables.{table_of, PieceExists}};
 
 use crate::table::{Table, word};
 use piton_check::{Piece, Resolved};

@@ -3,10 +3,8 @@
 ghost use Rattle.std.specs.Prelude.{◌≡◌, ◌≤◌, IfOk, IfErr, map};
 ghost use Rattle.stack_heap.specs.Heaps.{IfOkUnless};
 ghost use Rattle.fm_words.specs.WindowLimit.{most_window};
-ghost use Rattle.piton_semantics.specs.Fits.{system_in};
-ghost use Rattle.piton_semantics.specs.Placed.{placed};
-ghost use Rattle.piton_linker.specs.Layouts.{layout_of, places_of, trimmed, IsFaultUnless};
-ghost use Rattle.piton_linker.specs.Theorem.{RunsOnProcessor};
+ghost use Rattle.piton_semantics.specs.{Fits.{system_in}, Placed.{placed}};
+ghost use Rattle.piton_linker.specs.{Layouts.{layout_of, places_of, trimmed, IsFaultUnless}, Theorem.{RunsOnProcessor}};
 
 use crate::fault::LinkFault;
 use crate::memory::{memory, registers, trim};

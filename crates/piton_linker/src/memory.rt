@@ -3,13 +3,9 @@
 ghost use Rattle.std.specs.Prelude.{◌≡◌, ◌+◌, ◌-◌, ◌++◌, ◌<◌, ◌≤◌, ◌^◌, length, replicate, reverse, take};
 ghost use Rattle.stack_heap.specs.Heaps.{IfOkUnless, OnOkUnless};
 ghost use Rattle.stack_text.specs.SharedLimits.{most_stack};
-ghost use Rattle.piton_semantics.specs.Fits.{system_in};
-ghost use Rattle.piton_semantics.specs.State.{program_of};
-ghost use Rattle.piton_semantics.specs.Addresses.{numbers};
-ghost use Rattle.piton_semantics.specs.Placed.{end_of, final_pc_of, first_frame, first_frame_at, first_top, address_of_place, placed_registers, placed, addresses_of, code_of};
-ghost use Rattle.piton_linker.specs.Tables.{areas_words};
-ghost use Rattle.piton_linker.specs.Layouts.{layout_of, trimmed};
-ghost use Rattle.piton_linker.specs.Tables.{table_of};
+ghost use Rattle.piton_semantics.specs.{Fits.{system_in}, State.{program_of}, Addresses.{numbers}, Placed.{end_of, final_pc_of, first_frame, first_frame_at}};
+ghost use Rattle.piton_semantics.specs.Placed.{first_top, address_of_place, placed_registers, placed, addresses_of, code_of};
+ghost use Rattle.piton_linker.specs.{Tables.{areas_words, table_of}, Layouts.{layout_of, trimmed}};
 
 use crate::data::{append_areas, append_reversed, append_words};
 use crate::placement::Layout;

@@ -23,10 +23,8 @@ pub struct PlacedSystem {
 impl Model for PlacedSystem {
     ghost use Rattle.std.specs.Prelude.{◌≡◌, ◌≤◌, ◌^◌};
     ghost use Rattle.piton_check.specs.PitonChecking.{CheckedOf};
-    ghost use Rattle.piton_semantics.specs.Fits.{system_in};
-    ghost use Rattle.piton_semantics.specs.Placed.{placed};
-    ghost use Rattle.piton_linker.specs.Layouts.{layout_of};
-    ghost use Rattle.piton_linker.specs.Tables.{table_of};
+    ghost use Rattle.piton_semantics.specs.{Fits.{system_in}, Placed.{placed}};
+    ghost use Rattle.piton_linker.specs.{Layouts.{layout_of}, Tables.{table_of}};
 
     ghost Value = { CheckedOf };
 
@@ -39,9 +37,7 @@ impl Model for PlacedSystem {
 impl PlacedSystem {
     ghost use Rattle.std.specs.Prelude.{◌≡◌, ◌≤◌, ◌^◌};
     ghost use Rattle.stack_heap.specs.Heaps.{IfOkUnless};
-    ghost use Rattle.piton_semantics.specs.Fits.{Each, IsWordOf, system_in};
-    ghost use Rattle.piton_semantics.specs.Addresses.{numbers, word_number};
-    ghost use Rattle.piton_semantics.specs.Placed.{addresses_of, placed};
+    ghost use Rattle.piton_semantics.specs.{Fits.{Each, IsWordOf, system_in}, Addresses.{numbers, word_number}, Placed.{addresses_of, placed}};
     ghost use Rattle.piton_linker.specs.Layouts.{layout_of};
 
     /// A checked system with its addresses. The time is linear in the system's programs, instructions and areas.

@@ -2,9 +2,7 @@
 
 ghost use Rattle.std.specs.Prelude.{◌≡◌, ◌<◌, ◌^◌, ℕ, sum_by};
 ghost use Rattle.piton_check.specs.Instruction.{instruction_view, program_view};
-ghost use Rattle.piton_semantics.specs.Fits.{system_in};
-ghost use Rattle.piton_semantics.specs.Placed.{final_pc_of, instruction_size, prelude_size, program_size};
-ghost use Rattle.piton_semantics.specs.Step.{operation_cost};
+ghost use Rattle.piton_semantics.specs.{Fits.{system_in}, Placed.{final_pc_of, instruction_size, prelude_size, program_size}, Step.{operation_cost}};
 ghost use Rattle.piton_linker.specs.Layouts.{layout_of};
 
 use crate::placement::Layout;

@@ -3,11 +3,9 @@
 ghost use Rattle.std.specs.Prelude.{◌≡◌, ◌+◌, ◌<◌, ◌^◌, map, length, get_or, slice_get, sum_by};
 ghost use Rattle.stack_heap.specs.Heaps.{IfOkUnless};
 ghost use Rattle.piton_check.specs.Instruction.{program_view, system_view};
-ghost use Rattle.piton_semantics.specs.Fits.{IsPlace};
-ghost use Rattle.piton_semantics.specs.Placed.{program_size, programs_size, entry_of, address_of_place, address_of_area, end_of, addresses_of};
-ghost use Rattle.piton_linker.specs.Layouts.{layout_of};
-ghost use Rattle.piton_linker.specs.Tables.{starts, place_rows, table_of, place_in, PieceExists};
-ghost use Rattle.piton_semantics.specs.Templates.{word_of};
+ghost use Rattle.piton_semantics.specs.{Fits.{IsPlace}, Placed.{program_size, programs_size, entry_of, address_of_place, address_of_area, end_of}};
+ghost use Rattle.piton_semantics.specs.{Placed.{addresses_of}, Templates.{word_of}};
+ghost use Rattle.piton_linker.specs.{Layouts.{layout_of}, Tables.{starts, place_rows, table_of, place_in, PieceExists}};
 
 use crate::placement::Layout;
 use crate::sizes::{TakesWords, prelude_size, program_size};

@@ -2,12 +2,9 @@
 
 ghost use Rattle.std.specs.Prelude.{◌≡◌, ◌+◌, ◌<◌, ◌^◌, ◌++◌, IfOk, OnOk, length, map};
 ghost use Rattle.stack_heap.specs.Heaps.{IfOkUnless, OnOkUnless};
-ghost use Rattle.piton_semantics.specs.Fits.{IsPlace, system_in};
-ghost use Rattle.piton_semantics.specs.State.{program_of};
-ghost use Rattle.piton_semantics.specs.Placed.{entry_of, address_of_place, end_of, addresses_of, program_size};
+ghost use Rattle.piton_semantics.specs.{Fits.{IsPlace, system_in}, State.{program_of}, Placed.{entry_of, address_of_place, end_of, addresses_of, program_size}};
 ghost use Rattle.piton_semantics.specs.Templates.{prelude_words, program_words, programs_words, pieces_at};
-ghost use Rattle.piton_linker.specs.Tables.{starts, row_at, place_rows, words_at};
-ghost use Rattle.piton_linker.specs.Drafts.{drafted, IsDraft, IsRow};
+ghost use Rattle.piton_linker.specs.{Tables.{starts, row_at, place_rows, words_at}, Drafts.{drafted, IsDraft, IsRow}};
 
 use crate::draft::Draft;
 use piton_check::{Checked, Piece};

@@ -2,10 +2,7 @@
 
 ghost use Rattle.std.specs.Prelude.{◌≡◌, ◌==◌, ◌+◌, ◌^◌, ◌<◌, ◌≤◌, ℕ, IfErr, OnOk, OnErr, length};
 ghost use Rattle.piton_check.specs.Instruction.{system_view};
-ghost use Rattle.piton_semantics.specs.PitonInstr.{decoded_view};
-ghost use Rattle.piton_semantics.specs.State.{variables_of};
-ghost use Rattle.piton_semantics.specs.InstructionRows.{row_of};
-ghost use Rattle.piton_semantics.specs.Step.{variables_on_top, cost_of};
+ghost use Rattle.piton_semantics.specs.{PitonInstr.{decoded_view}, State.{variables_of}, InstructionRows.{row_of}, Step.{variables_on_top, cost_of}};
 
 use crate::state::State;
 use piton_check::Resolved;

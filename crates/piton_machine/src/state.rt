@@ -2,12 +2,9 @@
 
 ghost use Rattle.std.specs.Prelude.{◌≡◌, ◌≤◌, [], IfOk, length, reverse, slice_index_or};
 ghost use Rattle.stack_heap.specs.Heaps.{IfOkUnless};
-ghost use Rattle.piton_semantics.specs.Fits.{Each, IsWellFormed, IsWordOf};
+ghost use Rattle.piton_semantics.specs.{Fits.{Each, IsWellFormed, IsWordOf, system_in, IsInitialStack}, StateView.{IsSeen, seen_step, answer_of, left_of}};
+ghost use Rattle.piton_semantics.specs.{StateView.{state_run, opening}, State.{locals_of}, Step.{step_cost}};
 ghost use Rattle.piton_check.specs.Instruction.{system_view};
-ghost use Rattle.piton_semantics.specs.Fits.{system_in, IsInitialStack};
-ghost use Rattle.piton_semantics.specs.StateView.{IsSeen, seen_step, answer_of, left_of, state_run, opening};
-ghost use Rattle.piton_semantics.specs.State.{locals_of};
-ghost use Rattle.piton_semantics.specs.Step.{step_cost};
 
 use crate::areas::Areas;
 use crate::frames::Frames;

@@ -1,20 +1,13 @@
 -- Each place, program and area has an address of its own, and the number of a word tells it from all words of its tag.
 use Rattle.std.proofs.Common.{◌≡◌, ℕ, zero, suc, ◌+◌, ◌≤◌, ◌<◌, ℤ, pos, negsuc, Bool, true, false, List, [], ◌∷◌, length, map, refl, ap, sym, ◌∙◌, subst, arith}
-use Rattle.std.specs.Prelude.{◌^◌, take, get_or, Ok}
-use Rattle.std.specs.Int.{from_bool as bit_of}
-use Rattle.std.proofs.lemmas.Bool.{ltb-true}
+use Rattle.std.{specs.Prelude.{◌^◌, take, get_or, Ok}, specs.Int.from_bool as bit_of, proofs.lemmas.Bool.ltb-true}
 use Rattle.fm_words.specs.Word.{is_int, word_of_int}
-use Rattle.piton_words.specs.declared.word.Word.{Word}
-use Rattle.piton_words.specs.declared.word.Word.TheVariants.{Int, Nat, Bitv, Bool as Truth, Addr, Pc, Subr}
-use Rattle.piton_words.specs.OperationRows.{are_same}
-use Rattle.piton_words.specs.declared.op.WordOp.{WordOp}
+use Rattle.piton_words.{specs.declared.word.Word.Word, specs.declared.word.Word.TheVariants.{Int, Nat, Bitv, Bool as Truth, Addr, Pc, Subr}}
+use Rattle.piton_words.{specs.OperationRows.are_same, specs.declared.op.WordOp.WordOp}
 use Rattle.piton_words.specs.declared.op.WordOp.TheVariants as word_op
 use Rattle.piton_check.specs.Instruction as i
 use Rattle.piton_check.specs.Instruction.{Instruction, ProgramView, SystemView}
-use Rattle.piton_semantics.specs.State.{program_of}
-use Rattle.piton_semantics.specs.Step.{operation_cost}
-use Rattle.piton_semantics.specs.Fits.{IsPlace, IsWordOf}
-use Rattle.piton_semantics.specs.Addresses.{word_number}
+use Rattle.piton_semantics.{specs.State.program_of, specs.Step.operation_cost, specs.Fits.{IsPlace, IsWordOf}, specs.Addresses.word_number}
 use Rattle.piton_semantics.specs.Placed.{instruction_size, instructions_size, prelude_size, program_size, programs_size, areas_size, entry_of, address_of_place}
 use Rattle.piton_semantics.specs.Placed.{areas_start, addresses_of}
 

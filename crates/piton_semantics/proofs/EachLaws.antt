@@ -1,8 +1,6 @@
 -- What holds of each element of a list.
-use Rattle.std.proofs.Common.{◌≡◌, ℕ, zero, suc, Some, List, [], ◌∷◌, ◌++◌, reverse, take, drop, subst}
-use Rattle.std.specs.Prelude.{slice_get, slice_set, get_or}
-use Rattle.std.proofs.lemmas.Option.{same_Some}
-use Rattle.std.proofs.lemmas.List.{reverse-append}
+use Rattle.std.{proofs.Common.{◌≡◌, ℕ, zero, suc, Some, List, [], ◌∷◌, ◌++◌, reverse, take, drop, subst}, specs.Prelude.{slice_get, slice_set, get_or}}
+use Rattle.std.{proofs.lemmas.Option.same_Some, proofs.lemmas.List.reverse-append}
 use Rattle.piton_semantics.specs.Fits.{Each}
 
 module _ {A : Type 0} (P : A → Type 0) where

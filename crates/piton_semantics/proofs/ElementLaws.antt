@@ -1,7 +1,6 @@
 -- Elements of the temporary stack counted from the bottom, by the stack's top.
-use Rattle.std.proofs.Common.{◌≡◌, ℕ, zero, suc, ◌-◌, ◌<◌, Some, None, List, ◌∷◌, length, refl, ap, sym, ◌∙◌, arith}
-use Rattle.std.specs.Prelude.{if◌then◌else◌, slice_get, slice_set}
-use Rattle.std.proofs.lemmas.Bool.{lt-ltb}
+use Rattle.std.{proofs.Common.{◌≡◌, ℕ, zero, suc, ◌-◌, ◌<◌, Some, None, List, ◌∷◌, length, refl, ap, sym, ◌∙◌, arith}, specs.Prelude.{if◌then◌else◌, slice_get}}
+use Rattle.std.{specs.Prelude.slice_set, proofs.lemmas.Bool.lt-ltb}
 use Rattle.piton_words.specs.declared.word.Word.{Word}
 use Rattle.piton_semantics.specs.State.{element, with_element}
 

@@ -1,26 +1,18 @@
 -- The instruction at a place, as it was resolved, and its group.
-use Rattle.std.proofs.Common.{◌≡◌, ℕ, zero, suc, Some, List, [], ◌∷◌, map, refl, sym, ap, ◌∙◌, subst}
-use Rattle.std.specs.Prelude.{IfSome, option_map, slice_get, slice_index_or}
+use Rattle.std.{proofs.Common.{◌≡◌, ℕ, zero, suc, Some, List, [], ◌∷◌, map, refl, sym, ap, ◌∙◌, subst}, specs.Prelude.{IfSome, option_map, slice_get}}
+use Rattle.std.specs.Prelude.{slice_index_or}
 use Rattle.piton_words.specs.declared.word.Word.{Word as PitonWord}
-use Rattle.piton_syntax.specs.declared.op.PitonOp.{PitonOp}
+use Rattle.piton_syntax.{specs.declared.op.PitonOp.PitonOp, specs.declared.test_kind.TestFamily.TestFamily, specs.declared.test_kind.TestKind.TestKind}
 use Rattle.piton_syntax.specs.declared.op.PitonOp.TheVariants as op
-use Rattle.piton_syntax.specs.declared.test_kind.TestFamily.{TestFamily}
 use Rattle.piton_syntax.specs.declared.test_kind.TestFamily.TheVariants as family
-use Rattle.piton_syntax.specs.declared.test_kind.TestKind.{TestKind}
-use Rattle.piton_check.specs.declared.piece.Piece.{Piece}
-use Rattle.piton_check.specs.PitonChecking.{CheckedOf}
-use Rattle.piton_check.specs.declared.resolved.ResolvedArg.{ResolvedArg}
+use Rattle.piton_check.{specs.declared.piece.Piece.Piece, specs.PitonChecking.CheckedOf, specs.declared.resolved.ResolvedArg.ResolvedArg}
+use Rattle.piton_check.specs.Instruction.{Instruction, instruction_of, instruction_view, program_view, system_view, with_word, with_number, with_local}
+use Rattle.piton_check.{specs.Instruction.{with_place, with_area, with_program, with_test}, specs.Resolved.{ResolvedInstrOf, ResolvedProgramOf, ResolvedOf}}
+use Rattle.piton_check.specs.Sound.{local_count}
 use Rattle.piton_check.specs.declared.resolved.ResolvedArg.TheVariants as arg
 use Rattle.piton_check.specs.Instruction as i
-use Rattle.piton_check.specs.Instruction.{Instruction, instruction_of, instruction_view, program_view, system_view}
-use Rattle.piton_check.specs.Instruction.{with_word, with_number, with_local, with_place, with_area, with_program, with_test}
-use Rattle.piton_check.specs.Resolved.{ResolvedInstrOf, ResolvedProgramOf, ResolvedOf}
-use Rattle.piton_check.specs.Sound.{local_count}
-use Rattle.piton_semantics.specs.declared.group.Group.{Group}
-use Rattle.piton_semantics.specs.declared.group.Group.TheVariants.{Move, Jump, Word}
-use Rattle.piton_semantics.specs.State.{program_of, instruction_at}
-use Rattle.piton_semantics.specs.Fits.{system_in}
-use Rattle.piton_semantics.specs.Groups.{group_of, resolved_at, IsOfGroup, only_of}
+use Rattle.piton_semantics.{specs.declared.group.Group.Group, specs.declared.group.Group.TheVariants.{Move, Jump, Word}, specs.State.program_of}
+use Rattle.piton_semantics.{specs.State.instruction_at, specs.Fits.system_in, specs.Groups.{group_of, resolved_at, IsOfGroup, only_of}}
 use Rattle.piton_semantics.specs.Templates.{pieces_of, pieces_by, pieces_at}
 
 get_view : (is : List ResolvedInstrOf) (place : ℕ) → slice_get (map instruction_view is) place ≡ option_map instruction_view (slice_get is place)

@@ -1,27 +1,19 @@
 -- Each step of a sound system leads from a state to a state.
 use Rattle.std.proofs.Common.{◌≡◌, ℕ, zero, suc, ◌+◌, ◌-◌, ◌≤◌, ◌<◌, Ok, Some, None, Bool, true, false, List, [], ◌∷◌, length, map, reverse, take, drop, refl}
-use Rattle.std.proofs.Common.{ap, sym, ◌∙◌, subst, arith, length-append, length-drop}
-use Rattle.std.specs.Prelude.{◌==◌, nat_lt, get_or, slice_get, slice_set, if◌then◌else◌}
-use Rattle.std.proofs.lemmas.Bool.{ltb-true, leb-true, eqb-true}
-use Rattle.std.proofs.lemmas.List.{length-set, length-reverse, length-take-le}
-use Rattle.std.proofs.lemmas.Option.{slice_get_within, get_or_from_slice_get}
-use Rattle.std.proofs.Math.Seq.{map-set_same}
-use Rattle.piton_words.specs.declared.word.Word.{Word}
-use Rattle.piton_words.specs.declared.word.Word.TheVariants.{Nat, Pc}
-use Rattle.piton_words.specs.declared.op.WordOp.{WordOp}
+use Rattle.std.{proofs.Common.{ap, sym, ◌∙◌, subst, arith, length-append, length-drop}, specs.Prelude.{◌==◌, nat_lt, get_or, slice_get, slice_set}}
+use Rattle.std.{specs.Prelude.if◌then◌else◌, proofs.lemmas.Bool.{ltb-true, leb-true, eqb-true}, proofs.lemmas.List.{length-set, length-reverse, length-take-le}}
+use Rattle.std.{proofs.lemmas.Option.{slice_get_within, get_or_from_slice_get}, proofs.Math.Seq.map-set_same}
+use Rattle.piton_words.{specs.declared.word.Word.Word, specs.declared.word.Word.TheVariants.{Nat, Pc}, specs.declared.op.WordOp.WordOp}
 use Rattle.piton_words.specs.OperationRows as words
-use Rattle.piton_semantics.specs.declared.error_kind.ErrorKind.TheVariants.{TempEmpty, Range, TempFull, CtrlFull}
+use Rattle.piton_semantics.{specs.declared.error_kind.ErrorKind.TheVariants.{TempEmpty, Range, TempFull, CtrlFull}, specs.State.{Frame, PitonState, program_of}}
+use Rattle.piton_semantics.{specs.State.{ctrl_used, locals_of, with_local, word_at, with_word, element, with_element}, specs.Views.{One, Two, one_of, two_of}}
+use Rattle.piton_semantics.{specs.Views.{Operands, words_taken, operands_of}, specs.InstructionRows.{to_place, to_next, with_room, pushed, jump_where}}
+use Rattle.piton_semantics.{specs.InstructionRows.{frame_of, call, ret, does_grow, results_on, apply, row_of}, specs.Step.{step_from, piton_step}}
+use Rattle.piton_semantics.{specs.Fits.{Each, IsPlace, IsWordOf, IsInstructionOf, IsWellFormed, AreFrames, IsState}, proofs.WordViewLaws.same_Ok}
+use Rattle.piton_semantics.{proofs.ResultLaws.{results_are, pushes_no_more, pushes_one_more}, proofs.ViewLaws.{went_on, held, found_is, one_is, two_are, pc_is}}
+use Rattle.piton_semantics.{proofs.ViewLaws.lifted_is, proofs.EachLaws.{each_get, each_set, each_take, each_drop, each_append, each_reverse, each_at}}
 use Rattle.piton_check.specs.Instruction as i
 use Rattle.piton_check.specs.Instruction.{Instruction, ProgramView, SystemView}
-use Rattle.piton_semantics.specs.State.{Frame, PitonState, program_of, ctrl_used, locals_of, with_local, word_at, with_word, element, with_element}
-use Rattle.piton_semantics.specs.Views.{One, Two, one_of, two_of, Operands, words_taken, operands_of}
-use Rattle.piton_semantics.specs.InstructionRows.{to_place, to_next, with_room, pushed, jump_where, frame_of, call, ret, does_grow, results_on, apply, row_of}
-use Rattle.piton_semantics.specs.Step.{step_from, piton_step}
-use Rattle.piton_semantics.specs.Fits.{Each, IsPlace, IsWordOf, IsInstructionOf, IsWellFormed, AreFrames, IsState}
-use Rattle.piton_semantics.proofs.WordViewLaws.{same_Ok}
-use Rattle.piton_semantics.proofs.ResultLaws.{results_are, pushes_no_more, pushes_one_more}
-use Rattle.piton_semantics.proofs.ViewLaws.{went_on, held, found_is, one_is, two_are, pc_is, lifted_is}
-use Rattle.piton_semantics.proofs.EachLaws.{each_get, each_set, each_take, each_drop, each_append, each_reverse, each_at}
 
 -- What lies on a stack, taken apart.
 pub record OneThere (s : SystemView) (stack : List Word) (one : One) : Type 0 where

@@ -1,22 +1,14 @@
 -- The machine with the placed words stands for the opening state.
 use Rattle.std.proofs.Common.{◌≡◌, ℕ, ◌+◌, ◌-◌, ◌≤◌, Some, None, List, [], ◌∷◌, ◌++◌, length, map, reverse, refl, ap, ◌∙◌, subst, arith, length-append}
-use Rattle.std.specs.Prelude.{if◌then◌else◌, slice_get, replicate}
-use Rattle.std.proofs.lemmas.Bool.{le-ltb}
-use Rattle.std.proofs.lemmas.List.{append_assoc, append-nil, length-replicate, length-reverse}
+use Rattle.std.{specs.Prelude.{if◌then◌else◌, slice_get, replicate}, proofs.lemmas.Bool.le-ltb, proofs.lemmas.List.{append_assoc, append-nil, length-replicate}}
+use Rattle.std.proofs.lemmas.List.{length-reverse}
 use Rattle.fm_machine.specs.State.{word_at}
-use Rattle.fm_code.specs.Areas.{joined}
-use Rattle.fm_code.specs.Execution.{Holds}
-use Rattle.fm_code.specs.InstructionWords.{halt_word}
+use Rattle.fm_code.{specs.Areas.joined, specs.Execution.Holds, specs.InstructionWords.halt_word}
 use Rattle.piton_words.specs.declared.word.Word.{Word}
 use Rattle.piton_check.specs.Instruction.{SystemView}
-use Rattle.piton_semantics.specs.State.{program_of}
-use Rattle.piton_semantics.specs.Fits.{IsWellFormed}
-use Rattle.piton_semantics.specs.StateView.{started}
-use Rattle.piton_semantics.specs.Addresses.{numbers}
-use Rattle.piton_semantics.specs.Placed.{final_pc_of, areas_start, ctrl_start, temp_start, addresses_of, code_of, first_frame, first_frame_at, first_top}
-use Rattle.piton_semantics.specs.Placed.{words_with, loaded}
-use Rattle.piton_semantics.specs.Stands.{Stands}
-use Rattle.piton_semantics.proofs.SizeLaws.{length-numbers, length-programs_words, length-areas}
+use Rattle.piton_semantics.{specs.State.program_of, specs.Fits.IsWellFormed, specs.StateView.started, specs.Addresses.numbers, specs.Placed.final_pc_of}
+use Rattle.piton_semantics.specs.Placed.{areas_start, ctrl_start, temp_start, addresses_of, code_of, first_frame, first_frame_at, first_top, words_with, loaded}
+use Rattle.piton_semantics.{specs.Stands.Stands, proofs.SizeLaws.{length-numbers, length-programs_words, length-areas}}
 
 got : (front : List ℕ) (w : ℕ) (back : List ℕ) → slice_get (front ++ w ∷ back) (length front) ≡ Some w
 got [] w back = refl

@@ -1,17 +1,11 @@
 -- What an operation on words takes from the temporary stack and leaves there, as numbers.
 use Rattle.std.specs.Prelude.{◌≡◌, ℕ, ◌+◌, ◌<◌, ◌^◌, ◌==◌, ◌&&◌, true, List, [], ◌∷◌, ◌++◌, length, get_or}
 use Rattle.fm_words.specs.Word.{is_int}
-use Rattle.fm_code.specs.Execution.{Parts, Executes, view}
-use Rattle.fm_code.specs.CodeRows.{HasRoom}
-use Rattle.piton_words.specs.declared.word.Word.{Word}
-use Rattle.piton_words.specs.declared.word.Word.TheVariants.{Int, Nat, Bitv, Bool as Truth, Addr, Pc, Subr}
-use Rattle.piton_words.specs.declared.op.WordOp.{WordOp}
+use Rattle.fm_code.{specs.Execution.{Parts, Executes, view}, specs.CodeRows.HasRoom}
+use Rattle.piton_words.{specs.declared.word.Word.Word, specs.declared.word.Word.TheVariants.{Int, Nat, Bitv, Bool as Truth, Addr, Pc, Subr}}
+use Rattle.piton_words.{specs.declared.op.WordOp.WordOp, specs.declared.outcome.Outcome.Outcome, specs.declared.outcome.Outcome.TheVariants.{One, Two}}
 use Rattle.piton_words.specs.declared.op.WordOp.TheVariants as op
-use Rattle.piton_words.specs.declared.outcome.Outcome.{Outcome}
-use Rattle.piton_words.specs.declared.outcome.Outcome.TheVariants.{One, Two}
-use Rattle.piton_semantics.specs.Step.{operation_cost}
-use Rattle.piton_semantics.specs.Addresses.{Addresses, word_number, numbers}
-use Rattle.piton_semantics.specs.Templates.{operation_code}
+use Rattle.piton_semantics.{specs.Step.operation_cost, specs.Addresses.{Addresses, word_number, numbers}, specs.Templates.operation_code}
 
 -- the words that an operation takes, from the top
 abbrev pub taken : WordOp → Word → Word → Word → List Word

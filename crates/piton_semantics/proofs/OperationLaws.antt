@@ -1,29 +1,16 @@
 -- Each operation's code does its row.
 use Rattle.std.proofs.Common.{◌≡◌, ℕ, ◌+◌, ◌-◌, ◌*◌, ◌/◌, ◌%◌, ◌^◌, ◌<◌, ◌≤◌, ◌==◌, Bool, true, false, Ok, List, ◌∷◌, get_or, sym, ap, ◌∙◌, subst, arith}
-use Rattle.std.proofs.Common.{⊎_elim}
-use Rattle.std.specs.Prelude.{not, ◌&&◌, ◌||◌, nat_lt, ℤ, pos, negsuc, ◌+ℤ◌, ◌-ℤ◌, ◌*ℤ◌, int_lt, unsigned_abs, bit_and, bit_or, bit_xor}
-use Rattle.std.specs.Int.{from_bool as bit_of, cast_signed, w32}
-use Rattle.std.proofs.lemmas.Bool.Decides.{nat_tests}
-use Rattle.std.proofs.lemmas.Bool.{cases_lt, ltb-true, eqb-true}
+use Rattle.std.{proofs.Common.⊎_elim, specs.Prelude.{not, ◌&&◌, ◌||◌, nat_lt, ℤ, pos, negsuc, ◌+ℤ◌, ◌-ℤ◌, ◌*ℤ◌, int_lt, unsigned_abs, bit_and, bit_or, bit_xor}}
+use Rattle.std.{specs.Int.{from_bool as bit_of, cast_signed, w32}, proofs.lemmas.Bool.Decides.nat_tests, proofs.lemmas.Bool.{cases_lt, ltb-true, eqb-true}}
 use Rattle.std.proofs.lemmas.Int.{ints as integers}
-use Rattle.fm_words.specs.Alu.{are_same as are_same_tests}
-use Rattle.fm_words.specs.Word.{is_int, is_nat, are_same_ints, word_of_int, wrapped}
+use Rattle.fm_words.{specs.Alu.are_same as are_same_tests, specs.Word.{is_int, is_nat, are_same_ints, word_of_int, wrapped}}
 use Rattle.fm_words.proofs.WordLaws.{word_of_int-cast_signed, wrapped_below}
-use Rattle.fm_code.specs.Execution.{Parts, Executes, view}
-use Rattle.fm_code.specs.CodeRows.{WordRows}
-use Rattle.fm_code.specs.Templates.{eq_code}
-use Rattle.fm_code.proofs.RowLaws.{word_rows, move_rows}
-use Rattle.piton_words.specs.declared.word.Word.{Word}
-use Rattle.piton_words.specs.declared.word.Word.TheVariants.{Int, Nat, Bitv, Bool as Truth, Addr, Pc, Subr}
-use Rattle.piton_words.specs.declared.op.WordOp.{WordOp}
+use Rattle.fm_code.{specs.Execution.{Parts, Executes, view}, specs.CodeRows.WordRows, specs.Templates.eq_code, proofs.RowLaws.{word_rows, move_rows}}
+use Rattle.piton_words.{specs.declared.word.Word.Word, specs.declared.word.Word.TheVariants.{Int, Nat, Bitv, Bool as Truth, Addr, Pc, Subr}}
+use Rattle.piton_words.{specs.declared.op.WordOp.WordOp, specs.declared.outcome.Outcome.Outcome, specs.declared.outcome.Outcome.TheVariants.{One, Two}}
+use Rattle.piton_words.{specs.declared.outcome.WordError.TheVariants.Tag, specs.OperationRows.{row_of, is_offset}}
 use Rattle.piton_words.specs.declared.op.WordOp.TheVariants as op
-use Rattle.piton_words.specs.declared.outcome.Outcome.{Outcome}
-use Rattle.piton_words.specs.declared.outcome.Outcome.TheVariants.{One, Two}
-use Rattle.piton_words.specs.declared.outcome.WordError.TheVariants.{Tag}
-use Rattle.piton_words.specs.OperationRows.{row_of, is_offset}
-use Rattle.piton_semantics.specs.Addresses.{Addresses}
-use Rattle.piton_semantics.specs.Templates.{operation_code}
-use Rattle.piton_semantics.proofs.OperationForms.{HasRoomFor, IsWordBy, TellApart, DoesOperation}
+use Rattle.piton_semantics.{specs.Addresses.Addresses, specs.Templates.operation_code, proofs.OperationForms.{HasRoomFor, IsWordBy, TellApart, DoesOperation}}
 use Rattle.piton_semantics.proofs.OperationViewLaws.{by_int, by_nat, by_bitv, by_bool, by_addr, by_true, by_ok, refused}
 
 -- numbers without a sign, as exact numbers

@@ -1,13 +1,9 @@
 -- What follows where a row of an operation has an answer.
-use Rattle.std.proofs.Common.{◌≡◌, ℕ, Bool, true, false, Result, Ok, Err, refl, ap, subst}
-use Rattle.std.specs.Prelude.{ℤ}
-use Rattle.piton_words.specs.declared.word.Word.{Word}
-use Rattle.piton_words.specs.declared.word.Word.TheVariants.{Int, Nat, Bitv, Bool as Truth, Addr}
-use Rattle.piton_words.specs.declared.outcome.Outcome.{Outcome}
-use Rattle.piton_words.specs.declared.outcome.WordError.{WordError}
-use Rattle.piton_words.specs.declared.outcome.WordError.TheVariants.{Tag, Range}
+use Rattle.std.{proofs.Common.{◌≡◌, ℕ, Bool, true, false, Result, Ok, Err, refl, ap, subst}, specs.Prelude.ℤ}
+use Rattle.piton_words.{specs.declared.word.Word.Word, specs.declared.word.Word.TheVariants.{Int, Nat, Bitv, Bool as Truth, Addr}}
+use Rattle.piton_words.{specs.declared.outcome.Outcome.Outcome, specs.declared.outcome.WordError.WordError, specs.declared.outcome.WordError.TheVariants.Tag}
+use Rattle.piton_words.{specs.declared.outcome.WordError.TheVariants.Range, specs.Views.{int_of, nat_of, bitv_of, bool_of, addr_of, where_true}}
 use Rattle.stack_text.specs.Results.{◌>>=◌}
-use Rattle.piton_words.specs.Views.{int_of, nat_of, bitv_of, bool_of, addr_of, where_true}
 
 pub refused : {A : Type 0} (e : WordError) (out : Outcome) → (let r : Result Outcome WordError = Err e in r) ≡ Ok out → A
 refused e out h = absurd cc

@@ -1,15 +1,10 @@
 -- What the pieces are once all addresses are known.
-use Rattle.std.proofs.Common.{◌≡◌, ℕ, zero, suc, ◌+◌, List, [], ◌∷◌, ◌++◌, length, map, refl, ap, ◌∙◌, arith}
-use Rattle.std.specs.Prelude.{replicate}
-use Rattle.fm_code.specs.InstructionWords.{reg, at, push, pop, literal, mov, add}
-use Rattle.fm_code.specs.Templates.{jump_case_code, temporaries_code, prelude_code}
-use Rattle.piton_words.specs.declared.word.Word.{Word}
-use Rattle.piton_words.specs.declared.word.Word.TheVariants.{Int, Nat, Bitv, Bool as Truth, Addr, Pc, Subr}
-use Rattle.piton_check.specs.declared.piece.Piece.{Piece}
-use Rattle.piton_check.specs.declared.piece.Piece.TheVariants.{Code, Place}
-use Rattle.piton_check.specs.Instruction.{ProgramView}
-use Rattle.piton_semantics.specs.Addresses.{Addresses, word_number, numbers}
-use Rattle.piton_semantics.specs.Templates.{word_piece, code_pieces, jump_case_pieces, literal_pieces, temporary_pieces, prelude_pieces, word_of, words_of}
+use Rattle.std.{proofs.Common.{◌≡◌, ℕ, zero, suc, ◌+◌, List, [], ◌∷◌, ◌++◌, length, map, refl, ap, ◌∙◌, arith}, specs.Prelude.replicate}
+use Rattle.fm_code.{specs.InstructionWords.{reg, at, push, pop, literal, mov, add}, specs.Templates.{jump_case_code, temporaries_code, prelude_code}}
+use Rattle.piton_words.{specs.declared.word.Word.Word, specs.declared.word.Word.TheVariants.{Int, Nat, Bitv, Bool as Truth, Addr, Pc, Subr}}
+use Rattle.piton_check.{specs.declared.piece.Piece.Piece, specs.declared.piece.Piece.TheVariants.{Code, Place}, specs.Instruction.ProgramView}
+use Rattle.piton_semantics.{specs.Addresses.{Addresses, word_number, numbers}, specs.Templates.{word_piece, code_pieces, jump_case_pieces, literal_pieces}}
+use Rattle.piton_semantics.specs.Templates.{temporary_pieces, prelude_pieces, word_of, words_of}
 
 pub word_is : (A : Addresses) (a : ℕ) (w : Word) → word_of A a (word_piece w) ≡ word_number A w
 word_is A a (Int number) = refl

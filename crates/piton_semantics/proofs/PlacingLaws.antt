@@ -1,16 +1,12 @@
 -- Each program's prelude and each instruction's code stand where the addresses say.
-use Rattle.std.proofs.Common.{◌≡◌, ℕ, zero, suc, ◌+◌, Some, List, [], ◌∷◌, length, sym, ap, ◌∙◌, subst, arith}
-use Rattle.std.specs.Prelude.{take, slice_get}
+use Rattle.std.{proofs.Common.{◌≡◌, ℕ, zero, suc, ◌+◌, Some, List, [], ◌∷◌, length, sym, ap, ◌∙◌, subst, arith}, specs.Prelude.{take, slice_get}}
 use Rattle.std.proofs.lemmas.Option.{get_or_from_slice_get}
-use Rattle.fm_code.specs.Execution.{Parts, CodeAt}
-use Rattle.fm_code.proofs.CodeLaws.{code_whole, code_front, code_after}
-use Rattle.piton_check.specs.Instruction.{Instruction, ProgramView, SystemView}
-use Rattle.piton_check.specs.Sound.{local_count}
-use Rattle.piton_semantics.specs.State.{no_program, program_of}
-use Rattle.piton_semantics.specs.Addresses.{Addresses}
-use Rattle.piton_semantics.specs.Templates.{template, prelude_words, instructions_words, program_words, programs_words}
-use Rattle.piton_semantics.specs.Placed.{instruction_size, instructions_size, prelude_size, programs_size, entry_of, address_of_place, addresses_of, parts_of}
-use Rattle.piton_semantics.proofs.SizeLaws.{length-template, length-prelude_words, length-program_words}
+use Rattle.fm_code.{specs.Execution.{Parts, CodeAt}, proofs.CodeLaws.{code_whole, code_front, code_after}}
+use Rattle.piton_check.{specs.Instruction.{Instruction, ProgramView, SystemView}, specs.Sound.local_count}
+use Rattle.piton_semantics.{specs.State.{no_program, program_of}, specs.Addresses.Addresses, specs.Templates.{template, prelude_words, instructions_words}}
+use Rattle.piton_semantics.{specs.Templates.{program_words, programs_words}, specs.Placed.{instruction_size, instructions_size, prelude_size, programs_size}}
+use Rattle.piton_semantics.{specs.Placed.{entry_of, address_of_place, addresses_of, parts_of}, proofs.SizeLaws.{length-template, length-prelude_words}}
+use Rattle.piton_semantics.proofs.SizeLaws.{length-program_words}
 
 program_in : (P : Parts) (A : Addresses) (from k m pc : ℕ) (ps : List ProgramView) (p : ProgramView) → m ≡ from + k → slice_get ps k ≡ Some p
     → CodeAt P pc (programs_words A from ps) → CodeAt P (pc + programs_size (take k ps)) (program_words A m p)

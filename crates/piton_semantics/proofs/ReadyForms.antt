@@ -1,17 +1,13 @@
 -- What the simulation of a step needs of the addresses, of the code, and of the instruction.
 use Rattle.std.specs.Prelude.{◌≡◌, ℕ, ◌+◌, ◌<◌, Bool, true, false, List, [], length, map, Some, slice_get, slice_index_or}
-use Rattle.fm_code.specs.Execution.{AreParts, CodeAt}
-use Rattle.fm_code.specs.Areas.{words_before}
-use Rattle.fm_code.specs.Templates.{prelude_code}
+use Rattle.fm_code.{specs.Execution.{AreParts, CodeAt}, specs.Areas.words_before, specs.Templates.prelude_code}
 use Rattle.piton_words.specs.declared.word.Word.{Word}
 use Rattle.piton_syntax.specs.declared.test_kind.TestFamily.TheVariants as family
-use Rattle.piton_syntax.specs.declared.test_kind.TestFamily.{TestFamily}
+use Rattle.piton_syntax.{specs.declared.test_kind.TestFamily.TestFamily, specs.declared.test_kind.TestKind.TestKind}
 use Rattle.piton_syntax.specs.declared.test_kind.TestKind.TheVariants as test
-use Rattle.piton_syntax.specs.declared.test_kind.TestKind.{TestKind}
 use Rattle.piton_check.specs.Instruction as i
 use Rattle.piton_check.specs.Instruction.{Instruction, ProgramView, SystemView}
-use Rattle.piton_semantics.specs.State.{Frame}
-use Rattle.piton_semantics.specs.Addresses.{Addresses, parts_with, numbers}
+use Rattle.piton_semantics.{specs.State.Frame, specs.Addresses.{Addresses, parts_with, numbers}}
 
 -- a kind of test that words of a family have
 abbrev pub is_test : TestFamily → TestKind → Bool

@@ -1,26 +1,15 @@
 -- A placed system is ready for its states: the addresses are those of its parts, and tell them apart.
 use Rattle.std.proofs.Common.{◌≡◌, ℕ, zero, suc, ◌+◌, ◌<◌, ◌≤◌, Bool, true, false, Some, List, [], ◌∷◌, length, map, refl, sym, ap, ◌∙◌, subst, arith}
-use Rattle.std.specs.Prelude.{◌^◌, ◌==◌, ◌&&◌, take, drop, get_or, slice_get, slice_index_or}
-use Rattle.std.proofs.lemmas.Bool.{eqb-true, eqb-false}
+use Rattle.std.{specs.Prelude.{◌^◌, ◌==◌, ◌&&◌, take, drop, get_or, slice_get, slice_index_or}, proofs.lemmas.Bool.{eqb-true, eqb-false}}
 use Rattle.std.proofs.lemmas.List.{length-map}
-use Rattle.fm_code.specs.Execution.{AreParts, CodeAt}
-use Rattle.fm_code.specs.Areas.{words_before}
-use Rattle.piton_words.specs.declared.word.Word.{Word}
-use Rattle.piton_words.specs.declared.word.Word.TheVariants.{Int, Nat, Bitv, Bool as Truth, Addr, Pc, Subr}
-use Rattle.piton_check.specs.Instruction.{ProgramView, SystemView}
-use Rattle.piton_check.specs.Sound.{IsProgram}
-use Rattle.piton_semantics.specs.State.{program_of}
-use Rattle.piton_semantics.specs.Fits.{Each, IsPlace, IsWordOf}
-use Rattle.piton_semantics.specs.Addresses.{Addresses, word_number, numbers}
+use Rattle.fm_code.{specs.Execution.{AreParts, CodeAt}, specs.Areas.words_before}
+use Rattle.piton_words.{specs.declared.word.Word.Word, specs.declared.word.Word.TheVariants.{Int, Nat, Bitv, Bool as Truth, Addr, Pc, Subr}}
+use Rattle.piton_check.{specs.Instruction.{ProgramView, SystemView}, specs.Sound.IsProgram}
+use Rattle.piton_semantics.{specs.State.program_of, specs.Fits.{Each, IsPlace, IsWordOf}, specs.Addresses.{Addresses, word_number, numbers}}
 use Rattle.piton_semantics.specs.Placed.{program_size, programs_size, areas_size, entry_of, address_of_place, final_pc_of, areas_start, address_of_area, end_of}
-use Rattle.piton_semantics.specs.Placed.{addresses_of, code_of, parts_of, placed}
-use Rattle.piton_semantics.proofs.EachLaws.{each_get}
-use Rattle.piton_semantics.proofs.SizeLaws.{code_ends}
-use Rattle.piton_semantics.proofs.AddressLaws.{same_addresses, same_places, same_entries, sum_below, program_there}
-use Rattle.piton_semantics.proofs.OperationForms.{IsWordBy, TellApart}
-use Rattle.piton_semantics.proofs.ReadyForms.{IsReady}
-use Rattle.piton_semantics.proofs.PieceLaws.{prelude_is}
-use Rattle.piton_semantics.proofs.PlacingLaws.{prelude_at, first_at}
+use Rattle.piton_semantics.{specs.Placed.{addresses_of, code_of, parts_of, placed}, proofs.EachLaws.each_get, proofs.SizeLaws.code_ends}
+use Rattle.piton_semantics.{proofs.AddressLaws.{same_addresses, same_places, same_entries, sum_below, program_there}, proofs.OperationForms.IsWordBy}
+use Rattle.piton_semantics.{proofs.OperationForms.TellApart, proofs.ReadyForms.IsReady, proofs.PieceLaws.prelude_is, proofs.PlacingLaws.{prelude_at, first_at}}
 
 -- ---- parts
 

@@ -1,28 +1,17 @@
 -- What a word operation gives: how many words, and that they name what exists where its operands do.
-use Rattle.std.proofs.Common.{◌≡◌, ℕ, ◌+◌, ◌≤◌, ℤ, pos, negsuc, Result, Ok, Bool, true, false, List, length, map, refl, subst, arith}
-use Rattle.std.specs.Prelude.{◌^◌, ◌<◌, ◌-◌, ◌*◌, ◌/◌, ◌%◌, ◌+ℤ◌, ◌-ℤ◌, ◌*ℤ◌, ◌==◌, not, ◌&&◌, ◌||◌, nat_lt, int_lt, get_or, unsigned_abs, bit_and, bit_or}
-use Rattle.std.specs.Prelude.{bit_xor}
-use Rattle.std.specs.Int.{w32, cast_signed}
-use Rattle.std.proofs.lemmas.Bool.{ltb-true, lt-ltb}
-use Rattle.std.proofs.lemmas.Int.{ints}
-use Rattle.std.proofs.lemmas.Nat.{xor_lt, or_lt, and_le_l}
-use Rattle.piton_words.specs.declared.word.Word.{Word}
-use Rattle.piton_words.specs.declared.word.Word.TheVariants.{Int, Nat, Bitv, Bool as Truth, Addr}
-use Rattle.piton_words.specs.declared.op.WordOp.{WordOp}
-use Rattle.piton_words.specs.declared.op.WordOp.TheVariants as op
-use Rattle.piton_words.specs.declared.outcome.Outcome.{Outcome}
-use Rattle.piton_words.specs.declared.outcome.Outcome.TheVariants.{One, Two}
-use Rattle.piton_words.specs.declared.outcome.WordError.{WordError}
-use Rattle.fm_words.specs.Word.{is_int, is_nat, wrapped}
-use Rattle.fm_words.proofs.WordLaws.{wrapped_below}
-use Rattle.stack_text.specs.Results.{◌>>=◌}
-use Rattle.piton_words.specs.Views.{int_of, nat_of, bitv_of, bool_of, addr_of, where_true}
+use Rattle.std.{proofs.Common.{◌≡◌, ℕ, ◌+◌, ◌≤◌, ℤ, pos, negsuc, Result, Ok, Bool, true, false, List, length, map, refl, subst, arith}, specs.Prelude.◌^◌}
+use Rattle.std.specs.Prelude.{◌<◌, ◌-◌, ◌*◌, ◌/◌, ◌%◌, ◌+ℤ◌, ◌-ℤ◌, ◌*ℤ◌, ◌==◌, not, ◌&&◌, ◌||◌, nat_lt, int_lt, get_or, unsigned_abs, bit_and, bit_or, bit_xor}
+use Rattle.std.{specs.Int.{w32, cast_signed}, proofs.lemmas.Bool.{ltb-true, lt-ltb}, proofs.lemmas.Int.ints, proofs.lemmas.Nat.{xor_lt, or_lt, and_le_l}}
+use Rattle.piton_words.{specs.declared.word.Word.Word, specs.declared.word.Word.TheVariants.{Int, Nat, Bitv, Bool as Truth, Addr}}
+use Rattle.piton_words.{specs.declared.op.WordOp.WordOp, specs.declared.outcome.Outcome.Outcome, specs.declared.outcome.Outcome.TheVariants.{One, Two}}
+use Rattle.piton_words.{specs.declared.outcome.WordError.WordError, specs.Views.{int_of, nat_of, bitv_of, bool_of, addr_of, where_true}}
 use Rattle.piton_words.specs.OperationRows.{int_word, nat_word, bitv_word, bool_word, int_carried, nat_carried, carry, addr_word, are_same, row_of}
+use Rattle.piton_words.specs.declared.op.WordOp.TheVariants as op
+use Rattle.fm_words.{specs.Word.{is_int, is_nat, wrapped}, proofs.WordLaws.wrapped_below}
+use Rattle.stack_text.specs.Results.{◌>>=◌}
 use Rattle.piton_check.specs.Instruction.{SystemView}
-use Rattle.piton_semantics.specs.Views.{words_taken}
-use Rattle.piton_semantics.specs.InstructionRows.{results_on, does_grow}
-use Rattle.piton_semantics.specs.Fits.{Each, IsWordOf}
-use Rattle.piton_semantics.proofs.WordViewLaws.{same_Ok, went_on, nat_is, bitv_is, held, nat_fits, ints_are, nats_are, bitvs_are, bools_are}
+use Rattle.piton_semantics.{specs.Views.words_taken, specs.InstructionRows.{results_on, does_grow}, specs.Fits.{Each, IsWordOf}, proofs.WordViewLaws.same_Ok}
+use Rattle.piton_semantics.proofs.WordViewLaws.{went_on, nat_is, bitv_is, held, nat_fits, ints_are, nats_are, bitvs_are, bools_are}
 
 -- how many words an operation pushes
 abbrev pub words_pushed : WordOp → ℕ

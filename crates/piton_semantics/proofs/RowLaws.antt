@@ -1,23 +1,18 @@
 -- From such a stack a row goes on to such a state: one law for each row, by computation.
 use Rattle.std.proofs.Common.{◌≡◌, ℕ, ◌+◌, ◌-◌, ◌≤◌, ◌<◌, Result, Ok, Option, Some, Bool, true, false, List, ◌∷◌, length, map, drop, refl, ap, ◌∙◌}
-use Rattle.std.specs.Prelude.{nat_lt, nat_le, slice_get, if◌then◌else◌}
-use Rattle.std.proofs.lemmas.Bool.{lt-ltb, le-leb}
-use Rattle.piton_words.specs.declared.word.Word.{Word}
-use Rattle.piton_words.specs.declared.word.Word.TheVariants.{Nat}
-use Rattle.piton_words.specs.declared.op.WordOp.{WordOp}
+use Rattle.std.{specs.Prelude.{nat_lt, nat_le, slice_get, if◌then◌else◌}, proofs.lemmas.Bool.{lt-ltb, le-leb}}
+use Rattle.piton_words.{specs.declared.word.Word.Word, specs.declared.word.Word.TheVariants.Nat, specs.declared.op.WordOp.WordOp}
 use Rattle.piton_words.specs.declared.outcome.Outcome.{Outcome}
 use Rattle.piton_words.specs.OperationRows as words
-use Rattle.piton_syntax.specs.declared.test_kind.TestFamily.{TestFamily}
-use Rattle.piton_syntax.specs.declared.test_kind.TestKind.{TestKind}
-use Rattle.piton_semantics.specs.declared.error_kind.ErrorKind.{ErrorKind}
-use Rattle.piton_semantics.specs.declared.error_kind.ErrorKind.TheVariants.{TempEmpty, Range, TempFull, CtrlFull}
+use Rattle.piton_syntax.{specs.declared.test_kind.TestFamily.TestFamily, specs.declared.test_kind.TestKind.TestKind}
+use Rattle.piton_semantics.{specs.declared.error_kind.ErrorKind.ErrorKind, specs.declared.error_kind.ErrorKind.TheVariants.{TempEmpty, Range, TempFull}}
+use Rattle.piton_semantics.{specs.declared.error_kind.ErrorKind.TheVariants.CtrlFull, specs.State.{Frame, PitonState, instruction_at, ctrl_used, locals_of}}
+use Rattle.piton_semantics.{specs.State.{with_local, word_at, with_word, element, with_element}, specs.Views.{◌>>=◌, then_on, where_true, found, one_of}}
+use Rattle.piton_semantics.{specs.Views.{Operands, words_taken, operands_of, test_of, lifted}, specs.InstructionRows.{Row, to_place, to_next, with_room}}
+use Rattle.piton_semantics.specs.InstructionRows.{pushed, push_local, pop_local, set_local_row, set_local, push_global, pop_global, set_word}
+use Rattle.piton_semantics.specs.InstructionRows.{push_temp_stk_index, fetch_temp_stk, deposit_temp_stk, pop_star, jump_where, jump_case, test_and_jump}
+use Rattle.piton_semantics.{specs.InstructionRows.{entered, call, does_grow, results_on, apply, row_of}, specs.Step.{step_from, piton_step}}
 use Rattle.piton_check.specs.Instruction.{Instruction, ProgramView, SystemView}
-use Rattle.piton_semantics.specs.State.{Frame, PitonState, instruction_at, ctrl_used, locals_of, with_local, word_at, with_word, element, with_element}
-use Rattle.piton_semantics.specs.Views.{◌>>=◌, then_on, where_true, found, one_of, Operands, words_taken, operands_of, test_of, lifted}
-use Rattle.piton_semantics.specs.InstructionRows.{Row, to_place, to_next, with_room, pushed, push_local, pop_local, set_local_row, set_local, push_global}
-use Rattle.piton_semantics.specs.InstructionRows.{pop_global, set_word, push_temp_stk_index, fetch_temp_stk, deposit_temp_stk, pop_star, jump_where, jump_case}
-use Rattle.piton_semantics.specs.InstructionRows.{test_and_jump, entered, call, does_grow, results_on, apply, row_of}
-use Rattle.piton_semantics.specs.Step.{step_from, piton_step}
 
 -- The step of a state with a frame is the row of the instruction at its place, forward and back.
 pub step_is : (s : SystemView) (p : PitonState) (f : Frame) (fs : List Frame) (instruction : Instruction) →

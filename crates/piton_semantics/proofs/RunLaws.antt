@@ -1,19 +1,11 @@
 -- Runs put together, with their steps and their costs.
-use Rattle.std.proofs.Common.{◌≡◌, ℕ, zero, suc, ◌+◌, Ok, List, [], ◌∷◌, refl, ap, sym, ◌∙◌, subst, arith, Err}
-use Rattle.std.specs.Prelude.{◌<◌, ◌^◌}
-use Rattle.piton_semantics.specs.declared.error_kind.ErrorKind.{ErrorKind}
+use Rattle.std.{proofs.Common.{◌≡◌, ℕ, zero, suc, ◌+◌, Ok, List, [], ◌∷◌, refl, ap, sym, ◌∙◌, subst, arith, Err}, specs.Prelude.{◌<◌, ◌^◌}}
+use Rattle.piton_semantics.{specs.declared.error_kind.ErrorKind.ErrorKind, specs.State.{Frame, PitonState}, specs.Views.{◌>>=◌, then_on}, specs.Step.piton_step}
+use Rattle.piton_semantics.{specs.Step.{piton_run, step_cost, cost_after, run_cost}, specs.Fits.{IsWellFormed, IsState}, specs.Law.{Steps, none, more}}
+use Rattle.piton_semantics.{specs.Law.advanced, specs.StateView.{Seen, state_run, saturated, seen_after, seen_from}, proofs.ViewLaws.went_on}
+use Rattle.piton_semantics.{proofs.WordViewLaws.same_Ok, proofs.KeepLaws.step_kept, proofs.SeenLaws.{first_step, stays}}
 use Rattle.piton_check.specs.Instruction.{SystemView}
-use Rattle.piton_semantics.specs.State.{Frame, PitonState}
-use Rattle.piton_semantics.specs.Views.{◌>>=◌, then_on}
-use Rattle.piton_semantics.specs.Step.{piton_step, piton_run, step_cost, cost_after, run_cost}
-use Rattle.piton_semantics.specs.Fits.{IsWellFormed, IsState}
-use Rattle.piton_semantics.specs.Law.{Steps, none, more, advanced}
-use Rattle.piton_semantics.specs.StateView.{Seen, state_run, saturated, seen_after, seen_from}
-use Rattle.piton_semantics.proofs.ViewLaws.{went_on}
-use Rattle.piton_semantics.proofs.WordViewLaws.{same_Ok}
-use Rattle.piton_semantics.proofs.KeepLaws.{step_kept}
 use Rattle.piton_semantics.specs.declared.stepped.PitonRun.TheVariants as ran
-use Rattle.piton_semantics.proofs.SeenLaws.{first_step, stays}
 
 -- one step first
 pub run_first : (s : SystemView) (k : ℕ) (p q : PitonState) → piton_step s p ≡ Ok q → piton_run s (suc k) p ≡ piton_run s k q

@@ -1,15 +1,12 @@
 -- The opening state, and runs taken apart by their first step.
-use Rattle.std.proofs.Common.{◌≡◌, ℕ, zero, suc, ◌≤◌, Result, Ok, Err, List, [], ◌∷◌, length, refl, ap, sym, ◌∙◌, arith}
-use Rattle.std.proofs.lemmas.List.{length-reverse}
+use Rattle.std.{proofs.Common.{◌≡◌, ℕ, zero, suc, ◌≤◌, Result, Ok, Err, List, [], ◌∷◌, length, refl, ap, sym, ◌∙◌, arith}, proofs.lemmas.List.length-reverse}
 use Rattle.piton_words.specs.declared.word.Word.{Word}
-use Rattle.piton_semantics.specs.declared.error_kind.ErrorKind.{ErrorKind}
+use Rattle.piton_semantics.{specs.declared.error_kind.ErrorKind.ErrorKind, specs.State.Frame, specs.Fits.{Each, IsWordOf, IsWellFormed}, specs.StateView.Seen}
+use Rattle.piton_semantics.specs.StateView.{IsSeen, seen_from, seen_step, answer_by, answer_of, left_of, end_by, ran_on, state_run, opening}
+use Rattle.piton_semantics.proofs.EachLaws.{each_reverse}
 use Rattle.piton_semantics.specs.declared.stepped.Stepped.TheVariants as stepped
 use Rattle.piton_semantics.specs.declared.stepped.PitonRun.TheVariants as ran
 use Rattle.piton_check.specs.Instruction.{SystemView}
-use Rattle.piton_semantics.specs.State.{Frame}
-use Rattle.piton_semantics.specs.Fits.{Each, IsWordOf, IsWellFormed}
-use Rattle.piton_semantics.specs.StateView.{Seen, IsSeen, seen_from, seen_step, answer_by, answer_of, left_of, end_by, ran_on, state_run, opening}
-use Rattle.piton_semantics.proofs.EachLaws.{each_reverse}
 
 pub opening_seen : (s : SystemView) (stack : List Word) → IsWellFormed s → length stack ≤ s.temp → Each (IsWordOf s) stack → IsSeen s (opening s stack)
 opening_seen s stack sound room words =

@@ -1,47 +1,29 @@
 -- Each instruction's code does its step.
 use Rattle.std.proofs.Common.{◌≡◌, ℕ, ◌+◌, ◌-◌, ◌<◌, ◌≤◌, ◌==◌, Bool, true, false, Some, Ok, List, [], ◌∷◌, ◌++◌, length, refl, sym, ap, ◌∙◌, subst, arith}
-use Rattle.std.proofs.Common.{length-append, append_assoc}
-use Rattle.std.specs.Prelude.{nat_lt, nat_le, if◌then◌else◌, map, take, drop, reverse, slice_get, slice_set}
-use Rattle.std.proofs.lemmas.Bool.Decides.{nat_tests}
-use Rattle.std.proofs.lemmas.List.{length-map, length-set, map-append, take-append-drop, length-take-le}
+use Rattle.std.{proofs.Common.{length-append, append_assoc}, specs.Prelude.{nat_lt, nat_le, if◌then◌else◌, map, take, drop, reverse, slice_get, slice_set}}
+use Rattle.std.{specs.Prelude.{None, slice_index_or}, proofs.lemmas.Bool.Decides.nat_tests, proofs.lemmas.List.{length-map, length-set, map-append}}
+use Rattle.std.{proofs.lemmas.List.{take-append-drop, length-take-le}, proofs.lemmas.Option.get_or_from_slice_get, proofs.lemmas.Bool.ltb-true}
 use Rattle.fm_machine.specs.State.{Fm}
-use Rattle.fm_code.specs.Execution.{Parts, CodeAt, Arrives, View, view, Executes}
-use Rattle.fm_code.specs.Areas.{joined, words_before}
-use Rattle.fm_code.specs.InstructionWords.{push, literal, mov}
-use Rattle.fm_code.specs.CodeRows.{HasRoom, IsFrame, IsIn, framed}
-use Rattle.fm_code.specs.Templates.{prelude_code, pop_star_code, popn_code, call_code, pop_call_code, ret_code, test_and_jump_code}
-use Rattle.fm_code.proofs.RowLaws.{move_rows, jump_rows, length-framed}
+use Rattle.fm_code.{specs.Execution.{Parts, CodeAt, Arrives, View, view, Executes}, specs.Areas.{joined, words_before}, specs.InstructionWords.{push, literal}}
+use Rattle.fm_code.{specs.InstructionWords.mov, specs.CodeRows.{HasRoom, IsFrame, IsIn, framed}, specs.Templates.{prelude_code, pop_star_code, popn_code}}
+use Rattle.fm_code.{specs.Templates.{call_code, pop_call_code, ret_code, test_and_jump_code}, proofs.RowLaws.{move_rows, jump_rows, length-framed}}
 use Rattle.fm_code.proofs.ListLaws.{get_front, set_front, get_map, set_map, reverse_map, joined_get, joined_set, joined_below}
-use Rattle.piton_words.specs.declared.word.Word.{Word}
-use Rattle.piton_words.specs.declared.word.Word.TheVariants.{Nat, Addr, Pc, Subr}
-use Rattle.piton_words.specs.declared.op.WordOp.{WordOp}
+use Rattle.piton_words.{specs.declared.word.Word.Word, specs.declared.word.Word.TheVariants.{Nat, Addr, Pc, Subr}, specs.declared.op.WordOp.WordOp}
+use Rattle.piton_words.{specs.declared.outcome.Outcome.Outcome, specs.declared.outcome.Outcome.TheVariants.{One, Two}}
 use Rattle.piton_words.specs.declared.op.WordOp.TheVariants as op
-use Rattle.piton_words.specs.declared.outcome.Outcome.{Outcome}
-use Rattle.piton_words.specs.declared.outcome.Outcome.TheVariants.{One, Two}
 use Rattle.piton_words.specs.OperationRows as words
-use Rattle.std.specs.Prelude.{None, slice_index_or}
-use Rattle.std.proofs.lemmas.Option.{get_or_from_slice_get}
-use Rattle.std.proofs.lemmas.Bool.{ltb-true}
-use Rattle.piton_semantics.specs.declared.error_kind.ErrorKind.TheVariants.{TempEmpty, Range, TempFull, CtrlFull}
-use Rattle.piton_syntax.specs.declared.test_kind.TestFamily.{TestFamily}
-use Rattle.piton_syntax.specs.declared.test_kind.TestKind.{TestKind}
+use Rattle.piton_semantics.{specs.declared.error_kind.ErrorKind.TheVariants.{TempEmpty, Range, TempFull, CtrlFull}, specs.State.{Frame, PitonState, ctrl_used}}
+use Rattle.piton_semantics.{specs.State.{variables_of, word_at, element}, specs.Views.{◌>>=◌, then_on, Operands, operands_of, words_taken, lifted}}
+use Rattle.piton_semantics.{specs.InstructionRows.{Row, row_of, does_grow}, specs.Step.{cost_of, variables_on_top, operation_cost}, specs.Addresses.Addresses}
+use Rattle.piton_semantics.{specs.Addresses.{parts_with, word_number, numbers}, specs.Templates.{operation_code, condition_of, template}}
+use Rattle.piton_semantics.{specs.Stands.{return_address, pointer_to, frame_words, view_of, StandsAt, SimulatesAt}, proofs.OperationForms.{IsWordBy, TellApart}}
+use Rattle.piton_semantics.{proofs.OperationForms.{taken, left, HasRoomFor}, proofs.OperationLaws.each_operation, proofs.PieceLaws.{word_is, codes_are}}
+use Rattle.piton_semantics.{proofs.PieceLaws.jump_case_is, proofs.ReadyForms.{is_test, IsReady, Asks}, proofs.StepViewLaws.{refused, by_one, by_two, by_nat}}
+use Rattle.piton_semantics.proofs.StepViewLaws.{by_addr, by_pc, by_subr, by_found, by_lifted, by_true, by_ok, by_test, by_area, area_there, area_length}
+use Rattle.piton_syntax.{specs.declared.test_kind.TestFamily.TestFamily, specs.declared.test_kind.TestKind.TestKind}
 use Rattle.piton_check.specs.Instruction as i
 use Rattle.piton_check.specs.Instruction.{Instruction, ProgramView, SystemView}
-use Rattle.piton_semantics.specs.State.{Frame, PitonState, ctrl_used, variables_of, word_at, element}
-use Rattle.piton_semantics.specs.Views.{◌>>=◌, then_on, Operands, operands_of, words_taken, lifted}
 use Rattle.piton_semantics.specs.InstructionRows as row
-use Rattle.piton_semantics.specs.InstructionRows.{Row, row_of, does_grow}
-use Rattle.piton_semantics.specs.Step.{cost_of, variables_on_top}
-use Rattle.piton_semantics.specs.Step.{operation_cost}
-use Rattle.piton_semantics.specs.Addresses.{Addresses, parts_with, word_number, numbers}
-use Rattle.piton_semantics.specs.Templates.{operation_code, condition_of, template}
-use Rattle.piton_semantics.specs.Stands.{return_address, pointer_to, frame_words, view_of, StandsAt, SimulatesAt}
-use Rattle.piton_semantics.proofs.OperationForms.{IsWordBy, TellApart, taken, left, HasRoomFor}
-use Rattle.piton_semantics.proofs.OperationLaws.{each_operation}
-use Rattle.piton_semantics.proofs.PieceLaws.{word_is, codes_are, jump_case_is}
-use Rattle.piton_semantics.proofs.ReadyForms.{is_test, IsReady, Asks}
-use Rattle.piton_semantics.proofs.StepViewLaws.{refused, by_one, by_two, by_nat, by_addr, by_pc, by_subr, by_found, by_lifted, by_true, by_ok, by_test, by_area}
-use Rattle.piton_semantics.proofs.StepViewLaws.{area_there, area_length}
 
 abbrev pub state_with : ℕ → ℕ → Frame → List Frame → List (List Word) → List Word → PitonState
 state_with pr pl f fs areas ws = record { program = pr; place = pl; frames = f ∷ fs; stack = ws; areas = areas }

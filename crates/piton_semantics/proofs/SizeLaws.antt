@@ -1,26 +1,17 @@
 -- The code and the words of a placed system have the sizes that the addresses count.
-use Rattle.std.proofs.Common.{◌≡◌, ℕ, suc, ◌+◌, ◌-◌, List, [], ◌∷◌, ◌++◌, length, map, reverse, refl, ap, ◌∙◌, arith, length-append}
-use Rattle.std.specs.Prelude.{◌*◌, replicate}
-use Rattle.std.proofs.lemmas.List.{length-map, length-replicate, length-reverse}
-use Rattle.fm_code.specs.Areas.{joined}
-use Rattle.fm_code.specs.Execution.{final_pc}
-use Rattle.fm_code.specs.InstructionWords.{reg, push, pop, literal, mov, halt_word}
-use Rattle.piton_check.specs.declared.piece.Piece.{Piece}
-use Rattle.piton_check.specs.declared.piece.Piece.TheVariants.{Code, Place}
-use Rattle.piton_words.specs.declared.word.Word.{Word}
-use Rattle.piton_words.specs.declared.op.WordOp.{WordOp}
+use Rattle.std.{proofs.Common.{◌≡◌, ℕ, suc, ◌+◌, ◌-◌, List, [], ◌∷◌, ◌++◌, length, map, reverse, refl, ap, ◌∙◌, arith, length-append}, specs.Prelude.◌*◌}
+use Rattle.std.{specs.Prelude.replicate, proofs.lemmas.List.{length-map, length-replicate, length-reverse}}
+use Rattle.fm_code.{specs.Areas.joined, specs.Execution.final_pc, specs.InstructionWords.{reg, push, pop, literal, mov, halt_word}}
+use Rattle.piton_check.{specs.declared.piece.Piece.Piece, specs.declared.piece.Piece.TheVariants.{Code, Place}, specs.Instruction.{Instruction, ProgramView}}
+use Rattle.piton_check.{specs.Instruction.SystemView, specs.Sound.local_count}
+use Rattle.piton_words.{specs.declared.word.Word.Word, specs.declared.op.WordOp.WordOp}
 use Rattle.piton_words.specs.declared.op.WordOp.TheVariants as word_op
 use Rattle.piton_check.specs.Instruction as i
-use Rattle.piton_check.specs.Instruction.{Instruction, ProgramView, SystemView}
-use Rattle.piton_check.specs.Sound.{local_count}
-use Rattle.piton_semantics.specs.State.{program_of}
-use Rattle.piton_semantics.specs.Step.{operation_cost}
-use Rattle.piton_semantics.specs.Fits.{IsWellFormed}
-use Rattle.piton_semantics.specs.Addresses.{Addresses, word_number, numbers}
+use Rattle.piton_semantics.{specs.State.program_of, specs.Step.operation_cost, specs.Fits.IsWellFormed, specs.Addresses.{Addresses, word_number, numbers}}
 use Rattle.piton_semantics.specs.Templates.{operation_code, word_piece, literal_pieces, code_pieces, temporary_pieces, prelude_pieces, words_of, template}
-use Rattle.piton_semantics.specs.Templates.{prelude_words, instructions_words, program_words, programs_words}
-use Rattle.piton_semantics.specs.Placed.{instruction_size, instructions_size, prelude_size, program_size, programs_size, areas_size, final_pc_of, ctrl_start}
-use Rattle.piton_semantics.specs.Placed.{temp_start, addresses_of, code_of, parts_of, first_frame, first_frame_at, first_top, placed}
+use Rattle.piton_semantics.{specs.Templates.{prelude_words, instructions_words, program_words, programs_words}, specs.Placed.instruction_size}
+use Rattle.piton_semantics.specs.Placed.{instructions_size, prelude_size, program_size, programs_size, areas_size, final_pc_of, ctrl_start, temp_start}
+use Rattle.piton_semantics.specs.Placed.{addresses_of, code_of, parts_of, first_frame, first_frame_at, first_top, placed}
 
 pub length-operation_code : (o : WordOp) → length (operation_code o) ≡ operation_cost o
 length-operation_code word_op.Eq = refl

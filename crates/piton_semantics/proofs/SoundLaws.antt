@@ -1,21 +1,13 @@
 -- What the checks know of a system is what its steps need.
 use Rattle.std.proofs.Common.{◌≡◌, ℕ, zero, suc, ◌+◌, ◌-◌, ◌<◌, ◌≤◌, Some, Bool, true, false, List, [], ◌∷◌, length, map, refl, sym, ap, ◌∙◌, subst, arith}
-use Rattle.std.specs.Prelude.{◌^◌, nat_lt, All, get_or, slice_get, slice_index_or, sum_by}
-use Rattle.std.proofs.lemmas.Option.{slice_get_within, get_or_from_slice_get}
-use Rattle.std.proofs.lemmas.Bool.{ltb-true, ltb-false}
-use Rattle.std.proofs.lemmas.List.Sums.{sum_by-cons}
-use Rattle.std.proofs.lemmas.Option.{get_or_from_slice_get}
-use Rattle.piton_check.proofs.SoundUseLaws.{all_at}
-use Rattle.piton_words.specs.declared.word.Word.{Word}
-use Rattle.piton_words.specs.declared.word.Word.TheVariants.{Int, Nat, Bitv, Bool as Truth, Addr, Pc, Subr}
+use Rattle.std.{specs.Prelude.{◌^◌, nat_lt, All, get_or, slice_get, slice_index_or, sum_by}, proofs.lemmas.Option.{slice_get_within, get_or_from_slice_get}}
+use Rattle.std.{proofs.lemmas.Option.get_or_from_slice_get, proofs.lemmas.Bool.{ltb-true, ltb-false}, proofs.lemmas.List.Sums.sum_by-cons}
+use Rattle.piton_check.{proofs.SoundUseLaws.all_at, specs.Instruction.{Instruction, ProgramView, SystemView, system_view}, specs.PitonChecking.CheckedOf}
+use Rattle.piton_check.{specs.PitonChecking.IsChecked, specs.Resolved.ResolvedOf, specs.Sound.{Exists, IsPlaced, IsEnd, IsSoundProgram, IsSound}}
+use Rattle.piton_words.{specs.declared.word.Word.Word, specs.declared.word.Word.TheVariants.{Int, Nat, Bitv, Bool as Truth, Addr, Pc, Subr}}
 use Rattle.piton_check.specs.Instruction as i
-use Rattle.piton_check.specs.Instruction.{Instruction, ProgramView, SystemView}
-use Rattle.piton_check.specs.PitonChecking.{CheckedOf, IsChecked}
-use Rattle.piton_check.specs.Resolved.{ResolvedOf}
-use Rattle.piton_check.specs.Instruction.{system_view}
-use Rattle.piton_check.specs.Sound.{Exists, IsPlaced, IsEnd, IsSoundProgram, IsSound}
-use Rattle.piton_semantics.specs.State.{no_program, program_of, instruction_at}
-use Rattle.piton_semantics.specs.Fits.{Each, IsPlace, IsWordOf, IsInstructionOf, IsWellFormed, IsInitialStack, system_in}
+use Rattle.piton_semantics.{specs.State.{no_program, program_of, instruction_at}, specs.Fits.{Each, IsPlace, IsWordOf, IsInstructionOf, IsWellFormed}}
+use Rattle.piton_semantics.specs.Fits.{IsInitialStack, system_in}
 
 -- ---- lists
 

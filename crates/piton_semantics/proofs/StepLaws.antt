@@ -1,30 +1,19 @@
 -- As many instructions as a step of Piton costs do that step.
-use Rattle.std.proofs.Common.{◌≡◌, ℕ, zero, suc, ◌+◌, ◌<◌, ◌≤◌, Some, Ok, List, [], ◌∷◌, length, map, sym, ap, ◌∙◌, subst, refl}
-use Rattle.std.specs.Prelude.{◌^◌, get_or, slice_get, slice_index_or}
+use Rattle.std.{proofs.Common.{◌≡◌, ℕ, zero, suc, ◌+◌, ◌<◌, ◌≤◌, Some, Ok, List, [], ◌∷◌, length, map, sym, ap, ◌∙◌, subst, refl}, specs.Prelude.{◌^◌, get_or}}
+use Rattle.std.specs.Prelude.{slice_get, slice_index_or}
 use Rattle.fm_machine.specs.State.{Fm}
-use Rattle.fm_code.specs.Execution.{CodeAt}
-use Rattle.fm_code.proofs.RunLaws.{arrives_at_once}
+use Rattle.fm_code.{specs.Execution.CodeAt, proofs.RunLaws.arrives_at_once}
 use Rattle.piton_words.specs.declared.word.Word.{Word}
 use Rattle.piton_check.specs.Instruction as i
-use Rattle.piton_check.specs.Instruction.{Instruction, ProgramView, SystemView}
-use Rattle.piton_check.specs.Sound.{IsSound, IsProgram}
-use Rattle.piton_semantics.specs.declared.error_kind.ErrorKind.TheVariants.{Range}
-use Rattle.piton_semantics.specs.State.{no_program, Frame, PitonState, program_of, instruction_at, variables_of}
-use Rattle.piton_semantics.specs.InstructionRows.{row_of}
-use Rattle.piton_semantics.specs.Step.{piton_step, step_cost, cost_at}
-use Rattle.piton_semantics.specs.Fits.{IsPlace, IsState, IsInstructionOf, AreFrames}
-use Rattle.piton_semantics.specs.Addresses.{Addresses, parts_with}
-use Rattle.piton_semantics.specs.Templates.{template}
-use Rattle.piton_semantics.specs.Placed.{end_of, placed, addresses_of, code_of}
-use Rattle.piton_semantics.specs.Stands.{StandsAt, SimulatesAt, Stands, Simulates}
-use Rattle.piton_semantics.proofs.SoundLaws.{known, placed_at}
-use Rattle.piton_semantics.proofs.OperationForms.{IsWordBy, TellApart}
-use Rattle.piton_semantics.proofs.ReadyForms.{IsReady, Asks}
-use Rattle.piton_semantics.proofs.ReadyLaws.{ready, tell_apart, words_in, end_fits}
-use Rattle.piton_semantics.proofs.PlacingLaws as placing
-use Rattle.piton_semantics.proofs.TestLaws.{is_tested}
-use Rattle.piton_semantics.proofs.StepViewLaws.{by_found, by_ok, area_length}
+use Rattle.piton_check.{specs.Instruction.{Instruction, ProgramView, SystemView}, specs.Sound.{IsSound, IsProgram}}
+use Rattle.piton_semantics.{specs.declared.error_kind.ErrorKind.TheVariants.Range, specs.State.{no_program, Frame, PitonState, program_of, instruction_at}}
+use Rattle.piton_semantics.{specs.State.variables_of, specs.InstructionRows.row_of, specs.Step.{piton_step, step_cost, cost_at}, specs.Fits.{IsPlace, IsState}}
+use Rattle.piton_semantics.{specs.Fits.{IsInstructionOf, AreFrames}, specs.Addresses.{Addresses, parts_with}, specs.Templates.template, specs.Placed.end_of}
+use Rattle.piton_semantics.{specs.Placed.{placed, addresses_of, code_of}, specs.Stands.{StandsAt, SimulatesAt, Stands, Simulates}, proofs.SoundLaws.known}
+use Rattle.piton_semantics.{proofs.SoundLaws.placed_at, proofs.OperationForms.{IsWordBy, TellApart}, proofs.ReadyForms.{IsReady, Asks}, proofs.ReadyLaws.ready}
+use Rattle.piton_semantics.{proofs.ReadyLaws.{tell_apart, words_in, end_fits}, proofs.TestLaws.is_tested, proofs.StepViewLaws.{by_found, by_ok, area_length}}
 use Rattle.piton_semantics.proofs.SimulationLaws.{each_row, state_with}
+use Rattle.piton_semantics.proofs.PlacingLaws as placing
 
 -- What a step needs of a placed program and of a state, at an instruction i: the state's words are in range, and the
 -- code of i and of the next place stands where the names say.

@@ -1,29 +1,18 @@
 -- What follows where a step has an answer.
 use Rattle.std.proofs.Common.{◌≡◌, ℕ, zero, suc, ◌<◌, Bool, true, false, Option, Some, None, Result, Ok, Err, List, [], ◌∷◌, length, refl, ap, ◌∙◌, subst}
-use Rattle.std.proofs.Common.{arith}
-use Rattle.std.specs.Prelude.{ℤ, pos, negsuc, not, int_lt, map, get_or, slice_get, slice_index_or}
-use Rattle.std.proofs.lemmas.Bool.Decides.{nat_tests}
-use Rattle.fm_words.specs.Alu.{does_hold}
-use Rattle.fm_words.specs.Word.{are_same_ints}
-use Rattle.fm_code.specs.Flags.{flags_of_word}
-use Rattle.fm_code.proofs.RowLaws.{test_rows}
-use Rattle.piton_words.specs.declared.word.Word.{Word}
-use Rattle.piton_words.specs.declared.word.Word.TheVariants.{Int, Nat, Bitv, Bool as Truth, Addr, Pc, Subr}
+use Rattle.std.{proofs.Common.arith, specs.Prelude.{ℤ, pos, negsuc, not, int_lt, map, get_or, slice_get, slice_index_or}, proofs.lemmas.Bool.Decides.nat_tests}
+use Rattle.fm_words.{specs.Alu.does_hold, specs.Word.are_same_ints}
+use Rattle.fm_code.{specs.Flags.flags_of_word, proofs.RowLaws.test_rows}
+use Rattle.piton_words.{specs.declared.word.Word.Word, specs.declared.word.Word.TheVariants.{Int, Nat, Bitv, Bool as Truth, Addr, Pc, Subr}}
 use Rattle.piton_words.specs.declared.outcome.WordError.{WordError}
-use Rattle.piton_semantics.specs.declared.error_kind.ErrorKind.{ErrorKind}
-use Rattle.piton_semantics.specs.declared.error_kind.ErrorKind.TheVariants.{TempEmpty, Tag}
+use Rattle.piton_semantics.{specs.declared.error_kind.ErrorKind.ErrorKind, specs.declared.error_kind.ErrorKind.TheVariants.{TempEmpty, Tag}}
+use Rattle.piton_semantics.{specs.State.PitonState, specs.Views.{◌>>=◌, then_on, where_true, found, One, Two, one_of, two_of, nat_of, addr_of, pc_of, subr_of}}
+use Rattle.piton_semantics.specs.Views.{lifted, error_of, test_of, does_nat_hold, does_int_hold, does_bool_hold, does_bitv_hold, is_zero, is_negative}
+use Rattle.piton_semantics.{specs.Views.is_positive, specs.InstructionRows.Row, specs.Addresses.{Addresses, word_number}, specs.Templates.condition_of}
+use Rattle.piton_semantics.{proofs.OperationForms.IsWordBy, proofs.ReadyForms.is_test}
 use Rattle.piton_syntax.specs.declared.test_kind.TestFamily.TheVariants as family
-use Rattle.piton_syntax.specs.declared.test_kind.TestFamily.{TestFamily}
+use Rattle.piton_syntax.{specs.declared.test_kind.TestFamily.TestFamily, specs.declared.test_kind.TestKind.TestKind}
 use Rattle.piton_syntax.specs.declared.test_kind.TestKind.TheVariants as test
-use Rattle.piton_syntax.specs.declared.test_kind.TestKind.{TestKind}
-use Rattle.piton_semantics.specs.State.{PitonState}
-use Rattle.piton_semantics.specs.Views.{◌>>=◌, then_on, where_true, found, One, Two, one_of, two_of, nat_of, addr_of, pc_of, subr_of, lifted, error_of, test_of}
-use Rattle.piton_semantics.specs.Views.{does_nat_hold, does_int_hold, does_bool_hold, does_bitv_hold, is_zero, is_negative, is_positive}
-use Rattle.piton_semantics.specs.InstructionRows.{Row}
-use Rattle.piton_semantics.specs.Addresses.{Addresses, word_number}
-use Rattle.piton_semantics.specs.Templates.{condition_of}
-use Rattle.piton_semantics.proofs.OperationForms.{IsWordBy}
-use Rattle.piton_semantics.proofs.ReadyForms.{is_test}
 
 pub refused : {A : Type 0} (e : ErrorKind) (p : PitonState) → (let r : Row = Err e in r) ≡ Ok p → A
 refused e p h = absurd cc

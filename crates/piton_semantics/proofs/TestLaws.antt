@@ -1,10 +1,7 @@
 -- A checked test is one of its family.
-use Rattle.std.proofs.Common.{◌≡◌, ℕ, zero, suc, ◌<◌, true, length, refl, subst, arith}
-use Rattle.std.specs.Prelude.{Contains, slice_index_or}
-use Rattle.piton_syntax.specs.declared.test_kind.TestFamily.{TestFamily}
+use Rattle.std.{proofs.Common.{◌≡◌, ℕ, zero, suc, ◌<◌, true, length, refl, subst, arith}, specs.Prelude.{Contains, slice_index_or}}
+use Rattle.piton_syntax.{specs.declared.test_kind.TestFamily.TestFamily, specs.declared.test_kind.TestKind.TestKind, specs.Operations.tests_of}
 use Rattle.piton_syntax.specs.declared.test_kind.TestFamily.TheVariants as family
-use Rattle.piton_syntax.specs.declared.test_kind.TestKind.{TestKind}
-use Rattle.piton_syntax.specs.Operations.{tests_of}
 use Rattle.piton_semantics.proofs.ReadyForms.{is_test}
 
 tested : (f : TestFamily) (k : ℕ) (d : TestKind) → k < length (tests_of f) → is_test f (slice_index_or (tests_of f) k d) ≡ true

@@ -1,11 +1,9 @@
 -- What a row that is no error found: one inversion for each view.
 use Rattle.std.proofs.Common.{◌≡◌, ℕ, Result, Ok, Err, Option, Some, None, Bool, true, false, List, [], ◌∷◌, refl, ap}
-use Rattle.piton_words.specs.declared.word.Word.{Word}
-use Rattle.piton_words.specs.declared.word.Word.TheVariants.{Int, Nat, Bitv, Bool as Truth, Addr, Pc, Subr}
+use Rattle.piton_words.{specs.declared.word.Word.Word, specs.declared.word.Word.TheVariants.{Int, Nat, Bitv, Bool as Truth, Addr, Pc, Subr}}
 use Rattle.piton_words.specs.declared.outcome.WordError.{WordError}
-use Rattle.piton_semantics.specs.declared.error_kind.ErrorKind.{ErrorKind}
-use Rattle.piton_semantics.specs.Views.{◌>>=◌, then_on, where_true, found, One, Two, one_of, two_of, pc_of, lifted}
-use Rattle.piton_semantics.proofs.WordViewLaws.{same_Ok}
+use Rattle.piton_semantics.{specs.declared.error_kind.ErrorKind.ErrorKind, specs.Views.{◌>>=◌, then_on, where_true, found, One, Two, one_of, two_of, pc_of}}
+use Rattle.piton_semantics.{specs.Views.lifted, proofs.WordViewLaws.same_Ok}
 
 -- what went on had a value
 pub record WentOn {A B : Type 0} (r : Result A ErrorKind) (go : A → Result B ErrorKind) (y : B) : Type 0 where

@@ -1,16 +1,11 @@
 -- What a word operation that is no error found: one inversion for each view of piton_words.
-use Rattle.std.proofs.Common.{◌≡◌, ℕ, ℤ, pos, negsuc, Result, Ok, Err, Bool, true, false, refl, ap}
-use Rattle.std.specs.Prelude.{◌^◌, ◌<◌, unsigned_abs}
+use Rattle.std.{proofs.Common.{◌≡◌, ℕ, ℤ, pos, negsuc, Result, Ok, Err, Bool, true, false, refl, ap}, specs.Prelude.{◌^◌, ◌<◌, unsigned_abs}}
 use Rattle.std.proofs.lemmas.Bool.{ltb-true}
-use Rattle.piton_words.specs.declared.word.Word.{Word}
-use Rattle.piton_words.specs.declared.word.Word.TheVariants.{Int, Nat, Bitv, Bool as Truth, Addr, Pc, Subr}
-use Rattle.piton_words.specs.declared.outcome.Outcome.{Outcome}
-use Rattle.piton_words.specs.declared.outcome.WordError.{WordError}
+use Rattle.piton_words.{specs.declared.word.Word.Word, specs.declared.word.Word.TheVariants.{Int, Nat, Bitv, Bool as Truth, Addr, Pc, Subr}}
+use Rattle.piton_words.{specs.declared.outcome.Outcome.Outcome, specs.declared.outcome.WordError.WordError, specs.Views.{int_of, nat_of, bitv_of, bool_of}}
+use Rattle.piton_words.{specs.Views.where_true, specs.OperationRows.{ints, nats, bitvs, bools}}
 use Rattle.fm_words.specs.Word.{is_nat}
-use Rattle.stack_text.specs.Results.{◌>>=◌}
-use Rattle.stack_text.proofs.ResultLaws.{bind_ok}
-use Rattle.piton_words.specs.Views.{int_of, nat_of, bitv_of, bool_of, where_true}
-use Rattle.piton_words.specs.OperationRows.{ints, nats, bitvs, bools}
+use Rattle.stack_text.{specs.Results.◌>>=◌, proofs.ResultLaws.bind_ok}
 
 -- the values in two equal answers
 pub same_Ok : {A E : Type 0} {x y : A} → ◌≡◌ {A = Result A E} (Ok x) (Ok y) → x ≡ y

@@ -1,10 +1,8 @@
 -- Where the parts of a system stand in memory, and the number of a word there.
-use Rattle.std.specs.Int.{from_bool as bit_of}
-use Rattle.std.specs.Prelude.{ℕ, ◌+◌, List, map}
+use Rattle.std.specs.{Int.{from_bool as bit_of}, Prelude.{ℕ, ◌+◌, List, map}}
 use Rattle.fm_words.specs.Word.{word_of_int}
 use Rattle.fm_code.specs.Execution.{Parts}
-use Rattle.piton_words.specs.declared.word.Word.{Word}
-use Rattle.piton_words.specs.declared.word.Word.TheVariants.{Int, Nat, Bitv, Bool as Truth, Addr, Pc, Subr}
+use Rattle.piton_words.specs.{declared.word.Word.{Word}, declared.word.Word.TheVariants.{Int, Nat, Bitv, Bool as Truth, Addr, Pc, Subr}}
 
 -- The first address; those of an instruction's code, of a program's prelude and of an area; the one where the program has
 -- ended; those where the areas, the control stack and the temporary stack begin; and the end of the temporary stack.

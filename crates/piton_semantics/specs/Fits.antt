@@ -2,13 +2,10 @@
 use Rattle.std.specs.Prelude.{◌≡◌, ℕ, ◌+◌, ◌^◌, ◌<◌, ◌≤◌, List, [], ◌∷◌, length, map, get_or, slice_index_or, Some, All, IsTrue}
 use Rattle.piton_syntax.specs.Limits.{most_instructions, most_program_variables}
 use Rattle.stack_text.specs.SharedLimits.{most_stack}
-use Rattle.piton_words.specs.declared.word.Word.{Word}
-use Rattle.piton_words.specs.declared.word.Word.TheVariants.{Int, Nat, Bitv, Bool as Truth, Addr, Pc, Subr}
+use Rattle.piton_words.specs.{declared.word.Word.{Word}, declared.word.Word.TheVariants.{Int, Nat, Bitv, Bool as Truth, Addr, Pc, Subr}}
 use Rattle.fm_words.specs.Word.{is_int}
 use Rattle.piton_check.specs.Instruction as i
-use Rattle.piton_check.specs.PitonChecking.{CheckedOf}
-use Rattle.piton_check.specs.Instruction.{Instruction, SystemView, system_view}
-use Rattle.piton_check.specs.Sound.{Exists}
+use Rattle.piton_check.specs.{PitonChecking.{CheckedOf}, Instruction.{Instruction, SystemView, system_view}, Sound.{Exists}}
 use Rattle.piton_semantics.specs.State.{Frame, PitonState, program_of, instruction_at, variables_of, ctrl_used}
 pub use Rattle.stack_text.specs.Lists.{Each}
 

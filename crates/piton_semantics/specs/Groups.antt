@@ -3,13 +3,10 @@ use Rattle.std.specs.Prelude.{◌≡◌, ℕ, Bool, true, false, List, [], slice
 use Rattle.piton_words.specs.declared.op.WordOp.{WordOp}
 use Rattle.piton_syntax.specs.declared.op.PitonOp.{PitonOp}
 use Rattle.piton_syntax.specs.declared.op.PitonOp.TheVariants as op
-use Rattle.piton_check.specs.WordOperations.{word_operation}
-use Rattle.piton_check.specs.Instruction as i
-use Rattle.piton_check.specs.Instruction.{Instruction}
-use Rattle.piton_check.specs.Resolved.{ResolvedInstrOf, ResolvedOf}
+use Rattle.piton_check.specs.{WordOperations.{word_operation}, Instruction.{Instruction}, Resolved.{ResolvedInstrOf, ResolvedOf}}
 use Rattle.piton_check.specs.declared.piece.Piece.{Piece}
-use Rattle.piton_semantics.specs.declared.group.Group.{Group}
-use Rattle.piton_semantics.specs.declared.group.Group.TheVariants.{Move, Jump, Word}
+use Rattle.piton_check.specs.Instruction as i
+use Rattle.piton_semantics.specs.{declared.group.Group.{Group}, declared.group.Group.TheVariants.{Move, Jump, Word}}
 
 -- jumps, calls and returns
 abbrev pub is_jump : PitonOp → Bool

@@ -1,22 +1,17 @@
 -- The rows of the instructions.
-use Rattle.std.specs.Prelude.{ℕ, ◌+◌, ◌-◌, ◌==◌, List, [], ◌∷◌, ◌++◌, length, map, reverse, take, drop}
-use Rattle.std.specs.Prelude.{Bool, true, false, nat_lt, nat_le, if◌then◌else◌, Result, Ok, slice_get}
-use Rattle.piton_words.specs.declared.word.Word.{Word}
-use Rattle.piton_words.specs.declared.word.Word.TheVariants.{Nat, Pc}
-use Rattle.piton_words.specs.declared.op.WordOp.{WordOp}
+use Rattle.std.specs.Prelude.{ℕ, ◌+◌, ◌-◌, ◌==◌, List, [], ◌∷◌, ◌++◌, length, map, reverse, take, drop, Bool, true, false, nat_lt, nat_le}
+use Rattle.std.specs.Prelude.{if◌then◌else◌, Result, Ok, slice_get}
+use Rattle.piton_words.specs.{declared.word.Word.{Word}, declared.word.Word.TheVariants.{Nat, Pc}, declared.op.WordOp.{WordOp}}
+use Rattle.piton_words.specs.{declared.outcome.Outcome.{Outcome}, declared.outcome.Outcome.TheVariants.{One, Two}}
 use Rattle.piton_words.specs.declared.op.WordOp.TheVariants as op
-use Rattle.piton_words.specs.declared.outcome.Outcome.{Outcome}
-use Rattle.piton_words.specs.declared.outcome.Outcome.TheVariants.{One, Two}
 use Rattle.piton_words.specs.OperationRows as words
-use Rattle.piton_syntax.specs.declared.test_kind.TestFamily.{TestFamily}
-use Rattle.piton_syntax.specs.declared.test_kind.TestKind.{TestKind}
-use Rattle.piton_semantics.specs.declared.error_kind.ErrorKind.{ErrorKind}
-use Rattle.piton_semantics.specs.declared.error_kind.ErrorKind.TheVariants.{TempEmpty, Range, TempFull, CtrlFull}
+use Rattle.piton_syntax.specs.{declared.test_kind.TestFamily.{TestFamily}, declared.test_kind.TestKind.{TestKind}}
+use Rattle.piton_semantics.specs.{declared.error_kind.ErrorKind.{ErrorKind}, declared.error_kind.ErrorKind.TheVariants.{TempEmpty, Range}}
+use Rattle.piton_semantics.specs.{declared.error_kind.ErrorKind.TheVariants.{TempFull, CtrlFull}, State.{Frame, PitonState, ctrl_used}}
+use Rattle.piton_semantics.specs.{State.{locals_of, with_local, word_at, with_word, element, with_element}, Views.{◌>>=◌, where_true}}
+use Rattle.piton_semantics.specs.Views.{found, one_of, two_of, words_taken, operands_of, nat_of, addr_of, pc_of, subr_of, lifted, test_of}
 use Rattle.piton_check.specs.Instruction as i
 use Rattle.piton_check.specs.Instruction.{Instruction, ProgramView, SystemView}
-use Rattle.piton_semantics.specs.State.{Frame, PitonState, ctrl_used, locals_of, with_local, word_at, with_word, element, with_element}
-use Rattle.piton_semantics.specs.Views.{◌>>=◌, where_true, found, one_of, two_of, words_taken}
-use Rattle.piton_semantics.specs.Views.{operands_of, nat_of, addr_of, pc_of, subr_of, lifted, test_of}
 
 -- what a row gives: the next state, or why there is none
 abbrev pub Row : Type 0

@@ -1,13 +1,9 @@
 -- What holds of the definitions.
 use Rattle.std.specs.Prelude.{◌≡◌, ℕ, suc, ◌+◌, ◌<◌, ◌^◌, List, ◌∷◌, Ok, Err, []}
-use Rattle.piton_semantics.specs.declared.error_kind.ErrorKind.{ErrorKind}
-use Rattle.piton_semantics.specs.declared.stepped.PitonRun.TheVariants.{Halted, Error}
-use Rattle.piton_check.specs.Instruction.{SystemView}
-use Rattle.piton_semantics.specs.State.{Frame, PitonState}
-use Rattle.piton_semantics.specs.Step.{piton_step, piton_run, step_cost, run_cost}
-use Rattle.piton_check.specs.Sound.{IsSound}
-use Rattle.piton_semantics.specs.Fits.{IsState}
+use Rattle.piton_semantics.specs.{declared.error_kind.ErrorKind.{ErrorKind}, declared.stepped.PitonRun.TheVariants.{Halted, Error}}
+use Rattle.piton_semantics.specs.{State.{Frame, PitonState}, Step.{piton_step, piton_run, step_cost, run_cost}, Fits.{IsState}}
 use Rattle.piton_semantics.specs.StateView.{Seen, saturated, state_run}
+use Rattle.piton_check.specs.{Instruction.{SystemView}, Sound.{IsSound}}
 
 -- each step of a sound system leads from a state to a state
 abbrev pub EachStepKeeps : Type 0

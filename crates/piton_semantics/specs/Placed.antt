@@ -1,16 +1,12 @@
 -- How many words each part of a placed system takes, and where it begins: at base and the sizes of all that stands before.
 use Rattle.std.specs.Prelude.{ℕ, ◌+◌, ◌-◌, ◌*◌, List, [], ◌∷◌, ◌++◌, length, take, reverse, replicate, map}
 use Rattle.fm_machine.specs.State.{Fm}
-use Rattle.fm_code.specs.Areas.{joined}
-use Rattle.fm_code.specs.Execution.{Parts}
+use Rattle.fm_code.specs.{Areas.{joined}, Execution.{Parts}, InstructionWords.{halt_word}}
 use Rattle.fm_words.specs.Code.{no_flags}
-use Rattle.fm_code.specs.InstructionWords.{halt_word}
 use Rattle.piton_words.specs.declared.word.Word.{Word}
 use Rattle.piton_check.specs.Instruction as i
 use Rattle.piton_check.specs.Instruction.{Instruction, ProgramView, SystemView}
-use Rattle.piton_semantics.specs.State.{program_of}
-use Rattle.piton_semantics.specs.Step.{operation_cost}
-use Rattle.piton_semantics.specs.Addresses.{Addresses, parts_with, numbers}
+use Rattle.piton_semantics.specs.{State.{program_of}, Step.{operation_cost}, Addresses.{Addresses, parts_with, numbers}}
 use Rattle.piton_semantics.specs.Templates.{programs_words}
 
 abbrev pub instruction_size : Instruction → ℕ

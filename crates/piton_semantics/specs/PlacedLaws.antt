@@ -2,16 +2,11 @@
 use Rattle.std.specs.Prelude.{◌≡◌, ℕ, ◌≤◌, List, length, Bool, Ok}
 use Rattle.fm_words.specs.WindowLimit.{most_window}
 use Rattle.fm_code.specs.Execution as execution
-use Rattle.piton_words.specs.declared.word.Word.{Word}
-use Rattle.piton_words.specs.OperationRows.{are_same}
-use Rattle.piton_check.specs.Instruction.{Instruction, SystemView}
-use Rattle.piton_check.specs.Sound.{IsSound}
-use Rattle.piton_semantics.specs.Fits.{IsWordOf}
-use Rattle.piton_semantics.specs.StateView.{started}
-use Rattle.piton_semantics.specs.Addresses.{Addresses, word_number}
-use Rattle.piton_semantics.specs.Templates.{template}
-use Rattle.piton_semantics.specs.Placed.{instruction_size, final_pc_of, addresses_of, parts_of, placed, loaded}
-use Rattle.piton_semantics.specs.Stands.{Stands, DoesStepsAt}
+use Rattle.piton_words.specs.{declared.word.Word.{Word}, OperationRows.{are_same}}
+use Rattle.piton_check.specs.{Instruction.{Instruction, SystemView}, Sound.{IsSound}}
+use Rattle.piton_semantics.specs.{Fits.{IsWordOf}, StateView.{started}, Addresses.{Addresses, word_number}, Templates.{template}}
+use Rattle.piton_semantics.specs.{Placed.{instruction_size, final_pc_of, addresses_of, parts_of, placed, loaded}, Stands.{Stands}}
+use Rattle.piton_semantics.specs.Stands.{DoesStepsAt}
 
 -- the code of each instruction has the size that addresses count
 abbrev pub TemplatesFit : Type 0

@@ -1,14 +1,10 @@
 -- A machine that stands for a state of Piton.
 use Rattle.std.specs.Prelude.{◌≡◌, ℕ, ◌-◌, List, [], ◌∷◌, ◌++◌, length, map, Ok}
 use Rattle.fm_machine.specs.State.{Fm}
-use Rattle.fm_code.specs.Areas.{joined}
-use Rattle.fm_code.specs.Execution.{View, view, HasView, Arrives}
+use Rattle.fm_code.specs.{Areas.{joined}, Execution.{View, view, HasView, Arrives}}
 use Rattle.piton_check.specs.Instruction.{SystemView}
-use Rattle.piton_semantics.specs.State.{Frame, PitonState}
-use Rattle.piton_semantics.specs.Step.{piton_step, step_cost}
-use Rattle.piton_semantics.specs.Fits.{IsState}
-use Rattle.piton_semantics.specs.Addresses.{Addresses, parts_with, numbers}
-use Rattle.piton_semantics.specs.Placed.{addresses_of, code_of}
+use Rattle.piton_semantics.specs.{State.{Frame, PitonState}, Step.{piton_step, step_cost}, Fits.{IsState}, Addresses.{Addresses}}
+use Rattle.piton_semantics.specs.{Addresses.{parts_with, numbers}, Placed.{addresses_of, code_of}}
 
 -- where a frame returns to: the oldest one to the final program counter
 abbrev pub return_address : Addresses → Frame → List Frame → ℕ

@@ -1,16 +1,12 @@
 -- What a state shows, and its step and run with their counts.
 use Rattle.std.specs.Prelude.{◌≡◌, ℕ, zero, suc, ◌+◌, ◌-◌, ◌^◌, min, List, [], ◌∷◌, reverse, Result, Ok, Err, Vec}
 use Rattle.piton_words.specs.declared.word.Word.{Word}
-use Rattle.piton_semantics.specs.declared.error_kind.ErrorKind.{ErrorKind}
-use Rattle.piton_semantics.specs.declared.stepped.Stepped.{Stepped}
+use Rattle.piton_semantics.specs.{declared.error_kind.ErrorKind.{ErrorKind}, declared.stepped.Stepped.{Stepped}}
+use Rattle.piton_semantics.specs.{declared.stepped.PitonRun.{PitonRun}, State.{PitonState, Frame, program_of}, Views.{◌>>=◌}}
+use Rattle.piton_semantics.specs.{Step.{piton_step, step_cost}, Fits.{IsState}}
 use Rattle.piton_semantics.specs.declared.stepped.Stepped.TheVariants as stepped
-use Rattle.piton_semantics.specs.declared.stepped.PitonRun.{PitonRun}
 use Rattle.piton_semantics.specs.declared.stepped.PitonRun.TheVariants as ran
 use Rattle.piton_check.specs.Instruction.{SystemView}
-use Rattle.piton_semantics.specs.State.{PitonState, Frame, program_of}
-use Rattle.piton_semantics.specs.Views.{◌>>=◌}
-use Rattle.piton_semantics.specs.Step.{piton_step, step_cost}
-use Rattle.piton_semantics.specs.Fits.{IsState}
 
 -- the state itself, for how many words its two stacks have room, how many steps it made, and their cost
 pub record Seen : Type 0 where

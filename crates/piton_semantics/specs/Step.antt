@@ -1,15 +1,11 @@
 -- A step, its cost, and runs.
 use Rattle.std.specs.Prelude.{ℕ, zero, suc, ◌+◌, List, [], ◌∷◌, Option, Some, None, Ok, Err}
-use Rattle.piton_words.specs.declared.word.Word.{Word}
-use Rattle.piton_words.specs.declared.word.Word.TheVariants.{Subr}
-use Rattle.piton_words.specs.declared.op.WordOp.{WordOp}
+use Rattle.piton_words.specs.{declared.word.Word.{Word}, declared.word.Word.TheVariants.{Subr}, declared.op.WordOp.{WordOp}}
 use Rattle.piton_words.specs.declared.op.WordOp.TheVariants as op
-use Rattle.piton_semantics.specs.declared.error_kind.ErrorKind.TheVariants.{Range}
+use Rattle.piton_semantics.specs.{declared.error_kind.ErrorKind.TheVariants.{Range}, State.{Frame, PitonState, instruction_at}}
+use Rattle.piton_semantics.specs.{State.{variables_of}, Views.{◌>>=◌, found}, InstructionRows.{Row, row_of}}
 use Rattle.piton_check.specs.Instruction as i
 use Rattle.piton_check.specs.Instruction.{Instruction, SystemView}
-use Rattle.piton_semantics.specs.State.{Frame, PitonState, instruction_at, variables_of}
-use Rattle.piton_semantics.specs.Views.{◌>>=◌, found}
-use Rattle.piton_semantics.specs.InstructionRows.{Row, row_of}
 
 -- one step; a halted state has no frame, and answers itself
 abbrev pub step_from : SystemView → PitonState → List Frame → Row

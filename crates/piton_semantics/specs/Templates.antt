@@ -1,26 +1,21 @@
 -- The code of each instruction: its pieces, which name what has an address, and its words, once all addresses are known.
-use Rattle.std.specs.Prelude.{ℕ, ◌+◌, List, [], ◌∷◌, ◌++◌, map, replicate, Option, Some, None}
-use Rattle.std.specs.Int.{from_bool as bit_of}
-use Rattle.piton_words.specs.declared.word.Word.{Word}
-use Rattle.piton_words.specs.declared.word.Word.TheVariants.{Int, Nat, Bitv, Bool as Truth, Addr, Pc, Subr}
+use Rattle.std.specs.{Prelude.{ℕ, ◌+◌, List, [], ◌∷◌, ◌++◌, map, replicate, Option, Some, None}, Int.{from_bool as bit_of}}
+use Rattle.piton_words.specs.{declared.word.Word.{Word}, declared.word.Word.TheVariants.{Int, Nat, Bitv, Bool as Truth, Addr, Pc, Subr}}
 use Rattle.piton_words.specs.declared.op.WordOp.{WordOp}
 use Rattle.piton_words.specs.declared.op.WordOp.TheVariants as op
 use Rattle.piton_syntax.specs.declared.test_kind.TestKind.{TestKind}
 use Rattle.piton_syntax.specs.declared.test_kind.TestKind.TheVariants as test
 use Rattle.fm_words.specs.declared.operation.Op.TheVariants as fm
-use Rattle.fm_words.specs.declared.condition.Cc.{Cc}
+use Rattle.fm_words.specs.{declared.condition.Cc.{Cc}, Word.{word_of_int}}
 use Rattle.fm_words.specs.declared.condition.Cc.TheVariants as cc
-use Rattle.fm_words.specs.Word.{word_of_int}
 use Rattle.fm_machine.specs.Masks.{all_flags}
 use Rattle.fm_code.specs.InstructionWords.{reg, at, push, pop, literal, literal_at, mov, add, sub, always, setting, when, flag_z}
 use Rattle.fm_code.specs.Templates as code
-use Rattle.piton_check.specs.declared.piece.Piece.{Piece}
-use Rattle.piton_check.specs.declared.piece.Piece.TheVariants.{Code, Number, Place, Entry, Area, TempEnd, TempStart, CtrlStart, Table}
+use Rattle.piton_check.specs.{declared.piece.Piece.{Piece}, declared.piece.Piece.TheVariants.{Code, Number, Place, Entry, Area, TempEnd}}
+use Rattle.piton_check.specs.{declared.piece.Piece.TheVariants.{TempStart, CtrlStart, Table}, Instruction.{Instruction, ProgramView}}
+use Rattle.piton_check.specs.{Instruction.{SystemView}, Sound.{local_count}}
 use Rattle.piton_check.specs.Instruction as i
-use Rattle.piton_check.specs.Instruction.{Instruction, ProgramView, SystemView}
-use Rattle.piton_check.specs.Sound.{local_count}
-use Rattle.piton_semantics.specs.State.{program_of, instruction_at}
-use Rattle.piton_semantics.specs.Addresses.{Addresses}
+use Rattle.piton_semantics.specs.{State.{program_of, instruction_at}, Addresses.{Addresses}}
 
 -- the code of an operation on words
 abbrev pub operation_code : WordOp → List ℕ

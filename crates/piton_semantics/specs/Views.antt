@@ -1,19 +1,16 @@
 -- What a row finds on the stack, in a word and in the system: each view goes on or fails.
-use Rattle.std.specs.Prelude.{ℕ, zero, suc, ℤ, pos, negsuc, ◌==◌, List, [], ◌∷◌, Option}
-use Rattle.std.specs.Prelude.{Some, None, Result, Ok, Err, Bool, true, false, not}
-use Rattle.piton_words.specs.declared.word.Word.{Word}
-use Rattle.piton_words.specs.declared.word.Word.TheVariants.{Pc, Subr}
-use Rattle.piton_words.specs.Views as words
-use Rattle.piton_words.specs.declared.op.WordOp.{WordOp}
-use Rattle.piton_words.specs.declared.op.WordOp.TheVariants as op
+use Rattle.std.specs.Prelude.{ℕ, zero, suc, ℤ, pos, negsuc, ◌==◌, List, [], ◌∷◌, Option, Some, None, Result, Ok, Err, Bool, true, false}
+use Rattle.std.specs.Prelude.{not}
+use Rattle.piton_words.specs.{declared.word.Word.{Word}, declared.word.Word.TheVariants.{Pc, Subr}, declared.op.WordOp.{WordOp}}
 use Rattle.piton_words.specs.declared.outcome.WordError.{WordError}
+use Rattle.piton_words.specs.Views as words
+use Rattle.piton_words.specs.declared.op.WordOp.TheVariants as op
 use Rattle.piton_words.specs.declared.outcome.WordError.TheVariants as word_error
-use Rattle.piton_syntax.specs.declared.test_kind.TestFamily.{TestFamily}
+use Rattle.piton_syntax.specs.{declared.test_kind.TestFamily.{TestFamily}, declared.test_kind.TestKind.{TestKind}}
 use Rattle.piton_syntax.specs.declared.test_kind.TestFamily.TheVariants as family
-use Rattle.piton_syntax.specs.declared.test_kind.TestKind.{TestKind}
 use Rattle.piton_syntax.specs.declared.test_kind.TestKind.TheVariants as test
-use Rattle.piton_semantics.specs.declared.error_kind.ErrorKind.{ErrorKind}
-use Rattle.piton_semantics.specs.declared.error_kind.ErrorKind.TheVariants.{TempEmpty, Tag, Range}
+use Rattle.piton_semantics.specs.{declared.error_kind.ErrorKind.{ErrorKind}, declared.error_kind.ErrorKind.TheVariants.{TempEmpty, Tag}}
+use Rattle.piton_semantics.specs.declared.error_kind.ErrorKind.TheVariants.{Range}
 
 -- what is found goes on to the next view, and the first that fails is the answer
 unfoldable pub then_on : {A B : Type 0} → Result A ErrorKind → (A → Result B ErrorKind) → Result B ErrorKind

@@ -2,7 +2,8 @@
 
 ghost use Rattle.std.specs.Prelude.{◌≡◌};
 ghost use Rattle.piton_check.specs.Instruction.{place_of};
-ghost use Rattle.piton_semantics.specs.Arguments.{word_argument, number_argument, local_argument, place_argument, area_argument, program_argument, test_argument};
+ghost use Rattle.piton_semantics.specs.Arguments.{word_argument, number_argument, local_argument, place_argument, area_argument, program_argument};
+ghost use Rattle.piton_semantics.specs.Arguments.{test_argument};
 
 use piton_check::ResolvedArg;
 use piton_syntax::TestKind;

@@ -2,8 +2,7 @@
 
 ghost use Rattle.std.specs.Prelude.{◌≡◌, ◌≤◌, ℕ};
 ghost use Rattle.piton_check.specs.Instruction.{system_view};
-ghost use Rattle.piton_semantics.specs.State.{variables_of};
-ghost use Rattle.piton_semantics.specs.Step.{operation_cost};
+ghost use Rattle.piton_semantics.specs.{State.{variables_of}, Step.{operation_cost}};
 
 use piton_check::Resolved;
 use piton_words::WordOp;

@@ -2,8 +2,7 @@
 
 ghost use Rattle.std.specs.Prelude.{◌≡◌, option_map};
 ghost use Rattle.piton_check.specs.Instruction.{system_view, instruction_view};
-ghost use Rattle.piton_semantics.specs.Groups.{resolved_at};
-ghost use Rattle.piton_semantics.specs.State.{instruction_at};
+ghost use Rattle.piton_semantics.specs.{Groups.{resolved_at}, State.{instruction_at}};
 
 use piton_check::{Resolved, ResolvedInstr};
 

@@ -1,7 +1,7 @@
 //! What holds of the definitions.
 
-ghost use Rattle.piton_semantics.specs.Law.{EachStepKeeps, StepsAreRuns, StepsAreCounted, StepsHalt, StepsFail};
-ghost use Rattle.piton_semantics.specs.PlacedLaws.{TemplatesFit, CodeEnds, PlacedFills, NumbersTell, OpeningStands, EachPlaceDoesSteps};
+ghost use Rattle.piton_semantics.specs.{Law.{EachStepKeeps, StepsAreRuns, StepsAreCounted, StepsHalt, StepsFail}, PlacedLaws.{TemplatesFit, CodeEnds}};
+ghost use Rattle.piton_semantics.specs.PlacedLaws.{PlacedFills, NumbersTell, OpeningStands, EachPlaceDoesSteps};
 
 /// The laws of steps: each step of a sound system keeps what a state has to keep, and steps put together are a run whose
 /// counts tell them.

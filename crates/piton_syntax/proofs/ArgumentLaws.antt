@@ -1,14 +1,10 @@
 -- The arguments of an operation, where each is of its kind.
-use Rattle.std.proofs.Common.{◌≡◌, ◌≢◌, ◌<◌, ◌+◌, ℕ, List, [], ◌∷◌, length, drop, get_or, refl, ap, subst}
-use Rattle.std.specs.Prelude.{IsTrue, Bool, true, false, ◌&&◌}
+use Rattle.std.{proofs.Common.{◌≡◌, ◌≢◌, ◌<◌, ◌+◌, ℕ, List, [], ◌∷◌, length, drop, get_or, refl, ap, subst}, specs.Prelude.{IsTrue, Bool, true, false, ◌&&◌}}
 use Rattle.std.specs.List.{list_all}
-use Rattle.stack_text.specs.Views.TreeView.{node_of, nodes_of}
-use Rattle.stack_text.specs.declared.tree.TextTree.{TextTree}
-use Rattle.piton_syntax.specs.declared.argument.ArgKind.{ArgKind}
-use Rattle.piton_syntax.specs.declared.argument.Arguments.TheVariants as row
-use Rattle.piton_syntax.specs.Grammar.{are_of_kind, argument_of, arguments_of, is_of_kind}
-use Rattle.stack_text.specs.Grammar.Judged.{each_of, fault}
+use Rattle.stack_text.{specs.Views.TreeView.{node_of, nodes_of}, specs.declared.tree.TextTree.TextTree, specs.Grammar.Judged.{each_of, fault}}
 use Rattle.stack_text.proofs.Loops.{drop-item}
+use Rattle.piton_syntax.{specs.declared.argument.ArgKind.ArgKind, specs.Grammar.{are_of_kind, argument_of, arguments_of, is_of_kind}}
+use Rattle.piton_syntax.specs.declared.argument.Arguments.TheVariants as row
 
 pub all_of_kind : (k : ArgKind) (ts : List TextTree) → list_all (λ t. is_of_kind k (node_of t)) ts ≡ are_of_kind k (nodes_of ts)
 all_of_kind k [] = refl

@@ -1,49 +1,29 @@
 -- What keeps the form fits it in plain words: what the grammar gives for a tree fits, and places don't count.
 use Rattle.std.proofs.Common.{◌≡◌, ℕ, suc, ◌+◌, ◌≤◌, Bool, true, false, cond, leb, List, [], ◌∷◌, length, map, Option, Some, None, Ok, Contains, refl, arith}
-use Rattle.std.specs.Prelude.{codes, ◌&&◌, ◌||◌, option_map}
-use Rattle.std.specs.List.{find}
-use Rattle.std.specs.Str.{bytes_eq}
-use Rattle.std.proofs.lemmas.Bool.{leb-true}
-use Rattle.std.proofs.lemmas.List.{length-map}
-use Rattle.std.proofs.lemmas.List.Elements.{All-nil}
-use Rattle.stack_text.specs.declared.name.Named.{Named}
-use Rattle.stack_text.specs.Names.{is_name}
-use Rattle.stack_text.specs.Numerals.{is_digits, is_numeral, numeral_value, fits_128_bits}
-use Rattle.stack_text.specs.Trees.{Node, Nodes, atom, list, none, more, place_of}
-use Rattle.std.proofs.lemmas.Bool.{and_parts}
-use Rattle.stack_text.specs.Grammar.Printed.{unplaced_name}
-use Rattle.piton_syntax.specs.declared.argument.ArgKind.{ArgKind}
-use Rattle.piton_syntax.specs.declared.argument.ArgKind.TheVariants as kind
-use Rattle.piton_syntax.specs.declared.argument.ArgText.{ArgText}
-use Rattle.piton_syntax.specs.declared.argument.ArgText.TheVariants as arg
-use Rattle.piton_syntax.specs.declared.argument.Arguments.{Arguments}
-use Rattle.piton_syntax.specs.declared.argument.Arguments.TheVariants.{Zero, One, TestAndLabel, OneOrMore}
-use Rattle.piton_syntax.specs.declared.op.PitonOp.{PitonOp}
-use Rattle.piton_syntax.specs.declared.tag.Tag.{Tag}
-use Rattle.piton_syntax.specs.declared.tag.Tag.TheVariants as tag
-use Rattle.piton_syntax.specs.declared.test_kind.TestFamily.{TestFamily}
-use Rattle.piton_syntax.specs.declared.test_kind.TestKind.{TestKind}
-use Rattle.piton_syntax.specs.declared.word_text.WordText.{WordText}
-use Rattle.piton_syntax.specs.declared.word_text.WordItem.{WordItem}
-use Rattle.piton_syntax.specs.declared.word_text.WordItem.TheVariants as item
-use Rattle.piton_syntax.specs.PitonReading.{KeepsForm}
-use Rattle.stack_text.specs.Grammar.Judged.{Judged, ◌⊛◌, front, each_of}
-use Rattle.stack_text.specs.Grammar.Parts.{IsNamed, count_of, list_length}
-use Rattle.piton_syntax.specs.Limits.{is_small_program, is_small_system}
-use Rattle.piton_syntax.specs.Operations.{op_arguments, operation_named, tag_named, tests_of, test_name}
-use Rattle.stack_text.specs.Grammar.Parts.{bytes_of, is_atom_of}
+use Rattle.std.{specs.Prelude.{codes, ◌&&◌, ◌||◌, option_map}, specs.List.find, specs.Str.bytes_eq, proofs.lemmas.Bool.{leb-true, and_parts}}
+use Rattle.std.{proofs.lemmas.List.length-map, proofs.lemmas.List.Elements.All-nil}
+use Rattle.stack_text.{specs.declared.name.Named.Named, specs.Names.is_name, specs.Numerals.{is_digits, is_numeral, numeral_value, fits_128_bits}}
+use Rattle.stack_text.{specs.Trees.{Node, Nodes, atom, list, none, more, place_of}, specs.Grammar.Printed.unplaced_name, specs.Grammar.Judged.{Judged, ◌⊛◌}}
+use Rattle.stack_text.{specs.Grammar.Judged.{front, each_of}, specs.Grammar.Parts.{IsNamed, count_of, list_length, bytes_of, is_atom_of}}
+use Rattle.stack_text.{proofs.NumeralTextLaws.natural_digits, proofs.FitsLaws.{Fitting, FittingList, all_under, fits_each, fits_front, fits_list, fits_name}}
+use Rattle.stack_text.{proofs.FitsLaws.placed_names, proofs.KeepsLaws.{Holds, holds_judged, holds_one, holds_two, holds_four, holds_seven, holds_at, holds_if}}
+use Rattle.stack_text.proofs.KeepsLaws.{holds_more}
+use Rattle.piton_syntax.{specs.declared.argument.ArgKind.ArgKind, specs.declared.argument.ArgText.ArgText, specs.declared.argument.Arguments.Arguments}
+use Rattle.piton_syntax.{specs.declared.argument.Arguments.TheVariants.{Zero, One, TestAndLabel, OneOrMore}, specs.declared.op.PitonOp.PitonOp}
+use Rattle.piton_syntax.{specs.declared.tag.Tag.Tag, specs.declared.test_kind.TestFamily.TestFamily, specs.declared.test_kind.TestKind.TestKind}
+use Rattle.piton_syntax.{specs.declared.word_text.WordText.WordText, specs.declared.word_text.WordItem.WordItem, specs.PitonReading.KeepsForm}
+use Rattle.piton_syntax.{specs.Limits.{is_small_program, is_small_system}, specs.Operations.{op_arguments, operation_named, tag_named, tests_of, test_name}}
 use Rattle.piton_syntax.specs.Grammar.{named_of, number_of, is_true_word, is_false_word, address, program_place, item_of, word_of, is_of_kind, are_of_kind}
 use Rattle.piton_syntax.specs.Grammar.{argument_of, test_at, one, test_and_label, tested_of, pair, arguments_of, called_of, labelled_of, instruction_of}
-use Rattle.piton_syntax.specs.Grammar.{list_of, temporary_of, program_of, area_of, system_of}
-use Rattle.piton_syntax.specs.Systems.{InstrOf, ProgramOf, AreaOf, SystemOf, new_word, new_instruction, new_program, new_area, new_system, unplaced_item}
-use Rattle.piton_syntax.specs.Systems.{unplaced_word, unplaced_argument, unplaced_instruction, unplaced_temporary, unplaced_program, unplaced_area}
-use Rattle.piton_syntax.specs.Systems.{without_places}
-use Rattle.piton_syntax.specs.Printed.{tree_of}
+use Rattle.piton_syntax.{specs.Grammar.{list_of, temporary_of, program_of, area_of, system_of}, specs.Systems.{InstrOf, ProgramOf, AreaOf, SystemOf, new_word}}
+use Rattle.piton_syntax.specs.Systems.{new_instruction, new_program, new_area, new_system, unplaced_item, unplaced_word, unplaced_argument}
+use Rattle.piton_syntax.{specs.Systems.{unplaced_instruction, unplaced_temporary, unplaced_program, unplaced_area, without_places}, specs.Printed.tree_of}
 use Rattle.piton_syntax.specs.Fits.{IsSigned, IsUnsigned, FitsItem, FitsWord, FitsArgument, FitsArguments, FitsLabel, FitsInstruction, FitsTemporary}
 use Rattle.piton_syntax.specs.Fits.{FitsProgram, FitsArea, FitsForm}
-use Rattle.stack_text.proofs.NumeralTextLaws.{natural_digits}
-use Rattle.stack_text.proofs.FitsLaws.{Fitting, FittingList, all_under, fits_each, fits_front, fits_list, fits_name, placed_names}
-use Rattle.stack_text.proofs.KeepsLaws.{Holds, holds_judged, holds_one, holds_two, holds_four, holds_seven, holds_at, holds_if, holds_more}
+use Rattle.piton_syntax.specs.declared.argument.ArgKind.TheVariants as kind
+use Rattle.piton_syntax.specs.declared.argument.ArgText.TheVariants as arg
+use Rattle.piton_syntax.specs.declared.tag.Tag.TheVariants as tag
+use Rattle.piton_syntax.specs.declared.word_text.WordItem.TheVariants as item
 
 -- ---- numbers
 

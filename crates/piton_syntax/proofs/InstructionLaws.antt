@@ -1,18 +1,11 @@
 -- What follows `dl`, by its shape.
 use Rattle.std.proofs.Common.{◌≡◌, ◌≢◌, ℕ, List, [], ◌∷◌, length, get_or, Ok, Some, Bor, Vec, Global, refl, sym, ◌∙◌, arith}
-use Rattle.stack_text.specs.Trees.{Node, Nodes, atom, list, none, more}
-use Rattle.stack_text.specs.Views.TreeView.{node_of, nodes_of}
-use Rattle.stack_text.specs.declared.tree.TextTree.{TextTree}
-use Rattle.stack_text.specs.declared.tree.TextTree.{Atom, List as ListOf}
-use Rattle.stack_text.proofs.TreeViewLaws.{node_of-atom, node_of-list}
-use Rattle.stack_text.specs.declared.grammar.fault.FormFault.{FormFault}
-use Rattle.piton_syntax.specs.declared.op.PitonOp.{PitonOp}
-use Rattle.stack_text.specs.Grammar.Judged.{fault, ◌⊛◌}
-use Rattle.piton_syntax.specs.Grammar.{arguments_of, called_of, labelled_of, named_of}
-use Rattle.piton_syntax.specs.Operations.{op_arguments, operation_named}
-use Rattle.stack_text.specs.Grammar.Reading.{IsFirstFault}
-use Rattle.piton_syntax.specs.Systems.{new_instruction}
+use Rattle.stack_text.{specs.Trees.{Node, Nodes, atom, list, none, more}, specs.Views.TreeView.{node_of, nodes_of}, specs.declared.tree.TextTree.TextTree}
+use Rattle.stack_text.{specs.declared.tree.TextTree.{Atom, List as ListOf}, proofs.TreeViewLaws.{node_of-atom, node_of-list}}
+use Rattle.stack_text.{specs.declared.grammar.fault.FormFault.FormFault, specs.Grammar.Judged.{fault, ◌⊛◌}, specs.Grammar.Reading.IsFirstFault}
 use Rattle.stack_text.proofs.PartLaws.{first_of_parts, first_of_value}
+use Rattle.piton_syntax.{specs.declared.op.PitonOp.PitonOp, specs.Grammar.{arguments_of, called_of, labelled_of, named_of}, specs.Operations.op_arguments}
+use Rattle.piton_syntax.{specs.Operations.operation_named, specs.Systems.new_instruction}
 
 two_behind : (p : ℕ) (t u : Node) → labelled_of p (more t (more u none)) ≡ fault p 6
 two_behind p t (atom q bytes) = refl

@@ -1,17 +1,9 @@
 -- The items of a list by the first, and those that follow, as they are read and printed.
 use Rattle.std.proofs.Common.{◌≡◌, ◌≢◌, ◌<◌, ◌+◌, ℕ, Bool, true, false, List, [], ◌∷◌, ◌++◌, length, drop, get_or, map, refl, sym, ap, ◌∙◌, arith}
-use Rattle.std.specs.Prelude.{◌==◌, if◌then◌else◌, Result, Ok, Err}
-use Rattle.std.proofs.lemmas.Bool.{eqb-true, eqb-false, ne_eqb}
-use Rattle.stack_text.specs.declared.breach.Breach.{Breach}
-use Rattle.stack_text.specs.Trees.{Node, none, more}
-use Rattle.stack_text.specs.TreeText.{spaced_text, tree_text}
-use Rattle.stack_text.specs.Views.TreeView.{node_of, nodes, nodes_of}
-use Rattle.stack_text.specs.Grammar.Judged.{Judged, ◌⊛◌}
-use Rattle.stack_text.specs.Grammar.Printed.{items_after}
-use Rattle.stack_text.specs.Grammar.Reading.{Finds}
-use Rattle.stack_text.proofs.Loops.{drop-item}
-use Rattle.stack_text.proofs.PrintLaws.{apart_by}
-use Rattle.stack_text.specs.declared.tree.TextTree.{TextTree}
+use Rattle.std.{specs.Prelude.{◌==◌, if◌then◌else◌, Result, Ok, Err}, proofs.lemmas.Bool.{eqb-true, eqb-false, ne_eqb}}
+use Rattle.stack_text.{specs.declared.breach.Breach.Breach, specs.Trees.{Node, none, more}, specs.TreeText.{spaced_text, tree_text}}
+use Rattle.stack_text.{specs.Views.TreeView.{node_of, nodes, nodes_of}, specs.Grammar.Judged.{Judged, ◌⊛◌}, specs.Grammar.Printed.items_after}
+use Rattle.stack_text.{specs.Grammar.Reading.Finds, proofs.Loops.drop-item, proofs.PrintLaws.apart_by, specs.declared.tree.TextTree.TextTree}
 use Rattle.stack_text.proofs.TreeListLaws.{no_parts, rest, rest_is_drop}
 
 first_and_rest : (ts : List TextTree) (first : TextTree) → length ts ≢ 0 → first ≡ get_or ts 0 first

@@ -1,54 +1,34 @@
 -- What is read keeps the form: its tree has the form of the tree that was read, and is the same value but for places.
-use Rattle.std.proofs.Common.{◌≡◌, ℕ, Bool, true, false, cond, List, [], ◌∷◌, map, Option, Some, None, Ok, refl, sym, ap, subst, ◌∙◌, arith}
-use Rattle.std.specs.Prelude.{ℤ, codes, ◌&&◌, ◌||◌}
-use Rattle.std.specs.List.{list_all}
-use Rattle.std.specs.Str.{bytes_eq}
-use Rattle.std.specs.Fmt.{signed_decimal}
-use Rattle.std.proofs.lemmas.Slice.Eq.{bytes_eq-Decides}
-use Rattle.stack_text.specs.declared.name.Named.{Named}
-use Rattle.stack_text.specs.Names.{is_name}
-use Rattle.stack_text.specs.Numerals.{is_digits, is_numeral, numeral_value, fits_128_bits}
-use Rattle.stack_text.specs.Trees.{Node, Nodes, atom, list, none, more, place_of, IsWellFormed}
-use Rattle.stack_text.specs.Views.TreeView.{nodes}
+use Rattle.std.{proofs.Common.{◌≡◌, ℕ, Bool, true, false, cond, List, [], ◌∷◌, map, Option, Some, None, Ok, refl, sym, ap, subst, ◌∙◌, arith}, specs.Prelude.ℤ}
+use Rattle.std.{specs.Prelude.{codes, ◌&&◌, ◌||◌}, specs.List.list_all, specs.Str.bytes_eq, specs.Fmt.signed_decimal, proofs.lemmas.Slice.Eq.bytes_eq-Decides}
 use Rattle.std.proofs.lemmas.Bool.{and_parts, and_from}
-use Rattle.stack_text.proofs.AtomLaws.{name_is_run, numeral_is_run}
-use Rattle.stack_text.specs.Grammar.Printed.{name_tree, unplaced_name}
-use Rattle.stack_text.specs.Grammar.Printed.{list_tree}
-use Rattle.piton_syntax.specs.declared.argument.ArgKind.{ArgKind}
-use Rattle.piton_syntax.specs.declared.argument.ArgKind.TheVariants as kind
-use Rattle.piton_syntax.specs.declared.argument.ArgText.{ArgText}
-use Rattle.piton_syntax.specs.declared.argument.ArgText.TheVariants as arg
-use Rattle.piton_syntax.specs.declared.argument.Arguments.{Arguments}
-use Rattle.piton_syntax.specs.declared.argument.Arguments.TheVariants.{Zero, One, TestAndLabel, OneOrMore}
-use Rattle.piton_syntax.specs.declared.op.PitonOp.{PitonOp}
-use Rattle.piton_syntax.specs.declared.tag.Tag.{Tag}
-use Rattle.piton_syntax.specs.declared.tag.Tag.TheVariants as tag
-use Rattle.piton_syntax.specs.declared.test_kind.TestFamily.{TestFamily}
-use Rattle.piton_syntax.specs.declared.test_kind.TestFamily.TheVariants as family
-use Rattle.piton_syntax.specs.declared.test_kind.TestKind.{TestKind}
-use Rattle.piton_syntax.specs.declared.word_text.Number.{Number}
-use Rattle.piton_syntax.specs.declared.word_text.WordText.{WordText}
-use Rattle.piton_syntax.specs.declared.word_text.WordItem.{WordItem}
-use Rattle.piton_syntax.specs.declared.word_text.WordItem.TheVariants as item
-use Rattle.piton_syntax.specs.PitonReading.{KeepsForm}
-use Rattle.stack_text.specs.Grammar.Judged.{Judged, judged, ◌⊛◌, front, each_of}
-use Rattle.piton_syntax.specs.Limits.{is_small_program, is_small_system}
-use Rattle.piton_syntax.specs.Operations.{row_of, op_name, op_arguments, operations, operation_named, tag_named, test_name, tests_of, test_named}
-use Rattle.stack_text.specs.Grammar.Parts.{is_atom_of}
-use Rattle.piton_syntax.specs.Grammar.{named_of, number_of, is_true_word, is_false_word, address, program_place, item_of, word_of, is_of_kind, are_of_kind}
-use Rattle.piton_syntax.specs.Grammar.{argument_of, test_at, one, test_and_label, tested_of, pair, arguments_of, called_of, labelled_of, instruction_of}
-use Rattle.piton_syntax.specs.Grammar.{list_of, temporary_of, program_of, area_of, system_of}
-use Rattle.piton_syntax.specs.Systems.{InstrOf, ProgramOf, AreaOf, SystemOf, new_word, new_instruction, new_program, new_area, new_system, unplaced_number}
-use Rattle.piton_syntax.specs.Systems.{unplaced_item, unplaced_word, unplaced_argument, unplaced_instruction, unplaced_temporary, unplaced_program}
-use Rattle.piton_syntax.specs.Systems.{unplaced_area, without_places}
-use Rattle.piton_syntax.specs.Printed.{number_tree, truth_tree, item_tree, word_tree, argument_tree, instruction_tree, temporary_tree, program_tree, area_tree}
-use Rattle.piton_syntax.specs.Printed.{tree_of}
-use Rattle.stack_text.proofs.NumeralTextLaws.{value-signed_decimal, numeral-signed_decimal, digits-signed_decimal}
-use Rattle.stack_text.proofs.KeepsLaws.{named_again as name_again, keeps_name as keeps_name_or, keeps_named as keeps_named_or, keeps_list as keeps_list_or}
-use Rattle.stack_text.proofs.KeepsLaws.{KeepsName, Alike, AllAlike, Holds, IsRun, Keeps, KeepsEach, alike_list_length, alike_items, found_passes, found_tests}
-use Rattle.stack_text.proofs.KeepsLaws.{holds_at, holds_four, holds_if, holds_judged, holds_more, holds_one, holds_seven, holds_two, keeps_each, ok_four}
-use Rattle.stack_text.proofs.KeepsLaws.{ok_one, ok_seven, ok_two, passes, well_formed}
+use Rattle.stack_text.{specs.declared.name.Named.Named, specs.Names.is_name, specs.Numerals.{is_digits, is_numeral, numeral_value, fits_128_bits}}
+use Rattle.stack_text.{specs.Trees.{Node, Nodes, atom, list, none, more, place_of, IsWellFormed}, specs.Views.TreeView.nodes, proofs.AtomLaws.name_is_run}
+use Rattle.stack_text.{proofs.AtomLaws.numeral_is_run, specs.Grammar.Printed.{name_tree, unplaced_name, list_tree}, specs.Grammar.Judged.{Judged, judged, ◌⊛◌}}
+use Rattle.stack_text.{specs.Grammar.Judged.{front, each_of}, specs.Grammar.Parts.is_atom_of, proofs.NumeralTextLaws.value-signed_decimal}
+use Rattle.stack_text.{proofs.NumeralTextLaws.{numeral-signed_decimal, digits-signed_decimal}, proofs.KeepsLaws.named_again as name_again}
+use Rattle.stack_text.proofs.KeepsLaws.{keeps_name as keeps_name_or, keeps_named as keeps_named_or, keeps_list as keeps_list_or, KeepsName, Alike, AllAlike}
+use Rattle.stack_text.proofs.KeepsLaws.{Holds, IsRun, Keeps, KeepsEach, alike_list_length, alike_items, found_passes, found_tests, holds_at, holds_four}
+use Rattle.stack_text.proofs.KeepsLaws.{holds_if, holds_judged, holds_more, holds_one, holds_seven, holds_two, keeps_each, ok_four, ok_one, ok_seven, ok_two}
+use Rattle.stack_text.proofs.KeepsLaws.{passes, well_formed}
+use Rattle.piton_syntax.{specs.declared.argument.ArgKind.ArgKind, specs.declared.argument.ArgText.ArgText, specs.declared.argument.Arguments.Arguments}
+use Rattle.piton_syntax.{specs.declared.argument.Arguments.TheVariants.{Zero, One, TestAndLabel, OneOrMore}, specs.declared.op.PitonOp.PitonOp}
+use Rattle.piton_syntax.{specs.declared.tag.Tag.Tag, specs.declared.test_kind.TestFamily.TestFamily, specs.declared.test_kind.TestKind.TestKind}
+use Rattle.piton_syntax.{specs.declared.word_text.Number.Number, specs.declared.word_text.WordText.WordText, specs.declared.word_text.WordItem.WordItem}
+use Rattle.piton_syntax.{specs.PitonReading.KeepsForm, specs.Limits.{is_small_program, is_small_system}, specs.Operations.{row_of, op_name, op_arguments}}
+use Rattle.piton_syntax.{specs.Operations.{operations, operation_named, tag_named, test_name, tests_of, test_named}, specs.Grammar.{named_of, number_of}}
+use Rattle.piton_syntax.specs.Grammar.{is_true_word, is_false_word, address, program_place, item_of, word_of, is_of_kind, are_of_kind, argument_of, test_at}
+use Rattle.piton_syntax.specs.Grammar.{one, test_and_label, tested_of, pair, arguments_of, called_of, labelled_of, instruction_of, list_of, temporary_of}
+use Rattle.piton_syntax.{specs.Grammar.{program_of, area_of, system_of}, specs.Systems.{InstrOf, ProgramOf, AreaOf, SystemOf, new_word, new_instruction}}
+use Rattle.piton_syntax.specs.Systems.{new_program, new_area, new_system, unplaced_number, unplaced_item, unplaced_word, unplaced_argument}
+use Rattle.piton_syntax.{specs.Systems.{unplaced_instruction, unplaced_temporary, unplaced_program, unplaced_area, without_places}, specs.Printed.number_tree}
+use Rattle.piton_syntax.specs.Printed.{truth_tree, item_tree, word_tree, argument_tree, instruction_tree, temporary_tree, program_tree, area_tree, tree_of}
 use Rattle.piton_syntax.proofs.WordLaws.{operation_named-name}
+use Rattle.piton_syntax.specs.declared.argument.ArgKind.TheVariants as kind
+use Rattle.piton_syntax.specs.declared.argument.ArgText.TheVariants as arg
+use Rattle.piton_syntax.specs.declared.tag.Tag.TheVariants as tag
+use Rattle.piton_syntax.specs.declared.test_kind.TestFamily.TheVariants as family
+use Rattle.piton_syntax.specs.declared.word_text.WordItem.TheVariants as item
 
 -- ---- names and numbers
 

@@ -1,50 +1,31 @@
 -- What fits the form keeps it, where its tree is not too large: the tree of each part is judged to be that part but for
 -- places, its atoms are runs, and it is shallow.
 use Rattle.std.proofs.Common.{◌∙◌, ◌≡◌, ℕ, zero, suc, ◌+◌, ◌<◌, ◌≤◌, ◌^◌, Bool, true, false, leb, List, [], ◌∷◌, length, map, get_or, Option, Some, None, Ok}
-use Rattle.std.proofs.Common.{All, Contains, refl, sym, ap, subst, arith}
-use Rattle.std.specs.Prelude.{◌&&◌}
-use Rattle.std.specs.Fmt.{signed_decimal}
-use Rattle.std.proofs.lemmas.Bool.{le-leb, and_from}
+use Rattle.std.{proofs.Common.{All, Contains, refl, sym, ap, subst, arith}, specs.Prelude.◌&&◌, specs.Fmt.signed_decimal, proofs.lemmas.Bool.{le-leb, and_from}}
 use Rattle.std.proofs.lemmas.List.Elements.{All-head, All-tail}
-use Rattle.stack_text.specs.declared.name.Named.{Named}
-use Rattle.stack_text.specs.Names.{is_name}
-use Rattle.stack_text.specs.Numerals.{is_digits, is_numeral, fits_128_bits}
-use Rattle.stack_text.specs.Trees.{depth, depths, node_count, AtomsAreRuns, AllAtomsAreRuns}
-use Rattle.stack_text.specs.Views.TreeView.{nodes}
-use Rattle.stack_text.proofs.AtomLaws.{name_is_run, numeral_is_run}
-use Rattle.stack_text.specs.Grammar.Printed.{name_tree, tree_of_all, unplaced_name}
-use Rattle.piton_syntax.specs.declared.argument.ArgKind.{ArgKind}
+use Rattle.stack_text.{specs.declared.name.Named.Named, specs.Names.is_name, specs.Numerals.{is_digits, is_numeral, fits_128_bits}, specs.Trees.{depth, depths}}
+use Rattle.stack_text.{specs.Trees.{node_count, AtomsAreRuns, AllAtomsAreRuns}, specs.Views.TreeView.nodes, proofs.AtomLaws.{name_is_run, numeral_is_run}}
+use Rattle.stack_text.{specs.Grammar.Printed.{name_tree, tree_of_all, unplaced_name}, specs.Grammar.Judged.◌⊛◌, specs.Grammar.Parts.count_of}
+use Rattle.stack_text.{proofs.NumeralTextLaws.{natural_written, numeral-signed_decimal}, proofs.MadeLaws.{Made, made_each, made_names}, proofs.KeepsLaws.passes}
+use Rattle.stack_text.proofs.KeepsLaws.{ok_one, ok_two, ok_four, ok_seven}
+use Rattle.piton_syntax.{specs.declared.argument.ArgKind.ArgKind, specs.declared.argument.ArgText.ArgText, specs.declared.argument.Arguments.Arguments}
+use Rattle.piton_syntax.{specs.declared.argument.Arguments.TheVariants.{Zero, One, TestAndLabel, OneOrMore}, specs.declared.test_kind.TestFamily.TestFamily}
+use Rattle.piton_syntax.{specs.declared.test_kind.TestKind.TestKind, specs.declared.word_text.Number.Number, specs.declared.word_text.WordText.WordText}
+use Rattle.piton_syntax.{specs.declared.word_text.WordItem.WordItem, specs.PitonReading.KeepsForm, specs.Limits.{is_small_program, is_small_system}}
+use Rattle.piton_syntax.{specs.Operations.{op_arguments, tests_of, test_name, test_named}, specs.Grammar.{named_of, number_of, address, program_place, word_of}}
+use Rattle.piton_syntax.specs.Grammar.{is_of_kind, are_of_kind, argument_of, one, test_and_label, tested_of, pair, arguments_of, instruction_of, temporary_of}
+use Rattle.piton_syntax.{specs.Grammar.{program_of, area_of, system_of}, specs.Printed.{number_tree, truth_tree, item_tree, word_tree, argument_tree}}
+use Rattle.piton_syntax.{specs.Printed.{instruction_tree, temporary_tree, program_tree, area_tree, tree_of}, specs.Systems.{InstrOf, ProgramOf, AreaOf}}
+use Rattle.piton_syntax.specs.Systems.{SystemOf, new_word, new_program, new_area, new_system, unplaced_number, unplaced_item, unplaced_word, unplaced_argument}
+use Rattle.piton_syntax.{specs.Systems.{unplaced_instruction, unplaced_temporary, unplaced_program, unplaced_area, without_places}, specs.Fits.IsSigned}
+use Rattle.piton_syntax.specs.Fits.{IsUnsigned, FitsItem, FitsWord, FitsArgument, FitsArguments, FitsLabel, FitsInstruction, FitsTemporary, FitsProgram}
+use Rattle.piton_syntax.{specs.Fits.{FitsArea, FitsForm}, proofs.KeepsLaws.{named_again, number_again, word_again, truth_again, named_and_numbered}}
+use Rattle.piton_syntax.proofs.KeepsLaws.{called_again, unlabelled_again, op_run}
 use Rattle.piton_syntax.specs.declared.argument.ArgKind.TheVariants as kind
-use Rattle.piton_syntax.specs.declared.argument.ArgText.{ArgText}
 use Rattle.piton_syntax.specs.declared.argument.ArgText.TheVariants as arg
-use Rattle.piton_syntax.specs.declared.argument.Arguments.{Arguments}
-use Rattle.piton_syntax.specs.declared.argument.Arguments.TheVariants.{Zero, One, TestAndLabel, OneOrMore}
-use Rattle.piton_syntax.specs.declared.test_kind.TestFamily.{TestFamily}
 use Rattle.piton_syntax.specs.declared.test_kind.TestFamily.TheVariants as family
-use Rattle.piton_syntax.specs.declared.test_kind.TestKind.{TestKind}
 use Rattle.piton_syntax.specs.declared.test_kind.TestKind.TheVariants as test
-use Rattle.piton_syntax.specs.declared.word_text.Number.{Number}
-use Rattle.piton_syntax.specs.declared.word_text.WordText.{WordText}
-use Rattle.piton_syntax.specs.declared.word_text.WordItem.{WordItem}
 use Rattle.piton_syntax.specs.declared.word_text.WordItem.TheVariants as item
-use Rattle.piton_syntax.specs.PitonReading.{KeepsForm}
-use Rattle.stack_text.specs.Grammar.Judged.{◌⊛◌}
-use Rattle.stack_text.specs.Grammar.Parts.{count_of}
-use Rattle.piton_syntax.specs.Limits.{is_small_program, is_small_system}
-use Rattle.piton_syntax.specs.Operations.{op_arguments, tests_of, test_name, test_named}
-use Rattle.piton_syntax.specs.Grammar.{named_of, number_of, address, program_place, word_of, is_of_kind, are_of_kind, argument_of, one, test_and_label}
-use Rattle.piton_syntax.specs.Grammar.{tested_of, pair, arguments_of, instruction_of, temporary_of, program_of, area_of, system_of}
-use Rattle.piton_syntax.specs.Printed.{number_tree, truth_tree, item_tree, word_tree, argument_tree, instruction_tree, temporary_tree, program_tree, area_tree}
-use Rattle.piton_syntax.specs.Printed.{tree_of}
-use Rattle.piton_syntax.specs.Systems.{InstrOf, ProgramOf, AreaOf, SystemOf, new_word, new_program, new_area, new_system, unplaced_number, unplaced_item}
-use Rattle.piton_syntax.specs.Systems.{unplaced_word, unplaced_argument, unplaced_instruction, unplaced_temporary, unplaced_program, unplaced_area}
-use Rattle.piton_syntax.specs.Systems.{without_places}
-use Rattle.piton_syntax.specs.Fits.{IsSigned, IsUnsigned, FitsItem, FitsWord, FitsArgument, FitsArguments, FitsLabel, FitsInstruction, FitsTemporary}
-use Rattle.piton_syntax.specs.Fits.{FitsProgram, FitsArea, FitsForm}
-use Rattle.stack_text.proofs.NumeralTextLaws.{natural_written, numeral-signed_decimal}
-use Rattle.stack_text.proofs.MadeLaws.{Made, made_each, made_names}
-use Rattle.stack_text.proofs.KeepsLaws.{passes, ok_one, ok_two, ok_four, ok_seven}
-use Rattle.piton_syntax.proofs.KeepsLaws.{named_again, number_again, word_again, truth_again, named_and_numbered, called_again, unlabelled_again, op_run}
 
 -- ---- numbers and words
 

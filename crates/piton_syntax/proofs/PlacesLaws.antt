@@ -1,35 +1,23 @@
 -- The grammar is independent of places: a tree and the same tree without places are one value but for places, or both have faults.
-use Rattle.std.proofs.Common.{◌≡◌, ℕ, Bool, List, map, Option, Some, None, Ok, refl, ap}
-use Rattle.std.specs.Prelude.{option_map, ◌||◌}
-use Rattle.stack_text.specs.declared.name.Named.{Named}
-use Rattle.stack_text.specs.Names.{is_name}
-use Rattle.stack_text.specs.Numerals.{is_digits, is_numeral, numeral_value, fits_128_bits}
-use Rattle.stack_text.specs.Trees.{Node, Nodes, atom, list, none, more, without_places, all_without_places, place_of}
-use Rattle.stack_text.specs.Grammar.Printed.{unplaced_name}
-use Rattle.piton_syntax.specs.declared.test_kind.TestKind.{TestKind}
-use Rattle.piton_syntax.specs.declared.argument.ArgKind.{ArgKind}
-use Rattle.piton_syntax.specs.declared.argument.ArgKind.TheVariants as kind
-use Rattle.piton_syntax.specs.declared.argument.ArgText.TheVariants as arg
-use Rattle.piton_syntax.specs.declared.argument.Arguments.{Arguments}
-use Rattle.piton_syntax.specs.declared.argument.Arguments.TheVariants.{Zero, One, TestAndLabel, OneOrMore}
-use Rattle.piton_syntax.specs.declared.op.PitonOp.{PitonOp}
-use Rattle.piton_syntax.specs.declared.tag.Tag.{Tag}
-use Rattle.piton_syntax.specs.declared.tag.Tag.TheVariants as tag
-use Rattle.piton_syntax.specs.declared.word_text.Number.{Number}
-use Rattle.piton_syntax.specs.declared.word_text.WordItem.{WordItem}
-use Rattle.piton_syntax.specs.declared.word_text.WordItem.TheVariants as item
-use Rattle.stack_text.specs.Grammar.Judged.{Judged}
-use Rattle.piton_syntax.specs.Limits.{is_small_program, is_small_system}
-use Rattle.piton_syntax.specs.Operations.{op_arguments, operation_named, tag_named, test_named}
-use Rattle.stack_text.specs.Grammar.Parts.{is_atom_of}
+use Rattle.std.{proofs.Common.{◌≡◌, ℕ, Bool, List, map, Option, Some, None, Ok, refl, ap}, specs.Prelude.{option_map, ◌||◌}}
+use Rattle.stack_text.{specs.declared.name.Named.Named, specs.Names.is_name, specs.Numerals.{is_digits, is_numeral, numeral_value, fits_128_bits}}
+use Rattle.stack_text.{specs.Trees.{Node, Nodes, atom, list, none, more, without_places, all_without_places, place_of}, specs.Grammar.Printed.unplaced_name}
+use Rattle.stack_text.{specs.Grammar.Judged.Judged, specs.Grammar.Parts.is_atom_of, proofs.PlacesLaws.{same_name as same_name_or, same_list as same_list_or}}
+use Rattle.stack_text.proofs.PlacesLaws.{IsSame, agree_if, agree_judged, same_atom, same_count, same_each, same_four, same_list_length, same_one, same_seven}
+use Rattle.stack_text.proofs.PlacesLaws.{same_two, unplaced_place}
+use Rattle.piton_syntax.{specs.declared.test_kind.TestKind.TestKind, specs.declared.argument.ArgKind.ArgKind, specs.declared.argument.Arguments.Arguments}
+use Rattle.piton_syntax.{specs.declared.argument.Arguments.TheVariants.{Zero, One, TestAndLabel, OneOrMore}, specs.declared.op.PitonOp.PitonOp}
+use Rattle.piton_syntax.{specs.declared.tag.Tag.Tag, specs.declared.word_text.Number.Number, specs.declared.word_text.WordItem.WordItem}
+use Rattle.piton_syntax.{specs.Limits.{is_small_program, is_small_system}, specs.Operations.{op_arguments, operation_named, tag_named, test_named}}
 use Rattle.piton_syntax.specs.Grammar.{named_of, number_of, is_true_word, is_false_word, address, program_place, one_number, named_number, item_of, word_of}
 use Rattle.piton_syntax.specs.Grammar.{is_of_kind, are_of_kind, argument_of, one, test_and_label, tested_of, pair, arguments_of, called_of, labelled_of}
-use Rattle.piton_syntax.specs.Grammar.{instruction_of, list_of, temporary_of, program_of, area_of, system_of}
-use Rattle.piton_syntax.specs.Systems.{new_word, new_instruction, new_program, new_area, new_system, unplaced_number, unplaced_item, unplaced_word}
-use Rattle.piton_syntax.specs.Systems.{unplaced_argument, unplaced_instruction, unplaced_temporary, unplaced_program, unplaced_area}
-use Rattle.stack_text.proofs.PlacesLaws.{same_name as same_name_or, same_list as same_list_or, IsSame, agree_if, agree_judged, same_atom, same_count, same_each}
-use Rattle.stack_text.proofs.PlacesLaws.{same_four, same_list_length, same_one, same_seven, same_two, unplaced_place}
-use Rattle.piton_syntax.specs.Systems.{without_places as unplaced_system}
+use Rattle.piton_syntax.{specs.Grammar.{instruction_of, list_of, temporary_of, program_of, area_of, system_of}, specs.Systems.{new_word, new_instruction}}
+use Rattle.piton_syntax.specs.Systems.{new_program, new_area, new_system, unplaced_number, unplaced_item, unplaced_word, unplaced_argument}
+use Rattle.piton_syntax.specs.Systems.{unplaced_instruction, unplaced_temporary, unplaced_program, unplaced_area, without_places as unplaced_system}
+use Rattle.piton_syntax.specs.declared.argument.ArgKind.TheVariants as kind
+use Rattle.piton_syntax.specs.declared.argument.ArgText.TheVariants as arg
+use Rattle.piton_syntax.specs.declared.tag.Tag.TheVariants as tag
+use Rattle.piton_syntax.specs.declared.word_text.WordItem.TheVariants as item
 
 -- ---- tests
 

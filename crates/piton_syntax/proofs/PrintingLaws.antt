@@ -1,26 +1,14 @@
 -- The text that is printed for a system is read as that system but for places.
-use Rattle.std.proofs.Common.{◌≡◌, ℕ, List, [], ◌∷◌, drop, map, Option, Some, None, true, false, refl}
-use Rattle.std.specs.Prelude.{codes}
-use Rattle.stack_text.specs.Trees.{Node, atom}
-use Rattle.stack_text.specs.Trees.{without_places as unplaced_tree}
-use Rattle.stack_text.specs.TreeText.{tree_text}
-use Rattle.stack_text.specs.Internal.Spellings.{Spells}
-use Rattle.stack_text.proofs.SpellingLaws.{spelled_is_read}
-use Rattle.stack_text.specs.Grammar.Printed.{lines_text, name_tree, tree_of_all}
-use Rattle.piton_syntax.specs.declared.argument.ArgText.{ArgText}
+use Rattle.std.{proofs.Common.{◌≡◌, ℕ, List, [], ◌∷◌, drop, map, Option, Some, None, true, false, refl}, specs.Prelude.codes}
+use Rattle.stack_text.{specs.Trees.{Node, atom, without_places as unplaced_tree}, specs.TreeText.tree_text, specs.Internal.Spellings.Spells}
+use Rattle.stack_text.{proofs.SpellingLaws.spelled_is_read, specs.Grammar.Printed.{lines_text, name_tree, tree_of_all}, specs.declared.name.Named.Named}
+use Rattle.stack_text.{proofs.PartTextLaws.{spells_list, unplaced_all}, proofs.PrintLaws.Spells-tree_text, proofs.ReaderLaws.read_back}
+use Rattle.piton_syntax.{specs.declared.argument.ArgText.ArgText, specs.declared.word_text.WordItem.WordItem, specs.declared.word_text.WordText.WordText}
+use Rattle.piton_syntax.{specs.PitonReading.{KeepsForm, ReadsAs, piton_reader}, specs.Systems.{InstrOf, ProgramOf, AreaOf, SystemOf}, specs.Printed.item_tree}
+use Rattle.piton_syntax.specs.Printed.{word_tree, argument_tree, labelled_tree, instruction_tree, temporary_tree, program_tree, area_tree, system_head, tree_of}
+use Rattle.piton_syntax.{specs.Printed.{program_text, piton_text}, proofs.PlacesLaws.same_system}
 use Rattle.piton_syntax.specs.declared.argument.ArgText.TheVariants as arg
-use Rattle.piton_syntax.specs.declared.word_text.WordItem.{WordItem}
 use Rattle.piton_syntax.specs.declared.word_text.WordItem.TheVariants as item
-use Rattle.piton_syntax.specs.declared.word_text.WordText.{WordText}
-use Rattle.stack_text.specs.declared.name.Named.{Named}
-use Rattle.piton_syntax.specs.PitonReading.{KeepsForm, ReadsAs, piton_reader}
-use Rattle.piton_syntax.specs.Systems.{InstrOf, ProgramOf, AreaOf, SystemOf}
-use Rattle.piton_syntax.specs.Printed.{item_tree, word_tree, argument_tree, labelled_tree, instruction_tree, temporary_tree, program_tree, area_tree}
-use Rattle.piton_syntax.specs.Printed.{system_head, tree_of, program_text, piton_text}
-use Rattle.stack_text.proofs.PartTextLaws.{spells_list, unplaced_all}
-use Rattle.stack_text.proofs.PrintLaws.{Spells-tree_text}
-use Rattle.stack_text.proofs.ReaderLaws.{read_back}
-use Rattle.piton_syntax.proofs.PlacesLaws.{same_system}
 
 -- ---- the text spells the tree
 

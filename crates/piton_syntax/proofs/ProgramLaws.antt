@@ -1,20 +1,11 @@
 -- Programs, areas and systems by their parts.
-use Rattle.std.proofs.Common.{◌≡◌, ◌<◌, ◌≤◌, ◌+◌, ℕ, List, [], ◌∷◌, length, drop, get_or, Ok, refl, sym, ap, ◌∙◌, arith}
-use Rattle.std.specs.Prelude.{Bool, true, false, ◌&&◌, codes}
-use Rattle.std.specs.Str.{bytes_eq}
-use Rattle.std.proofs.Math.Dec.{leb}
-use Rattle.std.proofs.lemmas.Bool.{le-leb}
-use Rattle.stack_text.specs.Numerals.{is_digits}
-use Rattle.stack_text.specs.Trees.{Node, Nodes, atom, list, none, more, place_of}
-use Rattle.stack_text.specs.Views.TreeView.{node_of, nodes_of}
-use Rattle.stack_text.specs.declared.tree.TextTree.{TextTree}
-use Rattle.stack_text.specs.Grammar.Parts.{is_atom_of}
-use Rattle.stack_text.proofs.TreeListLaws.{count_of_all, rest, rest_is_drop}
+use Rattle.std.{proofs.Common.{◌≡◌, ◌<◌, ◌≤◌, ◌+◌, ℕ, List, [], ◌∷◌, length, drop, get_or, Ok, refl, sym, ap, ◌∙◌, arith}, specs.Prelude.{Bool, true, false}}
+use Rattle.std.{specs.Prelude.{◌&&◌, codes}, specs.Str.bytes_eq, proofs.Math.Dec.leb, proofs.lemmas.Bool.le-leb}
+use Rattle.stack_text.{specs.Numerals.is_digits, specs.Trees.{Node, Nodes, atom, list, none, more, place_of}, specs.Views.TreeView.{node_of, nodes_of}}
+use Rattle.stack_text.{specs.declared.tree.TextTree.TextTree, specs.Grammar.Parts.{is_atom_of, list_length}, proofs.TreeListLaws.{count_of_all, rest}}
+use Rattle.stack_text.{proofs.TreeListLaws.rest_is_drop, specs.Grammar.Judged.{Judged, ◌⊛◌, each_of, fault, judged}}
 use Rattle.piton_syntax.specs.Grammar.{area_of, instruction_of, list_of, named_of, number_of, program_of, system_of, temporary_of, word_of}
-use Rattle.stack_text.specs.Grammar.Judged.{Judged, ◌⊛◌, each_of, fault, judged}
-use Rattle.stack_text.specs.Grammar.Parts.{list_length}
-use Rattle.piton_syntax.specs.Limits.{is_small_program, is_small_system}
-use Rattle.piton_syntax.specs.Systems.{ProgramOf, SystemOf, new_area, new_program, new_system}
+use Rattle.piton_syntax.{specs.Limits.{is_small_program, is_small_system}, specs.Systems.{ProgramOf, SystemOf, new_area, new_program, new_system}}
 
 abbrev pub program_by : ℕ → TextTree → TextTree → TextTree → List TextTree → Judged ProgramOf
 program_by p name formals temporaries instrs =

@@ -1,32 +1,22 @@
 -- In a tree whose places go up, the faults of each part go up too.
-use Rattle.std.proofs.Common.{◌+◌, ◌<◌, ◌≤◌, ℕ, List, [], Ok, Option, Some, None, arith}
-use Rattle.std.specs.Prelude.{Bool, true, false, ◌&&◌, ◌||◌, codes, if◌then◌else◌}
+use Rattle.std.{proofs.Common.{◌+◌, ◌<◌, ◌≤◌, ℕ, List, [], Ok, Option, Some, None, arith}, specs.Prelude.{Bool, true, false, ◌&&◌, ◌||◌, codes, if◌then◌else◌}}
 use Rattle.std.specs.Str.{bytes_eq}
-use Rattle.stack_text.specs.declared.name.Named.{Named}
-use Rattle.stack_text.specs.Names.{is_name}
-use Rattle.stack_text.specs.Numerals.{fits_128_bits, is_digits, is_numeral, numeral_value}
-use Rattle.stack_text.specs.PlaceOrder.{AllInOrder, InOrder}
-use Rattle.stack_text.specs.Trees.{Node, Nodes, atom, list, none, more, place_of}
-use Rattle.piton_syntax.specs.declared.test_kind.TestKind.{TestKind}
-use Rattle.piton_syntax.specs.declared.argument.ArgKind.{ArgKind}
+use Rattle.stack_text.{specs.declared.name.Named.Named, specs.Names.is_name, specs.Numerals.{fits_128_bits, is_digits, is_numeral, numeral_value}}
+use Rattle.stack_text.{specs.PlaceOrder.{AllInOrder, InOrder}, specs.Trees.{Node, Nodes, atom, list, none, more, place_of}, specs.Grammar.Parts.bytes_of}
+use Rattle.stack_text.{specs.Grammar.Parts.is_atom_of, specs.Grammar.Judged.{Judged, ◌⊛◌}, proofs.RiseLaws.{named_up as name_up, list_up as list_or_up, Rising}}
+use Rattle.stack_text.proofs.RiseLaws.{Up, apply_up, apply_value, at_fault, both, each_up, goes_on, goes_on_with_each, higher, is_judged, lower, only}
+use Rattle.stack_text.proofs.RiseLaws.{place_within, starts, up_le}
+use Rattle.piton_syntax.{specs.declared.test_kind.TestKind.TestKind, specs.declared.argument.ArgKind.ArgKind, specs.declared.argument.Arguments.Arguments}
+use Rattle.piton_syntax.{specs.declared.argument.Arguments.TheVariants.{Zero, One, TestAndLabel, OneOrMore}, specs.declared.op.PitonOp.PitonOp}
+use Rattle.piton_syntax.{specs.declared.tag.Tag.Tag, specs.Grammar.{named_of, number_of, is_true_word, is_false_word, address, program_place, item_of, word_of}}
+use Rattle.piton_syntax.specs.Grammar.{is_of_kind, are_of_kind, argument_of, test_at, one, test_and_label, tested_of, arguments_of, called_of, labelled_of}
+use Rattle.piton_syntax.{specs.Grammar.{instruction_of, list_of, pair, temporary_of, program_of, area_of, system_of}, specs.Limits.is_small_program}
+use Rattle.piton_syntax.{specs.Limits.is_small_system, specs.Operations.{op_arguments, operation_named, tag_named}, specs.Systems.{new_word, new_instruction}}
+use Rattle.piton_syntax.specs.Systems.{new_program, new_area, new_system}
 use Rattle.piton_syntax.specs.declared.argument.ArgKind.TheVariants as kind
-use Rattle.piton_syntax.specs.declared.argument.Arguments.{Arguments}
-use Rattle.piton_syntax.specs.declared.argument.Arguments.TheVariants.{Zero, One, TestAndLabel, OneOrMore}
 use Rattle.piton_syntax.specs.declared.argument.ArgText.TheVariants as arg
-use Rattle.piton_syntax.specs.declared.op.PitonOp.{PitonOp}
-use Rattle.piton_syntax.specs.declared.tag.Tag.{Tag}
 use Rattle.piton_syntax.specs.declared.tag.Tag.TheVariants as tag
 use Rattle.piton_syntax.specs.declared.word_text.WordItem.TheVariants as item
-use Rattle.stack_text.specs.Grammar.Parts.{bytes_of, is_atom_of}
-use Rattle.piton_syntax.specs.Grammar.{named_of, number_of, is_true_word, is_false_word, address, program_place, item_of, word_of, is_of_kind, are_of_kind}
-use Rattle.piton_syntax.specs.Grammar.{argument_of, test_at, one, test_and_label, tested_of, arguments_of, called_of, labelled_of, instruction_of, list_of}
-use Rattle.piton_syntax.specs.Grammar.{pair, temporary_of, program_of, area_of, system_of}
-use Rattle.stack_text.specs.Grammar.Judged.{Judged, ◌⊛◌}
-use Rattle.piton_syntax.specs.Limits.{is_small_program, is_small_system}
-use Rattle.piton_syntax.specs.Operations.{op_arguments, operation_named, tag_named}
-use Rattle.piton_syntax.specs.Systems.{new_word, new_instruction, new_program, new_area, new_system}
-use Rattle.stack_text.proofs.RiseLaws.{named_up as name_up, list_up as list_or_up, Rising, Up, apply_up, apply_value, at_fault, both, each_up, goes_on}
-use Rattle.stack_text.proofs.RiseLaws.{goes_on_with_each, higher, is_judged, lower, only, place_within, starts, up_le}
 
 pub named_up : Rising named_of
 named_up = name_up 4

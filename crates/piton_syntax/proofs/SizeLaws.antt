@@ -1,19 +1,13 @@
 -- The tree of a system has no more atoms and lists than its plain counts allow.
 use Rattle.std.proofs.Common.{◌≡◌, ℕ, ◌+◌, ◌*◌, ◌≤◌, ◌∷◌, map, length, Option, Some, None, Bool, true, false, refl, arith}
-use Rattle.stack_text.specs.declared.name.Named.{Named}
-use Rattle.stack_text.specs.Trees.{Node, atom, node_count}
-use Rattle.stack_text.specs.Grammar.Printed.{tree_of_all}
-use Rattle.stack_text.proofs.SizeLaws.{each_over, names_over, sum_over}
-use Rattle.piton_syntax.specs.declared.argument.ArgText.{ArgText}
-use Rattle.piton_syntax.specs.declared.argument.ArgText.TheVariants as arg
-use Rattle.piton_syntax.specs.declared.word_text.WordText.{WordText}
-use Rattle.piton_syntax.specs.declared.word_text.WordItem.{WordItem}
-use Rattle.piton_syntax.specs.declared.word_text.WordItem.TheVariants as item
-use Rattle.piton_syntax.specs.Operations.{op_name}
-use Rattle.piton_syntax.specs.Systems.{InstrOf, ProgramOf, AreaOf, SystemOf}
-use Rattle.piton_syntax.specs.Printed.{truth_tree, item_tree, word_tree, argument_tree, labelled_tree, instruction_tree, temporary_tree, program_tree}
-use Rattle.piton_syntax.specs.Printed.{area_tree, tree_of}
+use Rattle.stack_text.{specs.declared.name.Named.Named, specs.Trees.{Node, atom, node_count}, specs.Grammar.Printed.tree_of_all, proofs.SizeLaws.each_over}
+use Rattle.stack_text.proofs.SizeLaws.{names_over, sum_over}
+use Rattle.piton_syntax.{specs.declared.argument.ArgText.ArgText, specs.declared.word_text.WordText.WordText, specs.declared.word_text.WordItem.WordItem}
+use Rattle.piton_syntax.{specs.Operations.op_name, specs.Systems.{InstrOf, ProgramOf, AreaOf, SystemOf}, specs.Printed.{truth_tree, item_tree, word_tree}}
+use Rattle.piton_syntax.specs.Printed.{argument_tree, labelled_tree, instruction_tree, temporary_tree, program_tree, area_tree, tree_of}
 use Rattle.piton_syntax.specs.Sizes.{instruction_size, program_size, area_size, text_size}
+use Rattle.piton_syntax.specs.declared.argument.ArgText.TheVariants as arg
+use Rattle.piton_syntax.specs.declared.word_text.WordItem.TheVariants as item
 
 -- ---- parts
 

@@ -1,11 +1,9 @@
 -- The text of a word by its tag and what follows.
 use Rattle.std.proofs.Common.{◌≡◌, ℕ, List, [], ◌∷◌, ◌++◌, refl, ap, ◌∙◌, append_assoc}
 use Rattle.stack_text.specs.TreeText.{spaced_text, tree_text}
-use Rattle.piton_syntax.specs.declared.tag.Tag.{Tag}
-use Rattle.piton_syntax.specs.declared.word_text.WordItem.{WordItem}
+use Rattle.piton_syntax.{specs.declared.tag.Tag.Tag, specs.declared.word_text.WordItem.WordItem, specs.Operations.tag_name, specs.Printed.item_parts}
+use Rattle.piton_syntax.specs.Printed.{item_tree, tag_of}
 use Rattle.piton_syntax.specs.declared.word_text.WordItem.TheVariants as item
-use Rattle.piton_syntax.specs.Operations.{tag_name}
-use Rattle.piton_syntax.specs.Printed.{item_parts, item_tree, tag_of}
 
 item_text : (i : WordItem) → tree_text (item_tree i) ≡ 40 ∷ ((tag_name (tag_of i) ++ spaced_text (item_parts i)) ++ 41 ∷ [])
 item_text (item.Int n) = refl

@@ -2,21 +2,15 @@
 -- isn't, numbers have a sign only where they may, and all counts are within the limits.
 use Rattle.std.specs.Prelude.{◌+◌, ◌<◌, ◌≤◌, List, [], ◌∷◌, length, Option, Some, None, All, Contains}
 use Rattle.piton_syntax.specs.Limits.{most_instructions, most_areas, most_programs, most_program_variables}
-use Rattle.stack_text.specs.Grammar.Parts.{IsNamed}
-use Rattle.stack_text.specs.Numerals.{IsNatural, IsNumber}
-use Rattle.stack_text.specs.declared.name.Named.{Named}
-use Rattle.piton_syntax.specs.declared.argument.ArgKind.{ArgKind}
+use Rattle.piton_syntax.specs.{declared.argument.ArgKind.{ArgKind}, declared.argument.ArgText.{ArgText}}
+use Rattle.piton_syntax.specs.{declared.argument.Arguments.{Arguments}, declared.argument.Arguments.TheVariants.{Zero, One, TestAndLabel}}
+use Rattle.piton_syntax.specs.{declared.argument.Arguments.TheVariants.{OneOrMore}, declared.word_text.Number.{Number}}
+use Rattle.piton_syntax.specs.{declared.word_text.WordText.{WordText}, declared.word_text.WordItem.{WordItem}, Operations.{op_arguments}}
+use Rattle.piton_syntax.specs.{Operations.{tests_of}, Systems.{InstrOf, ProgramOf, AreaOf, SystemOf}}
+use Rattle.stack_text.specs.{Grammar.Parts.{IsNamed}, Numerals.{IsNatural, IsNumber}, declared.name.Named.{Named}}
 use Rattle.piton_syntax.specs.declared.argument.ArgKind.TheVariants as kind
-use Rattle.piton_syntax.specs.declared.argument.ArgText.{ArgText}
 use Rattle.piton_syntax.specs.declared.argument.ArgText.TheVariants as arg
-use Rattle.piton_syntax.specs.declared.argument.Arguments.{Arguments}
-use Rattle.piton_syntax.specs.declared.argument.Arguments.TheVariants.{Zero, One, TestAndLabel, OneOrMore}
-use Rattle.piton_syntax.specs.declared.word_text.Number.{Number}
-use Rattle.piton_syntax.specs.declared.word_text.WordText.{WordText}
-use Rattle.piton_syntax.specs.declared.word_text.WordItem.{WordItem}
 use Rattle.piton_syntax.specs.declared.word_text.WordItem.TheVariants as item
-use Rattle.piton_syntax.specs.Operations.{op_arguments, tests_of}
-use Rattle.piton_syntax.specs.Systems.{InstrOf, ProgramOf, AreaOf, SystemOf}
 
 -- a number of 128 bits, with or without a sign
 abbrev pub IsSigned : Number → Type 0

@@ -1,30 +1,20 @@
 -- The grammar of Piton: the system that a tree is, or its faults, part by part.
-use Rattle.std.specs.Prelude.{ℕ, List, [], ◌∷◌, Ok, Option, Some, None, Bool, true, ◌&&◌, ◌||◌, codes, if◌then◌else◌}
-use Rattle.std.specs.Str.{bytes_eq}
-use Rattle.stack_text.specs.Names.{is_name}
-use Rattle.stack_text.specs.Numerals.{is_digits, is_numeral, numeral_value, fits_128_bits}
-use Rattle.stack_text.specs.Trees.{Node, Nodes, atom, list, none, more, place_of}
-use Rattle.stack_text.specs.declared.name.Named.{Named}
-use Rattle.piton_syntax.specs.declared.argument.ArgKind.{ArgKind}
-use Rattle.piton_syntax.specs.declared.argument.ArgKind.TheVariants as kind
-use Rattle.piton_syntax.specs.declared.argument.Arguments.{Arguments}
+use Rattle.std.specs.{Prelude.{ℕ, List, [], ◌∷◌, Ok, Option, Some, None, Bool, true, ◌&&◌, ◌||◌, codes, if◌then◌else◌}, Str.{bytes_eq}}
+use Rattle.stack_text.specs.{Names.{is_name}, Numerals.{is_digits, is_numeral, numeral_value, fits_128_bits}, Trees.{Node, Nodes, atom}}
+use Rattle.stack_text.specs.{Trees.{list, none, more, place_of}, declared.name.Named.{Named}, Grammar.Judged.{Judged, fault, judged, ◌⊛◌}}
+use Rattle.stack_text.specs.{Grammar.Judged.{each_of}, Grammar.Parts.{bytes_of, is_atom_of, list_or, name_or}}
+use Rattle.piton_syntax.specs.{declared.argument.ArgKind.{ArgKind}, declared.argument.Arguments.{Arguments}}
 use Rattle.piton_syntax.specs.declared.argument.Arguments.TheVariants.{Zero, One, TestAndLabel, OneOrMore}
-use Rattle.piton_syntax.specs.declared.argument.ArgText.{ArgText}
+use Rattle.piton_syntax.specs.{declared.argument.ArgText.{ArgText}, declared.op.PitonOp.{PitonOp}, declared.tag.Tag.{Tag}}
+use Rattle.piton_syntax.specs.{declared.test_kind.TestFamily.{TestFamily}, declared.test_kind.TestKind.{TestKind}}
+use Rattle.piton_syntax.specs.{declared.word_text.Number.{Number}, declared.word_text.WordText.{WordText}}
+use Rattle.piton_syntax.specs.{declared.word_text.WordItem.{WordItem}, Limits.{is_small_program, is_small_system}}
+use Rattle.piton_syntax.specs.{Operations.{op_arguments, operation_named, tag_named, test_named}, Systems.{InstrOf, ProgramOf, AreaOf}}
+use Rattle.piton_syntax.specs.Systems.{SystemOf, new_word, new_instruction, new_program, new_area, new_system}
+use Rattle.piton_syntax.specs.declared.argument.ArgKind.TheVariants as kind
 use Rattle.piton_syntax.specs.declared.argument.ArgText.TheVariants as arg
-use Rattle.piton_syntax.specs.declared.op.PitonOp.{PitonOp}
-use Rattle.piton_syntax.specs.declared.tag.Tag.{Tag}
 use Rattle.piton_syntax.specs.declared.tag.Tag.TheVariants as tag
-use Rattle.piton_syntax.specs.declared.test_kind.TestFamily.{TestFamily}
-use Rattle.piton_syntax.specs.declared.test_kind.TestKind.{TestKind}
-use Rattle.piton_syntax.specs.declared.word_text.Number.{Number}
-use Rattle.piton_syntax.specs.declared.word_text.WordText.{WordText}
-use Rattle.piton_syntax.specs.declared.word_text.WordItem.{WordItem}
 use Rattle.piton_syntax.specs.declared.word_text.WordItem.TheVariants as item
-use Rattle.stack_text.specs.Grammar.Judged.{Judged, fault, judged, ◌⊛◌, each_of}
-use Rattle.piton_syntax.specs.Limits.{is_small_program, is_small_system}
-use Rattle.piton_syntax.specs.Operations.{op_arguments, operation_named, tag_named, test_named}
-use Rattle.stack_text.specs.Grammar.Parts.{bytes_of, is_atom_of, list_or, name_or}
-use Rattle.piton_syntax.specs.Systems.{InstrOf, ProgramOf, AreaOf, SystemOf, new_word, new_instruction, new_program, new_area, new_system}
 
 -- a name, or P4
 abbrev pub named_of : Node → Judged Named

@@ -1,7 +1,6 @@
 -- How many parts a system and a program may have.
 use Rattle.std.specs.Prelude.{ℕ, ◌+◌, Bool, ◌&&◌, nat_le}
-use Rattle.stack_text.specs.Grammar.Parts.{count_of, list_length}
-use Rattle.stack_text.specs.Trees.{Node, Nodes}
+use Rattle.stack_text.specs.{Grammar.Parts.{count_of, list_length}, Trees.{Node, Nodes}}
 
 -- the areas of a system
 abbrev pub most_areas : ℕ

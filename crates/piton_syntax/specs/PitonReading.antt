@@ -2,11 +2,8 @@
 use Rattle.std.specs.Prelude.{ℕ, List, Option, Some, None, Result}
 use Rattle.stack_text.specs.Gives as common
 use Rattle.stack_text.specs.Grammar.TextReaders.{TextReader, value_in, KeepsFormOf, ReadsBack}
-use Rattle.piton_syntax.specs.declared.fault.PitonFault.{PitonFault}
-use Rattle.piton_syntax.specs.declared.fault.PitonFault.TheVariants.{Text, Form, Memory}
-use Rattle.piton_syntax.specs.Grammar.{system_of}
-use Rattle.piton_syntax.specs.Printed.{tree_of}
-use Rattle.piton_syntax.specs.Systems.{SystemOf, without_places}
+use Rattle.piton_syntax.specs.{declared.fault.PitonFault.{PitonFault}, declared.fault.PitonFault.TheVariants.{Text, Form, Memory}}
+use Rattle.piton_syntax.specs.{Grammar.{system_of}, Printed.{tree_of}, Systems.{SystemOf, without_places}}
 
 abbrev pub piton_reader : TextReader SystemOf PitonFault
 piton_reader = record {

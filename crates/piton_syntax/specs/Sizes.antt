@@ -1,6 +1,5 @@
 -- How many atoms and lists the text of a system has at most, by plain counts: a word is four at most.
-use Rattle.std.specs.Prelude.{ℕ, ◌+◌, ◌*◌, length}
-use Rattle.std.specs.List.{sum_by}
+use Rattle.std.specs.{Prelude.{ℕ, ◌+◌, ◌*◌, length}, List.{sum_by}}
 use Rattle.piton_syntax.specs.Systems.{InstrOf, ProgramOf, AreaOf, SystemOf}
 
 -- with a label

@@ -1,19 +1,14 @@
 -- The rows of the word operations, on the third word, the second and the top.
-use Rattle.std.specs.Prelude.{ℕ, ◌*◌, ◌-◌, ◌^◌, ◌/◌, ◌%◌, ℤ, pos, negsuc, ◌+ℤ◌, ◌-ℤ◌, ◌*ℤ◌, List, get_or, Result, Ok, Err}
-use Rattle.std.specs.Prelude.{Bool, false, not, ◌&&◌, ◌||◌, ◌==◌, nat_lt, int_lt, unsigned_abs, bit_and, bit_or, bit_xor}
-use Rattle.std.specs.Int.{w32, from_bool as bit, cast_signed}
-use Rattle.fm_words.specs.Word.{is_int, is_nat, wrapped, are_same_ints}
-use Rattle.fm_words.specs.Alu.{are_same as are_same_bools}
-use Rattle.piton_words.specs.declared.word.Word.{Word}
-use Rattle.piton_words.specs.declared.word.Word.TheVariants.{Int, Nat, Bitv, Bool as Truth, Addr, Pc, Subr}
-use Rattle.piton_words.specs.declared.op.WordOp.{WordOp}
+use Rattle.std.specs.Prelude.{ℕ, ◌*◌, ◌-◌, ◌^◌, ◌/◌, ◌%◌, ℤ, pos, negsuc, ◌+ℤ◌, ◌-ℤ◌, ◌*ℤ◌, List, get_or, Result, Ok, Err, Bool, false, not}
+use Rattle.std.specs.{Prelude.{◌&&◌, ◌||◌, ◌==◌, nat_lt, int_lt, unsigned_abs, bit_and, bit_or, bit_xor}, Int.{w32, from_bool as bit}}
+use Rattle.std.specs.Int.{cast_signed}
+use Rattle.fm_words.specs.{Word.{is_int, is_nat, wrapped, are_same_ints}, Alu.{are_same as are_same_bools}}
+use Rattle.piton_words.specs.{declared.word.Word.{Word}, declared.word.Word.TheVariants.{Int, Nat, Bitv, Bool as Truth, Addr, Pc, Subr}}
+use Rattle.piton_words.specs.{declared.op.WordOp.{WordOp}, declared.outcome.Outcome.{Outcome}, declared.outcome.Outcome.TheVariants.{One}}
+use Rattle.piton_words.specs.{declared.outcome.Outcome.TheVariants.{Two}, declared.outcome.WordError.{WordError}}
+use Rattle.piton_words.specs.{declared.outcome.WordError.TheVariants.{Tag}, Views.{int_of, nat_of, bitv_of, bool_of, addr_of, where_true}}
 use Rattle.piton_words.specs.declared.op.WordOp.TheVariants as op
-use Rattle.piton_words.specs.declared.outcome.Outcome.{Outcome}
-use Rattle.piton_words.specs.declared.outcome.Outcome.TheVariants.{One, Two}
-use Rattle.piton_words.specs.declared.outcome.WordError.{WordError}
-use Rattle.piton_words.specs.declared.outcome.WordError.TheVariants.{Tag}
 use Rattle.stack_text.specs.Results.{◌>>=◌}
-use Rattle.piton_words.specs.Views.{int_of, nat_of, bitv_of, bool_of, addr_of, where_true}
 
 -- an exact number as a word, where it is in range
 abbrev pub int_word : ℤ → Result Outcome WordError

@@ -1,9 +1,7 @@
 -- What is in a word, and what goes back into one: each goes on or fails.
 use Rattle.std.specs.Prelude.{ℕ, ℤ, Result, Ok, Err, Bool, true, false}
-use Rattle.piton_words.specs.declared.word.Word.{Word}
-use Rattle.piton_words.specs.declared.word.Word.TheVariants.{Int, Nat, Bitv, Bool as Truth, Addr}
-use Rattle.piton_words.specs.declared.outcome.Outcome.{Outcome}
-use Rattle.piton_words.specs.declared.outcome.WordError.{WordError}
+use Rattle.piton_words.specs.{declared.word.Word.{Word}, declared.word.Word.TheVariants.{Int, Nat, Bitv, Bool as Truth, Addr}}
+use Rattle.piton_words.specs.{declared.outcome.Outcome.{Outcome}, declared.outcome.WordError.{WordError}}
 use Rattle.piton_words.specs.declared.outcome.WordError.TheVariants.{Tag, Range}
 
 -- what a word of one type has in it; any other word has the wrong tag

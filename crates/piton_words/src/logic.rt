@@ -1,7 +1,6 @@
 //! Bits, truth values and comparisons.
 ghost use Rattle.std.specs.Prelude.{◌≡◌, ◌==◌, nat_lt};
-ghost use Rattle.piton_words.specs.Views.{where_true};
-ghost use Rattle.piton_words.specs.OperationRows.{are_same, bitv_word, bool_word};
+ghost use Rattle.piton_words.specs.{Views.{where_true}, OperationRows.{are_same, bitv_word, bool_word}};
 
 use crate::outcome::{Outcome, WordError};
 use crate::view::{addr, bitv, int, nat, truth};

@@ -1,37 +1,20 @@
 -- What is proved of a program, in the memory of its image.
-use Rattle.std.proofs.Common.{◌≡◌, ℕ, suc, List, Option, Some, None, Ok, refl, sym, ap, ◌∙◌, subst}
-use Rattle.std.specs.Prelude.{option_map}
-use Rattle.stack_text.specs.declared.breach.Breach.{Breach}
-use Rattle.stack_text.specs.Breaches.{least}
-use Rattle.stack_text.specs.Values.{ValueOf}
+use Rattle.std.{proofs.Common.{◌≡◌, ℕ, suc, List, Option, Some, None, Ok, refl, sym, ap, ◌∙◌, subst}, specs.Prelude.option_map}
+use Rattle.stack_text.{specs.declared.breach.Breach.Breach, specs.Breaches.least, specs.Values.ValueOf}
 use Rattle.fm_image.specs.Image.{ImageOf}
-use Rattle.gypsy_syntax.specs.GypsyReading.{gypsy_in}
-use Rattle.gypsy_syntax.specs.Programs.{Program, proc_at}
-use Rattle.gypsy_syntax.specs.Resolved.{program_of}
-use Rattle.gypsy_syntax.specs.Sources.{SourceOf}
+use Rattle.gypsy_syntax.{specs.GypsyReading.gypsy_in, specs.Programs.{Program, proc_at}, specs.Resolved.program_of, specs.Sources.SourceOf}
 use Rattle.gypsy_syntax.specs.ValuesFit.{VarsFit}
 use Rattle.gypsy_check.specs.Rules.{violations}
-use Rattle.gypsy_space.specs.Costs.{Tally}
-use Rattle.gypsy_space.specs.Needs.{StackSizes, stack_sizes}
-use Rattle.gypsy_semantics.specs.Calls.{CurrentCondition}
-use Rattle.gypsy_semantics.specs.Meaning.{Done, Unfinished, meaning}
-use Rattle.gypsy_semantics.specs.Counted.{CountedOutcome, CountedDone, CountedUnfinished, uncounted, tally_of, counted_meaning}
-use Rattle.gypsy_semantics.proofs.CountLaws.{meaning-uncounted}
-use Rattle.gypsy_semantics.specs.Machine.{State, Move, Next, Ended, start}
-use Rattle.gypsy_semantics.specs.Views.Moments.{moment_from, NeverEnds}
-use Rattle.gypsy_semantics.proofs.Runs.{agree}
-use Rattle.gypsy_logic.specs.Counts.{MeansAfter, IsAfter}
-use Rattle.gypsy_logic.specs.Endless.{IsEndless}
-use Rattle.gypsy_logic.specs.Ends.{Means, Is}
+use Rattle.gypsy_space.{specs.Costs.Tally, specs.Needs.{StackSizes, stack_sizes}}
+use Rattle.gypsy_semantics.{specs.Calls.CurrentCondition, specs.Meaning.{Done, Unfinished, meaning}, specs.Counted.{CountedOutcome, CountedDone}}
+use Rattle.gypsy_semantics.{specs.Counted.{CountedUnfinished, uncounted, tally_of, counted_meaning}, proofs.CountLaws.meaning-uncounted, specs.Machine.State}
+use Rattle.gypsy_semantics.{specs.Machine.{Move, Next, Ended, start}, specs.Views.Moments.{moment_from, NeverEnds}, proofs.Runs.agree}
+use Rattle.gypsy_logic.{specs.Counts.{MeansAfter, IsAfter}, specs.Endless.IsEndless, specs.Ends.{Means, Is}}
 use Rattle.gypsy_codegen.proofs.MomentLaws.{moment_over}
-use Rattle.stack_build.specs.Build.{accepted_unless, accepted_by, accepted_source, BuiltOf, BuildsText}
-use Rattle.stack_build.specs.Formals.{shown_names, formal_conditions}
-use Rattle.stack_build.specs.Implements.{Finishes, Implements, FitsFormals, meaning_shown}
-use Rattle.stack_build.specs.ComesTo.{ComesTo}
-use Rattle.stack_build.specs.StaysUnfinished.{StaysUnfinished}
-use Rattle.program_images.specs.Shows.{Shows, RunsOn}
+use Rattle.stack_build.{specs.Build.{accepted_unless, accepted_by, accepted_source, BuiltOf, BuildsText}, specs.Formals.{shown_names, formal_conditions}}
+use Rattle.stack_build.{specs.Implements.{Finishes, Implements, FitsFormals, meaning_shown}, specs.ComesTo.ComesTo, specs.StaysUnfinished.StaysUnfinished}
+use Rattle.program_images.{specs.Shows.{Shows, RunsOn}, specs.TextPrograms.{source_of_text, IsText, ImplementsText, reading_of}}
 use Rattle.display_maps.specs.Reading.{ReadingOf}
-use Rattle.program_images.specs.TextPrograms.{source_of_text, IsText, ImplementsText, reading_of}
 
 module _ (source : SourceOf) (sizes : StackSizes) (values finals : List ValueOf) (way : CurrentCondition) (n : ℕ) where
   -- a meaning that is done has a count

@@ -3,17 +3,11 @@
 ghost use Rattle.std.specs.Prelude.{◌≡◌, ℕ, List, Ok};
 ghost use Rattle.stack_text.specs.Values.{ValueOf};
 ghost use Rattle.fm_image.specs.Image.{ImageOf};
-ghost use Rattle.gypsy_syntax.specs.GypsyReading.{gypsy_in};
-ghost use Rattle.gypsy_syntax.specs.Sources.{SourceOf};
-ghost use Rattle.gypsy_syntax.specs.Resolved.{program_of};
+ghost use Rattle.gypsy_syntax.specs.{GypsyReading.{gypsy_in}, Sources.{SourceOf}, Resolved.{program_of}};
 ghost use Rattle.gypsy_space.specs.Needs.{StackSizes};
 ghost use Rattle.gypsy_semantics.specs.Calls.{CurrentCondition};
-ghost use Rattle.gypsy_logic.specs.Counts.{MeansAfter, IsAfter};
-ghost use Rattle.gypsy_logic.specs.Endless.{IsEndless};
-ghost use Rattle.gypsy_logic.specs.Ends.{Means, Is};
-ghost use Rattle.stack_build.specs.Build.{accepted_source};
-ghost use Rattle.stack_build.specs.Implements.{Implements, FitsFormals, meaning_shown};
-ghost use Rattle.stack_build.specs.ComesTo.{ComesTo};
+ghost use Rattle.gypsy_logic.specs.{Counts.{MeansAfter, IsAfter}, Endless.{IsEndless}, Ends.{Means, Is}};
+ghost use Rattle.stack_build.specs.{Build.{accepted_source}, Implements.{Implements, FitsFormals, meaning_shown}, ComesTo.{ComesTo}};
 ghost use Rattle.stack_build.specs.StaysUnfinished.{StaysUnfinished};
 ghost use Rattle.program_images.specs.Shows.{RunsOn, Shows};
 

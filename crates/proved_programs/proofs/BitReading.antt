@@ -1,9 +1,6 @@
 -- Numbers read bit by bit, from the highest on: n bits are still to be read, and what they are worth was moved up by i places.
-use Rattle.std.proofs.Common.{◌≡◌, ℕ, zero, suc, ◌+◌, ◌*◌, ◌/◌, ◌%◌, ◌^◌, ◌<◌, Bool, true, false, refl, sym, ap, ◌∙◌, subst, arith}
-use Rattle.std.specs.Prelude.{bit_xor}
-use Rattle.std.specs.Int.{bit_at}
-use Rattle.std.proofs.Math.Nat.{add-mul, mul-add}
-use Rattle.std.proofs.lemmas.Nat.{pow-add, mod-pow-add, mod_below, pow_pos, mul-add-lt, shr-shr}
+use Rattle.std.{proofs.Common.{◌≡◌, ℕ, zero, suc, ◌+◌, ◌*◌, ◌/◌, ◌%◌, ◌^◌, ◌<◌, Bool, true, false, refl, sym, ap, ◌∙◌, subst, arith}, specs.Prelude.bit_xor}
+use Rattle.std.{specs.Int.bit_at, proofs.Math.Nat.{add-mul, mul-add}, proofs.lemmas.Nat.{pow-add, mod-pow-add, mod_below, pow_pos, mul-add-lt, shr-shr}}
 use Rattle.std.proofs.lemmas.Nat.Bits.{bit_at-lt, bit_at_xor}
 use Rattle.proved_programs.proofs.ExclusiveOr.{doubled}
 

@@ -1,12 +1,8 @@
 -- Exclusive or of natural numbers.
-use Rattle.std.proofs.Common.{◌≡◌, ℕ, zero, suc, ◌+◌, ◌-◌, ◌*◌, ◌/◌, ◌%◌, ◌^◌, ◌<◌, ◌≤◌, ◌⊎◌, inl, inr, sym, ap, ◌∙◌, subst, arith}
-use Rattle.std.specs.Prelude.{bit_xor}
-use Rattle.std.specs.Int.{bit_at}
-use Rattle.std.specs.Int.Bits.{xor_self, xor_zero_l, xor_zero_r}
-use Rattle.std.proofs.Math.Nat.{div-mul-le_self}
-use Rattle.std.proofs.lemmas.Bool.{cases_lt}
-use Rattle.std.proofs.lemmas.Nat.{xor_comm, xor_shr, xor_block, leading_top, pow-add, pow_pos, div-mul-add, le-div}
-use Rattle.std.proofs.lemmas.Nat.Bits.{bit_at_xor, same_from_bits}
+use Rattle.std.{proofs.Common.{◌≡◌, ℕ, zero, suc, ◌+◌, ◌-◌, ◌*◌, ◌/◌, ◌%◌, ◌^◌, ◌<◌, ◌≤◌, ◌⊎◌, inl, inr, sym, ap, ◌∙◌, subst, arith}, specs.Prelude.bit_xor}
+use Rattle.std.{specs.Int.bit_at, specs.Int.Bits.{xor_self, xor_zero_l, xor_zero_r}, proofs.Math.Nat.div-mul-le_self, proofs.lemmas.Bool.cases_lt}
+use Rattle.std.{proofs.lemmas.Nat.{xor_comm, xor_shr, xor_block, leading_top, pow-add, pow_pos, div-mul-add, le-div}, proofs.lemmas.Nat.Bits.bit_at_xor}
+use Rattle.std.proofs.lemmas.Nat.Bits.{same_from_bits}
 
 pub xor_assoc : (a b c : ℕ) → bit_xor (bit_xor a b) c ≡ bit_xor a (bit_xor b c)
 xor_assoc a b c = same_from_bits _ _ (λ i.

@@ -1,12 +1,9 @@
 -- A program of the infix language with fewer than 40 tokens breaks no rule of tokens.
 use Rattle.std.proofs.Common.{◌≡◌, ℕ, ◌+◌, ◌<◌, ◌≤◌, List, [], ◌∷◌, ◌++◌, length, length-append, append_assoc, Bool, true, false, refl, sym, ap, ◌∙◌, subst}
-use Rattle.std.proofs.Common.{arith}
-use Rattle.std.specs.Prelude.{◌&&◌, if◌then◌else◌}
-use Rattle.mini_syntax.specs.declared.lexer.TokenKind.{TokenKind}
-use Rattle.mini_syntax.specs.Faults.{AreFree, BreaksAt, no_token, no_program, brackets, blocks, too_many, count_of, operators_from, begins_expression}
-use Rattle.mini_syntax.specs.Faults.{is_operator, opens_bracket, opens_block}
-use Rattle.mini_syntax.specs.Grammar.{InfixProgram, GoesOn, program_tokens}
-use Rattle.mini_syntax.specs.Tokens.{Token, name_at, number_at, word_at, mark_at, wrong_at, kind_of}
+use Rattle.std.{proofs.Common.arith, specs.Prelude.{◌&&◌, if◌then◌else◌}}
+use Rattle.mini_syntax.{specs.declared.lexer.TokenKind.TokenKind, specs.Faults.{AreFree, BreaksAt, no_token, no_program, brackets, blocks, too_many, count_of}}
+use Rattle.mini_syntax.{specs.Faults.{operators_from, begins_expression, is_operator, opens_bracket, opens_block}, specs.Grammar.{InfixProgram, GoesOn}}
+use Rattle.mini_syntax.{specs.Grammar.program_tokens, specs.Tokens.{Token, name_at, number_at, word_at, mark_at, wrong_at, kind_of}}
 
 abbrev is_right : Token → Bool
 is_right (wrong_at place) = false

@@ -1,13 +1,10 @@
 -- Bouton's theorem.
 use Rattle.std.proofs.Common.{◌≡◌, ◌≢◌, ℕ, zero, suc, ◌+◌, ◌%◌, ◌<◌, List, [], ◌∷◌, length, get_or, slice_set, ◌⊎◌, inl, inr, refl, sym, ap, ◌∙◌, subst, arith}
-use Rattle.std.specs.Prelude.{bit_xor}
-use Rattle.std.specs.Int.{bit_at}
-use Rattle.std.specs.Int.Bits.{xor_self, xor_zero_r}
-use Rattle.std.proofs.lemmas.Nat.Bits.{bit_at_xor, bit_at-lt, bit_at-zero}
+use Rattle.std.{specs.Prelude.bit_xor, specs.Int.bit_at, specs.Int.Bits.{xor_self, xor_zero_r}, proofs.lemmas.Nat.Bits.{bit_at_xor, bit_at-lt, bit_at-zero}}
 use Rattle.gypsy_logic.proofs.Rules.{recursion_rule}
-use Rattle.proved_programs.specs.NimGame.{NimMove, Wins, by_move, Loses, whatever, nim_sum, BoutonsTheorem}
+use Rattle.proved_programs.{specs.NimGame.{NimMove, Wins, by_move, Loses, whatever, nim_sum, BoutonsTheorem}, proofs.ExclusiveOr.{xor_twice, xor_exchange}}
+use Rattle.proved_programs.proofs.ExclusiveOr.{highest, xor_less}
 use Rattle.fm_code.proofs.XorLaws.{same_from_xor}
-use Rattle.proved_programs.proofs.ExclusiveOr.{xor_twice, xor_exchange, highest, xor_less}
 
 -- how many objects there are
 abbrev objects : List ℕ → ℕ

@@ -1,32 +1,20 @@
 -- What the procedures of examples/games/piles.gypsy do, and its loops.
 use Rattle.std.proofs.Common.{◌≡◌, ◌≢◌, ℕ, zero, suc, ◌+◌, ◌/◌, ◌%◌, ◌^◌, ◌<◌, ◌≤◌, List, [], ◌∷◌, length, take, get_or, slice_set, Bool, true, false, Some}
-use Rattle.std.proofs.Common.{None, refl, sym, ap, ◌∙◌, subst, arith}
-use Rattle.std.specs.Prelude.{ℤ, pos, int_le, map, bit_xor}
-use Rattle.std.specs.Int.{bit_at}
-use Rattle.std.proofs.Math.ListN.{get_or-map}
-use Rattle.std.proofs.Math.Nat.{div-one}
-use Rattle.std.proofs.lemmas.Bool.{le-leb, lt-leb, leb-true, leb-false}
-use Rattle.std.proofs.lemmas.Int.{ints}
-use Rattle.std.proofs.lemmas.List.{length-map, map-set, take_all}
-use Rattle.std.proofs.lemmas.Nat.{shr_le, xor_lt}
-use Rattle.stack_text.specs.declared.shape.Kind.TheVariants.{Integer}
-use Rattle.stack_text.specs.Values.{ValueOf}
-use Rattle.gypsy_syntax.specs.Programs.{Stmt, Skip, Seq, Call, Declared}
-use Rattle.gypsy_syntax.specs.Effects.{integer_value, truth_value, same_int, are_same}
+use Rattle.std.{proofs.Common.{None, refl, sym, ap, ◌∙◌, subst, arith}, specs.Prelude.{ℤ, pos, int_le, map, bit_xor}, specs.Int.bit_at}
+use Rattle.std.{proofs.Math.ListN.get_or-map, proofs.Math.Nat.div-one, proofs.lemmas.Bool.{le-leb, lt-leb, leb-true, leb-false}, proofs.lemmas.Int.ints}
+use Rattle.std.{proofs.lemmas.List.{length-map, map-set, take_all}, proofs.lemmas.Nat.{shr_le, xor_lt}}
+use Rattle.stack_text.{specs.declared.shape.Kind.TheVariants.Integer, specs.Values.ValueOf}
+use Rattle.gypsy_syntax.{specs.Programs.{Stmt, Skip, Seq, Call, Declared}, specs.Effects.{integer_value, truth_value, same_int, are_same}}
 use Rattle.gypsy_space.specs.Needs.{StackSizes, main_used, with_call, call_need, has_room}
 use Rattle.gypsy_semantics.specs.Calls.{CurrentCondition}
-use Rattle.gypsy_logic.specs.Ends.{Exit, Ends, Then, Round, Again, Stands, Outcome, Meets, Given, Gives, AnyRoom, MainEnds, Means, Is}
-use Rattle.gypsy_logic.proofs.Rules.{◌▸◌, skip_rule, no_op_rule, signal_rule, seq_rule, if_true, if_false, if_rule, loop_over, meets_rule, given_rule}
-use Rattle.gypsy_logic.proofs.Rules.{main_rule, room_is}
-use Rattle.gypsy_logic.proofs.NumberFacts.{truth_is, same_true, same_false, natural_fits}
-use Rattle.gypsy_logic.proofs.PredefinedRules.{assign_rule, constant_rule, equal_rule, equal_constant_rule, at_most_rule, add_rule, subtract_rule, index_rule}
-use Rattle.gypsy_logic.proofs.PredefinedRules.{store_rule}
-use Rattle.proved_programs.specs.NimGame.{NimMove, Loses, nim_sum}
-use Rattle.proved_programs.specs.Piles.{IsPosition, piles_value}
-use Rattle.proved_programs.specs.Texts.Piles.{piles_program, piles_main_body, piles_main_round_1, piles_main_round_2, piles_xor_round_1}
-use Rattle.proved_programs.proofs.BitReading.{digit, high, rest, bit_read, next_bit, xor_bit, none_yet, all_left}
-use Rattle.proved_programs.proofs.ExclusiveOr.{xor_exchange}
-use Rattle.proved_programs.proofs.NimGameLaws.{zero_loses, winning_pile, pile_there, to_zero}
+use Rattle.gypsy_logic.{specs.Ends.{Exit, Ends, Then, Round, Again, Stands, Outcome, Meets, Given, Gives, AnyRoom, MainEnds, Means, Is}, proofs.Rules.◌▸◌}
+use Rattle.gypsy_logic.proofs.Rules.{skip_rule, no_op_rule, signal_rule, seq_rule, if_true, if_false, if_rule, loop_over, meets_rule, given_rule, main_rule}
+use Rattle.gypsy_logic.{proofs.Rules.room_is, proofs.NumberFacts.{truth_is, same_true, same_false, natural_fits}, proofs.PredefinedRules.assign_rule}
+use Rattle.gypsy_logic.proofs.PredefinedRules.{constant_rule, equal_rule, equal_constant_rule, at_most_rule, add_rule, subtract_rule, index_rule, store_rule}
+use Rattle.proved_programs.{specs.NimGame.{NimMove, Loses, nim_sum}, specs.Piles.{IsPosition, piles_value}, specs.Texts.Piles.{piles_program, piles_main_body}}
+use Rattle.proved_programs.{specs.Texts.Piles.{piles_main_round_1, piles_main_round_2, piles_xor_round_1}, proofs.BitReading.{digit, high, rest, bit_read}}
+use Rattle.proved_programs.{proofs.BitReading.{next_bit, xor_bit, none_yet, all_left}, proofs.ExclusiveOr.xor_exchange, proofs.NimGameLaws.zero_loses}
+use Rattle.proved_programs.proofs.NimGameLaws.{winning_pile, pile_there, to_zero}
 
 at_most : (a b : ℕ) → int_le (pos a) (pos b) ≡ true → a ≤ b
 at_most a b e = leb-true a b e

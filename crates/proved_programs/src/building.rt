@@ -1,7 +1,6 @@
 //! Images of the examples.
 ghost use Rattle.std.specs.Prelude.{◌≤◌, ◌^◌, IfOk};
-ghost use Rattle.proved_programs.specs.Sum.{SumsUp};
-ghost use Rattle.proved_programs.specs.SumText.{IsSumText};
+ghost use Rattle.proved_programs.specs.{Sum.{SumsUp}, SumText.{IsSumText}};
 
 use stack_build::{BuildFault, Built, build};
 use std::alloc::Global;

@@ -1,16 +1,12 @@
 -- The exits of main: one for each condition that it may end with.
 use Rattle.std.proofs.Common.{◌≡◌, ℕ, zero, suc, ◌+◌, ◌*◌, ◌<◌, Some, Bool, true, false, List, [], ◌∷◌, length, refl, ap, ◌∙◌, subst, arith}
-use Rattle.std.specs.Prelude.{if◌then◌else◌, nat_lt, slice_get}
-use Rattle.std.proofs.lemmas.Bool.{ltb-true}
+use Rattle.std.{specs.Prelude.{if◌then◌else◌, nat_lt, slice_get}, proofs.lemmas.Bool.ltb-true}
 use Rattle.fm_words.specs.declared.condition.Flags.{Flags}
-use Rattle.fm_code.specs.Execution.{Parts, CodeAt}
-use Rattle.fm_code.proofs.CodeLaws.{code_front, code_after}
+use Rattle.fm_code.{specs.Execution.{Parts, CodeAt}, proofs.CodeLaws.{code_front, code_after}}
 use Rattle.gypsy_syntax.specs.Programs.{ConditionOf, Leave, Routine, Space, Declared, Program, proc_at}
 use Rattle.gypsy_semantics.specs.Calls.{is_passed_on, main_way}
 use Rattle.gypsy_codegen.specs.WordsOf.{number_of}
-use Rattle.quick_code.specs.Moments.{now, Jumps}
-use Rattle.quick_code.proofs.PieceLaws.{piece_rows}
-use Rattle.quick_code.proofs.StandLaws.{jumps_then}
+use Rattle.quick_code.{specs.Moments.{now, Jumps}, proofs.PieceLaws.piece_rows, proofs.StandLaws.jumps_then}
 use Rattle.quick_build.specs.QuickImage.{declared_numbers, exit_numbers, exit_code, exits_code, exit_of}
 
 pub exits_length : (cc final : ℕ) (ns : List ℕ) → length (exits_code cc final ns) ≡ 6 * length ns

@@ -30,60 +30,32 @@ use Rattle.std.proofs.Common.{
   subst,
   arith,
 }
-use Rattle.std.proofs.Common.{length-append, append_assoc, Option}
-use Rattle.std.specs.Prelude.{get_or, ◌==◌, if◌then◌else◌, slice_index, reverse, replicate}
-use Rattle.std.proofs.Math.ListN.{length-reverse_aux}
-use Rattle.std.proofs.lemmas.Bool.{eqb-true}
-use Rattle.std.proofs.lemmas.List.{length-map, length-replicate}
+use Rattle.std.{proofs.Common.{length-append, append_assoc, Option}, specs.Prelude.{get_or, ◌==◌, if◌then◌else◌, slice_index, reverse, replicate}}
+use Rattle.std.{proofs.Math.ListN.length-reverse_aux, proofs.lemmas.Bool.eqb-true, proofs.lemmas.List.{length-map, length-replicate}}
 use mathlib.Core.List.{reverse_aux}
-use Rattle.stack_text.specs.declared.name.Named.{Named}
-use Rattle.stack_text.specs.Values.{ValueOf}
-use Rattle.fm_words.specs.Code.{no_flags}
-use Rattle.fm_words.specs.declared.condition.Flags.{Flags}
-use Rattle.fm_words.specs.Word.{word_of_int}
-use Rattle.fm_machine.specs.State.{Fm}
-use Rattle.fm_machine.specs.Run.{IsFirst, Avoids, fm_run}
-use Rattle.fm_code.specs.Execution.{AreParts, IsLaidOut, Holds, CodeAt, final_pc}
-use Rattle.fm_code.specs.InstructionWords.{halt_word}
-use Rattle.fm_code.proofs.CodeLaws.{code_whole, code_front, code_after}
+use Rattle.stack_text.{specs.declared.name.Named.Named, specs.Values.ValueOf}
+use Rattle.fm_words.{specs.Code.no_flags, specs.declared.condition.Flags.Flags, specs.Word.word_of_int}
+use Rattle.fm_machine.{specs.State.Fm, specs.Run.{IsFirst, Avoids, fm_run}}
+use Rattle.fm_code.{specs.Execution.{AreParts, IsLaidOut, Holds, CodeAt, final_pc}, specs.InstructionWords.halt_word, proofs.CodeLaws.{code_whole, code_front}}
+use Rattle.fm_code.proofs.CodeLaws.{code_after}
 use Rattle.fm_loader.specs.Loaded.{loaded, with_values}
 use Rattle.display_maps.specs.Reading.{reading, word_or_zero, condition_of}
-use Rattle.gypsy_syntax.specs.declared.literal.Decl.{Decl}
-use Rattle.gypsy_syntax.specs.Programs.{Proc, Program, proc_at, body_of, shapes_of, conds_of, words_of}
-use Rattle.gypsy_syntax.specs.ProgramFits.{Each}
-use Rattle.gypsy_syntax.specs.Resolved.{program_of}
-use Rattle.gypsy_syntax.specs.Sources.{ProcOf, SourceOf}
-use Rattle.gypsy_syntax.specs.ValuesFit.{ValueFits, VarsFit}
+use Rattle.gypsy_syntax.{specs.declared.literal.Decl.Decl, specs.Programs.{Proc, Program, proc_at, body_of, shapes_of, conds_of, words_of}}
+use Rattle.gypsy_syntax.{specs.ProgramFits.Each, specs.Resolved.program_of, specs.Sources.{ProcOf, SourceOf}, specs.ValuesFit.{ValueFits, VarsFit}}
 use Rattle.gypsy_check.specs.Accepted.{IsAccepted}
-use Rattle.gypsy_space.specs.Costs.{Tally}
-use Rattle.gypsy_space.specs.Needs.{StackSizes, main_used}
-use Rattle.gypsy_semantics.specs.Calls.{CurrentCondition, main_start, main_formals, main_way}
-use Rattle.gypsy_semantics.specs.Meaning.{MeaningOutcome, Done, Unfinished, evaluate, meaning, main_end}
-use Rattle.gypsy_semantics.specs.Counted.{CountedOutcome, CountedDone, CountedUnfinished, counted_meaning, uncounted}
-use Rattle.gypsy_semantics.proofs.CountLaws.{meaning-uncounted}
-use Rattle.gypsy_semantics.proofs.Keeping.{vars_join, locals_fit}
+use Rattle.gypsy_space.{specs.Costs.Tally, specs.Needs.{StackSizes, main_used}}
+use Rattle.gypsy_semantics.{specs.Calls.{CurrentCondition, main_start, main_formals, main_way}, specs.Meaning.{MeaningOutcome, Done, Unfinished, evaluate}}
+use Rattle.gypsy_semantics.{specs.Meaning.{meaning, main_end}, specs.Counted.{CountedOutcome, CountedDone, CountedUnfinished, counted_meaning, uncounted}}
+use Rattle.gypsy_semantics.{proofs.CountLaws.meaning-uncounted, proofs.Keeping.{vars_join, locals_fit}}
 use Rattle.gypsy_codegen.specs.WordsOf.{number_of, number_of_way, zero_value}
-use Rattle.stack_build.specs.ComesTo.{ComesTo}
-use Rattle.stack_build.specs.Formals.{formals_in, formal_conditions_in, shown_formals, shown_conditions, formal_conditions}
-use Rattle.stack_build.specs.Image.{slots_from}
-use Rattle.stack_build.specs.Implements.{meaning_shown, way_shown, FitsFormals}
-use Rattle.stack_build.specs.Internal.Showing.{shapes_in}
-use Rattle.stack_build.proofs.Ending.{ends_well, way_read}
-use Rattle.stack_build.proofs.Laying.{reversed_append, Holds-reversed}
-use Rattle.stack_build.proofs.MainLaws.{main_is, zero_values}
-use Rattle.stack_build.proofs.Numbers.{words_both}
-use Rattle.stack_build.proofs.ReadBack.{word_read, values_read}
-use Rattle.stack_build.proofs.Storing.{items_words, split, values_stored}
-use Rattle.stack_build.proofs.Windows.{all_stand}
-use Rattle.quick_code.specs.Access.{Held, Reaches}
-use Rattle.quick_code.specs.Moments.{now, Stands, Comes}
-use Rattle.quick_code.proofs.StandLaws.{comes_then}
-use Rattle.quick_gypsy.specs.Numbers.{numbers_of}
-use Rattle.quick_gypsy.specs.Layout.{IsLayout}
-use Rattle.quick_gypsy.specs.Quick.{size, quick, quick_cost}
-use Rattle.quick_gypsy.specs.QuickRuns.{StandsWith, ComesWith, goal_of}
-use Rattle.quick_gypsy.proofs.NumbersLaws.{numbers_length}
-use Rattle.quick_gypsy.proofs.QuickLaws.{statements_run, statements_go_on, quick_length}
+use Rattle.stack_build.{specs.ComesTo.ComesTo, specs.Formals.{formals_in, formal_conditions_in, shown_formals, shown_conditions, formal_conditions}}
+use Rattle.stack_build.{specs.Image.slots_from, specs.Implements.{meaning_shown, way_shown, FitsFormals}, specs.Internal.Showing.shapes_in}
+use Rattle.stack_build.{proofs.Ending.{ends_well, way_read}, proofs.Laying.{reversed_append, Holds-reversed}, proofs.MainLaws.{main_is, zero_values}}
+use Rattle.stack_build.{proofs.Numbers.words_both, proofs.ReadBack.{word_read, values_read}, proofs.Storing.{items_words, split, values_stored}}
+use Rattle.stack_build.{proofs.Windows.all_stand, proofs.MeantLaws.first_once}
+use Rattle.quick_code.{specs.Access.{Held, Reaches}, specs.Moments.{now, Stands, Comes}, proofs.StandLaws.comes_then}
+use Rattle.quick_gypsy.{specs.Numbers.numbers_of, specs.Layout.IsLayout, specs.Quick.{size, quick, quick_cost}, specs.QuickRuns.{StandsWith, ComesWith}}
+use Rattle.quick_gypsy.{specs.QuickRuns.goal_of, proofs.NumbersLaws.numbers_length, proofs.QuickLaws.{statements_run, statements_go_on, quick_length}}
 use Rattle.quick_build.specs.QuickImage.{
   access_from,
   variable_address,
@@ -116,9 +88,7 @@ use Rattle.quick_build.specs.QuickImplements.{
   QuickIsMeant,
   QuickImagesEndAsMeant,
 }
-use Rattle.stack_build.proofs.MeantLaws.{first_once}
-use Rattle.quick_build.proofs.ExitLaws.{exits_length, numbers_count, exit_number, exit_there, exit_jumps}
-use Rattle.quick_build.proofs.WindowLaws.{at_end, between}
+use Rattle.quick_build.{proofs.ExitLaws.{exits_length, numbers_count, exit_number, exit_there, exit_jumps}, proofs.WindowLaws.{at_end, between}}
 
 pub same_words : (x : List ValueOf) → numbers_of x ≡ items_words x
 same_words [] = refl

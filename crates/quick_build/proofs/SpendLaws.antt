@@ -1,15 +1,11 @@
 -- A quick program takes no more instructions than the plain one.
-use Rattle.std.proofs.Common.{◌≡◌, ℕ, ◌+◌, ◌≤◌, Bool, true, false, Some, None, subst, arith}
-use Rattle.std.specs.Prelude.{option_map}
+use Rattle.std.{proofs.Common.{◌≡◌, ℕ, ◌+◌, ◌≤◌, Bool, true, false, Some, None, subst, arith}, specs.Prelude.option_map}
 use Rattle.gypsy_syntax.specs.Programs.{Program, proc_at, body_of}
-use Rattle.gypsy_space.specs.Costs.{Tally, spend, start_tally, main_spend}
-use Rattle.gypsy_space.specs.Needs.{main_used}
-use Rattle.gypsy_semantics.specs.Calls.{is_passed_on, main_start}
-use Rattle.gypsy_semantics.specs.Counted.{CountedOutcome, CountedDone, CountedUnfinished, counted_evaluate, counted_main_end, uncounted, tally_of}
-use Rattle.quick_gypsy.specs.Quick.{quick_cost}
-use Rattle.quick_gypsy.proofs.CostLaws.{Bound, paired}
-use Rattle.quick_build.specs.QuickImage.{layout_in}
-use Rattle.quick_build.specs.QuickImplements.{exit_cost, QuickProgramsAreNoSlower}
+use Rattle.gypsy_space.{specs.Costs.{Tally, spend, start_tally, main_spend}, specs.Needs.main_used}
+use Rattle.gypsy_semantics.{specs.Calls.{is_passed_on, main_start}, specs.Counted.{CountedOutcome, CountedDone, CountedUnfinished, counted_evaluate}}
+use Rattle.gypsy_semantics.specs.Counted.{counted_main_end, uncounted, tally_of}
+use Rattle.quick_gypsy.{specs.Quick.quick_cost, proofs.CostLaws.{Bound, paired}}
+use Rattle.quick_build.{specs.QuickImage.layout_in, specs.QuickImplements.{exit_cost, QuickProgramsAreNoSlower}}
 
 passed : (b : Bool) (k count : ℕ) (t : Tally) → k ≤ t.count → Some (main_spend b t).count ≡ Some count → k + 3 ≤ count
 unfolding main_spend spend

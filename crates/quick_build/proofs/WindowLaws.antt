@@ -1,11 +1,8 @@
 -- Words that stand in a window.
-use Rattle.std.proofs.Common.{◌≡◌, ℕ, ◌+◌, ◌-◌, Some, None, Bool, List, [], ◌∷◌, ◌++◌, length, sym, ap, ◌∙◌, subst, arith}
-use Rattle.std.proofs.Common.{length-append, append_assoc}
-use Rattle.std.specs.Prelude.{if◌then◌else◌, slice_get}
-use Rattle.std.proofs.lemmas.Bool.{le-ltb}
+use Rattle.std.proofs.Common.{◌≡◌, ℕ, ◌+◌, ◌-◌, Some, None, Bool, List, [], ◌∷◌, ◌++◌, length, sym, ap, ◌∙◌, subst, arith, length-append, append_assoc}
+use Rattle.std.{specs.Prelude.{if◌then◌else◌, slice_get}, proofs.lemmas.Bool.le-ltb}
 use Rattle.fm_machine.specs.State.{word_at}
-use Rattle.fm_code.specs.Execution.{Holds}
-use Rattle.fm_code.proofs.ListLaws.{get_after}
+use Rattle.fm_code.{specs.Execution.Holds, proofs.ListLaws.get_after}
 
 word_there : (b : ℕ) (pre ws : List ℕ) (w : ℕ) → word_at b (pre ++ w ∷ ws) (b + length pre) ≡ Some w
 unfolding word_at

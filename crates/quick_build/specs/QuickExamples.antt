@@ -5,8 +5,7 @@ use Rattle.gypsy_syntax.specs.Programs.{Leave, Var, Lit, Proc, Program, simple, 
 use Rattle.gypsy_syntax.specs.Effects.{integer_value, truth_value}
 use Rattle.gypsy_space.specs.Needs.{StackSizes}
 use Rattle.stack_text.specs.declared.shape.Kind.TheVariants.{Integer}
-use Rattle.quick_build.specs.QuickImage.{quick_words}
-use Rattle.quick_build.specs.QuickImplements.{program_cost}
+use Rattle.quick_build.specs.{QuickImage.{quick_words}, QuickImplements.{program_cost}}
 
 -- formals n and i, locals is-over and one
 abbrev pub upto_main : Proc

@@ -1,25 +1,16 @@
 -- The quick image of a source whose main calls no procedure.
-use Rattle.std.specs.Prelude.{ℕ, zero, suc, ◌+◌, ◌-◌, ◌*◌, ◌==◌, nat_lt, if◌then◌else◌}
-use Rattle.std.specs.Prelude.{List, [], ◌∷◌, ◌++◌, map, replicate, reverse, take, get_or, Some}
+use Rattle.std.specs.Prelude.{ℕ, zero, suc, ◌+◌, ◌-◌, ◌*◌, ◌==◌, nat_lt, if◌then◌else◌, List, [], ◌∷◌, ◌++◌, map, replicate, reverse, take}
+use Rattle.std.specs.Prelude.{get_or, Some}
 use Rattle.stack_text.specs.Values.{ValueOf}
-use Rattle.fm_code.specs.Execution.{Parts}
-use Rattle.fm_code.specs.InstructionWords.{halt_word}
-use Rattle.fm_image.specs.Bare.{bare_image}
-use Rattle.fm_image.specs.Image.{ImageOf}
+use Rattle.fm_code.specs.{Execution.{Parts}, InstructionWords.{halt_word}, Templates.{jump_code}}
+use Rattle.fm_image.specs.{Bare.{bare_image}, Image.{ImageOf}}
 use Rattle.piton_linker.specs.Layouts.{trimmed}
 use Rattle.gypsy_syntax.specs.Programs.{ConditionOf, Leave, Routine, Space, Declared, Proc, proc_at, shapes_of, words_of}
-use Rattle.gypsy_syntax.specs.Resolved.{program_of}
-use Rattle.gypsy_syntax.specs.Sources.{SourceOf}
-use Rattle.gypsy_syntax.specs.declared.literal.Decl.{Decl}
+use Rattle.gypsy_syntax.specs.{Resolved.{program_of}, Sources.{SourceOf}, declared.literal.Decl.{Decl}}
 use Rattle.gypsy_codegen.specs.WordsOf.{zero_value}
-use Rattle.stack_build.specs.Formals.{shown_formals, shown_conditions}
-use Rattle.stack_build.specs.Image.{slots_from}
-use Rattle.quick_code.specs.Access.{Access, Held, Known}
-use Rattle.quick_code.specs.Pieces.{set_area_code}
-use Rattle.fm_code.specs.Templates.{jump_code}
-use Rattle.quick_gypsy.specs.Numbers.{numbers_of}
-use Rattle.quick_gypsy.specs.Layout.{Layout}
-use Rattle.quick_gypsy.specs.Quick.{size, quick}
+use Rattle.stack_build.specs.{Formals.{shown_formals, shown_conditions}, Image.{slots_from}}
+use Rattle.quick_code.specs.{Access.{Access, Held, Known}, Pieces.{set_area_code}}
+use Rattle.quick_gypsy.specs.{Numbers.{numbers_of}, Layout.{Layout}, Quick.{size, quick}}
 
 -- 1. Variables. Those of main lie at the window's end, the first word of the first one at the last address. The addresses of the chosen
 -- ones, at most ten, are in the registers from 5 on, and stay there.

@@ -1,20 +1,15 @@
 -- Quick images do what sources mean, in exactly the instructions that are counted for them.
 use Rattle.std.specs.Prelude.{◌≡◌, ℕ, ◌+◌, ◌≤◌, ◌<◌, ◌^◌, List, length, Ok, Some, None}
 use Rattle.stack_text.specs.Values.{ValueOf}
-use Rattle.fm_machine.specs.State.{Fm}
-use Rattle.fm_machine.specs.Run.{fm_run, Avoids, IsFirst}
+use Rattle.fm_machine.specs.{State.{Fm}, Run.{fm_run, Avoids, IsFirst}}
 use Rattle.fm_loader.specs.Loaded.{loaded}
 use Rattle.display_maps.specs.Reading.{reading}
 use Rattle.gypsy_check.specs.Accepted.{IsAccepted}
-use Rattle.gypsy_syntax.specs.Programs.{Proc, Program, proc_at, body_of, shapes_of, words_of}
-use Rattle.gypsy_syntax.specs.Resolved.{program_of}
-use Rattle.gypsy_syntax.specs.Sources.{SourceOf}
+use Rattle.gypsy_syntax.specs.{Programs.{Proc, Program, proc_at, body_of, shapes_of, words_of}, Resolved.{program_of}, Sources.{SourceOf}}
 use Rattle.gypsy_space.specs.Needs.{StackSizes, main_used}
-use Rattle.gypsy_semantics.specs.Calls.{CurrentCondition, main_start}
-use Rattle.gypsy_semantics.specs.Counted.{instruction_count}
-use Rattle.gypsy_semantics.specs.Meaning.{MeaningOutcome, Done, Unfinished, evaluate, meaning}
-use Rattle.stack_build.specs.ComesTo.{ComesTo}
-use Rattle.stack_build.specs.Implements.{meaning_shown, FitsFormals}
+use Rattle.gypsy_semantics.specs.{Calls.{CurrentCondition, main_start}, Counted.{instruction_count}, Meaning.{MeaningOutcome, Done}}
+use Rattle.gypsy_semantics.specs.Meaning.{Unfinished, evaluate, meaning}
+use Rattle.stack_build.specs.{ComesTo.{ComesTo}, Implements.{meaning_shown, FitsFormals}}
 use Rattle.quick_gypsy.specs.Quick.{IsPlain, quick_cost}
 use Rattle.quick_build.specs.QuickImage.{layout_in, condition_cell, final_of, quick_image}
 

@@ -1,7 +1,7 @@
 //! The laws of quick images. The functions do nothing: their clauses hold of all sources and values.
 
-ghost use Rattle.quick_build.specs.QuickExamples.{UptoIsQuick};
-ghost use Rattle.quick_build.specs.QuickImplements.{QuickImagesImplement, QuickImagesEndAsMeant, QuickImagesGoOn, QuickProgramsAreNoSlower};
+ghost use Rattle.quick_build.specs.{QuickExamples.{UptoIsQuick}, QuickImplements.{QuickImagesImplement, QuickImagesEndAsMeant, QuickImagesGoOn}};
+ghost use Rattle.quick_build.specs.QuickImplements.{QuickProgramsAreNoSlower};
 
 /// Quick images do what sources mean, in exactly the instructions that are counted for them.
 pub fn quick_images_implement()

@@ -1,35 +1,20 @@
 -- What each piece does, by the laws of single instructions.
 use Rattle.std.proofs.Common.{◌≡◌, ℕ, zero, suc, ◌+◌, ◌-◌, ◌<◌, ◌≤◌, Some, Ok, Bool, true, false, List, [], ◌∷◌, length, refl, ap, ◌∙◌, subst, arith}
-use Rattle.std.proofs.Common.{length-append}
-use Rattle.std.specs.Prelude.{if◌then◌else◌, reverse, slice_get, slice_set, slice_index}
-use Rattle.std.proofs.lemmas.List.{length-reverse, length-set}
-use Rattle.std.proofs.lemmas.Option.{slice_get_within}
-use Rattle.fm_words.specs.declared.operation.Op.{Op}
-use Rattle.fm_words.specs.declared.operation.Op.TheVariants.{Move}
-use Rattle.fm_words.specs.declared.condition.Cc.{Cc}
-use Rattle.fm_words.specs.declared.condition.Flags.{Flags}
-use Rattle.fm_words.specs.declared.instruction.Mode.TheVariants.{Indirect}
-use Rattle.fm_words.specs.declared.instruction.OperandA.{OperandA}
-use Rattle.fm_words.specs.Alu.{alu_of, does_hold}
-use Rattle.fm_words.specs.Code.{no_flags}
-use Rattle.fm_machine.specs.State.{Fm, word_at, with_word}
-use Rattle.fm_machine.specs.Step.{flags_set, found_word, store_at}
-use Rattle.fm_code.specs.Execution.{Parts, CodeAt, CodeWord}
-use Rattle.fm_code.specs.InstructionWords.{reg, at, immediate, literal, mov, setting, when}
-use Rattle.fm_code.proofs.CodeLaws.{code_front, code_after}
-use Rattle.fm_code.proofs.HoldsLaws.{Holds-get}
-use Rattle.fm_code.proofs.LayoutLaws.{laid_temp}
-use Rattle.fm_code.proofs.RegisterLaws.{index_of, registers_of, with_register, next, past}
-use Rattle.fm_code.proofs.OperandLaws.{RunsTo, ReadsOperand, state_of, found, kept, some_word_at, into_memory, conditional}
-use Rattle.fm_code.proofs.OperandLaws.{from_immediate, from_literal, from_literal_at, from_register, from_address}
-use Rattle.fm_code.proofs.TargetLaws as target
-use Rattle.quick_code.specs.Access.{Access, Held, Known, Reaches, register_of, find_code, find_count}
-use Rattle.quick_code.specs.Moments.{Now, Does, Jumps}
-use Rattle.quick_code.specs.Pieces.{by_word_code, by_literal_code, store_code, store_literal_code, truth_code, move_code, put_code}
-use Rattle.quick_code.specs.Pieces.{jump_when_code, set_area_code}
+use Rattle.std.{proofs.Common.length-append, specs.Prelude.{if◌then◌else◌, reverse, slice_get, slice_set, slice_index}, proofs.lemmas.List.length-reverse}
+use Rattle.std.{proofs.lemmas.List.length-set, proofs.lemmas.Option.slice_get_within}
+use Rattle.fm_words.{specs.declared.operation.Op.Op, specs.declared.operation.Op.TheVariants.Move, specs.declared.condition.Cc.Cc}
+use Rattle.fm_words.{specs.declared.condition.Flags.Flags, specs.declared.instruction.Mode.TheVariants.Indirect, specs.declared.instruction.OperandA.OperandA}
+use Rattle.fm_words.{specs.Alu.{alu_of, does_hold}, specs.Code.no_flags}
+use Rattle.fm_machine.{specs.State.{Fm, word_at, with_word}, specs.Step.{flags_set, found_word, store_at}}
+use Rattle.fm_code.{specs.Execution.{Parts, CodeAt, CodeWord}, specs.InstructionWords.{reg, at, immediate, literal, mov, setting, when}}
+use Rattle.fm_code.{proofs.CodeLaws.{code_front, code_after}, proofs.HoldsLaws.Holds-get, proofs.LayoutLaws.laid_temp, proofs.RegisterLaws.index_of}
+use Rattle.fm_code.{proofs.RegisterLaws.{registers_of, with_register, next, past}, proofs.OperandLaws.{RunsTo, ReadsOperand, state_of, found, kept}}
+use Rattle.fm_code.proofs.OperandLaws.{some_word_at, into_memory, conditional, from_immediate, from_literal, from_literal_at, from_register, from_address}
 use Rattle.fm_code.specs.Templates.{jump_code}
-use Rattle.quick_code.specs.PieceRows.{LeadsTo, PieceRows, operated, with_var}
-use Rattle.quick_code.proofs.StackLaws.{from_bottom, set_from_bottom}
+use Rattle.fm_code.proofs.TargetLaws as target
+use Rattle.quick_code.{specs.Access.{Access, Held, Known, Reaches, register_of, find_code, find_count}, specs.Moments.{Now, Does, Jumps}}
+use Rattle.quick_code.specs.Pieces.{by_word_code, by_literal_code, store_code, store_literal_code, truth_code, move_code, put_code, jump_when_code}
+use Rattle.quick_code.{specs.Pieces.set_area_code, specs.PieceRows.{LeadsTo, PieceRows, operated, with_var}, proofs.StackLaws.{from_bottom, set_from_bottom}}
 use Rattle.quick_code.proofs.StandLaws.{At, other, does, jumps}
 
 -- a register of the table, or one from 4 on, where another below it and the pc are set

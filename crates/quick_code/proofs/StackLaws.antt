@@ -1,9 +1,6 @@
 -- A stack listed from its bottom, and the same from its top.
-use Rattle.std.proofs.Common.{◌≡◌, ℕ, zero, suc, ◌+◌, ◌-◌, ◌<◌, Some, List, [], ◌∷◌, ◌++◌, length, sym, ap, ◌∙◌, arith}
-use Rattle.std.specs.Prelude.{reverse, slice_get, slice_set}
-use Rattle.std.proofs.lemmas.List.{length-reverse}
-use Rattle.std.proofs.lemmas.Grind.{reverse_onto}
-use Rattle.std.proofs.lemmas.Option.{slice_get_within}
+use Rattle.std.{proofs.Common.{◌≡◌, ℕ, zero, suc, ◌+◌, ◌-◌, ◌<◌, Some, List, [], ◌∷◌, ◌++◌, length, sym, ap, ◌∙◌, arith}, specs.Prelude.{reverse, slice_get}}
+use Rattle.std.{specs.Prelude.slice_set, proofs.lemmas.List.length-reverse, proofs.lemmas.Grind.reverse_onto, proofs.lemmas.Option.slice_get_within}
 use Rattle.fm_code.proofs.ListLaws.{get_front, get_after, set_front, set_after}
 
 turned : {A : Type 0} (x : A) (xs : List A) → reverse (x ∷ xs) ≡ reverse xs ++ x ∷ []

@@ -1,13 +1,9 @@
 -- Runs between machines that stand: how they begin, continue and end.
 use Rattle.std.proofs.Common.{◌≡◌, ◌≢◌, ℕ, ◌+◌, ◌<◌, ◌≤◌, ◌==◌, false, Ok, List, ◌++◌, length, refl, ap, ◌∙◌, subst, arith, length-append}
-use Rattle.std.specs.Prelude.{reverse, slice_index}
-use Rattle.std.proofs.lemmas.Bool.Decides.{nat_tests}
-use Rattle.fm_machine.specs.State.{Fm}
-use Rattle.fm_machine.proofs.RunLaws.{run_none, avoids_none, run_then, avoids_then}
-use Rattle.fm_code.specs.Execution.{Parts, AreParts, CodeAt, final_pc}
-use Rattle.fm_code.proofs.CodeLaws.{code_front, code_after}
-use Rattle.fm_code.proofs.RegisterLaws.{sixteen_are, index_of, with_register}
-use Rattle.fm_code.proofs.OperandLaws.{RunsTo, state_of}
+use Rattle.std.{specs.Prelude.{reverse, slice_index}, proofs.lemmas.Bool.Decides.nat_tests}
+use Rattle.fm_machine.{specs.State.Fm, proofs.RunLaws.{run_none, avoids_none, run_then, avoids_then}}
+use Rattle.fm_code.{specs.Execution.{Parts, AreParts, CodeAt, final_pc}, proofs.CodeLaws.{code_front, code_after}, proofs.RegisterLaws.{sixteen_are, index_of}}
+use Rattle.fm_code.{proofs.RegisterLaws.with_register, proofs.OperandLaws.{RunsTo, state_of}}
 use Rattle.quick_code.specs.Moments.{Now, Stands, Comes, Does, Jumps}
 
 -- a run within one piece: its registers as a function, of which 3, 15 and those of the table are known

@@ -1,8 +1,7 @@
 -- What stretches of quick code do, from any machine that stands as they ask.
 use Rattle.std.specs.Prelude.{◌≡◌, ℕ, ◌+◌, ◌<◌, ◌≤◌, Ok, List, length, reverse, slice_index}
 use Rattle.fm_words.specs.declared.condition.Flags.{Flags}
-use Rattle.fm_machine.specs.State.{Fm}
-use Rattle.fm_machine.specs.Run.{fm_run, Avoids}
+use Rattle.fm_machine.specs.{State.{Fm}, Run.{fm_run, Avoids}}
 use Rattle.fm_code.specs.Execution.{Parts, AreParts, IsLaidOut, CodeAt, final_pc}
 
 -- r3, the flags, the words of the temporary stack from the bottom up, and those of the areas

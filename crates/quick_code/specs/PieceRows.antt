@@ -1,16 +1,11 @@
 -- What each piece does, and in how many instructions.
 use Rattle.std.specs.Prelude.{◌≡◌, ℕ, ◌+◌, ◌-◌, ◌<◌, Some, true, false, if◌then◌else◌, slice_get, slice_set, length}
-use Rattle.fm_words.specs.declared.operation.Op.{Op}
-use Rattle.fm_words.specs.declared.condition.Cc.{Cc}
-use Rattle.fm_words.specs.declared.condition.Flags.{Flags}
-use Rattle.fm_words.specs.Alu.{alu_of, does_hold}
+use Rattle.fm_words.specs.{declared.operation.Op.{Op}, declared.condition.Cc.{Cc}, declared.condition.Flags.{Flags}, Alu.{alu_of}}
+use Rattle.fm_words.specs.Alu.{does_hold}
 use Rattle.fm_machine.specs.Step.{flags_set}
-use Rattle.fm_code.specs.Execution.{Parts}
-use Rattle.quick_code.specs.Access.{Access, Held, Reaches, find_count}
-use Rattle.quick_code.specs.Moments.{Now, Does, Jumps}
-use Rattle.quick_code.specs.Pieces.{by_word_code, by_literal_code, store_code, store_literal_code, truth_code, move_code, put_code}
-use Rattle.quick_code.specs.Pieces.{jump_when_code, set_area_code}
-use Rattle.fm_code.specs.Templates.{jump_code}
+use Rattle.fm_code.specs.{Execution.{Parts}, Templates.{jump_code}}
+use Rattle.quick_code.specs.{Access.{Access, Held, Reaches, find_count}, Moments.{Now, Does, Jumps}, Pieces.{by_word_code, by_literal_code}}
+use Rattle.quick_code.specs.Pieces.{store_code, store_literal_code, truth_code, move_code, put_code, jump_when_code, set_area_code}
 
 -- an access leads to the word of this index, counted from the bottom of the temporary stack
 abbrev pub LeadsTo : Parts → (ℕ → ℕ) → Access → ℕ → Type 0

@@ -1,8 +1,6 @@
 -- The pieces that quick code is made of, as words.
 use Rattle.std.specs.Prelude.{ℕ, List, [], ◌∷◌, ◌++◌}
-use Rattle.fm_words.specs.declared.operation.Op.{Op}
-use Rattle.fm_words.specs.declared.operation.Op.TheVariants.{Move}
-use Rattle.fm_words.specs.declared.condition.Cc.{Cc}
+use Rattle.fm_words.specs.{declared.operation.Op.{Op}, declared.operation.Op.TheVariants.{Move}, declared.condition.Cc.{Cc}}
 use Rattle.fm_words.specs.declared.condition.Flags.{Flags}
 use Rattle.fm_code.specs.InstructionWords.{reg, at, immediate, literal, mov, setting, when}
 use Rattle.quick_code.specs.Access.{Access, register_of, find_code}

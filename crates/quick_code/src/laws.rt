@@ -2,8 +2,7 @@
 
 ghost use Rattle.std.specs.Prelude.{ℕ};
 ghost use Rattle.fm_code.specs.Execution.{Parts};
-ghost use Rattle.quick_code.specs.Moments.{Now};
-ghost use Rattle.quick_code.specs.PieceRows.{PieceRows};
+ghost use Rattle.quick_code.specs.{Moments.{Now}, PieceRows.{PieceRows}};
 
 /// What each piece does, and in how many instructions.
 pub fn piece_rows()

@@ -1,23 +1,17 @@
 -- Quick code takes no more instructions than the plain code.
 use Rattle.std.proofs.Common.{◌≡◌, ℕ, zero, suc, ◌+◌, ◌≤◌, List, Bool, true, false, Some, None, if◌then◌else◌, refl, ◌∙◌, subst, arith}
 use Rattle.stack_text.specs.Values.{ValueOf}
-use Rattle.gypsy_syntax.specs.declared.predef.Predef.{Predef}
+use Rattle.gypsy_syntax.{specs.declared.predef.Predef.Predef, specs.Programs.{ConditionOf, Arg, Program, Stmt, Skip, NoOp, Signal, Seq, Loop, If, Begin, Call}}
+use Rattle.gypsy_syntax.{specs.Programs.Apply, specs.Predefined.{predef_effect, predef_cost}, specs.Effects.{Effect, Normal, Fault, Beyond, value_at}}
+use Rattle.gypsy_syntax.specs.Effects.{is_true_value}
 use Rattle.gypsy_syntax.specs.declared.predef.Predef.TheVariants as row
-use Rattle.gypsy_syntax.specs.Programs.{ConditionOf, Arg, Program}
-use Rattle.gypsy_syntax.specs.Programs.{Stmt, Skip, NoOp, Signal, Seq, Loop, If, Begin, Call, Apply}
-use Rattle.gypsy_syntax.specs.Predefined.{predef_effect, predef_cost}
-use Rattle.gypsy_syntax.specs.Effects.{Effect, Normal, Fault, Beyond, value_at, is_true_value}
-use Rattle.gypsy_space.specs.Costs.{Tally, spend}
-use Rattle.gypsy_space.specs.Needs.{StackSizes}
-use Rattle.gypsy_semantics.specs.Calls.{has_cond, is_leave, values_of}
-use Rattle.gypsy_semantics.specs.Meaning.{MeaningOutcome, Done, then_do, either_way, caught, round_end, applied, evaluate}
-use Rattle.gypsy_semantics.specs.Counted.{CountedOutcome, CountedDone, CountedUnfinished, counted_then, counted_part, counted_either, counted_caught}
-use Rattle.gypsy_semantics.specs.Counted.{counted_round_end, counted_applied, counted_evaluate, uncounted}
+use Rattle.gypsy_space.{specs.Costs.{Tally, spend}, specs.Needs.StackSizes}
+use Rattle.gypsy_semantics.{specs.Calls.{has_cond, is_leave, values_of}, specs.Meaning.{MeaningOutcome, Done, then_do, either_way, caught, round_end, applied}}
+use Rattle.gypsy_semantics.{specs.Meaning.evaluate, specs.Counted.{CountedOutcome, CountedDone, CountedUnfinished, counted_then, counted_part, counted_either}}
+use Rattle.gypsy_semantics.specs.Counted.{counted_caught, counted_round_end, counted_applied, counted_evaluate, uncounted}
 use Rattle.quick_code.specs.Access.{Access, Held, Known, find_count}
-use Rattle.quick_gypsy.specs.Layout.{Layout}
-use Rattle.quick_gypsy.specs.RowCode.{assign_count, row_cost, arg_access}
-use Rattle.quick_gypsy.specs.QuickRuns.{QuickIsNoSlower}
-use Rattle.quick_gypsy.specs.Quick.{quick_cost, after_part, after_body, IsPlain, IsPlainRow}
+use Rattle.quick_gypsy.{specs.Layout.Layout, specs.RowCode.{assign_count, row_cost, arg_access}, specs.QuickRuns.QuickIsNoSlower, specs.Quick.quick_cost}
+use Rattle.quick_gypsy.specs.Quick.{after_part, after_body, IsPlain, IsPlainRow}
 
 -- where the plain run is done, so many instructions from t on are no more than it took
 abbrev pub Bound : ℕ → Tally → CountedOutcome → Type 0

@@ -28,23 +28,14 @@ use Rattle.std.proofs.Common.{
   ap,
   ◌∙◌,
 }
-use Rattle.std.proofs.Common.{arith, int_lt, int_le}
-use Rattle.std.specs.Prelude.{nat_lt, nat_le, if◌then◌else◌, bit_and, bit_or, bit_xor, ◌&&◌, ◌||◌}
-use Rattle.std.specs.Ordering.{is_eq}
-use Rattle.std.proofs.Common.{Less, Equal, Greater, cond}
-use Rattle.std.proofs.lemmas.Bool.{cases_order, eq-eqb, ne_eqb, lt-ltb, le-ltb, le-leb, lt-leb, ltb-false, ltb-true, eqb-true, or_cases}
-use Rattle.std.proofs.lemmas.Bool.Decides.{nat_tests}
-use Rattle.std.proofs.Math.IntN.{+ℤ_comm}
-use Rattle.stack_text.specs.declared.shape.Kind.{Kind}
-use Rattle.stack_text.specs.declared.shape.Kind.TheVariants.{Integer, Boolean, Character}
-use Rattle.fm_words.specs.Word.{is_int, word_of_int, signed_of, are_same_ints}
-use Rattle.fm_words.specs.Alu.{are_same}
-use Rattle.fm_words.proofs.WordLaws.{signed_of-word_of_int}
+use Rattle.std.{proofs.Common.{arith, int_lt, int_le, Less, Equal, Greater, cond}, specs.Prelude.{nat_lt, nat_le, if◌then◌else◌, bit_and, bit_or, bit_xor}}
+use Rattle.std.{specs.Prelude.{◌&&◌, ◌||◌}, specs.Ordering.is_eq, proofs.lemmas.Bool.{cases_order, eq-eqb, ne_eqb, lt-ltb, le-ltb, le-leb, lt-leb, ltb-false}}
+use Rattle.std.{proofs.lemmas.Bool.{ltb-true, eqb-true, or_cases}, proofs.lemmas.Bool.Decides.nat_tests, proofs.Math.IntN.+ℤ_comm}
+use Rattle.stack_text.{specs.declared.shape.Kind.Kind, specs.declared.shape.Kind.TheVariants.{Integer, Boolean, Character}}
+use Rattle.fm_words.{specs.Word.{is_int, word_of_int, signed_of, are_same_ints}, specs.Alu.are_same, proofs.WordLaws.signed_of-word_of_int}
 use Rattle.fm_code.proofs.NumberLaws as numbers
 use Rattle.fm_code.proofs.XorLaws.{xor_tests}
-use Rattle.gypsy_syntax.specs.Ranges.{is_in_range}
-use Rattle.gypsy_syntax.specs.Resolved.{truth_item}
-use Rattle.gypsy_syntax.specs.Effects.{same_int}
+use Rattle.gypsy_syntax.{specs.Ranges.is_in_range, specs.Resolved.truth_item, specs.Effects.same_int}
 
 -- Equality and order of integers, as tests.
 eq_by_order : (m n : ℕ) → (m == n) ≡ is_eq (cond (nat_lt m n) Less (cond (nat_lt n m) Greater Equal))

@@ -27,23 +27,14 @@ use Rattle.std.proofs.Common.{
   ◌∙◌,
   arith,
 }
-use Rattle.std.proofs.Common.{length-append}
-use Rattle.std.specs.Prelude.{slice_get, slice_set}
-use Rattle.std.proofs.lemmas.List.{length-map}
-use Rattle.std.proofs.lemmas.Option.{slice_get-get_or, slice_get_within, get_or_from_slice_get}
-use Rattle.std.proofs.lemmas.Bool.Decides.{nat_tests}
-use Rattle.stack_text.specs.declared.shape.Kind.{Kind}
-use Rattle.stack_text.specs.declared.shape.Kind.TheVariants.{Integer}
-use Rattle.stack_text.specs.declared.shape.Shape.{Shape}
-use Rattle.stack_text.specs.Values.{ValueOf, item_count}
-use Rattle.stack_text.proofs.SharedLaws.{one_item}
+use Rattle.std.{proofs.Common.length-append, specs.Prelude.{slice_get, slice_set}, proofs.lemmas.List.length-map, proofs.lemmas.Option.slice_get-get_or}
+use Rattle.std.{proofs.lemmas.Option.{slice_get_within, get_or_from_slice_get}, proofs.lemmas.Bool.Decides.nat_tests}
+use Rattle.stack_text.{specs.declared.shape.Kind.Kind, specs.declared.shape.Kind.TheVariants.Integer, specs.declared.shape.Shape.Shape, specs.Values.ValueOf}
+use Rattle.stack_text.{specs.Values.item_count, proofs.SharedLaws.one_item}
 use Rattle.fm_words.specs.Word.{word_of_int}
 use Rattle.fm_code.proofs.ListLaws.{get_front, get_after, set_front, set_after, get_map, set_map}
-use Rattle.gypsy_syntax.specs.Programs.{simple, words_of}
-use Rattle.gypsy_syntax.specs.Ranges.{is_in_range}
-use Rattle.gypsy_syntax.specs.ValuesFit.{ValueFits, VarsFit}
-use Rattle.gypsy_syntax.specs.Effects.{value_at, item_of_value}
-use Rattle.gypsy_syntax.proofs.RangeLaws.{simple_item}
+use Rattle.gypsy_syntax.{specs.Programs.{simple, words_of}, specs.Ranges.is_in_range, specs.ValuesFit.{ValueFits, VarsFit}, specs.Effects.value_at}
+use Rattle.gypsy_syntax.{specs.Effects.item_of_value, proofs.RangeLaws.simple_item}
 use Rattle.gypsy_semantics.proofs.EffectLaws.{value_fits}
 use Rattle.quick_gypsy.specs.Numbers.{value_numbers, numbers_of}
 

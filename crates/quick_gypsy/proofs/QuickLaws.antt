@@ -1,45 +1,26 @@
 -- Quick code does what a statement means.
 use Rattle.std.proofs.Common.{◌≡◌, ℕ, zero, suc, ◌+◌, ◌-◌, ◌≤◌, Some, None, Bool, true, false, not, List, ◌++◌, length, refl, ap, ◌∙◌, subst, arith}
-use Rattle.std.proofs.Common.{length-append}
-use Rattle.std.specs.Prelude.{if◌then◌else◌, slice_set, slice_get}
-use Rattle.stack_text.specs.declared.shape.Kind.TheVariants.{Boolean}
-use Rattle.stack_text.specs.Values.{ValueOf}
-use Rattle.fm_words.specs.Word.{word_of_int}
-use Rattle.fm_words.specs.declared.condition.Cc.TheVariants.{Vs, Cs, Zs}
-use Rattle.fm_words.specs.declared.operation.Op.TheVariants.{Move, Neg, Add, Sub}
-use Rattle.fm_words.specs.Code.{no_flags}
-use Rattle.fm_machine.specs.State.{Fm}
-use Rattle.fm_machine.proofs.RunLaws.{run_none, avoids_none, run_then, avoids_then}
-use Rattle.fm_code.specs.Execution.{Parts, AreParts, CodeAt, final_pc}
-use Rattle.fm_code.specs.InstructionWords.{flag_z, flag_c}
-use Rattle.fm_code.proofs.CodeLaws.{code_front, code_after}
-use Rattle.gypsy_syntax.specs.declared.predef.Predef.{Predef}
-use Rattle.gypsy_syntax.specs.declared.predef.Predef.TheVariants as row
-use Rattle.gypsy_syntax.specs.Programs.{ConditionOf, Routine, Program, Arg, simple}
-use Rattle.gypsy_syntax.specs.Programs.{Stmt, Skip, NoOp, Signal, Seq, Loop, If, Begin, Call, Apply}
-use Rattle.gypsy_syntax.specs.Predefined.{predef_effect}
-use Rattle.gypsy_syntax.specs.ProgramFits.{StmtFits}
-use Rattle.gypsy_syntax.specs.ValuesFit.{VarsFit}
-use Rattle.gypsy_syntax.specs.Effects.{Effect, Normal, Fault, Beyond, value_at, is_true_value, item_of_value}
-use Rattle.gypsy_space.specs.Needs.{StackSizes}
-use Rattle.gypsy_semantics.specs.Calls.{CurrentCondition, has_cond, is_leave, values_of, target_of}
-use Rattle.gypsy_semantics.specs.Meaning.{MeaningOutcome, Done, Unfinished, then_do, either_way, caught, round_end, applied, evaluate}
-use Rattle.gypsy_semantics.proofs.EffectLaws.{apply_fits}
-use Rattle.quick_code.specs.Access.{Access, find_count}
-use Rattle.quick_code.specs.Moments.{now}
-use Rattle.quick_code.specs.Pieces.{by_word_code, by_literal_code, store_code, move_code, put_code, jump_when_code}
+use Rattle.std.{proofs.Common.length-append, specs.Prelude.{if◌then◌else◌, slice_set, slice_get}}
+use Rattle.stack_text.{specs.declared.shape.Kind.TheVariants.Boolean, specs.Values.ValueOf}
+use Rattle.fm_words.{specs.Word.word_of_int, specs.declared.condition.Cc.TheVariants.{Vs, Cs, Zs}, specs.declared.operation.Op.TheVariants.{Move, Neg, Add}}
+use Rattle.fm_words.{specs.declared.operation.Op.TheVariants.Sub, specs.Code.no_flags}
+use Rattle.fm_machine.{specs.State.Fm, proofs.RunLaws.{run_none, avoids_none, run_then, avoids_then}}
+use Rattle.fm_code.{specs.Execution.{Parts, AreParts, CodeAt, final_pc}, specs.InstructionWords.{flag_z, flag_c}, proofs.CodeLaws.{code_front, code_after}}
 use Rattle.fm_code.specs.Templates.{jump_code}
-use Rattle.quick_code.specs.PieceRows.{operated}
-use Rattle.quick_code.proofs.PieceLaws.{piece_rows}
-use Rattle.quick_code.proofs.StandLaws.{does_then, jumps_then, comes_then, comes_at_once, comes_as}
-use Rattle.quick_gypsy.specs.Numbers.{numbers_of}
-use Rattle.quick_gypsy.specs.Layout.{Layout, IsLayout, first_of, count_of, last_address}
-use Rattle.quick_gypsy.specs.RowCode.{row_code, row_cost, load, item_code, arg_var, arg_access, flag_v}
-use Rattle.quick_gypsy.specs.Quick.{Targets, loop_targets, begin_targets, test_code, size, quick, quick_cost, after_part, after_body, IsPlain}
-use Rattle.quick_gypsy.specs.QuickRuns.{StandsWith, ComesWith, GoesOn, goal_of, StatementsRun, StatementsGoOn}
-use Rattle.quick_gypsy.proofs.NumbersLaws.{simple_var}
-use Rattle.quick_gypsy.proofs.ItemLaws.{test_item}
-use Rattle.quick_gypsy.proofs.RowLaws.{RowDoes, row_runs}
+use Rattle.gypsy_syntax.{specs.declared.predef.Predef.Predef, specs.Programs.{ConditionOf, Routine, Program, Arg, simple, Stmt, Skip, NoOp, Signal, Seq, Loop}}
+use Rattle.gypsy_syntax.{specs.Programs.{If, Begin, Call, Apply}, specs.Predefined.predef_effect, specs.ProgramFits.StmtFits, specs.ValuesFit.VarsFit}
+use Rattle.gypsy_syntax.specs.Effects.{Effect, Normal, Fault, Beyond, value_at, is_true_value, item_of_value}
+use Rattle.gypsy_syntax.specs.declared.predef.Predef.TheVariants as row
+use Rattle.gypsy_space.specs.Needs.{StackSizes}
+use Rattle.gypsy_semantics.{specs.Calls.{CurrentCondition, has_cond, is_leave, values_of, target_of}, specs.Meaning.{MeaningOutcome, Done, Unfinished, then_do}}
+use Rattle.gypsy_semantics.{specs.Meaning.{either_way, caught, round_end, applied, evaluate}, proofs.EffectLaws.apply_fits}
+use Rattle.quick_code.{specs.Access.{Access, find_count}, specs.Moments.now, specs.Pieces.{by_word_code, by_literal_code, store_code, move_code, put_code}}
+use Rattle.quick_code.{specs.Pieces.jump_when_code, specs.PieceRows.operated, proofs.PieceLaws.piece_rows, proofs.StandLaws.{does_then, jumps_then, comes_then}}
+use Rattle.quick_code.proofs.StandLaws.{comes_at_once, comes_as}
+use Rattle.quick_gypsy.{specs.Numbers.numbers_of, specs.Layout.{Layout, IsLayout, first_of, count_of, last_address}, specs.RowCode.{row_code, row_cost, load}}
+use Rattle.quick_gypsy.{specs.RowCode.{item_code, arg_var, arg_access, flag_v}, specs.Quick.{Targets, loop_targets, begin_targets, test_code, size, quick}}
+use Rattle.quick_gypsy.{specs.Quick.{quick_cost, after_part, after_body, IsPlain}, specs.QuickRuns.{StandsWith, ComesWith, GoesOn, goal_of, StatementsRun}}
+use Rattle.quick_gypsy.{specs.QuickRuns.StatementsGoOn, proofs.NumbersLaws.simple_var, proofs.ItemLaws.test_item, proofs.RowLaws.{RowDoes, row_runs}}
 
 -- How long the code is.
 

@@ -26,54 +26,29 @@ use Rattle.std.proofs.Common.{
   subst,
   arith,
 }
-use Rattle.std.proofs.Common.{List, [], ◌∷◌, ◌++◌, length, get_or, int_le}
-use Rattle.std.specs.Prelude.{slice_get, slice_set, nat_lt, if◌then◌else◌, ◌&&◌, ◌||◌}
-use Rattle.std.proofs.lemmas.Bool.{ltb-true, ltb-false, lt-ltb, le-ltb}
-use Rattle.std.proofs.lemmas.Option.{slice_get_within}
-use Rattle.stack_text.specs.declared.shape.Kind.{Kind}
-use Rattle.stack_text.specs.declared.shape.Kind.TheVariants.{Integer, Boolean}
-use Rattle.stack_text.specs.declared.shape.Shape.{Shape}
-use Rattle.stack_text.specs.SharedLimits.{most_array}
-use Rattle.stack_text.specs.Values.{ValueOf}
-use Rattle.fm_words.specs.Word.{word_of_int}
-use Rattle.fm_words.specs.Alu.{alu_of, does_hold}
-use Rattle.fm_words.specs.Code.{no_flags}
-use Rattle.fm_words.specs.declared.operation.Op.{Op}
-use Rattle.fm_words.specs.declared.operation.Op.TheVariants.{Move, Neg, Add, Sub, Xor, Or, And}
-use Rattle.fm_words.specs.declared.condition.Cc.{Cc}
-use Rattle.fm_words.specs.declared.condition.Cc.TheVariants.{Vs, Zs, Ge, Cs}
-use Rattle.fm_words.specs.declared.condition.Flags.{Flags}
+use Rattle.std.{proofs.Common.{List, [], ◌∷◌, ◌++◌, length, get_or, int_le}, specs.Prelude.{slice_get, slice_set, nat_lt, if◌then◌else◌, ◌&&◌, ◌||◌}}
+use Rattle.std.{proofs.lemmas.Bool.{ltb-true, ltb-false, lt-ltb, le-ltb}, proofs.lemmas.Option.slice_get_within}
+use Rattle.stack_text.{specs.declared.shape.Kind.Kind, specs.declared.shape.Kind.TheVariants.{Integer, Boolean}, specs.declared.shape.Shape.Shape}
+use Rattle.stack_text.{specs.SharedLimits.most_array, specs.Values.ValueOf}
+use Rattle.fm_words.{specs.Word.word_of_int, specs.Alu.{alu_of, does_hold}, specs.Code.no_flags, specs.declared.operation.Op.Op}
+use Rattle.fm_words.{specs.declared.operation.Op.TheVariants.{Move, Neg, Add, Sub, Xor, Or, And}, specs.declared.condition.Cc.Cc}
+use Rattle.fm_words.{specs.declared.condition.Cc.TheVariants.{Vs, Zs, Ge, Cs}, specs.declared.condition.Flags.Flags}
 use Rattle.fm_machine.specs.Masks.{all_flags}
-use Rattle.fm_code.specs.Execution.{Parts}
-use Rattle.fm_code.specs.InstructionWords.{flag_z, flag_c}
-use Rattle.gypsy_syntax.specs.declared.predef.Predef.{Predef}
+use Rattle.fm_code.{specs.Execution.Parts, specs.InstructionWords.{flag_z, flag_c}, proofs.NumberLaws.difference_number}
+use Rattle.gypsy_syntax.{specs.declared.predef.Predef.Predef, specs.declared.slot.Slot.Slot, specs.declared.slot.Form.TheVariants.{Simple, Array, Literal}}
+use Rattle.gypsy_syntax.{specs.Predefined.{slots_of, integer_slot, boolean_slot, shared, predef_effect, effect_by}, specs.Programs.{Arg, Var, Lit, simple}}
+use Rattle.gypsy_syntax.{specs.ProgramFits.{ArgFits, ArgsFit, slot_kind}, specs.Ranges.is_in_range, specs.Resolved.truth_item, specs.ValuesFit.ValueFits}
+use Rattle.gypsy_syntax.{specs.ValuesFit.VarsFit, specs.Effects.{Effect, Normal, Fault, Beyond, integer_value, truth_value, item_of_value, value_at}}
+use Rattle.gypsy_syntax.{specs.Effects.{number_effect, indexed, stored, is_true_value, are_same}, proofs.RangeLaws.simple_item}
 use Rattle.gypsy_syntax.specs.declared.predef.Predef.TheVariants as row
-use Rattle.gypsy_syntax.specs.declared.slot.Slot.{Slot}
-use Rattle.gypsy_syntax.specs.declared.slot.Form.TheVariants.{Simple, Array, Literal}
-use Rattle.gypsy_syntax.specs.Predefined.{slots_of, integer_slot, boolean_slot, shared, predef_effect, effect_by}
-use Rattle.gypsy_syntax.specs.Programs.{Arg, Var, Lit, simple}
-use Rattle.gypsy_syntax.specs.ProgramFits.{ArgFits, ArgsFit, slot_kind}
-use Rattle.gypsy_syntax.specs.Ranges.{is_in_range}
-use Rattle.gypsy_syntax.specs.Resolved.{truth_item}
-use Rattle.gypsy_syntax.specs.ValuesFit.{ValueFits, VarsFit}
-use Rattle.gypsy_syntax.specs.Effects.{Effect, Normal, Fault, Beyond, integer_value, truth_value, item_of_value, value_at, number_effect, indexed, stored}
-use Rattle.gypsy_syntax.specs.Effects.{is_true_value, are_same}
 use Rattle.gypsy_semantics.specs.Calls.{values_of, target_of}
-use Rattle.quick_code.specs.Access.{Access, Held, Known, find_count}
-use Rattle.quick_code.specs.Moments.{Now, now, Does, Jumps}
-use Rattle.quick_code.specs.Pieces.{by_word_code, by_literal_code, store_code, store_literal_code, truth_code, move_code, put_code, jump_when_code}
-use Rattle.quick_code.specs.PieceRows.{LeadsTo, operated}
-use Rattle.quick_code.proofs.PieceLaws.{piece_rows}
-use Rattle.quick_code.proofs.StandLaws.{does_then, jumps_then, jumps_over}
-use Rattle.quick_gypsy.specs.Numbers.{numbers_of}
-use Rattle.quick_gypsy.specs.Layout.{Layout, IsLayout, first_of, count_of, last_address}
-use Rattle.quick_gypsy.specs.RowCode.{assign_code, assign_count, row_code, row_cost, load, item_code, flag_v, unless_fails}
-use Rattle.quick_gypsy.specs.Quick.{IsPlainRow}
-use Rattle.quick_gypsy.proofs.NumbersLaws.{IsSimple, IsArray, simple_var, simple_value, array_var, with_item}
-use Rattle.gypsy_syntax.proofs.RangeLaws.{simple_item}
-use Rattle.quick_gypsy.proofs.ItemLaws.{item_is_int, truth_number, same_items, le_items, or_items, and_items, not_item, sum_item, sum_over, difference_over}
-use Rattle.quick_gypsy.proofs.ItemLaws.{minus_item, minus_over, same_range}
-use Rattle.fm_code.proofs.NumberLaws.{difference_number}
+use Rattle.quick_code.{specs.Access.{Access, Held, Known, find_count}, specs.Moments.{Now, now, Does, Jumps}, specs.Pieces.{by_word_code, by_literal_code}}
+use Rattle.quick_code.{specs.Pieces.{store_code, store_literal_code, truth_code, move_code, put_code, jump_when_code}, specs.PieceRows.{LeadsTo, operated}}
+use Rattle.quick_code.{proofs.PieceLaws.piece_rows, proofs.StandLaws.{does_then, jumps_then, jumps_over}}
+use Rattle.quick_gypsy.{specs.Numbers.numbers_of, specs.Layout.{Layout, IsLayout, first_of, count_of, last_address}, specs.RowCode.{assign_code, assign_count}}
+use Rattle.quick_gypsy.{specs.RowCode.{row_code, row_cost, load, item_code, flag_v, unless_fails}, specs.Quick.IsPlainRow, proofs.NumbersLaws.IsSimple}
+use Rattle.quick_gypsy.{proofs.NumbersLaws.{IsArray, simple_var, simple_value, array_var, with_item}, proofs.ItemLaws.{item_is_int, truth_number, same_items}}
+use Rattle.quick_gypsy.proofs.ItemLaws.{le_items, or_items, and_items, not_item, sum_item, sum_over, difference_over, minus_item, minus_over, same_range}
 
 -- what a row's code does in each outcome, where f is the target of routineerror and t the variable that is written
 abbrev pub RowDoes : Parts → (ℕ → ℕ) → List ℕ → ℕ → ℕ → Now → List ValueOf → List ℕ → ℕ → Effect → Type 0

@@ -1,12 +1,9 @@
 -- Where the variables of a procedure stand, and how its quick code reaches them.
 use Rattle.std.specs.Prelude.{◌≡◌, ℕ, ◌+◌, ◌-◌, ◌<◌, ◌≤◌, ◌^◌, List, length, take, get_or}
-use Rattle.stack_text.specs.declared.shape.Shape.{Shape}
-use Rattle.stack_text.specs.declared.shape.Kind.TheVariants.{Integer}
-use Rattle.stack_text.specs.Values.{item_count}
+use Rattle.stack_text.specs.{declared.shape.Shape.{Shape}, declared.shape.Kind.TheVariants.{Integer}, Values.{item_count}}
 use Rattle.gypsy_syntax.specs.Programs.{simple, words_of}
 use Rattle.fm_code.specs.Execution.{Parts}
-use Rattle.quick_code.specs.Access.{Access}
-use Rattle.quick_code.specs.PieceRows.{LeadsTo}
+use Rattle.quick_code.specs.{Access.{Access}, PieceRows.{LeadsTo}}
 
 -- the end of the temporary stack, the variables' shapes, and how the first word of each is reached
 pub record Layout : Type 0 where

@@ -1,23 +1,15 @@
 -- The quick code of statements without calls and products, and how many instructions a run of it takes.
 use Rattle.std.specs.Prelude.{ℕ, zero, suc, ◌+◌, List, [], ◌++◌, length, if◌then◌else◌, Some, None}
 use Rattle.stack_text.specs.Values.{ValueOf}
-use Rattle.fm_words.specs.declared.condition.Cc.TheVariants.{Zs}
-use Rattle.fm_words.specs.declared.operation.Op.TheVariants.{Move}
-use Rattle.gypsy_syntax.specs.declared.predef.Predef.{Predef}
+use Rattle.fm_words.specs.{declared.condition.Cc.TheVariants.{Zs}, declared.operation.Op.TheVariants.{Move}}
+use Rattle.gypsy_syntax.specs.{declared.predef.Predef.{Predef}, Programs.{ConditionOf, Routine, Program, Stmt, Skip, NoOp, Signal, Seq}}
+use Rattle.gypsy_syntax.specs.{Programs.{Loop, If, Begin, Call, Apply}, Predefined.{predef_effect}, Effects.{value_at, is_true_value}}
 use Rattle.gypsy_syntax.specs.declared.predef.Predef.TheVariants as row
-use Rattle.gypsy_syntax.specs.Programs.{ConditionOf, Routine, Program}
-use Rattle.gypsy_syntax.specs.Programs.{Stmt, Skip, NoOp, Signal, Seq, Loop, If, Begin, Call, Apply}
-use Rattle.gypsy_syntax.specs.Predefined.{predef_effect}
-use Rattle.gypsy_syntax.specs.Effects.{value_at, is_true_value}
 use Rattle.gypsy_space.specs.Needs.{StackSizes}
-use Rattle.gypsy_semantics.specs.Calls.{has_cond, is_leave, values_of}
-use Rattle.gypsy_semantics.specs.Meaning.{MeaningOutcome, Done, Unfinished, evaluate}
-use Rattle.fm_code.specs.InstructionWords.{flag_z}
-use Rattle.quick_code.specs.Access.{find_count}
-use Rattle.quick_code.specs.Pieces.{by_word_code, jump_when_code}
-use Rattle.fm_code.specs.Templates.{jump_code}
-use Rattle.quick_gypsy.specs.Layout.{Layout}
-use Rattle.quick_gypsy.specs.RowCode.{row_code, row_cost}
+use Rattle.gypsy_semantics.specs.{Calls.{has_cond, is_leave, values_of}, Meaning.{MeaningOutcome, Done, Unfinished, evaluate}}
+use Rattle.fm_code.specs.{InstructionWords.{flag_z}, Templates.{jump_code}}
+use Rattle.quick_code.specs.{Access.{find_count}, Pieces.{by_word_code, jump_when_code}}
+use Rattle.quick_gypsy.specs.{Layout.{Layout}, RowCode.{row_code, row_cost}}
 
 -- where each condition goes
 abbrev pub Targets : Type 0

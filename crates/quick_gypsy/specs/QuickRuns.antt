@@ -2,21 +2,13 @@
 use Rattle.std.specs.Prelude.{◌≡◌, ℕ, ◌+◌, ◌≤◌, List, Bool, Ok, Some, None}
 use Rattle.stack_text.specs.Values.{ValueOf}
 use Rattle.fm_words.specs.declared.condition.Flags.{Flags}
-use Rattle.fm_machine.specs.State.{Fm}
-use Rattle.fm_machine.specs.Run.{fm_run, Avoids}
+use Rattle.fm_machine.specs.{State.{Fm}, Run.{fm_run, Avoids}}
 use Rattle.fm_code.specs.Execution.{Parts, AreParts, CodeAt, final_pc}
-use Rattle.gypsy_syntax.specs.Programs.{Program, Stmt}
-use Rattle.gypsy_syntax.specs.ProgramFits.{StmtFits}
-use Rattle.gypsy_syntax.specs.ValuesFit.{VarsFit}
-use Rattle.gypsy_space.specs.Costs.{Tally}
-use Rattle.gypsy_space.specs.Needs.{StackSizes}
-use Rattle.gypsy_semantics.specs.Calls.{CurrentCondition}
-use Rattle.gypsy_semantics.specs.Counted.{CountedDone, counted_evaluate}
-use Rattle.gypsy_semantics.specs.Meaning.{Done, Unfinished, evaluate}
+use Rattle.gypsy_syntax.specs.{Programs.{Program, Stmt}, ProgramFits.{StmtFits}, ValuesFit.{VarsFit}}
+use Rattle.gypsy_space.specs.{Costs.{Tally}, Needs.{StackSizes}}
+use Rattle.gypsy_semantics.specs.{Calls.{CurrentCondition}, Counted.{CountedDone, counted_evaluate}, Meaning.{Done, Unfinished, evaluate}}
 use Rattle.quick_code.specs.Moments.{now, Stands, Comes}
-use Rattle.quick_gypsy.specs.Numbers.{numbers_of}
-use Rattle.quick_gypsy.specs.Layout.{Layout, IsLayout}
-use Rattle.quick_gypsy.specs.Quick.{Targets, size, quick, quick_cost, IsPlain}
+use Rattle.quick_gypsy.specs.{Numbers.{numbers_of}, Layout.{Layout, IsLayout}, Quick.{Targets, size, quick, quick_cost, IsPlain}}
 
 -- a machine at this pc whose variables have these values; r3, r4 and the flags may be anything
 pub record StandsWith (P : Parts) (table : ℕ → ℕ) (ctrl : List ℕ) (s : Fm) (pc : ℕ) (x : List ValueOf) (areas : List ℕ) :

@@ -1,19 +1,14 @@
 -- The quick code of a predefined call, and how many instructions it takes.
 use Rattle.std.specs.Prelude.{ℕ, zero, suc, ◌+◌, ◌-◌, List, [], ◌∷◌, ◌++◌, true, false}
-use Rattle.fm_words.specs.declared.condition.Cc.TheVariants.{Vs, Zs, Ge, Cs}
-use Rattle.fm_words.specs.declared.condition.Flags.{Flags}
-use Rattle.fm_words.specs.declared.operation.Op.TheVariants.{Move, Neg, Add, Sub, Xor, Or, And}
-use Rattle.fm_words.specs.Code.{no_flags}
-use Rattle.fm_words.specs.Word.{word_of_int}
+use Rattle.fm_words.specs.{declared.condition.Cc.TheVariants.{Vs, Zs, Ge, Cs}, declared.condition.Flags.{Flags}}
+use Rattle.fm_words.specs.{declared.operation.Op.TheVariants.{Move, Neg, Add, Sub, Xor, Or, And}, Code.{no_flags}, Word.{word_of_int}}
 use Rattle.fm_machine.specs.Masks.{all_flags}
 use Rattle.fm_code.specs.InstructionWords.{flag_z, flag_c}
-use Rattle.gypsy_syntax.specs.declared.predef.Predef.{Predef}
+use Rattle.gypsy_syntax.specs.{declared.predef.Predef.{Predef}, Programs.{Arg, Var, Lit}, Effects.{Effect, Normal, Fault, Beyond}}
+use Rattle.gypsy_syntax.specs.Effects.{item_of_value}
 use Rattle.gypsy_syntax.specs.declared.predef.Predef.TheVariants as row
-use Rattle.gypsy_syntax.specs.Programs.{Arg, Var, Lit}
-use Rattle.gypsy_syntax.specs.Effects.{Effect, Normal, Fault, Beyond, item_of_value}
-use Rattle.quick_code.specs.Access.{Access, Held, Known, find_count}
-use Rattle.quick_code.specs.Pieces.{by_word_code, by_literal_code, store_code, store_literal_code, truth_code, move_code, put_code}
-use Rattle.quick_code.specs.Pieces.{jump_when_code}
+use Rattle.quick_code.specs.{Access.{Access, Held, Known, find_count}, Pieces.{by_word_code, by_literal_code, store_code}}
+use Rattle.quick_code.specs.Pieces.{store_literal_code, truth_code, move_code, put_code, jump_when_code}
 use Rattle.quick_gypsy.specs.Layout.{Layout, count_of, last_address}
 
 abbrev pub flag_v : Flags

@@ -1,38 +1,23 @@
 -- What the printed module does from a reset on.
 use Rattle.std.proofs.Common.{◌≡◌, ℕ, zero, suc, ◌==◌, ◌&&◌, ◌<◌, ◌≤◌, ◌^◌, true, false, not, List, [], ◌∷◌, map, ap, refl, sym, subst, ◌∙◌, arith, codes}
-use Rattle.std.proofs.Common.{is_some, unwrap_or, if◌then◌else◌}
-use Rattle.std.specs.Prelude.{slice_index, IfOk}
-use Rattle.std.specs.Int.{from_bool as bit_of}
+use Rattle.std.{proofs.Common.{is_some, unwrap_or, if◌then◌else◌}, specs.Prelude.{slice_index, IfOk}, specs.Int.from_bool as bit_of}
 use Rattle.stack_text.specs.Values.{ValueOf}
 use Rattle.fm_words.specs.Code.{no_flags}
 use Rattle.fm_machine.specs.State.{Fm, word_at, with_word}
 use Rattle.fm_image.specs.Image.{ImageOf}
 use Rattle.fm_loader.specs.Loaded.{loaded}
-use Rattle.fm_circuit.specs.declared.wire.Wire.{Wire}
+use Rattle.fm_circuit.{specs.declared.wire.Wire.Wire, specs.Board.{Board, cycles, reset_cycle, registers}, specs.Following.{AreWords, HasWords, StandsFor}}
+use Rattle.fm_circuit.{specs.Following.IsAt, specs.Laws.machine_of, specs.Sizes.{FitWidths, FitsBoard, input_widths}, specs.Widths.width_of}
+use Rattle.fm_circuit.{proofs.RunningLaws.begins, proofs.SizeLaws.fitting}
 use Rattle.fm_circuit.specs.declared.wire.Wire.TheVariants as w
-use Rattle.fm_circuit.specs.Board.{Board, cycles, reset_cycle, registers}
-use Rattle.fm_circuit.specs.Following.{AreWords, HasWords, StandsFor, IsAt}
-use Rattle.fm_circuit.specs.Laws.{machine_of}
-use Rattle.fm_circuit.specs.Sizes.{FitWidths, FitsBoard, input_widths}
-use Rattle.fm_circuit.specs.Widths.{width_of}
-use Rattle.fm_circuit.proofs.RunningLaws.{begins}
-use Rattle.fm_circuit.proofs.SizeLaws.{fitting}
 use Rattle.fm_gates.specs.Gates.{file_numbers}
 use Rattle.fm_verilog.specs.WireNames.{name_of}
-use Rattle.verilog_meaning.specs.Meaning.{Snapshot}
-use Rattle.verilog_meaning.specs.Laws.{Shows, IsBoardCycle, Answers, IsRun}
-use Rattle.verilog_meaning.proofs.CycleLaws.{means}
-use Rattle.verilog_meaning.proofs.RunLaws.{runs}
+use Rattle.verilog_meaning.{specs.Meaning.Snapshot, specs.Laws.{Shows, IsBoardCycle, Answers, IsRun}, proofs.CycleLaws.means, proofs.RunLaws.runs}
 use Rattle.display_maps.specs.Reading.{ReadingOf}
 use Rattle.gypsy_syntax.specs.Sources.{SourceOf}
 use Rattle.gypsy_space.specs.Needs.{StackSizes, stack_sizes}
-use Rattle.stack_build.specs.Implements.{Implements, meaning_shown}
-use Rattle.stack_build.specs.Image.{image_of}
-use Rattle.stack_build.specs.Build.{BuildsText}
-use Rattle.stack_build.specs.Joined.{BuiltImplements}
-use Rattle.board_images.specs.OnBoard.{ComesOnBoard, cycles_to}
-use Rattle.board_images.proofs.LoadedLaws.{loaded_words}
-use Rattle.board_images.proofs.BoardLaws.{spelled_on_board}
+use Rattle.stack_build.{specs.Implements.{Implements, meaning_shown}, specs.Image.image_of, specs.Build.BuildsText, specs.Joined.BuiltImplements}
+use Rattle.board_images.{specs.OnBoard.{ComesOnBoard, cycles_to}, proofs.LoadedLaws.loaded_words, proofs.BoardLaws.spelled_on_board}
 use Rattle.source_to_verilog.specs.SourceToVerilog.{PowersUp, FetchesAt, ComesInVerilog, ImageRunsInVerilog, TextRunsInVerilog}
 
 -- 1. The board that a snapshot shows.

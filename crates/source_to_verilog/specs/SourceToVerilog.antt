@@ -3,23 +3,18 @@ use Rattle.std.specs.Prelude.{◌≡◌, ℕ, suc, ◌*◌, ◌<◌, ◌≤◌, 
 use Rattle.stack_text.specs.Values.{ValueOf}
 use Rattle.fm_machine.specs.State.{Fm}
 use Rattle.fm_words.specs.Code.{no_flags}
-use Rattle.fm_image.specs.Image.{ImageOf}
-use Rattle.fm_image.specs.Spelling.{Spelled}
+use Rattle.fm_image.specs.{Image.{ImageOf}, Spelling.{Spelled}}
 use Rattle.fm_loader.specs.Loaded.{loaded}
-use Rattle.fm_circuit.specs.declared.wire.Wire.{Wire}
+use Rattle.fm_circuit.specs.{declared.wire.Wire.{Wire}, Phases.{fetch}, Widths.{width_of}}
 use Rattle.fm_circuit.specs.declared.wire.Wire.TheVariants as w
-use Rattle.fm_circuit.specs.Phases.{fetch}
-use Rattle.fm_circuit.specs.Widths.{width_of}
 use Rattle.fm_gates.specs.Gates.{file_numbers}
 use Rattle.fm_verilog.specs.WireNames.{name_of}
-use Rattle.verilog_meaning.specs.Meaning.{Snapshot}
-use Rattle.verilog_meaning.specs.Laws.{IsRun}
+use Rattle.verilog_meaning.specs.{Meaning.{Snapshot}, Laws.{IsRun}}
 use Rattle.display_maps.specs.Reading.{ReadingOf, reading}
 use Rattle.gypsy_syntax.specs.Sources.{SourceOf}
 use Rattle.gypsy_space.specs.Needs.{StackSizes, stack_sizes}
 use Rattle.gypsy_semantics.specs.Calls.{CurrentCondition}
-use Rattle.stack_build.specs.Implements.{FitsFormals, Finishes, Implements, meaning_shown}
-use Rattle.stack_build.specs.Build.{BuiltOf, accepted_source, built}
+use Rattle.stack_build.specs.{Implements.{FitsFormals, Finishes, Implements, meaning_shown}, Build.{BuiltOf, accepted_source, built}}
 use Rattle.board_images.specs.OnBoard.{cycles_to}
 
 -- The power is on, and the reset is high. The register file and the memory beside the module have a machine's words. Each other value is

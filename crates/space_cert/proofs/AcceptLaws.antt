@@ -1,31 +1,20 @@
 -- What the code judges is whether the certificate covers the source.
 use Rattle.std.proofs.Common.{◌≡◌, ℕ, zero, suc, ◌+◌, ◌<◌, ◌≤◌, nat_le, cond, slice_get, List, [], ◌∷◌, ◌++◌, map, length, get_or, Bool, true, false, ◌&&◌}
-use Rattle.std.proofs.Common.{◌==◌, Option, Some, None, inl, inr, refl, ap, sym, ◌∙◌, subst, arith, eq-eqb, leb-true}
-use Rattle.std.proofs.lemmas.Bool.{and_parts, le-leb, eqb-true, cases_lt, false_from_ne_true, and_from}
-use Rattle.std.proofs.lemmas.List.{length-map, get_or_past}
-use Rattle.std.proofs.lemmas.List.Elements.{All-nil, All-cons, All-head, All-tail}
-use Rattle.std.specs.List.{All}
+use Rattle.std.{proofs.Common.{◌==◌, Option, Some, None, inl, inr, refl, ap, sym, ◌∙◌, subst, arith, eq-eqb, leb-true}, proofs.lemmas.Bool.{and_parts, le-leb}}
+use Rattle.std.{proofs.lemmas.Bool.{eqb-true, cases_lt, false_from_ne_true, and_from}, proofs.lemmas.List.{length-map, get_or_past}}
+use Rattle.std.{proofs.lemmas.List.Elements.{All-nil, All-cons, All-head, All-tail}, specs.List.All, specs.Option.{IsSome, IsSomeAnd, option_map, unwrap_or}}
 use Rattle.stack_text.specs.Values.{ValueOf}
-use Rattle.gypsy_syntax.specs.declared.literal.Decl.{Decl}
-use Rattle.gypsy_syntax.specs.declared.proc.Proc.{Proc as TextProc}
-use Rattle.gypsy_syntax.specs.Views.SourceView.{proc_of}
-use Rattle.std.specs.Option.{IsSome, IsSomeAnd, option_map, unwrap_or}
-use Rattle.gypsy_syntax.specs.Programs.{Proc, Program, no_proc, proc_at, words_of}
-use Rattle.gypsy_syntax.specs.ProgramFits.{ProgramFits}
-use Rattle.gypsy_syntax.specs.Resolved.{procedure_of, program_of, shape_of, statement_of, statement_of_all}
-use Rattle.gypsy_syntax.specs.Sources.{SourceOf, ProcOf, StmtOf, StmtsOf, no_op, signal, seq, loop, branch, begin, call, predef, no_parts, part}
-use Rattle.gypsy_space.specs.Needs.{StackSizes, stack_sizes, frame_of, main_used}
-use Rattle.gypsy_space.specs.Events.{AreNeeds, need_at, need_of}
-use Rattle.gypsy_space.specs.declared.need.Need.{Need}
+use Rattle.gypsy_syntax.{specs.declared.literal.Decl.Decl, specs.declared.proc.Proc.Proc as TextProc, specs.Views.SourceView.proc_of, specs.Programs.Proc}
+use Rattle.gypsy_syntax.{specs.Programs.{Program, no_proc, proc_at, words_of}, specs.ProgramFits.ProgramFits, specs.Resolved.{procedure_of, program_of}}
+use Rattle.gypsy_syntax.{specs.Resolved.{shape_of, statement_of, statement_of_all}, specs.Sources.{SourceOf, ProcOf, StmtOf, StmtsOf, no_op, signal, seq, loop}}
+use Rattle.gypsy_syntax.specs.Sources.{branch, begin, call, predef, no_parts, part}
+use Rattle.gypsy_space.{specs.Needs.{StackSizes, stack_sizes, frame_of, main_used}, specs.Events.{AreNeeds, need_at, need_of}, specs.declared.need.Need.Need}
 use Rattle.gypsy_space.proofs.SmallLaws.{words_of-append}
 use Rattle.space_cert.specs.Covers.{Bounds, as_words, bound_at, words_sum, callees, IsAtMost, own_need, call_bound, CoversCall, CoversRun, Covers}
-use Rattle.space_cert.specs.Reaches.{calls_of}
-use Rattle.space_cert.specs.Order.{call_bound_by}
+use Rattle.space_cert.{specs.Reaches.calls_of, specs.Order.call_bound_by, specs.Accepting.{is_some_and, covers_call, covers_calls, covers_run, covers_from}}
+use Rattle.space_cert.specs.Accepting.{covers_main, covers, source_callees, parts_callees, source_calls, needs_from, is_covered}
+use Rattle.space_cert.{proofs.CoversLaws.{main_within, some_there}, proofs.CertifyLaws.{body_calls, calls_below, calls_same}}
 use Rattle.gypsy_semantics.specs.Views.Fitting.{suffice}
-use Rattle.space_cert.specs.Accepting.{is_some_and, covers_call, covers_calls, covers_run, covers_from, covers_main, covers, source_callees, parts_callees}
-use Rattle.space_cert.specs.Accepting.{source_calls, needs_from, is_covered}
-use Rattle.space_cert.proofs.CoversLaws.{main_within, some_there}
-use Rattle.space_cert.proofs.CertifyLaws.{body_calls, calls_below, calls_same}
 
 at_most_true : (u v : StackSizes) → suffice u v ≡ true → IsAtMost u v
 at_most_true u v e =

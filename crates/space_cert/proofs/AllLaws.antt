@@ -1,7 +1,5 @@
 -- What holds of all of two lists.
-use Rattle.std.proofs.Common.{List, [], ◌∷◌, ◌++◌}
-use Rattle.std.specs.List.{All}
-use Rattle.std.proofs.lemmas.List.Elements.{All-nil, All-cons, All-head, All-tail}
+use Rattle.std.{proofs.Common.{List, [], ◌∷◌, ◌++◌}, specs.List.All, proofs.lemmas.List.Elements.{All-nil, All-cons, All-head, All-tail}}
 
 pub all_left : {X : Type 0} (P : X → Type 0) (xs ys : List X) → All P (xs ++ ys) → All P xs
 all_left P [] ys h = All-nil P

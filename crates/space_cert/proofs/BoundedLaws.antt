@@ -1,11 +1,8 @@
 -- Bounds that aren't large.
-use Rattle.std.proofs.Common.{◌≡◌, ℕ, suc, ◌≤◌, ◌^◌, nat_le, [], ◌∷◌, true, Option, Some, None, refl}
-use Rattle.std.proofs.lemmas.Bool.{le-leb, and_from}
+use Rattle.std.{proofs.Common.{◌≡◌, ℕ, suc, ◌≤◌, ◌^◌, nat_le, [], ◌∷◌, true, Option, Some, None, refl}, proofs.lemmas.Bool.{le-leb, and_from}}
 use Rattle.std.specs.Option.{option_map}
 use Rattle.gypsy_space.specs.Needs.{StackSizes}
-use Rattle.space_cert.specs.Bounded.{is_bound, are_bounds}
-use Rattle.space_cert.specs.Covers.{Bounds, as_words}
-use Rattle.space_cert.specs.Order.{AreBounds}
+use Rattle.space_cert.{specs.Bounded.{is_bound, are_bounds}, specs.Covers.{Bounds, as_words}, specs.Order.AreBounds}
 
 -- all of them
 pub all_bounds : (bs : Bounds) → AreBounds bs → are_bounds bs ≡ true

@@ -1,26 +1,13 @@
 -- The least certificate of a source is read again.
 use Rattle.std.proofs.Common.{◌≡◌, ◌≤◌, ◌+◌, ◌*◌, ◌^◌, ℕ, zero, suc, max, Bool, true, false, if◌then◌else◌, Option, Some, None, Result, Ok, length, refl, sym}
-use Rattle.std.proofs.Common.{ap, ◌∙◌, subst, arith}
-use Rattle.std.proofs.lemmas.Bool.{le-leb, and_from}
-use Rattle.std.proofs.lemmas.List.{length-map}
-use Rattle.std.specs.Result.{MatchResult}
-use Rattle.gypsy_syntax.specs.Predefined.{predef_temp, predef_ctrl}
-use Rattle.gypsy_syntax.specs.Programs.{Program, proc_at}
-use Rattle.gypsy_syntax.specs.ProgramFits.{ProgramFits}
-use Rattle.gypsy_syntax.specs.Resolved.{procedure_names, procedure_of, program_of}
-use Rattle.gypsy_syntax.specs.Sources.{ProcOf}
-use Rattle.gypsy_space.specs.Needs.{StackSizes, stack_sizes, local_words, vars_of}
-use Rattle.space_cert.specs.Bounded.{is_bound, are_bounds}
-use Rattle.space_cert.specs.CertAgain.{CertificatesAreReadAgain}
-use Rattle.space_cert.specs.Certified.{is_reached, is_recursive, first_from, run_within, least_bound, bounds_from, unless_recursive, certified}
-use Rattle.space_cert.specs.Covers.{Bounds, IsAtMost, own_need, call_bound}
-use Rattle.space_cert.specs.Least.{AreLeastBounds, IsFirstRecursive}
-use Rattle.space_cert.specs.Reaches.{calls_of}
-use Rattle.space_cert.proofs.CertifiedLaws.{greatest_least, certified_is}
-use Rattle.space_cert.proofs.CertifyLaws.{small_words}
-use Rattle.gypsy_space.proofs.SmallLaws.{greatest_within}
-use Rattle.gypsy_syntax.proofs.PredefLaws.{low_temp, low_ctrl}
-use Rattle.space_cert.proofs.NameLaws.{own_names, are_names, few_names}
+use Rattle.std.{proofs.Common.{ap, ◌∙◌, subst, arith}, proofs.lemmas.Bool.{le-leb, and_from}, proofs.lemmas.List.length-map, specs.Result.MatchResult}
+use Rattle.gypsy_syntax.{specs.Predefined.{predef_temp, predef_ctrl}, specs.Programs.{Program, proc_at}, specs.ProgramFits.ProgramFits}
+use Rattle.gypsy_syntax.{specs.Resolved.{procedure_names, procedure_of, program_of}, specs.Sources.ProcOf, proofs.PredefLaws.{low_temp, low_ctrl}}
+use Rattle.gypsy_space.{specs.Needs.{StackSizes, stack_sizes, local_words, vars_of}, proofs.SmallLaws.greatest_within}
+use Rattle.space_cert.{specs.Bounded.{is_bound, are_bounds}, specs.CertAgain.CertificatesAreReadAgain, specs.Certified.{is_reached, is_recursive, first_from}}
+use Rattle.space_cert.{specs.Certified.{run_within, least_bound, bounds_from, unless_recursive, certified}, specs.Covers.{Bounds, IsAtMost, own_need}}
+use Rattle.space_cert.{specs.Covers.call_bound, specs.Least.{AreLeastBounds, IsFirstRecursive}, specs.Reaches.calls_of, proofs.CertifiedLaws.greatest_least}
+use Rattle.space_cert.{proofs.CertifiedLaws.certified_is, proofs.CertifyLaws.small_words, proofs.NameLaws.{own_names, are_names, few_names}}
 use Rattle.space_cert.proofs.ReadAgainLaws.{printed_short, printed_reads}
 
 -- 1. No bound is large.

@@ -1,28 +1,20 @@
 -- What is computed is the least certificate, or the first recursive procedure.
 use Rattle.std.proofs.Common.{◌≡◌, ℕ, zero, suc, ◌+◌, ◌<◌, ◌≤◌, Bool, true, false, ◌==◌, if◌then◌else◌, List, [], ◌∷◌, length, get_or, Option, Some, None}
-use Rattle.std.proofs.Common.{Result, Ok, Err, IfErr, inl, inr, refl, sym, ap, ◌∙◌, subst, arith}
-use Rattle.std.proofs.lemmas.Bool.{cases_eq, cases_lt, eqb-true, eq-eqb, or_cases, or_left, or_right, and_from, and_parts, false_from_ne_true}
-use Rattle.std.proofs.lemmas.List.Elements.{All-nil, All-cons, All-contains}
-use Rattle.std.specs.List.{All, Contains}
-use Rattle.std.specs.Option.{IsSome, IsSomeAnd, option_map, unwrap_or}
+use Rattle.std.{proofs.Common.{Result, Ok, Err, IfErr, inl, inr, refl, sym, ap, ◌∙◌, subst, arith}, proofs.lemmas.Bool.{cases_eq, cases_lt, eqb-true, eq-eqb}}
+use Rattle.std.{proofs.lemmas.Bool.{or_cases, or_left, or_right, and_from, and_parts, false_from_ne_true}, proofs.lemmas.List.Elements.{All-nil, All-cons}}
+use Rattle.std.{proofs.lemmas.List.Elements.All-contains, specs.List.{All, Contains}, specs.Option.{IsSome, IsSomeAnd, option_map, unwrap_or}}
 use Rattle.std.specs.Result.{MatchResult}
-use Rattle.gypsy_syntax.specs.Programs.{Program, proc_at}
-use Rattle.gypsy_syntax.specs.ProgramFits.{ProgramFits}
+use Rattle.gypsy_syntax.{specs.Programs.{Program, proc_at}, specs.ProgramFits.ProgramFits}
 use Rattle.gypsy_space.specs.Needs.{StackSizes, stack_sizes}
-use Rattle.space_cert.specs.declared.certificate.Certificate.{Certificate}
-use Rattle.space_cert.specs.declared.certifying.CertFault.{CertFault}
-use Rattle.space_cert.specs.declared.certifying.CertFault.TheVariants.{Recursive, Memory}
-use Rattle.space_cert.specs.Covers.{Bounds, as_words, bound_at, IsAtMost, own_need, call_bound, CoversCall, CoversRun, IsCertificate}
-use Rattle.space_cert.specs.Reaches.{Directly, Further, calls_of, IsReached, IsRecursive}
-use Rattle.space_cert.specs.Least.{AreLeastBounds, IsFirstRecursive, IsCertFaultUnless, IsThere}
-use Rattle.space_cert.specs.Order.{greater, call_words, greatest_call, run_bound}
+use Rattle.space_cert.{specs.declared.certificate.Certificate.Certificate, specs.declared.certifying.CertFault.CertFault}
+use Rattle.space_cert.{specs.declared.certifying.CertFault.TheVariants.{Recursive, Memory}, specs.Covers.{Bounds, as_words, bound_at, IsAtMost, own_need}}
+use Rattle.space_cert.{specs.Covers.{call_bound, CoversCall, CoversRun, IsCertificate}, specs.Reaches.{Directly, Further, calls_of, IsReached, IsRecursive}}
+use Rattle.space_cert.{specs.Least.{AreLeastBounds, IsFirstRecursive, IsCertFaultUnless, IsThere}, specs.Order.{greater, call_words, greatest_call, run_bound}}
 use Rattle.space_cert.specs.Certified.{reaches, is_reached, is_recursive, first_from, greatest_taken, run_within, least_bound, bounds_from, unless_recursive}
-use Rattle.space_cert.specs.Certified.{certified, recursive_of, GivesCertifiedUnless}
+use Rattle.space_cert.{specs.Certified.{certified, recursive_of, GivesCertifiedUnless}, proofs.ContainsLaws.{contains_first, contains_later}}
+use Rattle.space_cert.{proofs.ReachLaws.{reached_by, computed_reached, reached_below, reached_computed}, proofs.LeastLaws.{greater_least, more_taken}}
+use Rattle.space_cert.{proofs.LeastLaws.{some_same, calls_rise, calls_within, covered_by, reached_known, never_recursive}, proofs.CertifyLaws.calls_below}
 use Rattle.stack_text.specs.Gives as common
-use Rattle.space_cert.proofs.ContainsLaws.{contains_first, contains_later}
-use Rattle.space_cert.proofs.ReachLaws.{reached_by, computed_reached, reached_below, reached_computed}
-use Rattle.space_cert.proofs.LeastLaws.{greater_least, more_taken, some_same, calls_rise, calls_within, covered_by, reached_known, never_recursive}
-use Rattle.space_cert.proofs.CertifyLaws.{calls_below}
 
 -- 1. The first that passes a test.
 

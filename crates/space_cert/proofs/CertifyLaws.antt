@@ -1,33 +1,20 @@
 -- What is found along the calls of an accepted program is its least certificate, or its first recursive procedure.
-use Rattle.std.proofs.Common.{◌≡◌, ℕ, zero, suc, ◌+◌, ◌*◌, ◌<◌, ◌≤◌, max, List, [], ◌∷◌, ◌++◌, map, length, get_or, take, reverse, Bool}
-use Rattle.std.proofs.Common.{true, false, Option, Some, None, inl, inr, refl, ap, sym, ◌∙◌, subst, arith}
-use Rattle.std.proofs.lemmas.Bool.{cases_eq}
-use Rattle.std.proofs.lemmas.List.{length-map, length-reverse, length-take, reverse-append, reverse-reverse, take_all}
-use Rattle.std.proofs.lemmas.List.Elements.{All-nil, All-cons, All-head, All-tail, All-append, All-take, All-contains, Contains-push, Contains-append_left}
-use Rattle.std.specs.List.{All, Contains}
-use Rattle.std.specs.Option.{unwrap_or}
-use Rattle.stack_text.specs.declared.shape.Shape.{Shape}
-use Rattle.stack_text.specs.Values.{ValueOf}
-use Rattle.gypsy_syntax.specs.Predefined.{predef_temp, predef_ctrl}
-use Rattle.gypsy_syntax.specs.Programs.{Proc, Program, no_proc, proc_at, body_of, shapes_of, conds_of}
-use Rattle.gypsy_syntax.specs.Programs.{Stmt, Skip, NoOp, Signal, Seq, Loop, If, Begin, Call, Apply}
-use Rattle.gypsy_syntax.specs.ProgramFits.{StmtFits, ProcFits, ProgramFits}
-use Rattle.gypsy_space.specs.Needs.{StackSizes, stack_sizes, local_words, vars_of}
-use Rattle.gypsy_space.specs.Events.{AreNeeds, need_at}
-use Rattle.gypsy_space.specs.declared.need.Need.{Need}
-use Rattle.gypsy_space.proofs.SmallLaws.{words_of-append, length-words_of, greatest_within}
+use Rattle.std.proofs.Common.{◌≡◌, ℕ, zero, suc, ◌+◌, ◌*◌, ◌<◌, ◌≤◌, max, List, [], ◌∷◌, ◌++◌, map, length, get_or, take, reverse, Bool, true, false, Option}
+use Rattle.std.{proofs.Common.{Some, None, inl, inr, refl, ap, sym, ◌∙◌, subst, arith}, proofs.lemmas.Bool.cases_eq, proofs.lemmas.List.length-map}
+use Rattle.std.{proofs.lemmas.List.{length-reverse, length-take, reverse-append, reverse-reverse, take_all}, proofs.lemmas.List.Elements.{All-nil, All-cons}}
+use Rattle.std.{proofs.lemmas.List.Elements.{All-head, All-tail, All-append, All-take, All-contains, Contains-push, Contains-append_left}, specs.List.All}
+use Rattle.std.{specs.List.Contains, specs.Option.unwrap_or, specs.Global.Vec}
+use Rattle.stack_text.{specs.declared.shape.Shape.Shape, specs.Values.ValueOf}
+use Rattle.gypsy_syntax.{specs.Predefined.{predef_temp, predef_ctrl}, specs.Programs.{Proc, Program, no_proc, proc_at, body_of, shapes_of, conds_of, Stmt}}
+use Rattle.gypsy_syntax.{specs.Programs.{Skip, NoOp, Signal, Seq, Loop, If, Begin, Call, Apply}, specs.ProgramFits.{StmtFits, ProcFits, ProgramFits}}
 use Rattle.gypsy_syntax.proofs.PredefLaws.{low_temp, low_ctrl}
-use Rattle.space_cert.specs.Covers.{Bounds, no_bounds, bound_at, IsAtMost, callees, own_need, call_bound}
-use Rattle.space_cert.specs.Reaches.{Reaches, Directly, Further, Leads, calls_of, IsReached}
-use Rattle.space_cert.specs.Least.{AreLeastBounds, IsFirstRecursive}
-use Rattle.space_cert.specs.Order.{greater, call_words, greatest_call, run_bound, with_bound, bounds_of_order, call_bound_by, greatest_call_by, run_bound_by}
-use Rattle.space_cert.specs.Order.{bounds_by_needs, AreBounds}
-use Rattle.space_cert.specs.Internal.Search.{AreDone}
-use Rattle.space_cert.specs.Internal.SearchState.{call_of, IsFound}
-use Rattle.space_cert.specs.Internal.SearchView.{AreCalls, seen_calls}
-use Rattle.std.specs.Global.{Vec}
-use Rattle.space_cert.proofs.AllLaws.{all_left}
-use Rattle.space_cert.proofs.ContainsLaws.{contains_none, contains_first, contains_later, contains_cases}
+use Rattle.gypsy_space.{specs.Needs.{StackSizes, stack_sizes, local_words, vars_of}, specs.Events.{AreNeeds, need_at}, specs.declared.need.Need.Need}
+use Rattle.gypsy_space.proofs.SmallLaws.{words_of-append, length-words_of, greatest_within}
+use Rattle.space_cert.{specs.Covers.{Bounds, no_bounds, bound_at, IsAtMost, callees, own_need, call_bound}, specs.Reaches.{Reaches, Directly, Further, Leads}}
+use Rattle.space_cert.{specs.Reaches.{calls_of, IsReached}, specs.Least.{AreLeastBounds, IsFirstRecursive}, specs.Order.{greater, call_words, greatest_call}}
+use Rattle.space_cert.specs.Order.{run_bound, with_bound, bounds_of_order, call_bound_by, greatest_call_by, run_bound_by, bounds_by_needs, AreBounds}
+use Rattle.space_cert.{specs.Internal.Search.AreDone, specs.Internal.SearchState.{call_of, IsFound}, specs.Internal.SearchView.{AreCalls, seen_calls}}
+use Rattle.space_cert.{proofs.AllLaws.all_left, proofs.ContainsLaws.{contains_none, contains_first, contains_later, contains_cases}}
 use Rattle.space_cert.proofs.LeastLaws.{calls_least, known_now, bound_other, some_same, none_at, least_by}
 
 -- the callees of each procedure, in order

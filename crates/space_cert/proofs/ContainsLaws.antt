@@ -1,6 +1,5 @@
 -- What a list contains.
-use Rattle.std.proofs.Common.{◌≡◌, zero, suc, List, [], ◌∷◌, ◌⊎◌, inl, inr, refl, arith}
-use Rattle.std.specs.List.{Contains}
+use Rattle.std.{proofs.Common.{◌≡◌, zero, suc, List, [], ◌∷◌, ◌⊎◌, inl, inr, refl, arith}, specs.List.Contains}
 
 pub contains_none : {X : Type 0} {x : X} → Contains [] x → ⊥
 contains_none (k, lt, e) = omega (arith, lt)

@@ -1,11 +1,9 @@
 -- A covered call has room, and leaves its callee covered.
-use Rattle.std.proofs.Common.{◌≡◌, not, if◌then◌else◌, ℕ, ◌+◌, ◌≤◌, max, length, true, Option, Some, None, refl, subst, arith}
-use Rattle.std.proofs.lemmas.Bool.{le-leb, and_from}
-use Rattle.std.specs.Option.{IsSome, IsSomeAnd, unwrap_or}
+use Rattle.std.{proofs.Common.{◌≡◌, not, if◌then◌else◌, ℕ, ◌+◌, ◌≤◌, max, length, true, Option, Some, None, refl, subst, arith}, proofs.lemmas.Bool.le-leb}
+use Rattle.std.{proofs.lemmas.Bool.and_from, specs.Option.{IsSome, IsSomeAnd, unwrap_or}}
 use Rattle.gypsy_syntax.specs.Programs.{Program, proc_at}
 use Rattle.gypsy_space.specs.Needs.{StackSizes, stack_sizes, main_used, temp_need, ctrl_need, local_words, vars_of, frame_of, with_call, call_need}
-use Rattle.gypsy_space.specs.Needs.{has_temp_room, has_ctrl_room, has_room, lack_of}
-use Rattle.gypsy_space.specs.declared.need.Lack.TheVariants.{Nothing, Temporary, Control}
+use Rattle.gypsy_space.{specs.Needs.{has_temp_room, has_ctrl_room, has_room, lack_of}, specs.declared.need.Lack.TheVariants.{Nothing, Temporary, Control}}
 use Rattle.space_cert.specs.Covers.{Bounds, bound_at, words_sum, IsAtMost, own_need, call_bound, Covers}
 
 -- main's words with its bounds

@@ -1,14 +1,9 @@
 -- Following a call, and the end of a group.
 use Rattle.std.proofs.Common.{◌≡◌, ℕ, ◌<◌, ◌≤◌, List, [], ◌∷◌, length, get_or, Bool, true, false, refl, ap, sym, ◌∙◌, subst, arith}
-use Rattle.std.proofs.lemmas.List.{get_or_read}
-use Rattle.std.proofs.lemmas.List.Elements.{All-from_get_or}
-use Rattle.std.specs.List.{All}
+use Rattle.std.{proofs.lemmas.List.get_or_read, proofs.lemmas.List.Elements.All-from_get_or, specs.List.All}
 use Rattle.space_cert.specs.Internal.SearchState.{SearchOf, mark_at, AreMarked, IsSearch, IsFound, left_to_do, with_call, with_joined}
-use Rattle.space_cert.specs.Internal.SearchView.{AreCalls, HasFinished, HasAdvanced}
-use Rattle.space_cert.specs.declared.search.Mark.{Mark}
-use Rattle.space_cert.specs.declared.search.Mark.TheVariants.{New, Entered}
-use Rattle.space_cert.specs.declared.search.Group.{Group}
-use Rattle.space_cert.proofs.MarkLaws.{marked_below, new_apart}
+use Rattle.space_cert.{specs.Internal.SearchView.{AreCalls, HasFinished, HasAdvanced}, specs.declared.search.Mark.Mark}
+use Rattle.space_cert.{specs.declared.search.Mark.TheVariants.{New, Entered}, specs.declared.search.Group.Group, proofs.MarkLaws.{marked_below, new_apart}}
 use Rattle.space_cert.proofs.SearchingLaws.{called, joins_keeps, some_below, ends_found, ends_keeps, ends_less}
 
 -- a mark, as it is read

@@ -1,21 +1,14 @@
 -- Larger stacks change no run in which spaceerror is never raised.
-use Rattle.std.proofs.Common.{◌≡◌, ◌+◌, ℕ, zero, suc, List, [], ◌∷◌, true, not, if◌then◌else◌, refl, sym, ap, ◌∙◌, arith}
-use Rattle.std.proofs.lemmas.Bool.{le-leb, leb-true}
+use Rattle.std.{proofs.Common.{◌≡◌, ◌+◌, ℕ, zero, suc, List, [], ◌∷◌, true, not, if◌then◌else◌, refl, sym, ap, ◌∙◌, arith}, proofs.lemmas.Bool.le-leb}
+use Rattle.std.proofs.lemmas.Bool.{leb-true}
 use Rattle.stack_text.specs.Values.{ValueOf}
-use Rattle.gypsy_syntax.specs.Programs.{Program}
-use Rattle.gypsy_syntax.specs.Programs.{Stmt, Call}
-use Rattle.gypsy_space.specs.Costs.{Tally}
-use Rattle.gypsy_space.specs.Needs.{StackSizes, call_need, has_temp_room, has_ctrl_room, lack_of}
+use Rattle.gypsy_syntax.specs.Programs.{Program, Stmt, Call}
+use Rattle.gypsy_space.{specs.Costs.Tally, specs.Needs.{StackSizes, call_need, has_temp_room, has_ctrl_room, lack_of}}
 use Rattle.gypsy_space.specs.declared.need.Lack.TheVariants.{Nothing, Temporary, Control}
-use Rattle.gypsy_semantics.specs.Calls.{CurrentCondition}
-use Rattle.gypsy_semantics.specs.Machine.{Item, Do, Frame, State, At, Move, Next, Ended, used, call_step, do_step, gypsy_step, go_on, run, start}
-use Rattle.gypsy_semantics.specs.Views.Moments.{moved_on, moment}
-use Rattle.gypsy_semantics.proofs.Runs.{agree}
-use Rattle.space_cert.specs.Covers.{IsAtMost}
-use Rattle.space_cert.specs.Larger.{EndsWith, LargerStacksChangeNothing, CoveredRunsAreTheSame}
-use Rattle.space_cert.specs.Never.{Visits, First, Later, HasCallRoom}
-use Rattle.space_cert.proofs.NeverLaws.{never}
-use Rattle.gypsy_semantics.proofs.Rooms.{rooms}
+use Rattle.gypsy_semantics.{specs.Calls.CurrentCondition, specs.Machine.{Item, Do, Frame, State, At, Move, Next, Ended, used, call_step, do_step, gypsy_step}}
+use Rattle.gypsy_semantics.{specs.Machine.{go_on, run, start}, specs.Views.Moments.{moved_on, moment}, proofs.Runs.agree, proofs.Rooms.rooms}
+use Rattle.space_cert.{specs.Covers.IsAtMost, specs.Larger.{EndsWith, LargerStacksChangeNothing, CoveredRunsAreTheSame}, specs.Never.{Visits, First, Later}}
+use Rattle.space_cert.{specs.Never.HasCallRoom, proofs.NeverLaws.never}
 
 module _ (q : Program) (s t : StackSizes) (most : IsAtMost s t) where
   -- a call that has room has it on larger stacks

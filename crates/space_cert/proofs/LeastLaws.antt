@@ -1,19 +1,14 @@
 -- The bounds that are found along an order are the least certificate.
 use Rattle.std.proofs.Common.{◌≡◌, ℕ, zero, suc, ◌+◌, ◌<◌, ◌≤◌, max, List, [], ◌∷◌, length, Option, Some, None, inl, inr, refl, ap, sym, ◌∙◌, subst, arith}
-use Rattle.std.proofs.lemmas.Bool.{cases_eq}
-use Rattle.std.proofs.lemmas.List.{get_or-set_same, get_or-set_other, length-set, length-replicate}
-use Rattle.std.proofs.lemmas.List.Elements.{All-nil, All-cons, All-head, All-tail, All-contains}
-use Rattle.std.specs.List.{All, Contains}
-use Rattle.std.specs.Option.{IsSome, IsSomeAnd, option_map, unwrap_or}
+use Rattle.std.{proofs.lemmas.Bool.cases_eq, proofs.lemmas.List.{get_or-set_same, get_or-set_other, length-set, length-replicate}}
+use Rattle.std.{proofs.lemmas.List.Elements.{All-nil, All-cons, All-head, All-tail, All-contains}, specs.List.{All, Contains}, specs.Option.{IsSome, IsSomeAnd}}
+use Rattle.std.specs.Option.{option_map, unwrap_or}
 use Rattle.gypsy_syntax.specs.Programs.{Program, proc_at}
 use Rattle.gypsy_space.specs.Needs.{StackSizes, stack_sizes, local_words, vars_of, main_used}
 use Rattle.space_cert.specs.Covers.{Bounds, no_bounds, as_words, bound_at, words_sum, IsAtMost, own_need, call_bound, CoversCall, CoversRun, IsCertificate}
-use Rattle.space_cert.specs.Covers.{sizes_for, Covers}
-use Rattle.space_cert.specs.Reaches.{Reaches, Directly, Further, calls_of, IsReached, IsRecursive}
-use Rattle.space_cert.specs.Least.{AreLeastBounds}
-use Rattle.space_cert.specs.Order.{IsOrder, greater, call_words, greatest_call, run_bound, with_bound, bounds_of_order}
-use Rattle.space_cert.proofs.CoversLaws.{main_within, some_there}
-use Rattle.space_cert.proofs.ContainsLaws.{contains_none, contains_first, contains_later, contains_cases}
+use Rattle.space_cert.{specs.Covers.{sizes_for, Covers}, specs.Reaches.{Reaches, Directly, Further, calls_of, IsReached, IsRecursive}}
+use Rattle.space_cert.{specs.Least.AreLeastBounds, specs.Order.{IsOrder, greater, call_words, greatest_call, run_bound, with_bound, bounds_of_order}}
+use Rattle.space_cert.{proofs.CoversLaws.{main_within, some_there}, proofs.ContainsLaws.{contains_none, contains_first, contains_later, contains_cases}}
 
 -- Words.
 

@@ -1,15 +1,12 @@
 -- Marks.
 use Rattle.std.proofs.Common.{◌≡◌, ℕ, zero, suc, ◌+◌, ◌-◌, ◌<◌, ◌≤◌, List, [], ◌∷◌, ◌++◌, length, get_or, take, drop, set, ◌⊎◌, inl, inr, refl, ap, sym, ◌∙◌}
-use Rattle.std.proofs.Common.{subst, arith}
-use Rattle.std.proofs.lemmas.Bool.{cases_eq, cases_lt}
-use Rattle.std.proofs.lemmas.List.{get_or-set_same, get_or-set_other, length-set, get_or_past, get_or_push, get_or_append_left, length_push, get_or-take}
-use Rattle.std.proofs.lemmas.List.{get_or-drop, get_or_default, length-drop, length-take, set_past}
-use Rattle.std.specs.List.{Contains}
-use Rattle.std.proofs.lemmas.List.Elements.{Contains-append_left, Contains-append_right, Contains-append_cases}
-use Rattle.space_cert.specs.Internal.SearchState.{mark_at, is_new, new_count, weight, new_weight, AreMarked, done_marks}
-use Rattle.space_cert.specs.declared.search.Mark.{Mark}
-use Rattle.space_cert.specs.declared.search.Mark.TheVariants.{New, Entered, Done}
-use Rattle.space_cert.proofs.ContainsLaws.{contains_none, contains_first, contains_later, contains_cases}
+use Rattle.std.{proofs.Common.{subst, arith}, proofs.lemmas.Bool.{cases_eq, cases_lt}, proofs.lemmas.List.{get_or-set_same, get_or-set_other, length-set}}
+use Rattle.std.proofs.lemmas.List.{get_or_past, get_or_push, get_or_append_left, length_push, get_or-take, get_or-drop, get_or_default, length-drop}
+use Rattle.std.{proofs.lemmas.List.{length-take, set_past}, specs.List.Contains, proofs.lemmas.List.Elements.{Contains-append_left, Contains-append_right}}
+use Rattle.std.proofs.lemmas.List.Elements.{Contains-append_cases}
+use Rattle.space_cert.{specs.Internal.SearchState.{mark_at, is_new, new_count, weight, new_weight, AreMarked, done_marks}, specs.declared.search.Mark.Mark}
+use Rattle.space_cert.{specs.declared.search.Mark.TheVariants.{New, Entered, Done}, proofs.ContainsLaws.{contains_none, contains_first, contains_later}}
+use Rattle.space_cert.proofs.ContainsLaws.{contains_cases}
 
 -- what was new and is no more
 pub count_set : (marks : List Mark) (p : ℕ) (m : Mark) → p < length marks → new_count (set marks p m) + is_new (mark_at marks p) ≡ new_count marks + is_new m

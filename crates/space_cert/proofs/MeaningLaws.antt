@@ -1,22 +1,15 @@
 -- The meaning never ends with spaceerror.
-use Rattle.std.proofs.Common.{◌≡◌, ℕ, zero, suc, List, [], Bool, true, false, Some, None, refl, subst, sym}
-use Rattle.std.proofs.lemmas.List.Elements.{All-head}
+use Rattle.std.{proofs.Common.{◌≡◌, ℕ, zero, suc, List, [], Bool, true, false, Some, None, refl, subst, sym}, proofs.lemmas.List.Elements.All-head}
 use Rattle.stack_text.specs.Values.{ValueOf}
-use Rattle.gypsy_syntax.specs.Programs.{ConditionOf, Space, Arg, Program, body_of}
-use Rattle.gypsy_syntax.specs.Programs.{Stmt, Skip, NoOp, Signal, Seq, Loop, If, Begin, Call, Apply}
-use Rattle.gypsy_syntax.specs.Predefined.{predef_effect}
-use Rattle.gypsy_syntax.specs.Effects.{Effect, Normal, Fault, Beyond, value_at, is_true_value}
+use Rattle.gypsy_syntax.specs.Programs.{ConditionOf, Space, Arg, Program, body_of, Stmt, Skip, NoOp, Signal, Seq, Loop, If, Begin, Call, Apply}
+use Rattle.gypsy_syntax.{specs.Predefined.predef_effect, specs.Effects.{Effect, Normal, Fault, Beyond, value_at, is_true_value}, specs.ProgramFits.Each}
+use Rattle.gypsy_syntax.specs.ProgramFits.{ProgramFits}
 use Rattle.gypsy_space.specs.Needs.{StackSizes, main_used, with_call}
-use Rattle.gypsy_syntax.specs.ProgramFits.{Each, ProgramFits}
-use Rattle.gypsy_semantics.specs.Calls.{has_cond, is_leave, values_of, copied_in, main_start}
-use Rattle.gypsy_semantics.specs.Meaning.{MeaningOutcome, Done, Unfinished, then_do, either_way, caught, round_end, applied, returned, if_room, evaluate}
-use Rattle.gypsy_semantics.specs.Meaning.{main_end, meaning}
+use Rattle.gypsy_semantics.{specs.Calls.{has_cond, is_leave, values_of, copied_in, main_start}, specs.Meaning.{MeaningOutcome, Done, Unfinished, then_do}}
+use Rattle.gypsy_semantics.specs.Meaning.{either_way, caught, round_end, applied, returned, if_room, evaluate, main_end, meaning}
 use Rattle.space_cert.specs.Covers.{Bounds, bound_at, words_sum, callees, IsAtMost, CoversCall, CoversCalls, IsCertificate, Covers}
-use Rattle.space_cert.specs.Internal.Omits.{IsOther, OmitsSpace, WayIsOther}
-use Rattle.space_cert.proofs.AllLaws.{all_left, all_right}
-use Rattle.space_cert.proofs.CoversLaws.{bound_there, room, left, main_within}
-use Rattle.space_cert.proofs.StepLaws.{main_bound}
-use Rattle.space_cert.proofs.OmitLaws.{body_omits, matching_omits, main_omits}
+use Rattle.space_cert.{specs.Internal.Omits.{IsOther, OmitsSpace, WayIsOther}, proofs.AllLaws.{all_left, all_right}, proofs.CoversLaws.{bound_there, room}}
+use Rattle.space_cert.{proofs.CoversLaws.{left, main_within}, proofs.StepLaws.main_bound, proofs.OmitLaws.{body_omits, matching_omits, main_omits}}
 
 abbrev EndsOther : MeaningOutcome → Type 0
 EndsOther (Done x c) = WayIsOther c

@@ -1,29 +1,14 @@
 -- Names of procedures: they differ, and each stands where it is found.
-use Rattle.std.proofs.Common.{◌≡◌, ℕ, zero, suc, ◌<◌, ◌≤◌, List, [], ◌∷◌, map, length, get_or, Bool, true, false, cond}
-use Rattle.std.proofs.Common.{Option, Some, None, IfSome, option_map, sym, ap, subst, ◌∙◌, arith}
-use Rattle.std.specs.List.{All, AllByRecursion, IsDistinct, position}
-use Rattle.std.specs.Str.{bytes_eq}
-use Rattle.std.proofs.lemmas.List.{length-map}
-use Rattle.std.proofs.lemmas.List.Elements.{All-nil, All-cons, All-head, All-tail}
-use Rattle.std.proofs.lemmas.List.Quantifiers.{position-Some}
-use Rattle.std.proofs.lemmas.Map.Keys.{IsDistinct-cons, IsDistinct-tail, apart_from_distinct}
-use Rattle.std.proofs.lemmas.Simd.{map-map}
-use Rattle.std.proofs.lemmas.Slice.Eq.{bytes_eq-Decides}
-use Rattle.std.proofs.lemmas.Bool.{or_parts}
-use Rattle.stack_text.specs.Names.{is_name, is_among, place_among}
-use Rattle.stack_text.specs.declared.name.Named.{Named}
-use Rattle.stack_text.proofs.SharedLaws.{rule_fails, append_none, bytes_apart, place_among-map}
-use Rattle.gypsy_syntax.specs.declared.proc.Proc.{Proc}
-use Rattle.gypsy_syntax.proofs.FitsLaws.{keeps_fits}
-use Rattle.gypsy_syntax.specs.GypsyReading.{KeepsForm}
-use Rattle.gypsy_syntax.specs.Fits.{FitsProcedure}
-use Rattle.gypsy_syntax.specs.Resolved.{procedure_names}
-use Rattle.gypsy_syntax.specs.Views.SourceView.{proc_of}
-use Rattle.gypsy_syntax.specs.Sources.{ProcOf, SourceOf}
-use Rattle.gypsy_check.specs.Declarations.{repeats}
-use Rattle.gypsy_check.specs.Rules.{violations, main_breaches}
-use Rattle.gypsy_check.proofs.CleanLaws.{four}
-use Rattle.gypsy_check.proofs.LookupLaws.{place_cons}
+use Rattle.std.proofs.Common.{◌≡◌, ℕ, zero, suc, ◌<◌, ◌≤◌, List, [], ◌∷◌, map, length, get_or, Bool, true, false, cond, Option, Some, None, IfSome, option_map}
+use Rattle.std.{proofs.Common.{sym, ap, subst, ◌∙◌, arith}, specs.List.{All, AllByRecursion, IsDistinct, position}, specs.Str.bytes_eq}
+use Rattle.std.{proofs.lemmas.List.length-map, proofs.lemmas.List.Elements.{All-nil, All-cons, All-head, All-tail}}
+use Rattle.std.{proofs.lemmas.List.Quantifiers.position-Some, proofs.lemmas.Map.Keys.{IsDistinct-cons, IsDistinct-tail, apart_from_distinct}}
+use Rattle.std.{proofs.lemmas.Simd.map-map, proofs.lemmas.Slice.Eq.bytes_eq-Decides, proofs.lemmas.Bool.or_parts}
+use Rattle.stack_text.{specs.Names.{is_name, is_among, place_among}, specs.declared.name.Named.Named, proofs.SharedLaws.{rule_fails, append_none, bytes_apart}}
+use Rattle.stack_text.proofs.SharedLaws.{place_among-map}
+use Rattle.gypsy_syntax.{specs.declared.proc.Proc.Proc, proofs.FitsLaws.keeps_fits, specs.GypsyReading.KeepsForm, specs.Fits.FitsProcedure}
+use Rattle.gypsy_syntax.{specs.Resolved.procedure_names, specs.Views.SourceView.proc_of, specs.Sources.{ProcOf, SourceOf}}
+use Rattle.gypsy_check.{specs.Declarations.repeats, specs.Rules.{violations, main_breaches}, proofs.CleanLaws.four, proofs.LookupLaws.place_cons}
 use Rattle.gypsy_space.specs.Callees.{names_of}
 
 -- Where a name stands.

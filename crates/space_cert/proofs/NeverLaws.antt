@@ -1,17 +1,12 @@
 -- A run that a certificate covers never sets spaceerror.
 use Rattle.std.proofs.Common.{◌≡◌, ℕ, zero, suc, List, [], refl, subst, sym}
 use Rattle.stack_text.specs.Values.{ValueOf}
-use Rattle.gypsy_syntax.specs.Programs.{Program, body_of}
-use Rattle.gypsy_syntax.specs.ProgramFits.{ProgramFits}
+use Rattle.gypsy_syntax.{specs.Programs.{Program, body_of}, specs.ProgramFits.ProgramFits}
 use Rattle.gypsy_space.specs.Needs.{StackSizes}
 use Rattle.gypsy_semantics.specs.Machine.{State, Move, Next, Ended, Ending, Over, Going, gypsy_step, go_on, run, start}
-use Rattle.space_cert.specs.Covers.{Bounds, Covers}
-use Rattle.space_cert.specs.CoveredStates.{StateCovered}
-use Rattle.space_cert.specs.Never.{Visits, First, Later, NeverSpaceError}
-use Rattle.space_cert.specs.Internal.Omits.{StateOmitsSpace, WayIsOther, MoveOmitsSpace}
-use Rattle.space_cert.proofs.StepLaws.{MoveCovered, start_covered, step_covered, call_on_top}
-use Rattle.space_cert.proofs.OmitLaws.{body_omits, open_omits, step_omits, raises_other}
-use Rattle.space_cert.proofs.MeaningLaws.{never_meant}
+use Rattle.space_cert.{specs.Covers.{Bounds, Covers}, specs.CoveredStates.StateCovered, specs.Never.{Visits, First, Later, NeverSpaceError}}
+use Rattle.space_cert.{specs.Internal.Omits.{StateOmitsSpace, WayIsOther, MoveOmitsSpace}, proofs.StepLaws.{MoveCovered, start_covered, step_covered}}
+use Rattle.space_cert.{proofs.StepLaws.call_on_top, proofs.OmitLaws.{body_omits, open_omits, step_omits, raises_other}, proofs.MeaningLaws.never_meant}
 
 abbrev EndIsOther : Ending → Type 0
 EndIsOther (Over x c t) = WayIsOther c

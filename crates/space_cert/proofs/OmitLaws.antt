@@ -1,20 +1,16 @@
 -- Where no statement names spaceerror and each call has room, no step raises it.
 use Rattle.std.proofs.Common.{◌≡◌, ℕ, zero, suc, List, [], ◌∷◌, Bool, true, false, nat_lt, if◌then◌else◌, get_or, Some, None, subst, sym, ap, ◌∙◌}
-use Rattle.stack_text.specs.declared.shape.Shape.{Shape}
-use Rattle.stack_text.specs.Values.{ValueOf}
-use Rattle.gypsy_syntax.specs.declared.predef.Predef.{Predef}
-use Rattle.gypsy_syntax.specs.Programs.{ConditionOf, Leave, Routine, Space, Declared, Arg, Program, proc_at, body_of, shapes_of, conds_of}
-use Rattle.gypsy_syntax.specs.Programs.{Stmt, Skip, NoOp, Signal, Seq, Loop, If, Begin, Call, Apply}
-use Rattle.gypsy_syntax.specs.ProgramFits.{Each, CondFits, StmtFits, ProgramFits}
-use Rattle.gypsy_syntax.specs.Predefined.{predef_effect}
-use Rattle.gypsy_syntax.specs.Effects.{Effect, Normal, Fault, Beyond, value_at, is_true_value}
-use Rattle.gypsy_space.specs.Costs.{Tally, spend, predef_spend, out_spend}
-use Rattle.gypsy_space.specs.Needs.{StackSizes}
-use Rattle.gypsy_semantics.specs.Calls.{has_cond, is_leave, is_passed_on, main_way, matching, values_of, copied_out}
-use Rattle.gypsy_semantics.specs.Machine.{Item, Do, Back, JoinThen, JoinOne, Guard, Out, Frame, Held, State, At, Next, opens, open_on, settle, stop_if, raise}
-use Rattle.gypsy_semantics.specs.Machine.{either_move, apply_step, call_step, do_step, end_step, out_step, gypsy_step}
-use Rattle.space_cert.specs.Never.{HasCallRoom, raised, raised_for, raised_after}
-use Rattle.space_cert.specs.Internal.Omits.{IsOther, OmitsSpace, WorkOmitsSpace, WaitingOmitsSpace, StateOmitsSpace, MoveOmitsSpace}
+use Rattle.stack_text.{specs.declared.shape.Shape.Shape, specs.Values.ValueOf}
+use Rattle.gypsy_syntax.{specs.declared.predef.Predef.Predef, specs.Programs.{ConditionOf, Leave, Routine, Space, Declared, Arg, Program, proc_at, body_of}}
+use Rattle.gypsy_syntax.{specs.Programs.{shapes_of, conds_of, Stmt, Skip, NoOp, Signal, Seq, Loop, If, Begin, Call, Apply}, specs.ProgramFits.{Each, CondFits}}
+use Rattle.gypsy_syntax.{specs.ProgramFits.{StmtFits, ProgramFits}, specs.Predefined.predef_effect, specs.Effects.{Effect, Normal, Fault, Beyond, value_at}}
+use Rattle.gypsy_syntax.specs.Effects.{is_true_value}
+use Rattle.gypsy_space.{specs.Costs.{Tally, spend, predef_spend, out_spend}, specs.Needs.StackSizes}
+use Rattle.gypsy_semantics.{specs.Calls.{has_cond, is_leave, is_passed_on, main_way, matching, values_of, copied_out}, specs.Machine.{Item, Do, Back, JoinThen}}
+use Rattle.gypsy_semantics.specs.Machine.{JoinOne, Guard, Out, Frame, Held, State, At, Next, opens, open_on, settle, stop_if, raise, either_move, apply_step}
+use Rattle.gypsy_semantics.specs.Machine.{call_step, do_step, end_step, out_step, gypsy_step}
+use Rattle.space_cert.{specs.Never.{HasCallRoom, raised, raised_for, raised_after}, specs.Internal.Omits.{IsOther, OmitsSpace, WorkOmitsSpace}}
+use Rattle.space_cert.specs.Internal.Omits.{WaitingOmitsSpace, StateOmitsSpace, MoveOmitsSpace}
 
 -- In a program that fits.
 

@@ -1,18 +1,11 @@
 -- Printing entries one after another.
 use Rattle.std.proofs.Common.{◌≡◌, ℕ, zero, suc, ◌+◌, ◌<◌, ◌≤◌, List, [], ◌∷◌, ◌++◌, length, get_or, drop, Bool, true, false, if◌then◌else◌, ◌==◌, Some, None}
-use Rattle.std.proofs.Common.{refl, ap, sym, ◌∙◌, arith}
-use Rattle.std.proofs.lemmas.Bool.{ne_eqb}
-use Rattle.std.proofs.lemmas.List.{append-nil, drop_all}
-use Rattle.stack_text.specs.Trees.{Node, none}
-use Rattle.stack_text.specs.TreeText.{tree_text, items_text, spaced_text}
-use Rattle.stack_text.specs.Views.TreeView.{nodes}
-use Rattle.stack_text.specs.Grammar.Printed.{items_after}
-use Rattle.stack_text.proofs.PrintLaws.{apart_by}
-use Rattle.stack_text.proofs.Loops.{drop-item}
+use Rattle.std.{proofs.Common.{refl, ap, sym, ◌∙◌, arith}, proofs.lemmas.Bool.ne_eqb, proofs.lemmas.List.{append-nil, drop_all}}
+use Rattle.stack_text.{specs.Trees.{Node, none}, specs.TreeText.{tree_text, items_text, spaced_text}, specs.Views.TreeView.nodes}
+use Rattle.stack_text.{specs.Grammar.Printed.items_after, proofs.PrintLaws.apart_by, proofs.Loops.drop-item}
 use Rattle.gypsy_syntax.specs.declared.proc.Proc.{Proc}
 use Rattle.gypsy_space.specs.Callees.{names_of}
-use Rattle.space_cert.specs.Covers.{Bounds}
-use Rattle.space_cert.specs.CertText.{entry_tree, entry_trees}
+use Rattle.space_cert.{specs.Covers.Bounds, specs.CertText.{entry_tree, entry_trees}}
 
 bounds_left : (bs : Bounds) (i : ℕ) → i < length bs → drop i bs ≡ get_or bs i None ∷ drop (i + 1) bs
 bounds_left [] i lt = absurd (omega (arith, lt))

@@ -1,11 +1,9 @@
 -- Which procedures are reached is computed, procedure after procedure.
-use Rattle.std.proofs.Common.{◌≡◌, ℕ, zero, suc, ◌<◌, true, ◌&&◌, ◌==◌, List, [], ◌∷◌, ◌⊎◌, inl, inr, subst, arith}
-use Rattle.std.proofs.lemmas.Bool.{cases_eq, eqb-true, eq-eqb, or_cases, or_left, or_right, and_from, and_parts}
-use Rattle.std.proofs.lemmas.List.Elements.{All-contains}
-use Rattle.std.specs.List.{All, Contains, list_any}
-use Rattle.space_cert.specs.Reaches.{Reaches, Directly, Further}
-use Rattle.space_cert.specs.Certified.{reaches_below}
-use Rattle.space_cert.proofs.ContainsLaws.{contains_none, contains_first, contains_later, contains_cases}
+use Rattle.std.{proofs.Common.{◌≡◌, ℕ, zero, suc, ◌<◌, true, ◌&&◌, ◌==◌, List, [], ◌∷◌, ◌⊎◌, inl, inr, subst, arith}, proofs.lemmas.Bool.{cases_eq, eqb-true}}
+use Rattle.std.{proofs.lemmas.Bool.{eq-eqb, or_cases, or_left, or_right, and_from, and_parts}, proofs.lemmas.List.Elements.All-contains, specs.List.All}
+use Rattle.std.specs.List.{Contains, list_any}
+use Rattle.space_cert.{specs.Reaches.{Reaches, Directly, Further}, specs.Certified.reaches_below, proofs.ContainsLaws.{contains_none, contains_first}}
+use Rattle.space_cert.proofs.ContainsLaws.{contains_later, contains_cases}
 
 any_there : (r : ℕ) (cs : List ℕ) → list_any (λ c. c == r) cs ≡ true → Contains cs r
 any_there r [] h = absurd cc

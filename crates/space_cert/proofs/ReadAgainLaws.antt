@@ -1,33 +1,16 @@
 -- The text that is printed for a certificate is read as that certificate, and is short.
 use Rattle.std.proofs.Common.{◌≡◌, ℕ, zero, suc, ◌+◌, ◌*◌, ◌<◌, ◌≤◌, ◌^◌, nat_le, List, [], ◌∷◌, ◌++◌, length, get_or, set, drop, true, if◌then◌else◌, Option}
-use Rattle.std.proofs.Common.{Some, None, Result, Ok, Err, refl, ap, sym, ◌∙◌, arith}
-use Rattle.std.specs.Prelude.{pos}
-use Rattle.std.specs.List.{All, IsDistinct}
-use Rattle.std.specs.Option.{is_some}
-use Rattle.std.specs.Str.{bytes_eq}
-use Rattle.std.specs.Fmt.{decimal}
-use Rattle.std.proofs.lemmas.Bool.{and_parts, le-leb, leb-true, lt-ltb}
-use Rattle.std.proofs.lemmas.List.{append_assoc, length-append, length_push}
-use Rattle.std.proofs.lemmas.List.Elements.{All-head, All-tail}
-use Rattle.std.proofs.lemmas.Fmt.{length-decimal-le}
-use Rattle.stack_text.specs.Names.{is_name, name_of, place_among}
-use Rattle.stack_text.specs.Numerals.{fits_128_bits}
-use Rattle.stack_text.specs.Results.{◌>>=◌}
-use Rattle.stack_text.specs.Trees.{Node, Nodes, atom, list, none, more, node_counts, depths, AtomsAreRuns, AllAtomsAreRuns, IsWellFormed, without_places}
-use Rattle.stack_text.specs.Trees.{all_without_places}
-use Rattle.stack_text.specs.TreeText.{tree_text, items_text, spaced_text}
-use Rattle.stack_text.specs.Views.TreeView.{nodes}
-use Rattle.stack_text.proofs.AtomLaws.{name_is_run, numeral_is_run}
-use Rattle.stack_text.proofs.NumeralTextLaws.{digits-pos, numeral-signed_decimal, value-signed_decimal}
-use Rattle.stack_text.proofs.PrintLaws.{tree_text_reads}
-use Rattle.stack_text.proofs.TreeInLaws.{tree_in-TreeOf}
-use Rattle.stack_text.proofs.SharedLaws.{name_few}
-use Rattle.space_cert.specs.Bounded.{is_bound, are_bounds}
-use Rattle.space_cert.specs.Covers.{Bounds, no_bounds}
-use Rattle.stack_text.specs.TreeNames.{name_of_tree}
-use Rattle.space_cert.specs.CertText.{Fault, or_fault, three_of, place_for, up_to_limit, number_of, number_at, parts_entry, entry_at, with_entries, bounds_at}
-use Rattle.space_cert.specs.CertText.{bounds_on, bounds_in, entry_tree, entry_trees, certificate_tree, certificate_text}
-use Rattle.space_cert.proofs.NameLaws.{place_own}
+use Rattle.std.{proofs.Common.{Some, None, Result, Ok, Err, refl, ap, sym, ◌∙◌, arith}, specs.Prelude.pos, specs.List.{All, IsDistinct}, specs.Option.is_some}
+use Rattle.std.{specs.Str.bytes_eq, specs.Fmt.decimal, proofs.lemmas.Bool.{and_parts, le-leb, leb-true, lt-ltb}, proofs.lemmas.List.append_assoc}
+use Rattle.std.{proofs.lemmas.List.{length-append, length_push}, proofs.lemmas.List.Elements.{All-head, All-tail}, proofs.lemmas.Fmt.length-decimal-le}
+use Rattle.stack_text.{specs.Names.{is_name, name_of, place_among}, specs.Numerals.fits_128_bits, specs.Results.◌>>=◌, specs.Trees.{Node, Nodes, atom, list}}
+use Rattle.stack_text.specs.Trees.{none, more, node_counts, depths, AtomsAreRuns, AllAtomsAreRuns, IsWellFormed, without_places, all_without_places}
+use Rattle.stack_text.{specs.TreeText.{tree_text, items_text, spaced_text}, specs.Views.TreeView.nodes, proofs.AtomLaws.{name_is_run, numeral_is_run}}
+use Rattle.stack_text.{proofs.NumeralTextLaws.{digits-pos, numeral-signed_decimal, value-signed_decimal}, proofs.PrintLaws.tree_text_reads}
+use Rattle.stack_text.{proofs.TreeInLaws.tree_in-TreeOf, proofs.SharedLaws.name_few, specs.TreeNames.name_of_tree}
+use Rattle.space_cert.{specs.Bounded.{is_bound, are_bounds}, specs.Covers.{Bounds, no_bounds}, specs.CertText.{Fault, or_fault, three_of, place_for}}
+use Rattle.space_cert.specs.CertText.{up_to_limit, number_of, number_at, parts_entry, entry_at, with_entries, bounds_at, bounds_on, bounds_in, entry_tree}
+use Rattle.space_cert.{specs.CertText.{entry_trees, certificate_tree, certificate_text}, proofs.NameLaws.place_own}
 
 -- What is read goes by no place.
 

@@ -1,17 +1,11 @@
 -- The search as the code keeps it.
 use Rattle.std.proofs.Common.{◌≡◌, ℕ, zero, suc, ◌<◌, ◌≤◌, List, [], ◌∷◌, ◌++◌, length, get_or, set, take, drop, reverse, Bool, true, false, Option, refl, ap}
-use Rattle.std.proofs.Common.{sym, ◌∙◌, subst, arith}
-use Rattle.std.proofs.lemmas.List.{append_assoc, drop-append-le, take-append-le, length_push, length-set}
-use Rattle.std.specs.List.{All}
-use Rattle.std.specs.Global.{Vec}
+use Rattle.std.{proofs.Common.{sym, ◌∙◌, subst, arith}, proofs.lemmas.List.{append_assoc, drop-append-le, take-append-le, length_push, length-set}}
+use Rattle.std.{specs.List.All, specs.Global.Vec}
 use Rattle.stack_text.proofs.SharedLaws.{reverse_snoc}
-use Rattle.space_cert.specs.Internal.Search.{earlier, earliest, first_with}
-use Rattle.space_cert.specs.Internal.SearchState.{SearchOf, call_of, done_marks}
-use Rattle.space_cert.specs.Internal.SearchView.{seen_calls, IsClosing}
-use Rattle.space_cert.specs.declared.search.Search.{Search}
-use Rattle.space_cert.specs.declared.search.Mark.TheVariants.{Done}
-use Rattle.space_cert.proofs.AllLaws.{all_left}
-use Rattle.space_cert.proofs.MarkLaws.{done_marks-push}
+use Rattle.space_cert.{specs.Internal.Search.{earlier, earliest, first_with}, specs.Internal.SearchState.{SearchOf, call_of, done_marks}}
+use Rattle.space_cert.{specs.Internal.SearchView.{seen_calls, IsClosing}, specs.declared.search.Search.Search, specs.declared.search.Mark.TheVariants.Done}
+use Rattle.space_cert.{proofs.AllLaws.all_left, proofs.MarkLaws.done_marks-push}
 
 pub search_same : (s t : SearchOf) → s.marks ≡ t.marks → s.entered ≡ t.entered → s.todo ≡ t.todo → s.top ≡ t.top → s.below ≡ t.below → s.done ≡ t.done
     → s.first ≡ t.first → s ≡ t

@@ -1,12 +1,9 @@
 -- Going along the calls keeps groups.
 use Rattle.std.proofs.Common.{◌≡◌, ℕ, ◌≤◌, min, List, [], ◌∷◌, ◌++◌, Bool, true, false, ◌⊎◌, inl, inr, Option, Some, None, refl, ap, sym, ◌∙◌, subst, arith}
-use Rattle.std.specs.List.{All, Contains}
-use Rattle.std.proofs.lemmas.Bool.{cases_lt}
-use Rattle.std.specs.Option.{unwrap_or}
-use Rattle.std.proofs.lemmas.List.Elements.{All-nil, All-cons, Contains-append_left, Contains-append_right, Contains-append_cases, Contains-push}
-use Rattle.space_cert.specs.Reaches.{Reaches, Directly, Further, Leads}
-use Rattle.space_cert.specs.Internal.Search.{GroupOf, all_members, IsGroup, AreGroups, AreDone, earlier, earliest, first_with}
-use Rattle.space_cert.proofs.ContainsLaws.{contains_none, contains_first, contains_later, contains_cases}
+use Rattle.std.{specs.List.{All, Contains}, proofs.lemmas.Bool.cases_lt, specs.Option.unwrap_or, proofs.lemmas.List.Elements.{All-nil, All-cons}}
+use Rattle.std.proofs.lemmas.List.Elements.{Contains-append_left, Contains-append_right, Contains-append_cases, Contains-push}
+use Rattle.space_cert.{specs.Reaches.{Reaches, Directly, Further, Leads}, specs.Internal.Search.{GroupOf, all_members, IsGroup, AreGroups, AreDone, earlier}}
+use Rattle.space_cert.{specs.Internal.Search.{earliest, first_with}, proofs.ContainsLaws.{contains_none, contains_first, contains_later, contains_cases}}
 use Rattle.space_cert.proofs.ReachLaws.{reached_by}
 
 module _ (calls : ℕ → List ℕ) where

@@ -1,20 +1,16 @@
 -- Each move of the search keeps what is known of it, and leaves less to do.
 use Rattle.std.proofs.Common.{◌≡◌, ℕ, zero, suc, ◌+◌, ◌<◌, ◌≤◌, List, [], ◌∷◌, ◌++◌, length, take, drop, set, replicate, true, false, ◌⊎◌, inl, inr, Some, None}
-use Rattle.std.proofs.Common.{refl, ap, sym, ◌∙◌, subst, arith}
-use Rattle.std.proofs.lemmas.List.{get_or-replicate, length-set, length-replicate, length_push, length-append, length-take, length-drop, take-append-drop}
-use Rattle.std.proofs.lemmas.List.{take-append-le, drop-append-le, take-take, take_at, drop_at, drop_all, take_all}
-use Rattle.std.specs.List.{Contains}
-use Rattle.std.proofs.lemmas.List.Elements.{Contains-push, Contains-append_left, Contains-append_right, Contains-append_cases}
-use Rattle.space_cert.specs.Reaches.{Leads}
-use Rattle.space_cert.specs.Internal.Search.{GroupOf, all_members, IsGroup, AreGroups, AreDone, first_with}
+use Rattle.std.{proofs.Common.{refl, ap, sym, ◌∙◌, subst, arith}, proofs.lemmas.List.{get_or-replicate, length-set, length-replicate, length_push}}
+use Rattle.std.proofs.lemmas.List.{length-append, length-take, length-drop, take-append-drop, take-append-le, drop-append-le, take-take, take_at, drop_at}
+use Rattle.std.{proofs.lemmas.List.{drop_all, take_all}, specs.List.Contains, proofs.lemmas.List.Elements.{Contains-push, Contains-append_left}}
+use Rattle.std.proofs.lemmas.List.Elements.{Contains-append_right, Contains-append_cases}
+use Rattle.space_cert.{specs.Reaches.Leads, specs.Internal.Search.{GroupOf, all_members, IsGroup, AreGroups, AreDone, first_with}}
 use Rattle.space_cert.specs.Internal.SearchState.{SearchOf, call_of, mark_at, groups_in, IsCut, is_new, new_count, weight, new_weight, AreMarked, AreReached}
 use Rattle.space_cert.specs.Internal.SearchState.{IsSearch, IsFound, left_to_do, done_marks, with_entered, with_todo, with_circle, with_joined}
-use Rattle.space_cert.specs.declared.search.Mark.TheVariants.{New, Entered, Done}
-use Rattle.space_cert.specs.declared.search.Group.{Group}
-use Rattle.space_cert.proofs.ContainsLaws.{contains_none, contains_first, contains_cases}
-use Rattle.space_cert.proofs.SearchLaws.{visited, passed, circled, joined, finished, left_groups, lead_on, call_leads}
-use Rattle.space_cert.proofs.MarkLaws.{new_apart, new_not_done, count_set, weight_set, marked_below, new_is, not_both, enters, leaves, done_marks-length}
-use Rattle.space_cert.proofs.MarkLaws.{done_counts, done_weighs, take_there, drop_there}
+use Rattle.space_cert.{specs.declared.search.Mark.TheVariants.{New, Entered, Done}, specs.declared.search.Group.Group, proofs.ContainsLaws.contains_none}
+use Rattle.space_cert.{proofs.ContainsLaws.{contains_first, contains_cases}, proofs.SearchLaws.{visited, passed, circled, joined, finished, left_groups}}
+use Rattle.space_cert.{proofs.SearchLaws.{lead_on, call_leads}, proofs.MarkLaws.{new_apart, new_not_done, count_set, weight_set, marked_below, new_is}}
+use Rattle.space_cert.proofs.MarkLaws.{not_both, enters, leaves, done_marks-length, done_counts, done_weighs, take_there, drop_there}
 
 -- Lists that end with w.
 

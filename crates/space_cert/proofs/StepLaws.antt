@@ -1,23 +1,17 @@
 -- Each step keeps states covered.
-use Rattle.std.proofs.Common.{◌≡◌, ℕ, List, [], ◌∷◌, Bool, true, false, Option, Some, None, refl, subst, sym}
-use Rattle.std.specs.Option.{IsSome}
+use Rattle.std.{proofs.Common.{◌≡◌, ℕ, List, [], ◌∷◌, Bool, true, false, Option, Some, None, refl, subst, sym}, specs.Option.IsSome}
 use Rattle.std.proofs.lemmas.List.Elements.{All-head}
 use Rattle.stack_text.specs.Values.{ValueOf}
-use Rattle.gypsy_syntax.specs.declared.predef.Predef.{Predef}
-use Rattle.gypsy_syntax.specs.Programs.{ConditionOf, Routine, Arg, Program, body_of}
-use Rattle.gypsy_syntax.specs.Programs.{Stmt, Skip, NoOp, Signal, Seq, Loop, If, Begin, Call, Apply}
-use Rattle.gypsy_syntax.specs.Predefined.{predef_effect}
-use Rattle.gypsy_syntax.specs.Effects.{Effect, Normal, Fault, Beyond, value_at, is_true_value}
-use Rattle.gypsy_space.specs.Costs.{Tally, spend, predef_spend, out_spend}
-use Rattle.gypsy_space.specs.Needs.{StackSizes, lack_of, with_call}
+use Rattle.gypsy_syntax.{specs.declared.predef.Predef.Predef, specs.Programs.{ConditionOf, Routine, Arg, Program, body_of, Stmt, Skip, NoOp, Signal, Seq, Loop}}
+use Rattle.gypsy_syntax.{specs.Programs.{If, Begin, Call, Apply}, specs.Predefined.predef_effect, specs.Effects.{Effect, Normal, Fault, Beyond, value_at}}
+use Rattle.gypsy_syntax.specs.Effects.{is_true_value}
+use Rattle.gypsy_space.{specs.Costs.{Tally, spend, predef_spend, out_spend}, specs.Needs.{StackSizes, lack_of, with_call}}
 use Rattle.gypsy_space.specs.declared.need.Lack.TheVariants.{Nothing}
-use Rattle.gypsy_semantics.specs.Calls.{has_cond, is_leave, is_passed_on, matching, values_of, copied_out}
-use Rattle.gypsy_semantics.specs.Machine.{Item, Do, Back, JoinThen, JoinOne, Guard, Out, Frame, Held, State, At, Move, Next, Ended, opens, open_on, settle}
-use Rattle.gypsy_semantics.specs.Machine.{stop_if, raise, either_move, apply_step, used, call_step, do_step, end_step, out_step, gypsy_step, start}
-use Rattle.space_cert.specs.Covers.{Bounds, bound_at, callees, CoversCall, CoversCalls, IsCertificate, Covers}
-use Rattle.space_cert.specs.CoveredStates.{WorkCovered, ActivationCovered, WaitingCovered, StateCovered}
-use Rattle.space_cert.specs.Never.{HasCallRoom}
-use Rattle.space_cert.proofs.AllLaws.{all_left, all_right}
+use Rattle.gypsy_semantics.{specs.Calls.{has_cond, is_leave, is_passed_on, matching, values_of, copied_out}, specs.Machine.{Item, Do, Back, JoinThen, JoinOne}}
+use Rattle.gypsy_semantics.specs.Machine.{Guard, Out, Frame, Held, State, At, Move, Next, Ended, opens, open_on, settle, stop_if, raise, either_move}
+use Rattle.gypsy_semantics.specs.Machine.{apply_step, used, call_step, do_step, end_step, out_step, gypsy_step, start}
+use Rattle.space_cert.{specs.Covers.{Bounds, bound_at, callees, CoversCall, CoversCalls, IsCertificate, Covers}, specs.CoveredStates.WorkCovered}
+use Rattle.space_cert.{specs.CoveredStates.{ActivationCovered, WaitingCovered, StateCovered}, specs.Never.HasCallRoom, proofs.AllLaws.{all_left, all_right}}
 use Rattle.space_cert.proofs.CoversLaws.{bound_there, lacks_nothing, left, main_within}
 
 abbrev pub MoveCovered : Program → Bounds → StackSizes → Move → Type 0

@@ -1,16 +1,9 @@
 -- Trees of certificates.
 use Rattle.std.proofs.Common.{◌≡◌, ◌≢◌, ℕ, zero, suc, ◌+◌, ◌<◌, ◌≤◌, ◌^◌, nat_le, List, [], ◌∷◌, length, get_or, set, drop, replicate, true, Option, Some, None}
-use Rattle.std.proofs.Common.{Result, Ok, refl, ap, sym, ◌∙◌, arith}
-use Rattle.std.proofs.lemmas.Bool.{and_parts, le-leb, and_from}
-use Rattle.std.proofs.lemmas.List.{drop_all}
-use Rattle.stack_text.specs.Gives.{FailsUnless}
-use Rattle.stack_text.specs.Results.{◌>>=◌}
-use Rattle.stack_text.specs.Trees.{more}
-use Rattle.stack_text.specs.declared.tree.TextTree.{TextTree}
-use Rattle.stack_text.specs.Views.TreeView.{node_of, nodes_of}
-use Rattle.space_cert.specs.CertText.{Fault, three_of, entry_at, with_entries}
-use Rattle.space_cert.specs.Covers.{Bounds}
-use Rattle.space_cert.specs.Bounded.{is_bound, are_bounds}
+use Rattle.std.{proofs.Common.{Result, Ok, refl, ap, sym, ◌∙◌, arith}, proofs.lemmas.Bool.{and_parts, le-leb, and_from}, proofs.lemmas.List.drop_all}
+use Rattle.stack_text.{specs.Gives.FailsUnless, specs.Results.◌>>=◌, specs.Trees.more, specs.declared.tree.TextTree.TextTree, specs.Views.TreeView.node_of}
+use Rattle.stack_text.specs.Views.TreeView.{nodes_of}
+use Rattle.space_cert.{specs.CertText.{Fault, three_of, entry_at, with_entries}, specs.Covers.Bounds, specs.Bounded.{is_bound, are_bounds}}
 
 pub not_three : (trees : List TextTree) → length trees ≢ 3 → None ≡ three_of (nodes_of trees)
 not_three [] ne = refl

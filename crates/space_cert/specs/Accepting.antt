@@ -1,15 +1,10 @@
 -- Whether a certificate covers a source, as the code judges it: by the source's names and by its needs.
-use Rattle.std.specs.Prelude.{ℕ, zero, suc, ◌+◌, List, [], ◌∷◌, ◌++◌, map, length, Option, Some, None}
-use Rattle.std.specs.Prelude.{Bool, true, false, ◌&&◌, ◌==◌}
+use Rattle.std.specs.Prelude.{ℕ, zero, suc, ◌+◌, List, [], ◌∷◌, ◌++◌, map, length, Option, Some, None, Bool, true, false, ◌&&◌, ◌==◌}
 use Rattle.std.specs.List.{list_all}
-use Rattle.gypsy_syntax.specs.Resolved.{position_of, procedure_names}
-use Rattle.gypsy_syntax.specs.Sources.{SourceOf, StmtOf, StmtsOf, no_op, signal, seq, loop, branch, begin, call, predef, no_parts, part}
-use Rattle.gypsy_syntax.specs.Programs.{Proc, Program}
-use Rattle.gypsy_space.specs.Needs.{StackSizes, stack_sizes, main_used}
-use Rattle.gypsy_space.specs.Events.{need_at, need_of}
-use Rattle.gypsy_space.specs.declared.need.Need.{Need}
-use Rattle.space_cert.specs.Covers.{Bounds, bound_at, words_sum, callees}
-use Rattle.space_cert.specs.Order.{call_bound_by}
+use Rattle.gypsy_syntax.specs.{Resolved.{position_of, procedure_names}, Sources.{SourceOf, StmtOf, StmtsOf, no_op, signal, seq, loop}}
+use Rattle.gypsy_syntax.specs.{Sources.{branch, begin, call, predef, no_parts, part}, Programs.{Proc, Program}}
+use Rattle.gypsy_space.specs.{Needs.{StackSizes, stack_sizes, main_used}, Events.{need_at, need_of}, declared.need.Need.{Need}}
+use Rattle.space_cert.specs.{Covers.{Bounds, bound_at, words_sum, callees}, Order.{call_bound_by}}
 use Rattle.gypsy_semantics.specs.Views.Fitting.{suffice}
 
 -- there is one, and it passes

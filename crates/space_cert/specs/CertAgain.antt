@@ -1,11 +1,8 @@
 -- The least certificate of a source, written and read again.
 use Rattle.std.specs.Prelude.{◌≡◌, ◌≤◌, ◌^◌, length, Ok}
 use Rattle.gypsy_check.specs.Accepted.{IsAccepted}
-use Rattle.gypsy_syntax.specs.Resolved.{procedure_names, program_of}
-use Rattle.gypsy_syntax.specs.Sources.{SourceOf}
-use Rattle.space_cert.specs.CertText.{bounds_in, certificate_text}
-use Rattle.space_cert.specs.Certified.{certified}
-use Rattle.space_cert.specs.Covers.{Bounds}
+use Rattle.gypsy_syntax.specs.{Resolved.{procedure_names, program_of}, Sources.{SourceOf}}
+use Rattle.space_cert.specs.{CertText.{bounds_in, certificate_text}, Certified.{certified}, Covers.{Bounds}}
 
 -- its text is short, and the bounds that this gives the procedures are the certificate's
 pub record IsReadAgain (source : SourceOf) (bs : Bounds) : Type 0 where

@@ -1,23 +1,13 @@
 -- The text of a certificate, `((NAME TEMP CTRL)*)`: the bounds that it gives the procedures of a source, the rules Z1 to Z3 that
 -- it may break, and how a certificate is written.
-use Rattle.std.specs.Prelude.{ℕ, ℤ, pos, negsuc, nat_le, List, [], ◌∷◌, length, get_or, slice_set}
-use Rattle.std.specs.Prelude.{Result, Ok, Err, Option, Some, None, if◌then◌else◌}
-use Rattle.std.specs.Option.{is_some}
-use Rattle.std.specs.Fmt.{decimal}
-use Rattle.stack_text.specs.Names.{place_among}
-use Rattle.space_cert.specs.Bounded.{most_bound}
-use Rattle.stack_text.specs.declared.text_fault.TextRule.{TextRule}
-use Rattle.stack_text.specs.Results.{◌>>=◌}
-use Rattle.stack_text.specs.Numerals.{is_digits, numeral_value}
-use Rattle.stack_text.specs.Trees.{Node, Nodes, atom, list, none, more}
-use Rattle.stack_text.specs.TreeIn.{tree_in}
-use Rattle.stack_text.specs.TreeText.{tree_text}
-use Rattle.stack_text.specs.Grammar.Printed.{tree_of_all}
+use Rattle.std.specs.Prelude.{ℕ, ℤ, pos, negsuc, nat_le, List, [], ◌∷◌, length, get_or, slice_set, Result, Ok, Err, Option, Some, None}
+use Rattle.std.specs.{Prelude.{if◌then◌else◌}, Option.{is_some}, Fmt.{decimal}}
+use Rattle.stack_text.specs.{Names.{place_among}, declared.text_fault.TextRule.{TextRule}, Results.{◌>>=◌}, Numerals.{is_digits}}
+use Rattle.stack_text.specs.{Numerals.{numeral_value}, Trees.{Node, Nodes, atom, list, none, more}, TreeIn.{tree_in}, TreeText.{tree_text}}
+use Rattle.stack_text.specs.{Grammar.Printed.{tree_of_all}, TreeNames.{name_of_tree}}
+use Rattle.space_cert.specs.{Bounded.{most_bound}, declared.reading.CertTextFault.{CertTextFault}}
+use Rattle.space_cert.specs.{declared.reading.CertTextFault.TheVariants.{Refused, Memory}, Covers.{Bounds, no_bounds}}
 use Rattle.stack_text.specs.Gives as common
-use Rattle.space_cert.specs.declared.reading.CertTextFault.{CertTextFault}
-use Rattle.space_cert.specs.declared.reading.CertTextFault.TheVariants.{Refused, Memory}
-use Rattle.space_cert.specs.Covers.{Bounds, no_bounds}
-use Rattle.stack_text.specs.TreeNames.{name_of_tree}
 
 -- the number of a rule, and a place
 abbrev pub Fault : Type 0

@@ -1,15 +1,11 @@
 -- The least certificate as a function of the program, or the first procedure for which there is none.
-use Rattle.std.specs.Prelude.{ℕ, zero, suc, ◌+◌, ◌==◌, Bool, ◌&&◌, ◌||◌, List, [], ◌∷◌, length}
-use Rattle.std.specs.Prelude.{Option, Some, None, Result, Ok, Err, if◌then◌else◌}
-use Rattle.std.specs.List.{list_any}
+use Rattle.std.specs.Prelude.{ℕ, zero, suc, ◌+◌, ◌==◌, Bool, ◌&&◌, ◌||◌, List, [], ◌∷◌, length, Option, Some, None, Result, Ok, Err}
+use Rattle.std.specs.{Prelude.{if◌then◌else◌}, List.{list_any}}
 use Rattle.stack_text.specs.Gives as common
 use Rattle.gypsy_syntax.specs.Programs.{Program, proc_at}
 use Rattle.gypsy_space.specs.Needs.{StackSizes, stack_sizes}
-use Rattle.space_cert.specs.declared.certifying.CertFault.{CertFault}
-use Rattle.space_cert.specs.declared.certifying.CertFault.TheVariants.{Recursive, Memory}
-use Rattle.space_cert.specs.Covers.{Bounds, own_need, call_bound}
-use Rattle.space_cert.specs.Reaches.{calls_of}
-use Rattle.space_cert.specs.Order.{greater}
+use Rattle.space_cert.specs.{declared.certifying.CertFault.{CertFault}, declared.certifying.CertFault.TheVariants.{Recursive, Memory}}
+use Rattle.space_cert.specs.{Covers.{Bounds, own_need, call_bound}, Reaches.{calls_of}, Order.{greater}}
 
 -- p calls r, or comes to it by way of procedures that stand below n
 unfoldable pub reaches_below : (ℕ → List ℕ) → ℕ → ℕ → ℕ → Bool

@@ -1,9 +1,7 @@
 -- Certificates of stack space: for each procedure how many words of both stacks a run of it takes beside its own, or nothing.
-use Rattle.std.specs.Prelude.{◌≡◌, ℕ, ◌+◌, ◌≤◌, max, List, [], ◌∷◌, ◌++◌, length, get_or, replicate, Option, Some, None}
-use Rattle.std.specs.Option.{IsSome, IsSomeAnd, option_map, unwrap_or}
-use Rattle.std.specs.List.{All}
-use Rattle.gypsy_syntax.specs.Programs.{Proc, Program, proc_at, body_of}
-use Rattle.gypsy_syntax.specs.Programs.{Stmt, Skip, NoOp, Signal, Seq, Loop, If, Begin, Call, Apply}
+use Rattle.std.specs.{Prelude.{◌≡◌, ℕ, ◌+◌, ◌≤◌, max, List, [], ◌∷◌, ◌++◌, length, get_or, replicate, Option, Some, None}, Option.{IsSome}}
+use Rattle.std.specs.{Option.{IsSomeAnd, option_map, unwrap_or}, List.{All}}
+use Rattle.gypsy_syntax.specs.Programs.{Proc, Program, proc_at, body_of, Stmt, Skip, NoOp, Signal, Seq, Loop, If, Begin, Call, Apply}
 use Rattle.gypsy_space.specs.Needs.{StackSizes, stack_sizes, temp_need, ctrl_need, local_words, vars_of, frame_of, main_used}
 
 -- of each procedure, in order: words of the temporary stack, and of the control stack

@@ -1,15 +1,10 @@
 -- Larger stacks change no run in which spaceerror is never raised.
 use Rattle.std.specs.Prelude.{◌≡◌, ◌↔◌, ℕ, List}
 use Rattle.stack_text.specs.Values.{ValueOf}
-use Rattle.gypsy_syntax.specs.ProgramFits.{ProgramFits}
-use Rattle.gypsy_syntax.specs.Programs.{Program}
-use Rattle.gypsy_space.specs.Costs.{Tally}
-use Rattle.gypsy_space.specs.Needs.{StackSizes}
-use Rattle.gypsy_semantics.specs.Calls.{CurrentCondition}
-use Rattle.gypsy_semantics.specs.Counted.{CountedDone, counted_meaning}
-use Rattle.gypsy_semantics.specs.Views.Moments.{moment_from}
-use Rattle.space_cert.specs.Covers.{Bounds, Covers, IsAtMost}
-use Rattle.space_cert.specs.Never.{NeverSpaceError}
+use Rattle.gypsy_syntax.specs.{ProgramFits.{ProgramFits}, Programs.{Program}}
+use Rattle.gypsy_space.specs.{Costs.{Tally}, Needs.{StackSizes}}
+use Rattle.gypsy_semantics.specs.{Calls.{CurrentCondition}, Counted.{CountedDone, counted_meaning}, Views.Moments.{moment_from}}
+use Rattle.space_cert.specs.{Covers.{Bounds, Covers, IsAtMost}, Never.{NeverSpaceError}}
 
 -- the meaning is done at some bound, with these values, this condition and these costs
 abbrev pub EndsWith : Program → StackSizes → List ValueOf → List ValueOf → CurrentCondition → Tally → Type 0

@@ -1,12 +1,9 @@
 -- The least certificate.
-use Rattle.std.specs.Prelude.{◌≡◌, ℕ, ◌<◌, length, Some, None}
-use Rattle.std.specs.Option.{IsSome, IsSomeAnd}
+use Rattle.std.specs.{Prelude.{◌≡◌, ℕ, ◌<◌, length, Some, None}, Option.{IsSome, IsSomeAnd}}
 use Rattle.gypsy_syntax.specs.Programs.{Program}
 use Rattle.gypsy_space.specs.Needs.{StackSizes}
-use Rattle.space_cert.specs.declared.certifying.CertFault.{CertFault}
-use Rattle.space_cert.specs.declared.certifying.CertFault.TheVariants.{Recursive, Memory}
-use Rattle.space_cert.specs.Covers.{Bounds, bound_at, IsAtMost, IsCertificate}
-use Rattle.space_cert.specs.Reaches.{IsReached, IsRecursive}
+use Rattle.space_cert.specs.{declared.certifying.CertFault.{CertFault}, declared.certifying.CertFault.TheVariants.{Recursive, Memory}}
+use Rattle.space_cert.specs.{Covers.{Bounds, bound_at, IsAtMost, IsCertificate}, Reaches.{IsReached, IsRecursive}}
 
 -- what main reaches has bounds, which are the least that any certificate has; any other procedure has none
 pub record AreLeastBounds (q : Program) (bs : Bounds) : Type 0 where

@@ -1,17 +1,11 @@
 -- Runs in which spaceerror is never raised.
 use Rattle.std.specs.Prelude.{◌≡◌, ◌≢◌, ℕ, List, ◌∷◌, Option, Some, None}
 use Rattle.stack_text.specs.Values.{ValueOf}
-use Rattle.gypsy_syntax.specs.Programs.{ConditionOf, Routine, Space, Program}
-use Rattle.gypsy_syntax.specs.Programs.{Signal, Call, Apply}
-use Rattle.gypsy_syntax.specs.Predefined.{predef_effect}
+use Rattle.gypsy_syntax.specs.{Programs.{ConditionOf, Routine, Space, Program, Signal, Call, Apply}, Predefined.{predef_effect}}
 use Rattle.gypsy_syntax.specs.Effects.{Effect, Normal, Fault, Beyond}
-use Rattle.gypsy_space.specs.Costs.{Tally}
-use Rattle.gypsy_space.specs.Needs.{StackSizes, lack_of}
-use Rattle.gypsy_space.specs.declared.need.Lack.{Lack}
+use Rattle.gypsy_space.specs.{Costs.{Tally}, Needs.{StackSizes, lack_of}, declared.need.Lack.{Lack}}
 use Rattle.gypsy_space.specs.declared.need.Lack.TheVariants.{Nothing, Temporary, Control}
-use Rattle.gypsy_semantics.specs.Calls.{matching, values_of}
-use Rattle.gypsy_semantics.specs.Machine.{Do, Out, Held, State, At, Next, Over}
-use Rattle.gypsy_semantics.specs.Machine.{gypsy_step, run, start, used}
+use Rattle.gypsy_semantics.specs.{Calls.{matching, values_of}, Machine.{Do, Out, Held, State, At, Next, Over, gypsy_step, run, start, used}}
 use Rattle.gypsy_semantics.specs.Meaning.{Done, meaning}
 
 -- a run from these values comes to the state

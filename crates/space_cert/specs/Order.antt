@@ -1,14 +1,9 @@
 -- How the least certificate is found: procedure after procedure, each one after those that it calls.
-use Rattle.std.specs.Prelude.{◌≡◌, ℕ, ◌+◌, ◌≤◌, max, List, [], ◌∷◌, length, get_or, slice_set, Some}
-use Rattle.std.specs.Option.{unwrap_or}
-use Rattle.std.specs.List.{All, Contains}
-use Rattle.space_cert.specs.Bounded.{most_bound}
+use Rattle.std.specs.{Prelude.{◌≡◌, ℕ, ◌+◌, ◌≤◌, max, List, [], ◌∷◌, length, get_or, slice_set, Some}, Option.{unwrap_or}, List.{All}}
+use Rattle.std.specs.List.{Contains}
+use Rattle.space_cert.specs.{Bounded.{most_bound}, Covers.{Bounds, bound_at, no_bounds, own_need, call_bound}, Reaches.{calls_of}}
 use Rattle.gypsy_syntax.specs.Programs.{Program, proc_at}
-use Rattle.gypsy_space.specs.Needs.{StackSizes, stack_sizes}
-use Rattle.gypsy_space.specs.Events.{need_at}
-use Rattle.gypsy_space.specs.declared.need.Need.{Need}
-use Rattle.space_cert.specs.Covers.{Bounds, bound_at, no_bounds, own_need, call_bound}
-use Rattle.space_cert.specs.Reaches.{calls_of}
+use Rattle.gypsy_space.specs.{Needs.{StackSizes, stack_sizes}, Events.{need_at}, declared.need.Need.{Need}}
 
 -- each once, after those that it calls; the last one stands first
 abbrev pub IsOrder : (ℕ → List ℕ) → List ℕ → Type 0

@@ -1,21 +1,15 @@
 //! Whether a certificate covers a source.
 
-ghost use Rattle.std.specs.Prelude.{◌≡◌, ◌↔◌, ◌<◌, ◌≤◌, ◌^◌, ◌==◌, List, IfSome, IsTrue, None, get_or, length, map};
-ghost use Rattle.std.specs.List.{position};
-ghost use Rattle.std.specs.Option.{option_map};
+ghost use Rattle.std.specs.{Prelude.{◌≡◌, ◌↔◌, ◌<◌, ◌≤◌, ◌^◌, ◌==◌, List, IfSome, IsTrue, None, get_or, length, map}, List.{position}, Option.{option_map}};
 ghost use Rattle.std.specs.Str.{bytes_eq};
-ghost use Rattle.gypsy_syntax.specs.Programs.{proc_at, words_of};
-ghost use Rattle.gypsy_syntax.specs.Resolved.{position_of, procedure_names, program_of, shape_of};
+ghost use Rattle.gypsy_syntax.specs.{Programs.{proc_at, words_of}, Resolved.{position_of, procedure_names, program_of, shape_of}};
 ghost use Rattle.gypsy_syntax.specs.Views.SourceView.{parts_of_list, proc_of, source_of, stmt_of};
-ghost use Rattle.gypsy_space.specs.Events.{AreNeeds, AreSmall, IsSmall, need_at};
-ghost use Rattle.gypsy_space.specs.Needs.{main_used, stack_sizes};
+ghost use Rattle.gypsy_space.specs.{Events.{AreNeeds, AreSmall, IsSmall, need_at}, Needs.{main_used, stack_sizes}};
 ghost use Rattle.stack_text.specs.Values.{ValueOf, item_count};
 ghost use Rattle.gypsy_check.specs.Accepted.{IsAccepted};
-ghost use Rattle.space_cert.specs.Covers.{Covers, as_words, bound_at, sizes_for};
-ghost use Rattle.space_cert.specs.Never.{NeverSpaceError};
-ghost use Rattle.space_cert.specs.Accepting.{covers, covers_call, covers_calls, covers_from, covers_main, covers_run};
+ghost use Rattle.space_cert.specs.{Covers.{Covers, as_words, bound_at, sizes_for}, Never.{NeverSpaceError}, Accepting.{covers, covers_call, covers_calls}};
+ghost use Rattle.space_cert.specs.Accepting.{covers_from, covers_main, covers_run, is_covered, parts_callees, source_callees, source_calls};
 ghost use Rattle.gypsy_semantics.specs.Views.Fitting.{suffice};
-ghost use Rattle.space_cert.specs.Accepting.{is_covered, parts_callees, source_callees, source_calls};
 
 use crate::certificate::Certificate;
 use crate::certifying::{bound_of, call_bound};

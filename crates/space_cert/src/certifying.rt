@@ -1,19 +1,11 @@
 //! The least certificate.
 
-ghost use Rattle.std.specs.Prelude.{◌≡◌, ℕ, ◌+◌, ◌<◌, ◌≤◌, ◌^◌, ◌++◌, None, get_or, length, map, reverse, take, IfErr};
+ghost use Rattle.std.specs.{Prelude.{◌≡◌, ℕ, ◌+◌, ◌<◌, ◌≤◌, ◌^◌, ◌++◌, None, get_or, length, map, reverse, take, IfErr}, Result.{MatchResult}, List.{All}};
 ghost use Rattle.stack_heap.specs.Heaps.{IfOkUnless, OnOkUnless};
-ghost use Rattle.std.specs.Result.{MatchResult};
-ghost use Rattle.std.specs.List.{All};
-ghost use Rattle.gypsy_syntax.specs.ProgramFits.{ProgramFits};
-ghost use Rattle.gypsy_syntax.specs.Resolved.{program_of};
-ghost use Rattle.gypsy_syntax.specs.Views.SourceView.{source_of};
-ghost use Rattle.gypsy_space.specs.Events.{AreNeeds, AreSmall, IsSmall};
-ghost use Rattle.gypsy_space.specs.Nodes.{seen_program, seen_statement, seen_statements};
-ghost use Rattle.space_cert.specs.Covers.{as_words, callees};
-ghost use Rattle.space_cert.specs.Certified.{GivesCertifiedUnless, certified};
-ghost use Rattle.space_cert.specs.Order.{AreBounds, bounds_by_needs, call_bound_by, run_bound_by};
-ghost use Rattle.space_cert.specs.Least.{IsCertFaultUnless, AreLeastBounds, IsThere};
-ghost use Rattle.space_cert.specs.Internal.SearchView.{seen_calls};
+ghost use Rattle.gypsy_syntax.specs.{ProgramFits.{ProgramFits}, Resolved.{program_of}, Views.SourceView.{source_of}};
+ghost use Rattle.gypsy_space.specs.{Events.{AreNeeds, AreSmall, IsSmall}, Nodes.{seen_program, seen_statement, seen_statements}};
+ghost use Rattle.space_cert.specs.{Covers.{as_words, callees}, Certified.{GivesCertifiedUnless, certified}, Order.{AreBounds, bounds_by_needs, call_bound_by}};
+ghost use Rattle.space_cert.specs.{Order.{run_bound_by}, Least.{IsCertFaultUnless, AreLeastBounds, IsThere}, Internal.SearchView.{seen_calls}};
 
 use crate::certificate::Certificate;
 use crate::filling::filled;

@@ -1,21 +1,13 @@
 //! Laws of certificates. The functions do nothing: their clauses hold of all programs.
 
-ghost use Rattle.std.specs.Prelude.{◌≡◌, ◌↔◌, ℕ, List, IsTrue};
-ghost use Rattle.std.specs.Result.{MatchResult};
+ghost use Rattle.std.specs.{Prelude.{◌≡◌, ◌↔◌, ℕ, List, IsTrue}, Result.{MatchResult}};
 ghost use Rattle.stack_text.specs.Values.{ValueOf};
-ghost use Rattle.gypsy_syntax.specs.ProgramFits.{ProgramFits};
-ghost use Rattle.gypsy_syntax.specs.Programs.{Program};
+ghost use Rattle.gypsy_syntax.specs.{ProgramFits.{ProgramFits}, Programs.{Program}};
 ghost use Rattle.gypsy_space.specs.Needs.{StackSizes};
 ghost use Rattle.gypsy_semantics.specs.Machine.{State, Next, gypsy_step, start};
-ghost use Rattle.space_cert.specs.Covers.{Bounds, Covers, IsAtMost, IsCertificate, sizes_for};
-ghost use Rattle.space_cert.specs.CoveredStates.{StateCovered};
-ghost use Rattle.space_cert.specs.Accepting.{is_covered};
-ghost use Rattle.space_cert.specs.CertAgain.{CertificatesAreReadAgain};
-ghost use Rattle.space_cert.specs.Certified.{certified};
-ghost use Rattle.space_cert.specs.Larger.{CoveredRunsAreTheSame, LargerStacksChangeNothing};
-ghost use Rattle.space_cert.specs.Least.{IsFirstRecursive, AreLeastBounds};
-ghost use Rattle.space_cert.specs.Never.{HasCallRoom, NeverSpaceError};
-ghost use Rattle.space_cert.specs.Reaches.{IsRecursive};
+ghost use Rattle.space_cert.specs.{Covers.{Bounds, Covers, IsAtMost, IsCertificate, sizes_for}, CoveredStates.{StateCovered}, Accepting.{is_covered}};
+ghost use Rattle.space_cert.specs.{CertAgain.{CertificatesAreReadAgain}, Certified.{certified}, Larger.{CoveredRunsAreTheSame, LargerStacksChangeNothing}};
+ghost use Rattle.space_cert.specs.{Least.{IsFirstRecursive, AreLeastBounds}, Never.{HasCallRoom, NeverSpaceError}, Reaches.{IsRecursive}};
 
 /// Where a certificate covers a program at the sizes of the stacks, its start is covered, whatever the values are, each step
 /// leads from a covered state to a covered state, and in a covered state a call on top has room. So `spaceerror` is never

@@ -1,12 +1,9 @@
 //! The text of certificates.
 
-ghost use Rattle.std.specs.Prelude.{◌≡◌, ◌≤◌, ◌^◌, ◌++◌, ◌∷◌, length, IfOk, Ok};
+ghost use Rattle.std.specs.{Prelude.{◌≡◌, ◌≤◌, ◌^◌, ◌++◌, ◌∷◌, length, IfOk, Ok}, Fmt.{decimal}};
 ghost use Rattle.stack_heap.specs.Heaps.{IfOkUnless, OnOkUnless};
-ghost use Rattle.std.specs.Fmt.{decimal};
-ghost use Rattle.stack_text.specs.TreeText.{items_text, tree_text};
-ghost use Rattle.stack_text.specs.Views.TreeView.{nodes};
-ghost use Rattle.gypsy_syntax.specs.Resolved.{procedure_names};
-ghost use Rattle.gypsy_syntax.specs.Views.SourceView.{source_of};
+ghost use Rattle.stack_text.specs.{TreeText.{items_text, tree_text}, Views.TreeView.{nodes}};
+ghost use Rattle.gypsy_syntax.specs.{Resolved.{procedure_names}, Views.SourceView.{source_of}};
 ghost use Rattle.gypsy_space.specs.Callees.{names_of};
 ghost use Rattle.space_cert.specs.CertText.{bounds_in, certificate_text, entry_tree, entry_trees};
 

@@ -1,20 +1,13 @@
 //! Reading certificates.
 
-ghost use Rattle.std.specs.Prelude.{◌≡◌, ◌<◌, ◌≤◌, ◌^◌, IfOk, IfSome, IsTrue, length, option_map};
+ghost use Rattle.std.specs.{Prelude.{◌≡◌, ◌<◌, ◌≤◌, ◌^◌, IfOk, IfSome, IsTrue, length, option_map}, List.{IsDistinct}, Str.{bytes_eq}};
 ghost use Rattle.stack_heap.specs.Heaps.{IfOkUnless};
-ghost use Rattle.std.specs.List.{IsDistinct};
-ghost use Rattle.std.specs.Str.{bytes_eq};
-ghost use Rattle.stack_text.specs.Names.{place_among};
+ghost use Rattle.stack_text.specs.{Names.{place_among}, Views.TreeView.{node_of, nodes_of}, TreeNames.{name_of_tree}};
 ghost use Rattle.stack_text.specs.Gives as memory;
-ghost use Rattle.stack_text.specs.Views.TreeView.{node_of, nodes_of};
-ghost use Rattle.gypsy_syntax.specs.Resolved.{procedure_names};
-ghost use Rattle.gypsy_syntax.specs.Views.SourceView.{source_of};
+ghost use Rattle.gypsy_syntax.specs.{Resolved.{procedure_names}, Views.SourceView.{source_of}};
 ghost use Rattle.gypsy_space.specs.Callees.{names_of};
-ghost use Rattle.space_cert.specs.Bounded.{are_bounds};
-ghost use Rattle.space_cert.specs.Covers.{no_bounds};
-ghost use Rattle.stack_text.specs.TreeNames.{name_of_tree};
-ghost use Rattle.space_cert.specs.CertText.{GivesCertificateTextUnless, bounds_at, bounds_in, entry_at, fault_of, free_place};
-ghost use Rattle.space_cert.specs.CertText.{number_at, number_of, parts_entry, three_of, with_entries};
+ghost use Rattle.space_cert.specs.{Bounded.{are_bounds}, Covers.{no_bounds}, CertText.{GivesCertificateTextUnless, bounds_at, bounds_in, entry_at, fault_of}};
+ghost use Rattle.space_cert.specs.CertText.{free_place, number_at, number_of, parts_entry, three_of, with_entries};
 
 use crate::certificate::Certificate;
 use crate::certifying::bound_of;

@@ -1,11 +1,8 @@
 //! Procedures in an order in which each one stands after those that it calls, and which of them reach themselves.
 
-ghost use Rattle.std.specs.Prelude.{◌≡◌, ◌<◌, ◌≤◌, ◌^◌, ◌∷◌, Some, List, length, reverse, IfOk};
+ghost use Rattle.std.specs.{Prelude.{◌≡◌, ◌<◌, ◌≤◌, ◌^◌, ◌∷◌, Some, List, length, reverse, IfOk}, List.{All}};
 ghost use Rattle.stack_heap.specs.Heaps.{IfOkUnless, OnOkUnless};
-ghost use Rattle.std.specs.List.{All};
-ghost use Rattle.space_cert.specs.Internal.Search.{earlier};
-ghost use Rattle.space_cert.specs.Internal.SearchState.{IsFound};
-ghost use Rattle.space_cert.specs.Internal.SearchView.{AreCalls, seen_calls};
+ghost use Rattle.space_cert.specs.{Internal.Search.{earlier}, Internal.SearchState.{IsFound}, Internal.SearchView.{AreCalls, seen_calls}};
 
 use crate::filling::filled;
 use stack_heap::Heap;
@@ -59,8 +56,7 @@ fn earlier(procedure: u32, first: Option<u32>) -> u32
 
 impl Search {
     ghost use Rattle.space_cert.specs.Internal.SearchState.{with_call, with_entered, with_joined, with_top_done, IsSearch, left_to_do};
-    ghost use Rattle.space_cert.specs.Internal.SearchView.{HasAdvanced, HasFinished, search_of};
-    ghost use Rattle.space_cert.specs.declared.search.Group.{Group};
+    ghost use Rattle.space_cert.specs.{Internal.SearchView.{HasAdvanced, HasFinished, search_of}, declared.search.Group.{Group}};
 
     /// The search begins with main.
     fn new<H: Heap>(heap: H, calls: &[Vec<u32>], main: u32) -> Result<Search, Memory>

@@ -1,7 +1,5 @@
 -- A number of one bit.
-use Rattle.std.proofs.Common.{◌≡◌, ℕ, suc, Bool, true, false, ◌||◌, eqb, refl, sym, true≢false, arith}
-use Rattle.std.proofs.lemmas.Bool.{eqb-true}
-use Rattle.std.specs.Prelude.{pos}
+use Rattle.std.{proofs.Common.{◌≡◌, ℕ, suc, Bool, true, false, ◌||◌, eqb, refl, sym, true≢false, arith}, proofs.lemmas.Bool.eqb-true, specs.Prelude.pos}
 use Rattle.stack_text.specs.declared.shape.Kind.TheVariants.{Boolean}
 use Rattle.gypsy_syntax.specs.Ranges.{is_in_range}
 

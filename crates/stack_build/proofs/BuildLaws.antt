@@ -1,42 +1,26 @@
 -- What is built of a source, and why nothing is.
-use Rattle.std.proofs.Common.{◌≡◌, ◌<◌, ◌≤◌, ℕ, List, [], Bool, cond, Option, Some, None, Result, Ok, Err, sym, ap, subst, ◌∙◌}
-use Rattle.std.specs.Prelude.{◌^◌}
+use Rattle.std.{proofs.Common.{◌≡◌, ◌<◌, ◌≤◌, ℕ, List, [], Bool, cond, Option, Some, None, Result, Ok, Err, sym, ap, subst, ◌∙◌}, specs.Prelude.◌^◌}
 use Rattle.std.proofs.lemmas.Bool.{lt-ltb, le-ltb}
-use Rattle.stack_text.specs.declared.breach.Breach.{Breach}
-use Rattle.stack_text.specs.Breaches.{least}
-use Rattle.stack_text.specs.Gives.{FailsUnless}
-use Rattle.stack_text.specs.Results.{◌>>=◌}
-use Rattle.fm_image.specs.Image.{ImageOf}
-use Rattle.fm_image.specs.Spelling.{spelling}
+use Rattle.stack_text.{specs.declared.breach.Breach.Breach, specs.Breaches.least, specs.Gives.FailsUnless, specs.Results.◌>>=◌}
+use Rattle.fm_image.{specs.Image.ImageOf, specs.Spelling.spelling}
 use Rattle.piton_syntax.specs.Systems.{SystemOf}
-use Rattle.piton_check.specs.PitonChecking.{CheckedOf, IsChecked}
-use Rattle.piton_check.specs.Instruction.{SystemView}
-use Rattle.piton_semantics.specs.Fits.{system_in}
-use Rattle.piton_semantics.specs.Placed.{placed}
-use Rattle.piton_linker.specs.declared.fault.LinkFault.{LinkFault}
+use Rattle.piton_check.{specs.PitonChecking.{CheckedOf, IsChecked}, specs.Instruction.SystemView}
+use Rattle.piton_semantics.{specs.Fits.system_in, specs.Placed.placed}
+use Rattle.piton_linker.{specs.declared.fault.LinkFault.LinkFault, specs.Layouts.IsFaultUnless}
 use Rattle.piton_linker.specs.declared.fault.LinkFault.TheVariants as link
-use Rattle.piton_linker.specs.Layouts.{IsFaultUnless}
-use Rattle.gypsy_syntax.specs.declared.fault.GypsyFault.{GypsyFault}
+use Rattle.gypsy_syntax.{specs.declared.fault.GypsyFault.GypsyFault, specs.GypsyReading.gypsy_in, specs.Sources.SourceOf, specs.Resolved.program_of}
 use Rattle.gypsy_syntax.specs.declared.fault.GypsyFault.TheVariants as gypsy
 use Rattle.gypsy_syntax.specs.GypsyReading as syntax
-use Rattle.gypsy_syntax.specs.GypsyReading.{gypsy_in}
-use Rattle.gypsy_syntax.specs.Sources.{SourceOf}
-use Rattle.gypsy_syntax.specs.Resolved.{program_of}
-use Rattle.gypsy_check.specs.declared.fault.CheckFault.{CheckFault}
+use Rattle.gypsy_check.{specs.declared.fault.CheckFault.CheckFault, specs.GypsyChecking.IsLeastUnless, specs.Rules.violations}
 use Rattle.gypsy_check.specs.declared.fault.CheckFault.TheVariants as check
-use Rattle.gypsy_check.specs.GypsyChecking.{IsLeastUnless}
-use Rattle.gypsy_check.specs.Rules.{violations}
 use Rattle.gypsy_space.specs.Needs.{StackSizes, stack_sizes}
-use Rattle.gypsy_codegen.specs.Generated.{generated_view}
+use Rattle.gypsy_codegen.{specs.Generated.generated_view, specs.Generation.generation, specs.declared.fault.GenFault.GenFault}
 use Rattle.gypsy_codegen.specs.Generation as generating
-use Rattle.gypsy_codegen.specs.Generation.{generation}
-use Rattle.gypsy_codegen.specs.declared.fault.GenFault.{GenFault}
 use Rattle.gypsy_codegen.specs.declared.fault.GenFault.TheVariants as gen
-use Rattle.stack_build.specs.declared.fault.BuildFault.{BuildFault}
+use Rattle.stack_build.{specs.declared.fault.BuildFault.BuildFault, specs.Image.{image_on, image_of}, specs.Build.{reading_fault, checking_fault}}
+use Rattle.stack_build.specs.Build.{generating_fault, linking_fault, fault_of, accepted_unless, accepted_by, accepted_source, generated_by, built_with}
+use Rattle.stack_build.specs.Build.{placed_size, linked_of, source_built, built}
 use Rattle.stack_build.specs.declared.fault.BuildFault.TheVariants as fault
-use Rattle.stack_build.specs.Image.{image_on, image_of}
-use Rattle.stack_build.specs.Build.{reading_fault, checking_fault, generating_fault, linking_fault, fault_of, accepted_unless, accepted_by, accepted_source}
-use Rattle.stack_build.specs.Build.{generated_by, built_with, placed_size, linked_of, source_built, built}
 
 -- ---- reading and checking
 

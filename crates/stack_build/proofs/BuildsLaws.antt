@@ -1,47 +1,26 @@
 -- What is built of an accepted source does what the source means.
 use Rattle.std.proofs.Common.{◌≡◌, ◌≤◌, ℕ, List, Bool, true, false, cond, Option, Some, None, Result, Ok, Err, IfOk, refl, sym, ap, subst, ◌∙◌}
-use Rattle.std.specs.Prelude.{◌^◌, IsTrue, nat_lt}
-use Rattle.std.proofs.lemmas.Bool.{ltb-false}
-use Rattle.fm_image.specs.Image.{ImageOf}
-use Rattle.fm_image.specs.Limits.{is_image}
+use Rattle.std.{specs.Prelude.{◌^◌, IsTrue, nat_lt}, proofs.lemmas.Bool.ltb-false}
+use Rattle.fm_image.{specs.Image.ImageOf, specs.Limits.is_image, specs.Spelling.spelling}
 use Rattle.fm_loader.specs.Values.{values_in}
-use Rattle.fm_image.specs.Spelling.{spelling}
 use Rattle.piton_syntax.specs.Systems.{SystemOf}
-use Rattle.piton_check.specs.PitonChecking.{CheckedOf, IsChecked}
-use Rattle.piton_check.specs.Instruction.{SystemView}
-use Rattle.piton_check.specs.Resolved.{resolved}
-use Rattle.piton_check.specs.Sound.{IsSound}
-use Rattle.piton_semantics.specs.Fits.{system_in}
-use Rattle.piton_semantics.specs.Placed.{placed}
-use Rattle.piton_semantics.proofs.ReadyLaws.{end_fits}
+use Rattle.piton_check.{specs.PitonChecking.{CheckedOf, IsChecked}, specs.Instruction.SystemView, specs.Resolved.resolved, specs.Sound.IsSound}
+use Rattle.piton_semantics.{specs.Fits.system_in, specs.Placed.placed, proofs.ReadyLaws.end_fits}
 use Rattle.piton_linker.specs.Theorem.{RunsOnProcessor, PitonRunsOnProcessor}
-use Rattle.gypsy_syntax.specs.Sources.{SourceOf}
-use Rattle.gypsy_syntax.specs.Resolved.{program_of}
+use Rattle.gypsy_syntax.{specs.Sources.SourceOf, specs.Resolved.program_of}
 use Rattle.gypsy_check.specs.Accepted.{IsAccepted}
 use Rattle.gypsy_space.specs.Needs.{StackSizes, stack_sizes}
-use Rattle.gypsy_codegen.specs.Generated.{generated_view}
-use Rattle.gypsy_codegen.specs.Whole.{MeaningRuns}
-use Rattle.gypsy_codegen.specs.Moments.{EachMomentIsReached}
-use Rattle.gypsy_codegen.specs.Acceptable.{LimitsFit, GeneratedIsAcceptable}
-use Rattle.gypsy_codegen.specs.Text.{generated}
+use Rattle.gypsy_codegen.{specs.Generated.generated_view, specs.Whole.MeaningRuns, specs.Moments.EachMomentIsReached, specs.Acceptable.LimitsFit}
+use Rattle.gypsy_codegen.{specs.Acceptable.GeneratedIsAcceptable, specs.Text.generated, proofs.AnswerLaws.limits_fit, specs.declared.fault.GenFault.GenFault}
 use Rattle.gypsy_codegen.specs.Generation as generating
-use Rattle.gypsy_codegen.proofs.AnswerLaws.{limits_fit}
-use Rattle.stack_build.specs.Formals.{shown_formals, shown_conditions}
-use Rattle.stack_build.specs.Image.{source_tables, image_on, image_of}
-use Rattle.stack_build.specs.declared.fault.BuildFault.{BuildFault}
+use Rattle.stack_build.{specs.Formals.{shown_formals, shown_conditions}, specs.Image.{source_tables, image_on, image_of}}
+use Rattle.stack_build.{specs.declared.fault.BuildFault.BuildFault, specs.Build.{BuiltOf, accepted_source, generated_by, built_with, placed_size, linked_of}}
+use Rattle.stack_build.{specs.Build.{source_built, built, Builds, BuildsText}, specs.Joined.{BuiltImplements, BuiltTakesValues}, proofs.TakesLaws.takes_values}
+use Rattle.stack_build.{proofs.KnownLaws.source_is_accepted, proofs.ImageLimits.generated_shows, proofs.ImageBytes.file_spells, proofs.TableLaws.tables_fit}
+use Rattle.stack_build.{proofs.ShortLaws.text_builds_if, proofs.Implementing.{RunsAsMeant, image_implements}, proofs.MomentLaws.{MomentsAsMeant, keeps_moments}}
+use Rattle.stack_build.proofs.MomentLaws.{stays_unfinished}
 use Rattle.stack_build.specs.declared.fault.BuildFault.TheVariants as fault
-use Rattle.gypsy_codegen.specs.declared.fault.GenFault.{GenFault}
-use Rattle.stack_build.specs.Build.{BuiltOf, accepted_source, generated_by, built_with, placed_size, linked_of, source_built, built, Builds, BuildsText}
-use Rattle.stack_build.specs.Joined.{BuiltImplements, BuiltTakesValues}
-use Rattle.stack_build.proofs.TakesLaws.{takes_values}
-use Rattle.stack_build.proofs.KnownLaws.{source_is_accepted}
 use Rattle.stack_text.specs.Results.{◌>>=◌, unless_fault}
-use Rattle.stack_build.proofs.ImageLimits.{generated_shows}
-use Rattle.stack_build.proofs.ImageBytes.{file_spells}
-use Rattle.stack_build.proofs.TableLaws.{tables_fit}
-use Rattle.stack_build.proofs.ShortLaws.{text_builds_if}
-use Rattle.stack_build.proofs.Implementing.{RunsAsMeant, image_implements}
-use Rattle.stack_build.proofs.MomentLaws.{MomentsAsMeant, keeps_moments, stays_unfinished}
 
 module _ (s : SourceOf) (sizes : StackSizes) (base : ℕ) (accepted : IsAccepted s) (sound : IsSound (generated_view (program_of s) sizes base))
     (theorem : RunsOnProcessor (generated_view (program_of s) sizes base)) (runs : RunsAsMeant (program_of s) sizes (generated_view (program_of s) sizes base))

@@ -1,21 +1,13 @@
 -- What a meaning that is done ends with.
 use Rattle.std.proofs.Common.{◌≡◌, ◌<◌, ◌≤◌, ◌-◌, ℕ, zero, suc, Bool, true, false, cond, eqb, List, [], ◌∷◌, length, Some, None, refl, ap, subst, ◌∙◌, arith}
-use Rattle.std.specs.Prelude.{slice_get, get_or}
-use Rattle.std.proofs.lemmas.Bool.{eqb-true}
-use Rattle.std.proofs.lemmas.Option.{slice_get-get_or}
+use Rattle.std.{specs.Prelude.{slice_get, get_or}, proofs.lemmas.Bool.eqb-true, proofs.lemmas.Option.slice_get-get_or}
 use Rattle.stack_text.specs.Values.{ValueOf}
 use Rattle.display_maps.specs.declared.shown.Shown.TheVariants as shown
 use Rattle.display_maps.specs.Reading.{named_or_odd, condition_of, space_name}
-use Rattle.gypsy_syntax.specs.Programs.{Leave, Routine, Space, Declared, Program, proc_at}
-use Rattle.gypsy_syntax.specs.ProgramFits.{ProgramFits}
-use Rattle.gypsy_syntax.specs.ValuesFit.{VarsFit}
-use Rattle.gypsy_space.specs.Costs.{Tally}
-use Rattle.gypsy_space.specs.Needs.{StackSizes}
-use Rattle.gypsy_semantics.specs.Calls.{CurrentCondition}
-use Rattle.gypsy_semantics.specs.Counted.{CountedDone, counted_meaning}
-use Rattle.gypsy_semantics.specs.Machine.{State, Move, Next, Ended, gypsy_step, Ending, Over, go_on, run, start}
-use Rattle.gypsy_semantics.specs.Kept.{StateFits, EndFits, MoveFits}
-use Rattle.gypsy_semantics.proofs.Keeping.{step_keeps, start_fits}
+use Rattle.gypsy_syntax.{specs.Programs.{Leave, Routine, Space, Declared, Program, proc_at}, specs.ProgramFits.ProgramFits, specs.ValuesFit.VarsFit}
+use Rattle.gypsy_space.{specs.Costs.Tally, specs.Needs.StackSizes}
+use Rattle.gypsy_semantics.{specs.Calls.CurrentCondition, specs.Counted.{CountedDone, counted_meaning}, specs.Machine.{State, Move, Next, Ended, gypsy_step}}
+use Rattle.gypsy_semantics.{specs.Machine.{Ending, Over, go_on, run, start}, specs.Kept.{StateFits, EndFits, MoveFits}, proofs.Keeping.{step_keeps, start_fits}}
 use Rattle.gypsy_semantics.proofs.Runs.{agree}
 use Rattle.gypsy_codegen.specs.WordsOf.{number_of_way}
 use Rattle.stack_build.specs.Implements.{way_shown}

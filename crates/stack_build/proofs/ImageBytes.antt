@@ -1,25 +1,16 @@
 -- How many bytes the file of a system's image has, and that it spells the image.
-use Rattle.std.proofs.Common.{◌≡◌, ◌≤◌, ◌+◌, ◌-◌, ◌*◌, ◌&&◌, ℕ, List, [], ◌∷◌, ◌++◌, length, map, leb, true, refl, arith, length-append}
-use Rattle.std.specs.Prelude.{◌^◌, IsTrue}
-use Rattle.std.specs.List.{flat_map}
-use Rattle.std.proofs.lemmas.Bool.{and_parts}
-use Rattle.stack_text.specs.Names.{is_name}
-use Rattle.stack_text.proofs.SharedLaws.{name_few}
-use Rattle.fm_image.specs.declared.slot.Slot.{Slot}
-use Rattle.fm_image.specs.declared.window.Window.{Window}
-use Rattle.fm_image.specs.Image.{ImageOf}
-use Rattle.fm_image.specs.Limits.{Tables, tables_of, window_of, is_new, is_condition, is_slot, is_slot_address, are_tables, all_after}
-use Rattle.fm_image.specs.Limits.{is_image}
-use Rattle.fm_image.specs.Spelling.{number_bytes, numbers_bytes, name_bytes, counted_bytes, shape_bytes, slot_bytes, opening_bytes, window_bytes, flags_bytes}
-use Rattle.fm_image.specs.Spelling.{condition_address_bytes, tables_bytes, spelling, Spelled}
-use Rattle.fm_image.proofs.LimitLaws.{limits_of, sixteen, condition_count, slot_count, word_count}
-use Rattle.piton_check.specs.Instruction.{SystemView}
-use Rattle.piton_check.specs.Sound.{IsSound}
+use Rattle.std.{proofs.Common.{◌≡◌, ◌≤◌, ◌+◌, ◌-◌, ◌*◌, ◌&&◌, ℕ, List, [], ◌∷◌, ◌++◌, length, map, leb, true, refl, arith, length-append}, specs.Prelude.◌^◌}
+use Rattle.std.{specs.Prelude.IsTrue, specs.List.flat_map, proofs.lemmas.Bool.and_parts}
+use Rattle.stack_text.{specs.Names.is_name, proofs.SharedLaws.name_few}
+use Rattle.fm_image.{specs.declared.slot.Slot.Slot, specs.declared.window.Window.Window, specs.Image.ImageOf, specs.Limits.{Tables, tables_of, window_of}}
+use Rattle.fm_image.{specs.Limits.{is_new, is_condition, is_slot, is_slot_address, are_tables, all_after, is_image}, specs.Spelling.number_bytes}
+use Rattle.fm_image.specs.Spelling.{numbers_bytes, name_bytes, counted_bytes, shape_bytes, slot_bytes, opening_bytes, window_bytes, flags_bytes}
+use Rattle.fm_image.{specs.Spelling.{condition_address_bytes, tables_bytes, spelling, Spelled}, proofs.LimitLaws.{limits_of, sixteen, condition_count}}
+use Rattle.fm_image.proofs.LimitLaws.{slot_count, word_count}
+use Rattle.piton_check.{specs.Instruction.SystemView, specs.Sound.IsSound}
 use Rattle.piton_semantics.specs.Placed.{placed}
 use Rattle.gypsy_syntax.specs.declared.literal.Decl.{Decl}
-use Rattle.stack_build.specs.Image.{image_with}
-use Rattle.stack_build.specs.Internal.Showing.{IsShowable}
-use Rattle.stack_build.proofs.WordsLaws.{words-trimmed, placed_are_words, registers_are_words}
+use Rattle.stack_build.{specs.Image.image_with, specs.Internal.Showing.IsShowable, proofs.WordsLaws.{words-trimmed, placed_are_words, registers_are_words}}
 use Rattle.stack_build.proofs.ImageLimits.{placed_window, system_fits}
 
 length-numbers_bytes : (numbers : List ℕ) → length (numbers_bytes numbers) ≡ 4 * length numbers

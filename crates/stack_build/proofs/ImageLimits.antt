@@ -1,55 +1,28 @@
 -- The image of an accepted source keeps the limits of images.
 use Rattle.std.proofs.Common.{◌≡◌, ◌<◌, ◌≤◌, ◌+◌, ◌-◌, ℕ, suc, List, [], ◌∷◌, ◌++◌, true, false, Option, Some, length, map, flat_map, refl, sym, ap, ◌∙◌, subst}
-use Rattle.std.proofs.Common.{arith, true≢false}
-use Rattle.std.specs.Prelude.{◌^◌, IsTrue, All}
-use Rattle.std.specs.List.{list_all, AllByRecursion, IsDistinct}
-use Rattle.std.specs.Str.{bytes_eq}
-use Rattle.std.proofs.lemmas.Bool.{and_parts, and_from, le-leb, lt-ltb, false_from_ne_true}
-use Rattle.std.proofs.lemmas.Slice.Eq.{bytes_eq-Decides}
-use Rattle.std.proofs.lemmas.List.{length-map, map-append}
-use Rattle.std.proofs.lemmas.List.Elements.{All-head, All-tail}
-use Rattle.stack_text.specs.Names.{is_name}
-use Rattle.stack_text.specs.declared.name.Named.{Named}
-use Rattle.stack_text.specs.declared.shape.Shape.{Shape}
-use Rattle.stack_text.specs.Values.{ValueOf, item_count}
-use Rattle.fm_image.specs.declared.slot.Slot.{Slot}
-use Rattle.fm_image.specs.declared.window.Window.{Window}
-use Rattle.fm_image.specs.Image.{ImageOf}
-use Rattle.fm_image.specs.Limits.{Tables, window_of, is_size, is_inside, are_tables, is_slot_address, all_after, is_image}
-use Rattle.fm_image.proofs.LimitLaws.{from_limits}
-use Rattle.fm_image.proofs.NameLaws.{fits_window, slots_fit, conditions_fit}
+use Rattle.std.{proofs.Common.{arith, true≢false}, specs.Prelude.{◌^◌, IsTrue, All}, specs.List.{list_all, AllByRecursion, IsDistinct}, specs.Str.bytes_eq}
+use Rattle.std.{proofs.lemmas.Bool.{and_parts, and_from, le-leb, lt-ltb, false_from_ne_true}, proofs.lemmas.Slice.Eq.bytes_eq-Decides}
+use Rattle.std.{proofs.lemmas.List.{length-map, map-append}, proofs.lemmas.List.Elements.{All-head, All-tail}}
+use Rattle.stack_text.{specs.Names.is_name, specs.declared.name.Named.Named, specs.declared.shape.Shape.Shape, specs.Values.{ValueOf, item_count}}
+use Rattle.stack_text.{specs.Grammar.Parts.IsNamed, proofs.SharedLaws.{rule_fails, append_none, bytes_apart}}
+use Rattle.fm_image.{specs.declared.slot.Slot.Slot, specs.declared.window.Window.Window, specs.Image.ImageOf, specs.Limits.{Tables, window_of, is_size}}
+use Rattle.fm_image.{specs.Limits.{is_inside, are_tables, is_slot_address, all_after, is_image}, proofs.LimitLaws.from_limits, proofs.NameLaws.fits_window}
+use Rattle.fm_image.proofs.NameLaws.{slots_fit, conditions_fit}
 use Rattle.display_maps.specs.Reading.{space_name}
-use Rattle.piton_check.specs.Instruction.{SystemView}
-use Rattle.piton_check.specs.Sound.{IsSound}
-use Rattle.piton_semantics.specs.Placed.{placed, final_pc_of, areas_start, end_of}
-use Rattle.piton_semantics.proofs.SizeLaws.{length-placed}
-use Rattle.piton_semantics.proofs.SoundLaws.{known}
-use Rattle.gypsy_syntax.specs.declared.literal.Decl.{Decl}
-use Rattle.gypsy_syntax.specs.Sources.{ProcOf, LocalOf, SourceOf}
-use Rattle.gypsy_syntax.specs.Programs.{Proc, Program, proc_at, words_of}
-use Rattle.gypsy_syntax.specs.ProgramFits.{Each}
-use Rattle.gypsy_syntax.specs.Resolved.{shape_of, program_of}
-use Rattle.gypsy_check.specs.Accepted.{IsAccepted}
-use Rattle.gypsy_check.specs.Declarations.{variables_of, conditions_of, repeats}
-use Rattle.gypsy_check.specs.Rules.{type_breaches, local_breaches, is_reserved, condition_breaches, variable_breaches, condition_name_breaches, size_breaches}
-use Rattle.gypsy_check.specs.Rules.{statement_breaches, procedure_breaches}
-use Rattle.gypsy_check.proofs.CleanLaws.{three, four}
+use Rattle.piton_check.{specs.Instruction.SystemView, specs.Sound.IsSound}
+use Rattle.piton_semantics.{specs.Placed.{placed, final_pc_of, areas_start, end_of}, proofs.SizeLaws.length-placed, proofs.SoundLaws.known}
+use Rattle.gypsy_syntax.{specs.declared.literal.Decl.Decl, specs.Sources.{ProcOf, LocalOf, SourceOf}, specs.Programs.{Proc, Program, proc_at, words_of}}
+use Rattle.gypsy_syntax.{specs.ProgramFits.Each, specs.Resolved.{shape_of, program_of, variable_types}, specs.Fits.FitsDecl}
+use Rattle.gypsy_check.{specs.Accepted.IsAccepted, specs.Declarations.{variables_of, conditions_of, repeats}, specs.Rules.{type_breaches, local_breaches}}
+use Rattle.gypsy_check.specs.Rules.{is_reserved, condition_breaches, variable_breaches, condition_name_breaches, size_breaches, statement_breaches}
+use Rattle.gypsy_check.{specs.Rules.procedure_breaches, proofs.CleanLaws.{three, four}}
 use Rattle.gypsy_space.specs.Needs.{StackSizes}
-use Rattle.gypsy_codegen.specs.WordsOf.{words_of_values, zero_value}
-use Rattle.gypsy_codegen.specs.Generated.{generated_view}
-use Rattle.gypsy_codegen.proofs.DeclareLaws.{Unlike, Differ, differ_source}
-use Rattle.gypsy_semantics.proofs.Keeping.{vars_join, locals_fit}
-use Rattle.stack_text.specs.Grammar.Parts.{IsNamed}
-use Rattle.stack_text.proofs.SharedLaws.{rule_fails, append_none, bytes_apart}
-use Rattle.gypsy_syntax.specs.Fits.{FitsDecl}
-use Rattle.gypsy_syntax.specs.Resolved.{variable_types}
-use Rattle.piton_linker.specs.Layouts.{trimmed}
+use Rattle.gypsy_codegen.{specs.WordsOf.{words_of_values, zero_value}, specs.Generated.generated_view, proofs.DeclareLaws.{Unlike, Differ, differ_source}}
 use Rattle.gypsy_codegen.proofs.StackLaws.{values_words}
-use Rattle.stack_build.specs.Formals.{formals_in, conditions_in, shown_formals, shown_conditions}
-use Rattle.stack_build.specs.Image.{slots_from, image_with}
-use Rattle.stack_build.specs.Internal.Showing.{HaveShortArrays, shapes_in, IsShowable}
-use Rattle.stack_build.proofs.Windows.{shorter}
-use Rattle.stack_build.proofs.MainLaws.{IsMain, main_is, zero_values}
+use Rattle.gypsy_semantics.proofs.Keeping.{vars_join, locals_fit}
+use Rattle.piton_linker.specs.Layouts.{trimmed}
+use Rattle.stack_build.{specs.Formals.{formals_in, conditions_in, shown_formals, shown_conditions}, specs.Image.{slots_from, image_with}}
+use Rattle.stack_build.{specs.Internal.Showing.{HaveShortArrays, shapes_in, IsShowable}, proofs.Windows.shorter, proofs.MainLaws.{IsMain, main_is, zero_values}}
 
 -- ---- names
 

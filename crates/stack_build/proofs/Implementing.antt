@@ -1,40 +1,23 @@
 -- The image of an accepted source does what the source means.
-use Rattle.std.proofs.Common.{◌≡◌, ℕ, List, length, map, Option, Some, refl, sym, ap, subst, ◌∙◌}
-use Rattle.std.specs.Prelude.{option_map}
-use Rattle.std.specs.List.{zip}
+use Rattle.std.{proofs.Common.{◌≡◌, ℕ, List, length, map, Option, Some, refl, sym, ap, subst, ◌∙◌}, specs.Prelude.option_map, specs.List.zip}
 use Rattle.std.proofs.lemmas.List.{length-map}
-use Rattle.stack_text.specs.declared.name.Named.{Named}
-use Rattle.stack_text.specs.declared.shape.Shape.{Shape}
-use Rattle.stack_text.specs.Values.{ValueOf}
+use Rattle.stack_text.{specs.declared.name.Named.Named, specs.declared.shape.Shape.Shape, specs.Values.ValueOf}
 use Rattle.fm_image.specs.Limits.{Tables}
-use Rattle.piton_check.specs.Instruction.{SystemView}
-use Rattle.piton_check.specs.Sound.{IsSound}
+use Rattle.piton_check.{specs.Instruction.SystemView, specs.Sound.IsSound}
 use Rattle.piton_semantics.specs.StateView.{started}
 use Rattle.piton_linker.specs.Theorem.{RunsOnProcessor, PitonRunsOnProcessor}
-use Rattle.gypsy_syntax.specs.declared.literal.Decl.{Decl}
-use Rattle.gypsy_syntax.specs.Sources.{ProcOf, SourceOf}
-use Rattle.gypsy_syntax.specs.Programs.{Proc, Program, proc_at}
-use Rattle.gypsy_syntax.specs.Resolved.{program_of}
+use Rattle.gypsy_syntax.{specs.declared.literal.Decl.Decl, specs.Sources.{ProcOf, SourceOf}, specs.Programs.{Proc, Program, proc_at}, specs.Resolved.program_of}
 use Rattle.gypsy_syntax.specs.ValuesFit.{VarsFit}
 use Rattle.gypsy_check.specs.Accepted.{IsAccepted}
-use Rattle.gypsy_space.specs.Costs.{Tally}
-use Rattle.gypsy_space.specs.Needs.{StackSizes}
-use Rattle.gypsy_semantics.specs.Calls.{CurrentCondition, main_start}
-use Rattle.gypsy_semantics.specs.Meaning.{Done, meaning}
-use Rattle.gypsy_semantics.specs.Counted.{CountedOutcome, CountedDone, counted_meaning, tally_of}
-use Rattle.gypsy_codegen.specs.WordsOf.{words_of_values, zero_value}
-use Rattle.gypsy_codegen.specs.Generated.{generated_view}
-use Rattle.gypsy_codegen.specs.Whole.{RunsTo, MeaningRuns}
+use Rattle.gypsy_space.{specs.Costs.Tally, specs.Needs.StackSizes}
+use Rattle.gypsy_semantics.{specs.Calls.{CurrentCondition, main_start}, specs.Meaning.{Done, meaning}, specs.Counted.{CountedOutcome, CountedDone}}
+use Rattle.gypsy_semantics.specs.Counted.{counted_meaning, tally_of}
+use Rattle.gypsy_codegen.{specs.WordsOf.{words_of_values, zero_value}, specs.Generated.generated_view, specs.Whole.{RunsTo, MeaningRuns}}
 use Rattle.gypsy_codegen.specs.Acceptable.{GeneratedIsAcceptable}
-use Rattle.stack_build.specs.Formals.{formals_in, formal_conditions_in, conditions_in, main_of}
-use Rattle.stack_build.specs.Image.{image_with, source_tables, image_of}
-use Rattle.stack_build.specs.Implements.{variable_shown, way_shown, Implements}
-use Rattle.stack_build.specs.ComesTo.{ComesTo}
-use Rattle.stack_build.specs.Joined.{GeneratedImageImplements}
-use Rattle.stack_build.specs.Internal.Showing.{shapes_in}
-use Rattle.stack_build.proofs.Ending.{ends_well, way_read}
-use Rattle.stack_build.proofs.Joining.{image_comes}
-use Rattle.stack_build.proofs.MainLaws.{IsMain, main_is, zero_values}
+use Rattle.stack_build.{specs.Formals.{formals_in, formal_conditions_in, conditions_in, main_of}, specs.Image.{image_with, source_tables, image_of}}
+use Rattle.stack_build.{specs.Implements.{variable_shown, way_shown, Implements}, specs.ComesTo.ComesTo, specs.Joined.GeneratedImageImplements}
+use Rattle.stack_build.{specs.Internal.Showing.shapes_in, proofs.Ending.{ends_well, way_read}, proofs.Joining.image_comes, proofs.MainLaws.{IsMain, main_is}}
+use Rattle.stack_build.proofs.MainLaws.{zero_values}
 
 -- where the meaning is done, this system halts with the same
 abbrev pub RunsAsMeant : Program → StackSizes → SystemView → Type 0

@@ -1,22 +1,14 @@
 -- The words of values are an initial stack, where the system's stack has the words of values of the same shapes.
-use Rattle.std.proofs.Common.{◌≡◌, List, [], ◌∷◌, ◌++◌, length, map, sym, ap, ◌∙◌}
-use Rattle.std.specs.Prelude.{All}
-use Rattle.std.proofs.lemmas.List.Elements.{All-nil, All-cons}
-use Rattle.stack_text.specs.declared.shape.Shape.{Shape}
-use Rattle.stack_text.specs.Values.{ValueOf}
+use Rattle.std.{proofs.Common.{◌≡◌, List, [], ◌∷◌, ◌++◌, length, map, sym, ap, ◌∙◌}, specs.Prelude.All, proofs.lemmas.List.Elements.{All-nil, All-cons}}
+use Rattle.stack_text.{specs.declared.shape.Shape.Shape, specs.Values.ValueOf}
 use Rattle.piton_words.specs.declared.word.Word.{Word}
 use Rattle.piton_words.specs.declared.word.Word.TheVariants as word
-use Rattle.piton_check.specs.Instruction.{SystemView}
-use Rattle.piton_check.specs.Sound.{Exists}
+use Rattle.piton_check.{specs.Instruction.SystemView, specs.Sound.Exists}
 use Rattle.piton_semantics.specs.Fits.{IsInitialStack}
-use Rattle.gypsy_syntax.specs.ProgramFits.{Each}
-use Rattle.gypsy_syntax.specs.ValuesFit.{ValueFits, VarsFit}
-use Rattle.gypsy_codegen.specs.WordsOf.{words_of_values}
-use Rattle.gypsy_semantics.proofs.Keeping.{vars_join, locals_fit}
-use Rattle.gypsy_codegen.proofs.CopyLaws.{each_both}
-use Rattle.gypsy_codegen.proofs.StackLaws.{values_words}
-use Rattle.gypsy_codegen.proofs.FineLaws.{values_in_range}
+use Rattle.gypsy_syntax.{specs.ProgramFits.Each, specs.ValuesFit.{ValueFits, VarsFit}}
+use Rattle.gypsy_codegen.{specs.WordsOf.words_of_values, proofs.CopyLaws.each_both, proofs.StackLaws.values_words, proofs.FineLaws.values_in_range}
 use Rattle.gypsy_codegen.proofs.InstructionLaws.{InRange}
+use Rattle.gypsy_semantics.proofs.Keeping.{vars_join, locals_fit}
 use Rattle.stack_build.proofs.Numbers.{each_fits}
 
 exists : (s : SystemView) (w : Word) → InRange w → Exists s w

@@ -1,31 +1,18 @@
 -- A run of an image that keeps to its source at every moment stays inside the window.
-use Rattle.std.proofs.Common.{◌≡◌, ◌+◌, List, Bool, true, false, cond, Result, Ok, Err, refl, sym, ap, subst, ◌∙◌, ⊎_elim}
-use Rattle.std.specs.Prelude.{◌^◌, IsOk, nat_lt}
+use Rattle.std.{proofs.Common.{◌≡◌, ◌+◌, List, Bool, true, false, cond, Result, Ok, Err, refl, sym, ap, subst, ◌∙◌, ⊎_elim}, specs.Prelude.{◌^◌, IsOk, nat_lt}}
 use Rattle.std.proofs.lemmas.Bool.{cases_lt}
-use Rattle.stack_text.specs.Results.{◌>>=◌}
-use Rattle.stack_text.specs.Values.{ValueOf}
-use Rattle.fm_machine.specs.State.{Fm}
-use Rattle.fm_machine.specs.Run.{fm_run}
-use Rattle.fm_machine.specs.declared.fault.Outside.{Outside}
-use Rattle.fm_machine.proofs.RunLaws.{run_more}
+use Rattle.stack_text.{specs.Results.◌>>=◌, specs.Values.ValueOf}
+use Rattle.fm_machine.{specs.State.Fm, specs.Run.fm_run, specs.declared.fault.Outside.Outside, proofs.RunLaws.run_more}
 use Rattle.fm_image.specs.Image.{ImageOf}
 use Rattle.fm_loader.specs.Loaded.{loaded}
 use Rattle.piton_syntax.specs.Systems.{SystemOf}
-use Rattle.gypsy_syntax.specs.Resolved.{program_of}
-use Rattle.gypsy_syntax.specs.Sources.{SourceOf}
+use Rattle.gypsy_syntax.{specs.Resolved.program_of, specs.Sources.SourceOf}
 use Rattle.gypsy_space.specs.Needs.{StackSizes, stack_sizes}
 use Rattle.gypsy_semantics.specs.Machine.{At, Move, Next, Ended}
-use Rattle.gypsy_codegen.specs.Generation.{generation}
-use Rattle.gypsy_codegen.specs.declared.fault.GenFault.{GenFault}
-use Rattle.gypsy_codegen.specs.Moments.{moment_from}
-use Rattle.gypsy_codegen.proofs.MomentLaws.{counts_grow}
-use Rattle.stack_build.specs.declared.fault.BuildFault.{BuildFault}
-use Rattle.stack_build.specs.declared.fault.BuildFault.TheVariants.{Words as TooManyWords}
-use Rattle.stack_build.specs.Build.{BuiltOf, accepted_source, generated_by, built_with, placed_size, linked_of, source_built, built, BuildsText}
-use Rattle.stack_build.specs.Image.{image_of}
-use Rattle.stack_build.specs.Implements.{FitsFormals}
-use Rattle.stack_build.specs.Inside.{RunsInside, BuiltAtBase, BuiltRunsInside}
-use Rattle.stack_build.specs.Joined.{BuiltImplements}
+use Rattle.gypsy_codegen.{specs.Generation.generation, specs.declared.fault.GenFault.GenFault, specs.Moments.moment_from, proofs.MomentLaws.counts_grow}
+use Rattle.stack_build.{specs.declared.fault.BuildFault.BuildFault, specs.declared.fault.BuildFault.TheVariants.Words as TooManyWords, specs.Build.BuiltOf}
+use Rattle.stack_build.{specs.Build.{accepted_source, generated_by, built_with, placed_size, linked_of, source_built, built, BuildsText}, specs.Image.image_of}
+use Rattle.stack_build.{specs.Implements.FitsFormals, specs.Inside.{RunsInside, BuiltAtBase, BuiltRunsInside}, specs.Joined.BuiltImplements}
 use Rattle.stack_build.specs.Moments.{ArrivesAt, KeepsMoments}
 
 -- a run that is refused at a count was not made up to it

@@ -1,43 +1,25 @@
 -- The image of each accepted source does what the source means.
-use Rattle.std.proofs.Common.{◌≡◌, ◌+◌, ◌-◌, ℕ, List, [], ◌∷◌, ◌++◌, length, map, Some, refl, sym, ap, subst, ◌∙◌, arith}
-use Rattle.std.specs.List.{zip}
-use Rattle.std.specs.Prelude.{slice_index}
-use Rattle.std.proofs.Math.ListN.{length-reverse_aux}
-use Rattle.std.proofs.lemmas.List.{map-append}
+use Rattle.std.{proofs.Common.{◌≡◌, ◌+◌, ◌-◌, ℕ, List, [], ◌∷◌, ◌++◌, length, map, Some, refl, sym, ap, subst, ◌∙◌, arith}, specs.List.zip}
+use Rattle.std.{specs.Prelude.slice_index, proofs.Math.ListN.length-reverse_aux, proofs.lemmas.List.map-append}
 use mathlib.Core.List.{reverse_aux}
 use Rattle.stack_text.specs.Values.{ValueOf}
-use Rattle.fm_machine.specs.State.{Fm}
-use Rattle.fm_machine.specs.Run.{IsFirst}
-use Rattle.fm_code.specs.Areas.{joined}
-use Rattle.fm_code.specs.Execution.{Holds}
+use Rattle.fm_machine.{specs.State.Fm, specs.Run.IsFirst}
+use Rattle.fm_code.{specs.Areas.joined, specs.Execution.Holds}
 use Rattle.fm_image.specs.Limits.{Tables}
 use Rattle.display_maps.specs.Reading.{word_or_zero, variable_of, condition_of}
 use Rattle.piton_words.specs.declared.word.Word.{Word}
-use Rattle.piton_check.specs.Instruction.{SystemView}
-use Rattle.piton_check.specs.Sound.{IsSound}
-use Rattle.piton_semantics.specs.Addresses.{word_number, numbers}
-use Rattle.piton_semantics.specs.Placed.{areas_start, end_of, addresses_of, final_pc_of, loaded}
-use Rattle.piton_semantics.specs.StateView.{started}
-use Rattle.piton_semantics.proofs.RunLaws.{steps_run, steps_cost}
-use Rattle.piton_semantics.proofs.SoundLaws.{known}
+use Rattle.piton_check.{specs.Instruction.SystemView, specs.Sound.IsSound}
+use Rattle.piton_semantics.{specs.Addresses.{word_number, numbers}, specs.Placed.{areas_start, end_of, addresses_of, final_pc_of, loaded}}
+use Rattle.piton_semantics.{specs.StateView.started, proofs.RunLaws.{steps_run, steps_cost}, proofs.SoundLaws.known}
 use Rattle.piton_linker.specs.Theorem.{ComesToStand, RunsOnProcessor}
-use Rattle.gypsy_syntax.specs.declared.literal.Decl.{Decl}
-use Rattle.gypsy_syntax.specs.ProgramFits.{Each}
-use Rattle.gypsy_syntax.specs.ValuesFit.{ValueFits, VarsFit}
+use Rattle.gypsy_syntax.{specs.declared.literal.Decl.Decl, specs.ProgramFits.Each, specs.ValuesFit.{ValueFits, VarsFit}}
 use Rattle.gypsy_space.specs.Costs.{Tally}
 use Rattle.gypsy_semantics.specs.Calls.{CurrentCondition}
-use Rattle.gypsy_codegen.specs.WordsOf.{words_of_values, number_of_way}
-use Rattle.gypsy_codegen.specs.Whole.{RunsTo}
-use Rattle.stack_build.specs.Image.{slots_from, image_with}
-use Rattle.stack_build.specs.Implements.{variable_shown, way_shown}
-use Rattle.stack_build.specs.ComesTo.{ComesTo}
-use Rattle.stack_build.proofs.Laying.{map-reversed, reversed_append, Holds-reversed}
-use Rattle.stack_build.proofs.Storing.{items_words}
-use Rattle.stack_build.specs.Internal.Showing.{shapes_in}
-use Rattle.stack_build.proofs.Numbers.{values_numbers, each_fits}
-use Rattle.stack_build.proofs.Loading.{image_loaded}
-use Rattle.stack_build.proofs.Initial.{is_initial}
-use Rattle.stack_build.proofs.ReadBack.{word_read, values_read}
+use Rattle.gypsy_codegen.{specs.WordsOf.{words_of_values, number_of_way}, specs.Whole.RunsTo}
+use Rattle.stack_build.{specs.Image.{slots_from, image_with}, specs.Implements.{variable_shown, way_shown}, specs.ComesTo.ComesTo, proofs.Laying.map-reversed}
+use Rattle.stack_build.{proofs.Laying.{reversed_append, Holds-reversed}, proofs.Storing.items_words, specs.Internal.Showing.shapes_in}
+use Rattle.stack_build.{proofs.Numbers.{values_numbers, each_fits}, proofs.Loading.image_loaded, proofs.Initial.is_initial, proofs.ReadBack.word_read}
+use Rattle.stack_build.proofs.ReadBack.{values_read}
 
 -- a sound system whose stack begins with words of values of main's formals
 module _ (s : SystemView) (sound : IsSound s) (theorem : RunsOnProcessor s) (ds : List Decl) (conditions : List (List ℕ)) (tables : Tables)

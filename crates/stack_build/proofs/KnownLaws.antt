@@ -1,17 +1,9 @@
 -- The source of a text is accepted, by its definition alone.
-use Rattle.std.proofs.Common.{◌≡◌, ◌≤◌, ℕ, List, Option, Some, None, Result, Ok, Err, length, refl, subst}
-use Rattle.std.specs.Prelude.{◌^◌}
-use Rattle.stack_text.specs.declared.breach.Breach.{Breach}
-use Rattle.stack_text.specs.Breaches.{least}
-use Rattle.stack_text.proofs.BreachLaws.{none_least}
-use Rattle.stack_text.proofs.ReaderLaws.{text_keeps_form}
-use Rattle.gypsy_syntax.specs.declared.fault.GypsyFault.{GypsyFault}
-use Rattle.gypsy_syntax.specs.GypsyReading.{KeepsForm, gypsy_in, gypsy_reader}
-use Rattle.gypsy_syntax.specs.Sources.{SourceOf}
+use Rattle.std.{proofs.Common.{◌≡◌, ◌≤◌, ℕ, List, Option, Some, None, Result, Ok, Err, length, refl, subst}, specs.Prelude.◌^◌}
+use Rattle.stack_text.{specs.declared.breach.Breach.Breach, specs.Breaches.least, proofs.BreachLaws.none_least, proofs.ReaderLaws.text_keeps_form}
+use Rattle.gypsy_syntax.{specs.declared.fault.GypsyFault.GypsyFault, specs.GypsyReading.{KeepsForm, gypsy_in, gypsy_reader}, specs.Sources.SourceOf}
 use Rattle.gypsy_syntax.proofs.KeepsLaws.{read_keeps}
-use Rattle.gypsy_check.specs.Accepted.{IsAccepted}
-use Rattle.gypsy_check.specs.Rules.{violations}
-use Rattle.gypsy_check.proofs.FitsLaws.{source_fits}
+use Rattle.gypsy_check.{specs.Accepted.IsAccepted, specs.Rules.violations, proofs.FitsLaws.source_fits}
 use Rattle.stack_build.specs.Build.{accepted_unless, accepted_by, accepted_source}
 
 pub source_is_accepted : (text : List ℕ) → length text ≤ 2 ^ 31 → (source : SourceOf) → accepted_source text ≡ Ok source → IsAccepted source

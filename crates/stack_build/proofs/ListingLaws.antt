@@ -1,45 +1,23 @@
 -- What the code lists is the procedures and the marks of an image.
 use Rattle.std.proofs.Common.{◌≡◌, ◌<◌, ◌≤◌, ◌+◌, ◌-◌, ℕ, zero, suc, Bool, true, cond, ltb, eqb, List, [], ◌∷◌, ◌++◌, length, map, get_or, Option, Some, None}
-use Rattle.std.proofs.Common.{refl, sym, ap, subst, ◌∙◌, arith, append_assoc}
-use Rattle.std.specs.Prelude.{All, drop, slice_get}
-use Rattle.std.specs.List.{list_all}
-use Rattle.std.specs.Option.{unwrap_or}
-use Rattle.std.proofs.lemmas.List.{length-append, length-map}
-use Rattle.stack_text.specs.declared.shape.Shape.{Shape}
-use Rattle.stack_text.specs.Options.{◌>>=◌}
-use Rattle.stack_text.specs.Values.{ValueOf}
-use Rattle.std.proofs.lemmas.List.Elements.{All-head, All-tail}
-use Rattle.stack_text.proofs.Loops.{drop-item}
-use Rattle.fm_image.specs.declared.procedure.Mark.{Mark}
-use Rattle.fm_image.specs.declared.procedure.VarInfo.{VarInfo}
-use Rattle.fm_image.specs.Limits.{Tables, no_tables, is_place}
+use Rattle.std.{proofs.Common.{refl, sym, ap, subst, ◌∙◌, arith, append_assoc}, specs.Prelude.{All, drop, slice_get}, specs.List.list_all}
+use Rattle.std.{specs.Option.unwrap_or, proofs.lemmas.List.{length-append, length-map}, proofs.lemmas.List.Elements.{All-head, All-tail}}
+use Rattle.stack_text.{specs.declared.shape.Shape.Shape, specs.Options.◌>>=◌, specs.Values.ValueOf, proofs.Loops.drop-item}
+use Rattle.fm_image.{specs.declared.procedure.Mark.Mark, specs.declared.procedure.VarInfo.VarInfo, specs.Limits.{Tables, no_tables, is_place}}
 use Rattle.fm_image.specs.Procedure.{ProcedureOf}
 use Rattle.display_maps.specs.Reading.{space_name}
 use Rattle.piton_check.specs.Instruction.{Instruction, ProgramView, SystemView}
-use Rattle.piton_semantics.specs.State.{program_of as program_in}
-use Rattle.piton_semantics.specs.Fits.{IsPlace}
-use Rattle.piton_semantics.specs.Placed.{address_of_place}
-use Rattle.piton_semantics.proofs.AddressLaws.{program_there}
+use Rattle.piton_semantics.{specs.State.program_of as program_in, specs.Fits.IsPlace, specs.Placed.address_of_place, proofs.AddressLaws.program_there}
 use Rattle.piton_linker.specs.Layouts.{places_from, places_of}
-use Rattle.gypsy_syntax.specs.ProgramFits.{Each}
-use Rattle.gypsy_syntax.specs.Programs.{Proc, Program, no_proc, proc_at, shapes_of}
-use Rattle.gypsy_syntax.specs.declared.literal.Decl.{Decl}
-use Rattle.gypsy_syntax.specs.Fits.{FitsProcedure}
-use Rattle.gypsy_syntax.specs.Resolved.{program_of}
-use Rattle.gypsy_syntax.specs.Sources.{LocalOf, ProcOf, SourceOf}
-use Rattle.gypsy_syntax.proofs.FitsLaws.{keeps_fits}
-use Rattle.gypsy_check.specs.Accepted.{IsAccepted}
-use Rattle.gypsy_check.proofs.CleanLaws.{get_or_map}
+use Rattle.gypsy_syntax.{specs.ProgramFits.Each, specs.Programs.{Proc, Program, no_proc, proc_at, shapes_of}, specs.declared.literal.Decl.Decl}
+use Rattle.gypsy_syntax.{specs.Fits.FitsProcedure, specs.Resolved.program_of, specs.Sources.{LocalOf, ProcOf, SourceOf}, proofs.FitsLaws.keeps_fits}
+use Rattle.gypsy_check.{specs.Accepted.IsAccepted, proofs.CleanLaws.get_or_map}
 use Rattle.gypsy_space.specs.declared.program.Program as nodes
-use Rattle.gypsy_space.specs.declared.program.Procedure.{Procedure}
-use Rattle.gypsy_space.specs.Needs.{StackSizes}
-use Rattle.gypsy_space.specs.Nodes.{ProcNames, declared_names, seen_proc, seen_proc_names, seen_program}
-use Rattle.gypsy_codegen.specs.declared.marking.MarkAt.{MarkAt}
-use Rattle.gypsy_codegen.specs.Generated.{offset, generated_view}
-use Rattle.gypsy_codegen.specs.Marks.{IsMarkPlace, marks_of}
+use Rattle.gypsy_space.{specs.declared.program.Procedure.Procedure, specs.Needs.StackSizes, specs.Nodes.{ProcNames, declared_names, seen_proc, seen_proc_names}}
+use Rattle.gypsy_space.specs.Nodes.{seen_program}
+use Rattle.gypsy_codegen.{specs.declared.marking.MarkAt.MarkAt, specs.Generated.{offset, generated_view}, specs.Marks.{IsMarkPlace, marks_of}}
 use Rattle.gypsy_codegen.proofs.MarkOrderLaws.{marks_are_places}
-use Rattle.stack_build.specs.declared.tables.FrameOrder.{FrameOrder}
-use Rattle.stack_build.specs.Image.{variable_infos, procedure_info, procedure_infos, mark_info, source_tables}
+use Rattle.stack_build.{specs.declared.tables.FrameOrder.FrameOrder, specs.Image.{variable_infos, procedure_info, procedure_infos, mark_info, source_tables}}
 use Rattle.stack_build.specs.Internal.Listing.{Declares, IsGenerated, offset_in, order_of, formal_infos, local_infos, frame_infos, listed_procedure}
 use Rattle.stack_build.specs.Internal.Listing.{address_among, mark_among}
 

@@ -1,33 +1,21 @@
 -- The machine that is loaded with the image of a placed system and with values is the placed one with the values on its stack.
 use Rattle.std.proofs.Common.{◌≡◌, ◌+◌, ◌-◌, ◌≤◌, ℕ, List, [], ◌∷◌, ◌++◌, length, map, sym, ap, ◌∙◌, arith, append_assoc, length-append}
-use Rattle.std.specs.Prelude.{replicate}
-use Rattle.std.proofs.Math.ListN.{length-reverse_aux}
+use Rattle.std.{specs.Prelude.replicate, proofs.Math.ListN.length-reverse_aux}
 use mathlib.Core.List.{reverse_aux}
 use Rattle.stack_text.specs.Values.{ValueOf}
 use Rattle.fm_words.specs.Code.{no_flags}
-use Rattle.fm_code.specs.Areas.{joined}
-use Rattle.fm_code.specs.InstructionWords.{halt_word}
+use Rattle.fm_code.{specs.Areas.joined, specs.InstructionWords.halt_word}
 use Rattle.fm_loader.specs.Loaded.{with_values}
 use Rattle.fm_loader.specs.Loaded as loader
 use Rattle.piton_words.specs.declared.word.Word.{Word}
 use Rattle.fm_image.specs.Limits.{Tables}
 use Rattle.piton_check.specs.Instruction.{SystemView}
-use Rattle.piton_semantics.specs.Fits.{IsWellFormed}
-use Rattle.piton_semantics.specs.Addresses.{word_number, numbers}
-use Rattle.piton_semantics.specs.Placed.{code_of, addresses_of, first_frame, first_frame_at, first_top, ctrl_start, temp_start, end_of, words_with, placed}
-use Rattle.piton_semantics.specs.Placed.{loaded}
-use Rattle.piton_semantics.proofs.SizeLaws.{length-placed}
-use Rattle.gypsy_syntax.specs.declared.literal.Decl.{Decl}
-use Rattle.gypsy_syntax.specs.ProgramFits.{Each}
-use Rattle.gypsy_syntax.specs.ValuesFit.{ValueFits, VarsFit}
-use Rattle.gypsy_codegen.specs.WordsOf.{words_of_values}
-use Rattle.gypsy_codegen.proofs.CopyLaws.{each_both}
-use Rattle.stack_build.specs.Image.{slots_from, image_with}
-use Rattle.stack_build.proofs.Laying.{reversed_append, map-reversed}
-use Rattle.stack_build.proofs.Storing.{items_words, split, values_stored}
-use Rattle.stack_build.specs.Internal.Showing.{shapes_in}
-use Rattle.stack_build.proofs.Numbers.{values_numbers, each_fits, words_both}
-use Rattle.stack_build.proofs.Windows.{all_stand}
+use Rattle.piton_semantics.{specs.Fits.IsWellFormed, specs.Addresses.{word_number, numbers}, specs.Placed.{code_of, addresses_of, first_frame, first_frame_at}}
+use Rattle.piton_semantics.{specs.Placed.{first_top, ctrl_start, temp_start, end_of, words_with, placed, loaded}, proofs.SizeLaws.length-placed}
+use Rattle.gypsy_syntax.{specs.declared.literal.Decl.Decl, specs.ProgramFits.Each, specs.ValuesFit.{ValueFits, VarsFit}}
+use Rattle.gypsy_codegen.{specs.WordsOf.words_of_values, proofs.CopyLaws.each_both}
+use Rattle.stack_build.{specs.Image.{slots_from, image_with}, proofs.Laying.{reversed_append, map-reversed}, proofs.Storing.{items_words, split, values_stored}}
+use Rattle.stack_build.{specs.Internal.Showing.shapes_in, proofs.Numbers.{values_numbers, each_fits, words_both}, proofs.Windows.all_stand}
 
 -- the words below the stack
 abbrev fixed_words : SystemView → List ℕ

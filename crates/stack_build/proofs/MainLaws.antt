@@ -1,26 +1,12 @@
 -- What is known of the main procedure of an accepted source.
 use Rattle.std.proofs.Common.{◌≡◌, ◌<◌, ◌≤◌, ◌∙◌, ℕ, zero, suc, pos, false, List, [], ◌∷◌, length, map, flat_map, get_or, slice_get, Option, Some, None, refl}
-use Rattle.std.proofs.Common.{ap, subst, arith}
-use Rattle.std.specs.Prelude.{is_none, All}
-use Rattle.std.specs.Option.{unwrap_or}
-use Rattle.std.proofs.lemmas.List.{length-map, length-replicate}
+use Rattle.std.{proofs.Common.{ap, subst, arith}, specs.Prelude.{is_none, All}, specs.Option.unwrap_or, proofs.lemmas.List.{length-map, length-replicate}}
 use Rattle.std.proofs.lemmas.List.Elements.{All-head, All-tail}
-use Rattle.stack_text.specs.Names.{place_among}
-use Rattle.stack_text.specs.declared.shape.Shape.{Shape}
-use Rattle.stack_text.specs.Values.{item_count}
-use Rattle.stack_text.proofs.SharedLaws.{append_none}
-use Rattle.gypsy_syntax.specs.Sources.{ProcOf, SourceOf}
-use Rattle.gypsy_syntax.specs.Programs.{no_proc, proc_at}
-use Rattle.gypsy_syntax.specs.Resolved.{procedure_names, procedure_of, program_of, procedure_at}
-use Rattle.gypsy_syntax.specs.ProgramFits.{Each}
-use Rattle.gypsy_syntax.specs.Fits.{FitsProcedure}
-use Rattle.gypsy_syntax.specs.ValuesFit.{VarsFit}
-use Rattle.gypsy_syntax.proofs.FitsLaws.{keeps_fits}
-use Rattle.gypsy_check.specs.Accepted.{IsAccepted}
-use Rattle.gypsy_check.specs.Rules.{procedure_breaches}
-use Rattle.gypsy_codegen.specs.WordsOf.{zero_value}
-use Rattle.gypsy_codegen.proofs.SourceLaws.{kept}
-use Rattle.gypsy_codegen.proofs.SystemLaws.{zeros_in_range}
+use Rattle.stack_text.{specs.Names.place_among, specs.declared.shape.Shape.Shape, specs.Values.item_count, proofs.SharedLaws.append_none}
+use Rattle.gypsy_syntax.{specs.Sources.{ProcOf, SourceOf}, specs.Programs.{no_proc, proc_at}, specs.Resolved.{procedure_names, procedure_of, program_of}}
+use Rattle.gypsy_syntax.{specs.Resolved.procedure_at, specs.ProgramFits.Each, specs.Fits.FitsProcedure, specs.ValuesFit.VarsFit, proofs.FitsLaws.keeps_fits}
+use Rattle.gypsy_check.{specs.Accepted.IsAccepted, specs.Rules.procedure_breaches}
+use Rattle.gypsy_codegen.{specs.WordsOf.zero_value, proofs.SourceLaws.kept, proofs.SystemLaws.zeros_in_range}
 use Rattle.stack_build.specs.Formals.{main_of}
 
 -- it is there, and keeps the form and the rules

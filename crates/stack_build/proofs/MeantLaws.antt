@@ -1,34 +1,21 @@
 -- What a run of an image ends with is what its source means.
-use Rattle.std.proofs.Common.{◌≡◌, ◌+◌, ◌≤◌, ◌⊎◌, inl, inr, ⊎_elim, ℕ, suc, List, Ok, refl, sym, ap, subst, ◌∙◌, arith}
-use Rattle.std.specs.Prelude.{◌<◌, option_map}
+use Rattle.std.{proofs.Common.{◌≡◌, ◌+◌, ◌≤◌, ◌⊎◌, inl, inr, ⊎_elim, ℕ, suc, List, Ok, refl, sym, ap, subst, ◌∙◌, arith}, specs.Prelude.{◌<◌, option_map}}
 use Rattle.std.proofs.lemmas.Bool.{cases_lt}
 use Rattle.stack_text.specs.Values.{ValueOf}
-use Rattle.fm_machine.specs.State.{Fm}
-use Rattle.fm_machine.specs.Run.{fm_run, pc_of, IsFirst}
-use Rattle.fm_machine.specs.Outcome.{IsOutcome, RunOutcome, outcome}
-use Rattle.fm_machine.specs.declared.processor.Run.{Run}
-use Rattle.fm_machine.specs.declared.processor.Run.TheVariants as run
+use Rattle.fm_machine.{specs.State.Fm, specs.Run.{fm_run, pc_of, IsFirst}, specs.Outcome.{IsOutcome, RunOutcome, outcome}, specs.declared.processor.Run.Run}
 use Rattle.fm_machine.proofs.RunLaws.{outcome_is, outcome_only}
+use Rattle.fm_machine.specs.declared.processor.Run.TheVariants as run
 use Rattle.fm_image.specs.Image.{ImageOf}
 use Rattle.fm_loader.specs.Loaded.{loaded}
 use Rattle.display_maps.specs.Reading.{reading}
-use Rattle.gypsy_syntax.specs.Resolved.{program_of}
-use Rattle.gypsy_syntax.specs.Sources.{SourceOf}
-use Rattle.gypsy_space.specs.Costs.{Tally}
-use Rattle.gypsy_space.specs.Needs.{StackSizes}
-use Rattle.gypsy_semantics.specs.Calls.{CurrentCondition}
-use Rattle.gypsy_semantics.specs.Counted.{CountedOutcome, CountedDone, counted_meaning, uncounted, tally_of}
-use Rattle.gypsy_semantics.specs.Machine.{At, Move, Next, Ended, start}
-use Rattle.gypsy_semantics.specs.Meaning.{MeaningOutcome, Done, Unfinished, meaning}
-use Rattle.gypsy_semantics.proofs.CountLaws.{meaning-uncounted}
-use Rattle.gypsy_semantics.proofs.Runs.{agree}
-use Rattle.gypsy_codegen.specs.Moments.{moment_from}
-use Rattle.gypsy_codegen.proofs.MomentLaws.{moment_over, counts_grow}
-use Rattle.stack_build.specs.Implements.{meaning_shown, FitsFormals, Finishes, Implements}
-use Rattle.stack_build.specs.ComesTo.{ComesTo}
-use Rattle.stack_build.specs.Moments.{ArrivesAt, KeepsMoments}
-use Rattle.stack_build.specs.Meant.{IsMeant, EndsAsMeant, NeverOutside, EndlessAsMeant, KeptMeansOnly}
-use Rattle.stack_build.proofs.MomentLaws.{run_up_to}
+use Rattle.gypsy_syntax.{specs.Resolved.program_of, specs.Sources.SourceOf}
+use Rattle.gypsy_space.{specs.Costs.Tally, specs.Needs.StackSizes}
+use Rattle.gypsy_semantics.{specs.Calls.CurrentCondition, specs.Counted.{CountedOutcome, CountedDone, counted_meaning, uncounted, tally_of}, specs.Machine.At}
+use Rattle.gypsy_semantics.{specs.Machine.{Move, Next, Ended, start}, specs.Meaning.{MeaningOutcome, Done, Unfinished, meaning}}
+use Rattle.gypsy_semantics.{proofs.CountLaws.meaning-uncounted, proofs.Runs.agree}
+use Rattle.gypsy_codegen.{specs.Moments.moment_from, proofs.MomentLaws.{moment_over, counts_grow}}
+use Rattle.stack_build.{specs.Implements.{meaning_shown, FitsFormals, Finishes, Implements}, specs.ComesTo.ComesTo, specs.Moments.{ArrivesAt, KeepsMoments}}
+use Rattle.stack_build.{specs.Meant.{IsMeant, EndsAsMeant, NeverOutside, EndlessAsMeant, KeptMeansOnly}, proofs.MomentLaws.run_up_to}
 
 -- a run comes to an address first after one count alone, and in one state
 pub first_once : (m : Fm) (pc k j : ℕ) (s t : Fm) → IsFirst m pc k s → IsFirst m pc j t → (k ≡ j) × (s ≡ t)

@@ -1,77 +1,43 @@
 -- Every moment of a run of the source is one of the processor.
 use Rattle.std.proofs.Common.{◌≡◌, ◌≢◌, ◌+◌, ◌-◌, ◌<◌, ◌≤◌, ℕ, zero, suc, ℤ, List, [], ◌∷◌, ◌++◌, length, map, Bool, true, false, Option, Some, None, Result}
-use Rattle.std.proofs.Common.{Ok, Err, refl, sym, ap, subst, ◌∙◌, ⊎_elim, arith, length-append}
-use Rattle.std.specs.Prelude.{◌^◌, slice_get, slice_index, nat_lt, if◌then◌else◌, IsOk, option_map}
-use Rattle.std.specs.List.{list_all}
-use Rattle.std.proofs.lemmas.Bool.{cases_lt, ltb-true, lt-ltb, and_parts}
+use Rattle.std.{proofs.Common.{Ok, Err, refl, sym, ap, subst, ◌∙◌, ⊎_elim, arith, length-append}, specs.Prelude.{◌^◌, slice_get, slice_index, nat_lt}}
+use Rattle.std.{specs.Prelude.{if◌then◌else◌, IsOk, option_map}, specs.List.list_all, proofs.lemmas.Bool.{cases_lt, ltb-true, lt-ltb, and_parts}}
 use Rattle.std.proofs.lemmas.List.{length-map}
-use Rattle.stack_text.specs.declared.shape.Kind.{Kind}
-use Rattle.stack_text.specs.declared.shape.Shape.{Shape}
-use Rattle.stack_text.specs.Values.{ValueOf}
-use Rattle.stack_text.proofs.SharedLaws.{get_front, get_after, get_map}
+use Rattle.stack_text.{specs.declared.shape.Kind.Kind, specs.declared.shape.Shape.Shape, specs.Values.ValueOf, proofs.SharedLaws.{get_front, get_after}}
+use Rattle.stack_text.proofs.SharedLaws.{get_map}
 use Rattle.fm_words.specs.Word.{word_of_int}
-use Rattle.fm_machine.specs.State.{Fm, word_at}
-use Rattle.fm_machine.specs.Run.{fm_run, pc_of, Avoids}
-use Rattle.fm_machine.specs.Outcome.{IsOutcome, outcome, RunOutcome}
+use Rattle.fm_machine.{specs.State.{Fm, word_at}, specs.Run.{fm_run, pc_of, Avoids}, specs.Outcome.{IsOutcome, outcome, RunOutcome}}
+use Rattle.fm_machine.{specs.declared.fault.Outside.Outside, proofs.RunLaws.{run_add, outcome_only}, proofs.WindowLaws.inside}
 use Rattle.fm_machine.specs.Step as machine_step
-use Rattle.fm_machine.specs.declared.fault.Outside.{Outside}
 use Rattle.fm_machine.specs.declared.processor.Run.TheVariants as run
-use Rattle.fm_machine.proofs.RunLaws.{run_add, outcome_only}
-use Rattle.fm_machine.proofs.WindowLaws.{inside}
-use Rattle.fm_code.specs.Areas.{joined}
-use Rattle.fm_code.specs.Execution.{Holds}
-use Rattle.fm_code.proofs.HoldsLaws.{Holds-get}
+use Rattle.fm_code.{specs.Areas.joined, specs.Execution.Holds, proofs.HoldsLaws.Holds-get}
 use Rattle.fm_image.specs.Image.{ImageOf}
 use Rattle.fm_loader.specs.Loaded as loader
 use Rattle.display_maps.specs.Reading.{word_in}
-use Rattle.piton_words.specs.declared.word.Word.{Word}
-use Rattle.piton_words.specs.declared.word.Word.TheVariants.{Nat}
-use Rattle.piton_check.specs.Instruction.{SystemView}
-use Rattle.piton_check.specs.Sound.{IsSound}
+use Rattle.piton_words.{specs.declared.word.Word.Word, specs.declared.word.Word.TheVariants.Nat}
+use Rattle.piton_check.{specs.Instruction.SystemView, specs.Sound.IsSound}
 use Rattle.piton_semantics.specs.State as piton
-use Rattle.piton_semantics.specs.State.{PitonState, locals_of, element}
-use Rattle.piton_semantics.specs.Addresses.{Addresses, word_number, numbers}
-use Rattle.piton_semantics.specs.Law.{Steps}
-use Rattle.piton_semantics.specs.Placed.{areas_start, end_of, addresses_of, final_pc_of, address_of_place, loaded}
-use Rattle.piton_semantics.specs.StateView.{started}
-use Rattle.piton_semantics.specs.Stands.{Stands, frame_words, pointer_to, address_from, return_address}
-use Rattle.piton_semantics.proofs.RunLaws.{steps_run, steps_cost}
+use Rattle.piton_semantics.{specs.State.{PitonState, locals_of, element}, specs.Addresses.{Addresses, word_number, numbers}, specs.Law.Steps}
+use Rattle.piton_semantics.{specs.Placed.{areas_start, end_of, addresses_of, final_pc_of, address_of_place, loaded}, specs.StateView.started}
+use Rattle.piton_semantics.{specs.Stands.{Stands, frame_words, pointer_to, address_from, return_address}, proofs.RunLaws.{steps_run, steps_cost}}
 use Rattle.piton_semantics.proofs.SoundLaws.{known}
 use Rattle.piton_linker.specs.Theorem.{ComesToStand, RunsOnProcessor}
-use Rattle.gypsy_syntax.specs.Programs.{Proc, Program, proc_at, shapes_of}
-use Rattle.gypsy_syntax.specs.Ranges.{is_in_range}
-use Rattle.gypsy_syntax.specs.ValuesFit.{ValueFits, VarsFit}
-use Rattle.gypsy_syntax.specs.Effects.{value_at}
-use Rattle.gypsy_syntax.specs.Resolved.{program_of}
-use Rattle.gypsy_syntax.specs.Sources.{ProcOf, SourceOf}
+use Rattle.gypsy_syntax.{specs.Programs.{Proc, Program, proc_at, shapes_of}, specs.Ranges.is_in_range, specs.ValuesFit.{ValueFits, VarsFit}}
+use Rattle.gypsy_syntax.{specs.Effects.value_at, specs.Resolved.program_of, specs.Sources.{ProcOf, SourceOf}}
 use Rattle.gypsy_check.specs.Accepted.{IsAccepted}
-use Rattle.gypsy_space.specs.Costs.{Tally}
-use Rattle.gypsy_space.specs.Needs.{StackSizes, vars_of}
-use Rattle.gypsy_semantics.specs.Calls.{CurrentCondition, main_start}
-use Rattle.gypsy_semantics.specs.Counted.{CountedOutcome, CountedDone, counted_meaning, uncounted, tally_of}
-use Rattle.gypsy_semantics.specs.Machine.{Item, Frame, Held, State, At, Move, Next, Ended, start}
-use Rattle.gypsy_semantics.specs.Views.RunView.{top_way}
-use Rattle.gypsy_semantics.proofs.CountLaws.{meaning-uncounted}
-use Rattle.gypsy_semantics.proofs.EffectLaws.{value_fits}
-use Rattle.gypsy_semantics.proofs.Runs.{agree}
+use Rattle.gypsy_space.{specs.Costs.Tally, specs.Needs.{StackSizes, vars_of}}
+use Rattle.gypsy_semantics.{specs.Calls.{CurrentCondition, main_start}, specs.Counted.{CountedOutcome, CountedDone, counted_meaning, uncounted, tally_of}}
+use Rattle.gypsy_semantics.{specs.Machine.{Item, Frame, Held, State, At, Move, Next, Ended, start}, specs.Views.RunView.top_way}
+use Rattle.gypsy_semantics.{proofs.CountLaws.meaning-uncounted, proofs.EffectLaws.value_fits, proofs.Runs.agree}
 use Rattle.gypsy_predef.specs.Runs as stack
-use Rattle.gypsy_predef.specs.Runs.{word_of_item}
-use Rattle.gypsy_predef.proofs.StackLaws.{element_there}
-use Rattle.gypsy_codegen.specs.WordsOf.{words_of_values, zero_value, number_of_way}
-use Rattle.gypsy_codegen.specs.Generated.{offset, generated_view}
-use Rattle.gypsy_codegen.specs.Moments.{moment_from, AreActivations, VariableStands, ReadsAs, ComesToMark, HasMoment}
-use Rattle.gypsy_codegen.proofs.MomentLaws.{moment_over, moment_fits, counts_grow}
-use Rattle.stack_build.specs.Formals.{formals_in, conditions_in}
-use Rattle.stack_build.specs.Image.{image_with, source_tables, image_of}
-use Rattle.stack_build.specs.Implements.{Implements, meaning_shown}
-use Rattle.stack_build.specs.ComesTo.{ComesTo}
-use Rattle.stack_build.specs.Moments.{HoldsVariable, HoldsFrames, MemoryReads, ArrivesAtMark, ArrivesAtEnd, ArrivesAt, KeepsMoments}
-use Rattle.stack_build.specs.StaysUnfinished.{StaysUnfinished}
-use Rattle.stack_build.specs.Internal.Showing.{shapes_in}
-use Rattle.stack_build.proofs.Initial.{is_initial}
-use Rattle.stack_build.proofs.Loading.{image_loaded}
-use Rattle.stack_build.proofs.MainLaws.{IsMain, main_is, zero_values}
-use Rattle.stack_build.proofs.Numbers.{item_number}
+use Rattle.gypsy_predef.{specs.Runs.word_of_item, proofs.StackLaws.element_there}
+use Rattle.gypsy_codegen.{specs.WordsOf.{words_of_values, zero_value, number_of_way}, specs.Generated.{offset, generated_view}, specs.Moments.moment_from}
+use Rattle.gypsy_codegen.{specs.Moments.{AreActivations, VariableStands, ReadsAs, ComesToMark, HasMoment}, proofs.MomentLaws.{moment_over, moment_fits}}
+use Rattle.gypsy_codegen.proofs.MomentLaws.{counts_grow}
+use Rattle.stack_build.{specs.Formals.{formals_in, conditions_in}, specs.Image.{image_with, source_tables, image_of}, specs.Implements.Implements}
+use Rattle.stack_build.{specs.Implements.meaning_shown, specs.ComesTo.ComesTo, specs.Moments.{HoldsVariable, HoldsFrames, MemoryReads, ArrivesAtMark}}
+use Rattle.stack_build.{specs.Moments.{ArrivesAtEnd, ArrivesAt, KeepsMoments}, specs.StaysUnfinished.StaysUnfinished, specs.Internal.Showing.shapes_in}
+use Rattle.stack_build.{proofs.Initial.is_initial, proofs.Loading.image_loaded, proofs.MainLaws.{IsMain, main_is, zero_values}, proofs.Numbers.item_number}
 
 -- ---- runs
 

@@ -1,21 +1,14 @@
 -- The numbers of the words of values.
-use Rattle.std.proofs.Common.{◌≡◌, ℕ, zero, suc, ℤ, pos, negsuc, true, List, [], ◌∷◌, ◌++◌, map, refl, sym, ap, ◌∙◌, true≢false}
-use Rattle.std.specs.List.{list_all}
-use Rattle.std.proofs.lemmas.Bool.{and_parts}
-use Rattle.std.proofs.lemmas.List.{map-append, append_assoc}
-use Rattle.stack_text.specs.declared.shape.Kind.{Kind}
-use Rattle.stack_text.specs.declared.shape.Kind.TheVariants.{Integer, Boolean, Character}
-use Rattle.stack_text.specs.declared.shape.Shape.{Shape}
+use Rattle.std.{proofs.Common.{◌≡◌, ℕ, zero, suc, ℤ, pos, negsuc, true, List, [], ◌∷◌, ◌++◌, map, refl, sym, ap, ◌∙◌, true≢false}, specs.List.list_all}
+use Rattle.std.{proofs.lemmas.Bool.and_parts, proofs.lemmas.List.{map-append, append_assoc}}
+use Rattle.stack_text.{specs.declared.shape.Kind.Kind, specs.declared.shape.Kind.TheVariants.{Integer, Boolean, Character}, specs.declared.shape.Shape.Shape}
 use Rattle.stack_text.specs.Values.{ValueOf}
 use Rattle.fm_words.specs.Word.{word_of_int}
 use Rattle.piton_semantics.specs.Addresses.{Addresses, word_number, numbers}
-use Rattle.gypsy_syntax.specs.ProgramFits.{Each}
-use Rattle.gypsy_syntax.specs.Ranges.{is_in_range}
-use Rattle.gypsy_syntax.specs.ValuesFit.{ValueFits, VarsFit}
+use Rattle.gypsy_syntax.{specs.ProgramFits.Each, specs.Ranges.is_in_range, specs.ValuesFit.{ValueFits, VarsFit}}
 use Rattle.gypsy_predef.specs.Runs.{word_of_item, words_of_value}
 use Rattle.gypsy_codegen.specs.WordsOf.{words_of_values}
-use Rattle.stack_build.proofs.Bits.{no_bit}
-use Rattle.stack_build.proofs.Storing.{items_words}
+use Rattle.stack_build.{proofs.Bits.no_bit, proofs.Storing.items_words}
 
 truth_number : (A : Addresses) (n : ℕ) → is_in_range Boolean (pos n) ≡ true → word_number A (word_of_item Boolean (pos n)) ≡ n
 truth_number A zero h = refl

@@ -1,19 +1,11 @@
 -- An image that is made of the parts of a linked system.
-use Rattle.std.proofs.Common.{◌≡◌, ◌<◌, ◌≤◌, ◌-◌, ℕ, List, Some, true, sym, ap, subst, ◌∙◌, arith}
-use Rattle.std.specs.Prelude.{◌^◌, IsTrue}
-use Rattle.fm_image.specs.declared.slot.Slot.{Slot}
-use Rattle.fm_image.specs.Image.{ImageOf}
-use Rattle.fm_image.specs.Limits.{Tables, are_tables, is_image}
+use Rattle.std.{proofs.Common.{◌≡◌, ◌<◌, ◌≤◌, ◌-◌, ℕ, List, Some, true, sym, ap, subst, ◌∙◌, arith}, specs.Prelude.{◌^◌, IsTrue}}
+use Rattle.fm_image.{specs.declared.slot.Slot.Slot, specs.Image.ImageOf, specs.Limits.{Tables, are_tables, is_image}}
 use Rattle.piton_check.specs.PitonChecking.{CheckedOf, IsChecked}
-use Rattle.piton_semantics.specs.Fits.{system_in}
-use Rattle.piton_semantics.specs.Placed.{placed, areas_start, end_of}
-use Rattle.piton_linker.specs.declared.placement.Layout.{Layout}
-use Rattle.piton_linker.specs.Layouts.{layout_of}
-use Rattle.piton_linker.proofs.ProcessorLaws.{checked_end}
+use Rattle.piton_semantics.{specs.Fits.system_in, specs.Placed.{placed, areas_start, end_of}}
+use Rattle.piton_linker.{specs.declared.placement.Layout.Layout, specs.Layouts.layout_of, proofs.ProcessorLaws.checked_end}
 use Rattle.gypsy_syntax.specs.declared.literal.Decl.{Decl}
-use Rattle.stack_build.specs.Image.{slots_from, linked_image, image_with}
-use Rattle.stack_build.specs.Internal.Showing.{IsShowable}
-use Rattle.stack_build.proofs.ImageLimits.{placed_window, system_fits}
+use Rattle.stack_build.{specs.Image.{slots_from, linked_image, image_with}, specs.Internal.Showing.IsShowable, proofs.ImageLimits.{placed_window, system_fits}}
 
 -- its addresses are numbers of 32 bits
 pub areas_below : (c : CheckedOf) (layout : Layout) → IsChecked c → (placed (system_in c)).size ≤ 2 ^ 20 → layout ≡ layout_of (system_in c)

@@ -1,30 +1,18 @@
 -- A window whose stack has the words of values at its bottom is read as the values.
 use Rattle.std.proofs.Common.{◌≡◌, ◌+◌, ◌-◌, ℕ, zero, suc, ℤ, pos, negsuc, true, List, [], ◌∷◌, ◌++◌, length, map, Some, refl, sym, ap, subst, ◌∙◌, arith}
-use Rattle.std.proofs.Common.{length-append, eq-eqb, true≢false}
-use Rattle.std.specs.Prelude.{unwrap_or}
-use Rattle.std.specs.List.{list_all, zip}
-use Rattle.std.proofs.lemmas.Bool.{and_parts, and_from, leb-true, lt-ltb}
-use Rattle.std.proofs.lemmas.List.{length-map}
+use Rattle.std.{proofs.Common.{length-append, eq-eqb, true≢false}, specs.Prelude.unwrap_or, specs.List.{list_all, zip}, proofs.lemmas.Bool.and_parts}
+use Rattle.std.{proofs.lemmas.Bool.{and_from, leb-true, lt-ltb}, proofs.lemmas.List.length-map}
 use mathlib.Core.List.{reverse_aux}
-use Rattle.stack_text.specs.declared.shape.Kind.{Kind}
-use Rattle.stack_text.specs.declared.shape.Kind.TheVariants.{Integer, Boolean, Character}
-use Rattle.stack_text.specs.Values.{ValueOf, item_count, is_item, is_value}
+use Rattle.stack_text.{specs.declared.shape.Kind.Kind, specs.declared.shape.Kind.TheVariants.{Integer, Boolean, Character}, specs.Values.{ValueOf, item_count}}
+use Rattle.stack_text.specs.Values.{is_item, is_value}
 use Rattle.fm_words.specs.Word.{is_int, word_of_int}
 use Rattle.fm_machine.specs.State.{Fm, word_at}
 use Rattle.fm_code.specs.Execution.{Holds}
 use Rattle.fm_image.specs.declared.slot.Slot.{Slot}
-use Rattle.display_maps.specs.Reading.{word_or_zero, words_down, variable_of}
-use Rattle.display_maps.proofs.ItemLaws.{slot_read}
-use Rattle.gypsy_syntax.specs.declared.literal.Decl.{Decl}
-use Rattle.gypsy_syntax.specs.Ranges.{is_in_range}
-use Rattle.gypsy_syntax.specs.Resolved.{shape_of}
-use Rattle.gypsy_syntax.specs.ValuesFit.{VarsFit}
-use Rattle.stack_build.specs.Image.{slots_from}
-use Rattle.stack_build.specs.Implements.{variable_shown}
-use Rattle.stack_build.proofs.Bits.{no_bit}
-use Rattle.stack_build.proofs.Laying.{reversed_append, Holds-reversed}
-use Rattle.stack_build.proofs.Storing.{items_words}
-use Rattle.stack_build.specs.Internal.Showing.{shapes_in}
+use Rattle.display_maps.{specs.Reading.{word_or_zero, words_down, variable_of}, proofs.ItemLaws.slot_read}
+use Rattle.gypsy_syntax.{specs.declared.literal.Decl.Decl, specs.Ranges.is_in_range, specs.Resolved.shape_of, specs.ValuesFit.VarsFit}
+use Rattle.stack_build.{specs.Image.slots_from, specs.Implements.variable_shown, proofs.Bits.no_bit, proofs.Laying.{reversed_append, Holds-reversed}}
+use Rattle.stack_build.{proofs.Storing.items_words, specs.Internal.Showing.shapes_in}
 
 -- an item in range is one of its kind, and has 32 bits
 item_fits : (k : Kind) (z : ℤ) → is_in_range k z ≡ true → (is_item k z ≡ true) × (is_int z ≡ true)

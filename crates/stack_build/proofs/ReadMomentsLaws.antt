@@ -3,10 +3,7 @@ use Rattle.std.proofs.Common.{◌≡◌, refl}
 use Rattle.gypsy_syntax.specs.Resolved.{program_of}
 use Rattle.gypsy_semantics.specs.Machine.{At, Move, Next, Ended}
 use Rattle.gypsy_codegen.specs.Moments.{moment_from}
-use Rattle.stack_build.specs.Image.{image_of}
-use Rattle.stack_build.specs.Moments.{ArrivesAt}
-use Rattle.stack_build.specs.ReadMoments.{SaysMove, KeptMomentsAreSaid}
-use Rattle.stack_build.proofs.ReadingLaws.{moments_are_read}
+use Rattle.stack_build.{specs.Image.image_of, specs.Moments.ArrivesAt, specs.ReadMoments.{SaysMove, KeptMomentsAreSaid}, proofs.ReadingLaws.moments_are_read}
 
 pub images_say_moments : KeptMomentsAreSaid
 images_say_moments source sizes base accepted marked keeps v j fits = by_moment (moment_from (program_of source) sizes v j) refl (keeps v j fits)

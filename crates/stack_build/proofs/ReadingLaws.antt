@@ -1,57 +1,31 @@
 -- At each moment what is read is the state of the step machine.
 use Rattle.std.proofs.Common.{◌≡◌, ◌≢◌, ◌+◌, ◌-◌, ℕ, zero, suc, ℤ, List, [], ◌∷◌, ◌++◌, length, map, Bool, Option, Some, option_map, cond, refl, sym, ap, subst}
-use Rattle.std.proofs.Common.{◌∙◌, inl, inr, arith, length-append}
-use Rattle.std.specs.Prelude.{IsTrue, slice_get, get_or, if◌then◌else◌}
-use Rattle.std.specs.List.{Contains}
-use Rattle.std.proofs.lemmas.Bool.{eq-eqb, ne_eqb}
-use Rattle.std.proofs.lemmas.List.{length-map}
-use Rattle.stack_text.specs.declared.name.Named.{Named}
-use Rattle.stack_text.specs.declared.shape.Shape.{Shape}
-use Rattle.stack_text.specs.Options.{◌>>=◌}
-use Rattle.stack_text.specs.Values.{ValueOf, item_count}
+use Rattle.std.{proofs.Common.{◌∙◌, inl, inr, arith, length-append}, specs.Prelude.{IsTrue, slice_get, get_or, if◌then◌else◌}, specs.List.Contains}
+use Rattle.std.{proofs.lemmas.Bool.{eq-eqb, ne_eqb}, proofs.lemmas.List.length-map}
+use Rattle.stack_text.{specs.declared.name.Named.Named, specs.declared.shape.Shape.Shape, specs.Options.◌>>=◌, specs.Values.{ValueOf, item_count}}
 use Rattle.stack_text.proofs.SharedLaws.{get_some}
 use Rattle.fm_words.specs.Word.{word_of_int}
 use Rattle.fm_machine.specs.State.{Fm}
-use Rattle.fm_image.specs.declared.procedure.Mark.{Mark}
-use Rattle.fm_image.specs.Limits.{Tables, no_tables}
-use Rattle.fm_image.specs.Procedure.{ProcedureOf}
-use Rattle.display_maps.specs.declared.shown.Shown.{Shown}
-use Rattle.display_maps.specs.Reading.{word_in, condition_of, item_of, space_name}
-use Rattle.display_maps.specs.ReadingAt.{StandingOf, ItemsOf, machine_at, words_below, items_below, items_at, mark_there, condition_word, read_in, read_from}
+use Rattle.fm_image.{specs.declared.procedure.Mark.Mark, specs.Limits.{Tables, no_tables}, specs.Procedure.ProcedureOf}
+use Rattle.display_maps.{specs.declared.shown.Shown.Shown, specs.Reading.{word_in, condition_of, item_of, space_name}, specs.ReadingAt.{StandingOf, ItemsOf}}
+use Rattle.display_maps.specs.ReadingAt.{machine_at, words_below, items_below, items_at, mark_there, condition_word, read_in, read_from}
+use Rattle.display_maps.{specs.ValueReading.value_shown, proofs.ItemLaws.items_read}
 use Rattle.display_maps.specs.ReadingAt as reading
-use Rattle.display_maps.specs.ValueReading.{value_shown}
-use Rattle.display_maps.proofs.ItemLaws.{items_read}
 use Rattle.piton_check.specs.Instruction.{SystemView}
-use Rattle.piton_semantics.specs.Placed.{address_of_place, areas_start}
-use Rattle.piton_semantics.proofs.AddressLaws.{same_places}
-use Rattle.gypsy_syntax.specs.Programs.{Leave, Routine, Space, Declared, Proc, Program, no_proc, proc_at, shapes_of, conds_of}
-use Rattle.gypsy_syntax.specs.ProgramFits.{Each}
-use Rattle.gypsy_syntax.specs.ValuesFit.{ValueFits, VarsFit}
-use Rattle.gypsy_syntax.specs.Effects.{value_at}
-use Rattle.gypsy_syntax.specs.Resolved.{shape_of, local_value, condition_names, procedure_names, procedure_of, program_of, variable_names}
-use Rattle.gypsy_syntax.specs.Sources.{LocalOf, ProcOf, SourceOf}
-use Rattle.gypsy_syntax.specs.declared.literal.Decl.{Decl}
-use Rattle.gypsy_check.specs.Accepted.{IsAccepted}
-use Rattle.gypsy_check.proofs.CleanLaws.{get_or_map}
+use Rattle.piton_semantics.{specs.Placed.{address_of_place, areas_start}, proofs.AddressLaws.same_places}
+use Rattle.gypsy_syntax.{specs.Programs.{Leave, Routine, Space, Declared, Proc, Program, no_proc, proc_at, shapes_of, conds_of}, specs.ProgramFits.Each}
+use Rattle.gypsy_syntax.{specs.ValuesFit.{ValueFits, VarsFit}, specs.Effects.value_at, specs.Resolved.{shape_of, local_value, condition_names, procedure_names}}
+use Rattle.gypsy_syntax.{specs.Resolved.{procedure_of, program_of, variable_names}, specs.Sources.{LocalOf, ProcOf, SourceOf}, specs.declared.literal.Decl.Decl}
+use Rattle.gypsy_check.{specs.Accepted.IsAccepted, proofs.CleanLaws.get_or_map}
 use Rattle.gypsy_space.specs.Needs.{StackSizes}
-use Rattle.gypsy_semantics.specs.Kept.{WorkFits, StateFits}
-use Rattle.gypsy_semantics.specs.Machine.{Item, Do, Back, JoinThen, JoinOne, Guard, Out, State, At, Next, place_of}
-use Rattle.gypsy_semantics.specs.Views.RunView.{top_way}
-use Rattle.gypsy_semantics.specs.Views.Shown.{conditions_at, variables_at}
-use Rattle.gypsy_codegen.specs.declared.marking.MarkAt.{MarkAt}
-use Rattle.gypsy_codegen.specs.WordsOf.{number_of_way}
-use Rattle.gypsy_codegen.specs.Generated.{offset, generated_view}
-use Rattle.gypsy_codegen.specs.Marks.{marks_of, top_mark, IsBefore, Ascend, IsMarkPlace}
-use Rattle.gypsy_codegen.specs.Moments.{moment_from}
-use Rattle.gypsy_codegen.proofs.LayoutLaws.{proc_there}
-use Rattle.gypsy_codegen.proofs.MarkLaws.{each_moment_is_marked}
-use Rattle.gypsy_codegen.proofs.MarkOrderLaws.{marks_ascend, marks_are_places}
-use Rattle.gypsy_codegen.proofs.MomentLaws.{moment_fits}
+use Rattle.gypsy_semantics.{specs.Kept.{WorkFits, StateFits}, specs.Machine.{Item, Do, Back, JoinThen, JoinOne, Guard, Out, State, At, Next, place_of}}
+use Rattle.gypsy_semantics.{specs.Views.RunView.top_way, specs.Views.Shown.{conditions_at, variables_at}}
+use Rattle.gypsy_codegen.{specs.declared.marking.MarkAt.MarkAt, specs.WordsOf.number_of_way, specs.Generated.{offset, generated_view}, specs.Marks.marks_of}
+use Rattle.gypsy_codegen.{specs.Marks.{top_mark, IsBefore, Ascend, IsMarkPlace}, specs.Moments.moment_from, proofs.LayoutLaws.proc_there}
+use Rattle.gypsy_codegen.{proofs.MarkLaws.each_moment_is_marked, proofs.MarkOrderLaws.{marks_ascend, marks_are_places}, proofs.MomentLaws.moment_fits}
 use Rattle.stack_build.specs.Image.{variable_infos, procedure_info, procedure_infos, mark_info, places_fit, source_tables, image_of}
-use Rattle.stack_build.specs.Implements.{FitsFormals, way_shown}
-use Rattle.stack_build.specs.SourceMoments.{ShowsVariable, ShowsState, variables_shown, moment_shown, ShownMomentsAreRead, IsAtMoment, MomentsAreRead}
-use Rattle.stack_build.proofs.Ending.{own_read}
-use Rattle.stack_build.proofs.ReadBack.{items_fit}
+use Rattle.stack_build.{specs.Implements.{FitsFormals, way_shown}, specs.SourceMoments.{ShowsVariable, ShowsState, variables_shown, moment_shown}}
+use Rattle.stack_build.{specs.SourceMoments.{ShownMomentsAreRead, IsAtMoment, MomentsAreRead}, proofs.Ending.own_read, proofs.ReadBack.items_fit}
 
 -- ---- the mark is found
 

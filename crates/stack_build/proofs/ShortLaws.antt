@@ -1,39 +1,25 @@
 -- What is built of a text of at most 2^20 bytes has its marks, and its file is short enough to be read again.
 use Rattle.std.proofs.Common.{◌≡◌, ◌<◌, ◌≤◌, ◌+◌, ◌*◌, ℕ, suc, Bool, true, false, cond, List, [], ◌∷◌, ◌++◌, length, map, flat_map, Option, Some, None, Result}
-use Rattle.std.proofs.Common.{Ok, Err, IfOk, refl, sym, ap, subst, ◌∙◌, arith, length-append}
-use Rattle.std.specs.Prelude.{◌^◌, slice_get}
-use Rattle.std.specs.List.{list_all}
-use Rattle.std.proofs.lemmas.Bool.{and_parts, and_from, lt-ltb}
-use Rattle.std.proofs.lemmas.List.{length-map}
-use Rattle.stack_text.specs.declared.breach.Breach.{Breach}
-use Rattle.stack_text.specs.declared.name.Named.{Named}
-use Rattle.stack_text.specs.declared.shape.Shape.{Shape}
-use Rattle.stack_text.specs.Breaches.{least}
+use Rattle.std.{proofs.Common.{Ok, Err, IfOk, refl, sym, ap, subst, ◌∙◌, arith, length-append}, specs.Prelude.{◌^◌, slice_get}, specs.List.list_all}
+use Rattle.std.{proofs.lemmas.Bool.{and_parts, and_from, lt-ltb}, proofs.lemmas.List.length-map}
+use Rattle.stack_text.{specs.declared.breach.Breach.Breach, specs.declared.name.Named.Named, specs.declared.shape.Shape.Shape, specs.Breaches.least}
 use Rattle.stack_text.proofs.ReaderLaws.{TreeOf-tree_in, value_tree}
-use Rattle.fm_image.specs.declared.procedure.Mark.{Mark}
-use Rattle.fm_image.specs.Image.{ImageOf}
-use Rattle.fm_image.specs.Limits.{Tables, no_tables, tables_of, is_place}
+use Rattle.fm_image.{specs.declared.procedure.Mark.Mark, specs.Image.ImageOf, specs.Limits.{Tables, no_tables, tables_of, is_place}}
 use Rattle.fm_image.specs.Spelling.{number_bytes, shape_bytes, name_bytes, counted_bytes, variable_bytes, procedure_bytes, mark_bytes, tables_bytes, spelling}
 use Rattle.display_maps.specs.Reading.{space_name}
 use Rattle.piton_check.specs.Instruction.{SystemView}
-use Rattle.gypsy_syntax.specs.declared.literal.Decl.{Decl}
-use Rattle.gypsy_syntax.specs.declared.fault.GypsyFault.{GypsyFault}
-use Rattle.gypsy_syntax.specs.GypsyReading.{gypsy_in, gypsy_reader}
-use Rattle.gypsy_syntax.specs.Programs.{Proc, Program, Stmt, body_of, no_proc, proc_at, shapes_of}
-use Rattle.gypsy_syntax.specs.Resolved.{condition_names, procedure_of, program_of, statement_of, statement_of_all, variable_names}
-use Rattle.gypsy_syntax.specs.Sources.{StmtOf, StmtsOf, no_op, signal, seq, loop, branch, begin, call, predef, no_parts, part, LocalOf, ProcOf, SourceOf}
-use Rattle.gypsy_check.specs.Rules.{violations}
-use Rattle.gypsy_check.proofs.CleanLaws.{get_or_map}
+use Rattle.gypsy_syntax.{specs.declared.literal.Decl.Decl, specs.declared.fault.GypsyFault.GypsyFault, specs.GypsyReading.{gypsy_in, gypsy_reader}}
+use Rattle.gypsy_syntax.{specs.Programs.{Proc, Program, Stmt, body_of, no_proc, proc_at, shapes_of}, specs.Resolved.{condition_names, procedure_of, program_of}}
+use Rattle.gypsy_syntax.{specs.Resolved.{statement_of, statement_of_all, variable_names}, specs.Sources.{StmtOf, StmtsOf, no_op, signal, seq, loop, branch}}
+use Rattle.gypsy_syntax.specs.Sources.{begin, call, predef, no_parts, part, LocalOf, ProcOf, SourceOf}
+use Rattle.gypsy_check.{specs.Rules.violations, proofs.CleanLaws.get_or_map}
 use Rattle.gypsy_space.specs.Needs.{StackSizes, stack_sizes}
-use Rattle.gypsy_codegen.specs.declared.marking.MarkAt.{MarkAt}
-use Rattle.gypsy_codegen.specs.Generated.{size, count_from, offset, generated_view}
-use Rattle.gypsy_codegen.specs.Marks.{mark_at, statement_marks, tail_marks, procedure_marks, marks_of}
-use Rattle.stack_build.specs.declared.fault.BuildFault.{BuildFault}
-use Rattle.stack_build.specs.Build.{BuiltOf, accepted_unless, accepted_by, accepted_source, Builds, BuildsText}
+use Rattle.gypsy_codegen.{specs.declared.marking.MarkAt.MarkAt, specs.Generated.{size, count_from, offset, generated_view}, specs.Marks.mark_at}
+use Rattle.gypsy_codegen.specs.Marks.{statement_marks, tail_marks, procedure_marks, marks_of}
+use Rattle.stack_build.{specs.declared.fault.BuildFault.BuildFault, specs.Build.{BuiltOf, accepted_unless, accepted_by, accepted_source, Builds, BuildsText}}
 use Rattle.stack_build.specs.Image.{variable_infos, procedure_info, procedure_infos, mark_info, places_fit, source_tables, image_of}
-use Rattle.stack_build.proofs.ImageBytes.{file_few}
-use Rattle.stack_build.proofs.TextLaws.{marks_in, marks_in_all, StandsBelow, AllStandBelow, conditions_cost, formals_cost, locals_cost, procedures_cost}
-use Rattle.stack_build.proofs.TextLaws.{EachStands, LightSource, tree_is_light}
+use Rattle.stack_build.{proofs.ImageBytes.file_few, proofs.TextLaws.{marks_in, marks_in_all, StandsBelow, AllStandBelow, conditions_cost, formals_cost}}
+use Rattle.stack_build.proofs.TextLaws.{locals_cost, procedures_cost, EachStands, LightSource, tree_is_light}
 
 -- ---- the source of a text
 

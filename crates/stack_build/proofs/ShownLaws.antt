@@ -1,12 +1,8 @@
 -- The main procedure, as it is looked up.
 use Rattle.std.proofs.Common.{◌≡◌, ℕ, suc, Bool, true, false, cond, List, [], ◌∷◌, map, Option, Some, None, bytes_eq, refl, sym, ap, ◌∙◌}
-use Rattle.std.specs.Prelude.{option_map}
-use Rattle.std.specs.List.{find}
+use Rattle.std.{specs.Prelude.option_map, specs.List.find}
 use Rattle.stack_text.specs.Names.{place_among}
-use Rattle.gypsy_syntax.specs.declared.proc.Proc.{Proc}
-use Rattle.gypsy_syntax.specs.declared.proc.Source.{Source}
-use Rattle.gypsy_syntax.specs.Sources.{ProcOf}
-use Rattle.gypsy_syntax.specs.Views.SourceView.{proc_of, source_of}
+use Rattle.gypsy_syntax.{specs.declared.proc.Proc.Proc, specs.declared.proc.Source.Source, specs.Sources.ProcOf, specs.Views.SourceView.{proc_of, source_of}}
 use Rattle.gypsy_syntax.specs.Resolved.{procedure_at}
 use Rattle.gypsy_check.proofs.LookupLaws.{place_cons, procedure_past}
 use Rattle.stack_build.specs.Formals.{main_of}

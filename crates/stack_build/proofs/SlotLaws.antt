@@ -1,26 +1,15 @@
 -- What values a text gives slots doesn't depend on the addresses of the slots.
 use Rattle.std.proofs.Common.{◌≡◌, ℕ, ◌-◌, List, [], ◌∷◌, ◌++◌, map, Bool, true, false, cond, Option, Some, None, Result, Ok, Err, refl, ap, ◌∙◌}
-use Rattle.std.specs.Option.{option_map, option_or}
-use Rattle.std.specs.Str.{bytes_eq}
-use Rattle.stack_text.specs.declared.shape.Shape.{Shape}
-use Rattle.stack_text.specs.declared.text_fault.TextRule.{TextRule}
-use Rattle.stack_text.specs.Results.{◌>>=◌, unless_fault}
-use Rattle.stack_text.specs.Trees.{Node, atom, list}
-use Rattle.stack_text.specs.TreeIn.{tree_in}
-use Rattle.stack_text.specs.Values.{ValueOf, item_count}
+use Rattle.std.{specs.Option.{option_map, option_or}, specs.Str.bytes_eq}
+use Rattle.stack_text.{specs.declared.shape.Shape.Shape, specs.declared.text_fault.TextRule.TextRule, specs.Results.{◌>>=◌, unless_fault}, specs.Trees.Node}
+use Rattle.stack_text.{specs.Trees.{atom, list}, specs.TreeIn.tree_in, specs.Values.{ValueOf, item_count}}
 use Rattle.fm_image.specs.declared.slot.Slot.{Slot}
-use Rattle.fm_loader.specs.declared.fault.Rule.{Rule}
-use Rattle.fm_loader.specs.declared.parsed.Entry.{Entry}
-use Rattle.fm_loader.specs.declared.parsed.ParsedValue.{ParsedValue}
-use Rattle.fm_loader.specs.Rules.{Fault}
+use Rattle.fm_loader.{specs.declared.fault.Rule.Rule, specs.declared.parsed.Entry.Entry, specs.declared.parsed.ParsedValue.ParsedValue, specs.Rules.Fault}
 use Rattle.fm_loader.specs.Values.{entries_of, mismatch, slot_named, is_named, rule_broken, rule_of, fault_at, entry_fault, value_for, found_in, all_found}
 use Rattle.fm_loader.specs.Values.{values_at, values_on, values_in}
-use Rattle.gypsy_syntax.specs.declared.literal.Decl.{Decl}
-use Rattle.gypsy_syntax.specs.Resolved.{shape_of}
-use Rattle.gypsy_syntax.specs.Sources.{SourceOf}
+use Rattle.gypsy_syntax.{specs.declared.literal.Decl.Decl, specs.Resolved.shape_of, specs.Sources.SourceOf}
 use Rattle.gypsy_space.specs.Needs.{StackSizes}
-use Rattle.stack_build.specs.Formals.{shown_formals}
-use Rattle.stack_build.specs.Image.{slots_from, formal_slots, image_of}
+use Rattle.stack_build.{specs.Formals.shown_formals, specs.Image.{slots_from, formal_slots, image_of}}
 
 abbrev found_shape : Option Slot → Option Shape
 found_shape o = option_map (λ (s : Slot). s.shape) o

@@ -1,33 +1,19 @@
 -- What a run of a source on values tells is what the source means.
 use Rattle.std.proofs.Common.{◌≡◌, ⊎_elim, ℕ, List, Result, Ok, Err, IfOk, refl, sym, ap, subst, ◌∙◌, arith}
 use Rattle.stack_text.specs.Gives as common
-use Rattle.stack_text.specs.Results.{◌>>=◌}
-use Rattle.stack_text.specs.Values.{ValueOf}
-use Rattle.fm_machine.specs.Outcome.{IsOutcome, RunOutcome, outcome}
-use Rattle.fm_machine.specs.declared.processor.Run.{Run}
+use Rattle.stack_text.{specs.Results.◌>>=◌, specs.Values.ValueOf}
+use Rattle.fm_machine.{specs.Outcome.{IsOutcome, RunOutcome, outcome}, specs.declared.processor.Run.Run, proofs.RunLaws.outcome_is}
 use Rattle.fm_machine.specs.declared.processor.Run.TheVariants as run
-use Rattle.fm_machine.proofs.RunLaws.{outcome_is}
 use Rattle.fm_image.specs.Image.{ImageOf}
-use Rattle.fm_loader.specs.declared.fault.ValuesFault.{ValuesFault}
-use Rattle.fm_loader.specs.declared.fault.ValuesFault.TheVariants.{Refused, Memory}
-use Rattle.fm_loader.specs.Loaded.{loaded}
-use Rattle.fm_loader.specs.Rules.{fault_of as values_rule}
-use Rattle.fm_loader.specs.Values.{values_in}
-use Rattle.display_maps.specs.declared.ending.Ending.{Ending}
-use Rattle.display_maps.specs.Endings.{ending_of, run_with, run_on}
+use Rattle.fm_loader.{specs.declared.fault.ValuesFault.ValuesFault, specs.declared.fault.ValuesFault.TheVariants.{Refused, Memory}, specs.Loaded.loaded}
+use Rattle.fm_loader.{specs.Rules.fault_of as values_rule, specs.Values.values_in}
+use Rattle.display_maps.{specs.declared.ending.Ending.Ending, specs.Endings.{ending_of, run_with, run_on}}
 use Rattle.gypsy_space.specs.Needs.{StackSizes, stack_sizes}
-use Rattle.stack_build.specs.declared.fault.BuildFault.{BuildFault}
-use Rattle.stack_build.specs.declared.start_fault.StartFault.{StartFault}
-use Rattle.stack_build.specs.declared.start_fault.StartFault.TheVariants.{Values}
-use Rattle.stack_build.specs.Build.{BuiltOf, BuildsText, built}
-use Rattle.stack_build.specs.Implements.{Implements}
-use Rattle.stack_build.specs.Joined.{BuiltImplements, BuiltTakesValues}
-use Rattle.stack_build.specs.Meant.{KeptMeansOnly, IsMeant}
-use Rattle.stack_build.specs.Moments.{KeepsMoments}
-use Rattle.stack_build.specs.SourceRuns.{source_run, SourceOnValues, TellsMeaning, SourceRunsTellMeaning}
-use Rattle.stack_build.specs.Starts.{start_fault_of, values_fault, or_build, or_values}
-use Rattle.stack_build.proofs.MeantLaws.{not_within}
-use Rattle.stack_build.proofs.SlotLaws.{image_takes}
+use Rattle.stack_build.{specs.declared.fault.BuildFault.BuildFault, specs.declared.start_fault.StartFault.StartFault}
+use Rattle.stack_build.{specs.declared.start_fault.StartFault.TheVariants.Values, specs.Build.{BuiltOf, BuildsText, built}, specs.Implements.Implements}
+use Rattle.stack_build.{specs.Joined.{BuiltImplements, BuiltTakesValues}, specs.Meant.{KeptMeansOnly, IsMeant}, specs.Moments.KeepsMoments}
+use Rattle.stack_build.{specs.SourceRuns.{source_run, SourceOnValues, TellsMeaning, SourceRunsTellMeaning}, specs.Starts.{start_fault_of, values_fault}}
+use Rattle.stack_build.{specs.Starts.{or_build, or_values}, proofs.MeantLaws.not_within, proofs.SlotLaws.image_takes}
 
 -- a run of an image that keeps to the source, on the values
 module _ (meant : KeptMeansOnly) (text values_text : List ℕ) (sizes : StackSizes) (budget : ℕ) (image : ImageOf) (on : SourceOnValues text values_text)

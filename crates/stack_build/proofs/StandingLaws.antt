@@ -2,18 +2,12 @@
 use Rattle.std.proofs.Common.{map, refl, sym, subst}
 use Rattle.fm_machine.specs.State.{Fm}
 use Rattle.piton_check.specs.Instruction.{SystemView}
-use Rattle.piton_semantics.proofs.ReadyLaws.{end_fits}
-use Rattle.piton_semantics.specs.Step.{run_cost}
+use Rattle.piton_semantics.{proofs.ReadyLaws.end_fits, specs.Step.run_cost}
 use Rattle.piton_linker.specs.Theorem.{ComesToStand, PitonRunsOnProcessor}
-use Rattle.gypsy_codegen.specs.Acceptable.{GeneratedIsAcceptable}
-use Rattle.gypsy_codegen.specs.Generated.{generated_view}
-use Rattle.gypsy_codegen.specs.WordsOf.{words_of_values, zero_value}
+use Rattle.gypsy_codegen.{specs.Acceptable.GeneratedIsAcceptable, specs.Generated.generated_view, specs.WordsOf.{words_of_values, zero_value}}
 use Rattle.gypsy_semantics.specs.Calls.{main_start}
-use Rattle.gypsy_syntax.specs.Programs.{Program, proc_at}
-use Rattle.gypsy_syntax.specs.Resolved.{program_of}
-use Rattle.stack_build.specs.StandsForPiton.{opened_on, GeneratedImageStandsForPiton}
-use Rattle.stack_build.proofs.Initial.{is_initial}
-use Rattle.stack_build.proofs.MainLaws.{zero_values}
+use Rattle.gypsy_syntax.{specs.Programs.{Program, proc_at}, specs.Resolved.program_of}
+use Rattle.stack_build.{specs.StandsForPiton.{opened_on, GeneratedImageStandsForPiton}, proofs.Initial.is_initial, proofs.MainLaws.zero_values}
 use Rattle.stack_build.proofs.MomentLaws.{loaded_is}
 
 -- from the theorem of the linker

@@ -1,53 +1,28 @@
 -- A run of what is built of an accepted source begins with the words of main's variables.
 use Rattle.std.proofs.Common.{◌≡◌, ◌≤◌, ℕ, Bool, true, false, cond, List, ◌++◌, length, drop, map, Option, Some, None, Result, Ok, Err, refl, sym, ap, subst}
-use Rattle.std.proofs.Common.{◌∙◌, arith}
-use Rattle.std.specs.Prelude.{◌^◌, if◌then◌else◌, IfSome, IsTrue, nat_lt}
-use Rattle.std.proofs.Math.Seq.{drop-append_seam}
+use Rattle.std.{proofs.Common.{◌∙◌, arith}, specs.Prelude.{◌^◌, if◌then◌else◌, IfSome, IsTrue, nat_lt}, proofs.Math.Seq.drop-append_seam}
 use Rattle.std.proofs.lemmas.Bool.{ltb-false}
-use Rattle.stack_text.specs.Results.{◌>>=◌, unless_fault}
-use Rattle.stack_text.specs.declared.shape.Shape.{Shape}
-use Rattle.stack_text.specs.Values.{ValueOf}
-use Rattle.fm_image.specs.Image.{ImageOf}
-use Rattle.fm_image.specs.Limits.{is_image}
+use Rattle.stack_text.{specs.Results.{◌>>=◌, unless_fault}, specs.declared.shape.Shape.Shape, specs.Values.ValueOf}
+use Rattle.fm_image.{specs.Image.ImageOf, specs.Limits.is_image}
 use Rattle.stack_text.specs.Gives as common
-use Rattle.fm_loader.specs.declared.fault.ValuesFault.{ValuesFault}
-use Rattle.fm_loader.specs.declared.fault.ValuesFault.TheVariants.{Refused, Memory}
-use Rattle.fm_loader.specs.Rules.{fault_of as values_rule}
-use Rattle.fm_loader.specs.Values.{values_in}
+use Rattle.fm_loader.{specs.declared.fault.ValuesFault.ValuesFault, specs.declared.fault.ValuesFault.TheVariants.{Refused, Memory}}
+use Rattle.fm_loader.{specs.Rules.fault_of as values_rule, specs.Values.values_in}
 use Rattle.piton_words.specs.declared.word.Word.{Word}
 use Rattle.piton_check.specs.Instruction.{SystemView}
-use Rattle.piton_semantics.specs.Fits.{IsInitialStack, system_in}
-use Rattle.piton_semantics.specs.Placed.{placed}
-use Rattle.gypsy_syntax.specs.Sources.{SourceOf}
-use Rattle.gypsy_syntax.specs.Programs.{proc_at}
-use Rattle.gypsy_syntax.specs.Resolved.{program_of}
-use Rattle.gypsy_syntax.specs.ValuesFit.{VarsFit}
+use Rattle.piton_semantics.{specs.Fits.{IsInitialStack, system_in}, specs.Placed.placed}
+use Rattle.gypsy_syntax.{specs.Sources.SourceOf, specs.Programs.proc_at, specs.Resolved.program_of, specs.ValuesFit.VarsFit}
 use Rattle.gypsy_check.specs.Accepted.{IsAccepted}
 use Rattle.gypsy_space.specs.Needs.{StackSizes, main_need}
-use Rattle.gypsy_semantics.specs.Calls.{main_start}
-use Rattle.gypsy_semantics.specs.Views.RunView.{opening}
-use Rattle.gypsy_codegen.specs.declared.fault.GenFault.{GenFault}
-use Rattle.gypsy_codegen.specs.Acceptable.{GeneratedIsAcceptable}
-use Rattle.gypsy_codegen.specs.Generation.{size_fault}
-use Rattle.gypsy_codegen.specs.Generated.{generated_view}
-use Rattle.gypsy_codegen.specs.Text.{generated}
-use Rattle.gypsy_codegen.specs.Whole.{SizesFit}
-use Rattle.gypsy_codegen.specs.WordsOf.{words_of_values, zero_value}
-use Rattle.gypsy_codegen.proofs.AnswerLaws.{limits_fit}
-use Rattle.gypsy_codegen.proofs.CallLaws.{values-split}
-use Rattle.gypsy_codegen.proofs.StackLaws.{values_words}
-use Rattle.stack_build.specs.declared.fault.BuildFault.{BuildFault}
+use Rattle.gypsy_semantics.{specs.Calls.main_start, specs.Views.RunView.opening}
+use Rattle.gypsy_codegen.{specs.declared.fault.GenFault.GenFault, specs.Acceptable.GeneratedIsAcceptable, specs.Generation.size_fault}
+use Rattle.gypsy_codegen.{specs.Generated.generated_view, specs.Text.generated, specs.Whole.SizesFit, specs.WordsOf.{words_of_values, zero_value}}
+use Rattle.gypsy_codegen.{proofs.AnswerLaws.limits_fit, proofs.CallLaws.values-split, proofs.StackLaws.values_words}
+use Rattle.stack_build.{specs.declared.fault.BuildFault.BuildFault, specs.Build.{BuiltOf, generated_by, built_with, placed_size, linked_of, source_built}}
+use Rattle.stack_build.{specs.Image.{formal_slots, image_of}, specs.Implements.FitsFormals, proofs.Initial.is_initial, proofs.MainLaws.zero_values}
+use Rattle.stack_build.{proofs.TakesLaws.takes_values, specs.declared.start_fault.StartFault.StartFault}
+use Rattle.stack_build.{specs.declared.start_fault.StartFault.TheVariants.Build, specs.Starts.{values_fault, start_fault_of, or_build, or_values, with_text}}
+use Rattle.stack_build.specs.Starts.{built_start, with_values, main_words, CanRun, shortage_of, unless_short, gypsy_start}
 use Rattle.stack_build.specs.declared.fault.BuildFault.TheVariants as fault
-use Rattle.stack_build.specs.Build.{BuiltOf, generated_by, built_with, placed_size, linked_of, source_built}
-use Rattle.stack_build.specs.Image.{formal_slots, image_of}
-use Rattle.stack_build.specs.Implements.{FitsFormals}
-use Rattle.stack_build.proofs.Initial.{is_initial}
-use Rattle.stack_build.proofs.MainLaws.{zero_values}
-use Rattle.stack_build.proofs.TakesLaws.{takes_values}
-use Rattle.stack_build.specs.declared.start_fault.StartFault.{StartFault}
-use Rattle.stack_build.specs.declared.start_fault.StartFault.TheVariants.{Build}
-use Rattle.stack_build.specs.Starts.{values_fault, start_fault_of, or_build, or_values, with_text, built_start, with_values, main_words, CanRun}
-use Rattle.stack_build.specs.Starts.{shortage_of, unless_short, gypsy_start}
 
 -- 1. What is built.
 

@@ -1,20 +1,13 @@
 -- Values stored in slots, where the words at the end of the window are those of other values of the same shapes.
 use Rattle.std.proofs.Common.{◌≡◌, ◌+◌, ◌-◌, ℕ, ℤ, List, [], ◌∷◌, ◌++◌, length, map, refl, sym, ap, ◌∙◌, arith, append_assoc, length-append}
-use Rattle.std.specs.Prelude.{slice_set}
-use Rattle.std.proofs.Math.Seq.{set-append_seam}
-use Rattle.std.proofs.Math.ListN.{length-reverse_aux}
-use Rattle.std.proofs.lemmas.List.{length-map}
+use Rattle.std.{specs.Prelude.slice_set, proofs.Math.Seq.set-append_seam, proofs.Math.ListN.length-reverse_aux, proofs.lemmas.List.length-map}
 use mathlib.Core.List.{reverse_aux}
 use Rattle.stack_text.specs.Values.{ValueOf, item_count}
 use Rattle.fm_words.specs.Word.{word_of_int}
 use Rattle.fm_machine.specs.State.{with_word}
 use Rattle.fm_loader.specs.Loaded.{with_items, with_values}
-use Rattle.gypsy_syntax.specs.declared.literal.Decl.{Decl}
-use Rattle.gypsy_syntax.specs.Resolved.{shape_of}
-use Rattle.gypsy_syntax.specs.ValuesFit.{VarsFit}
-use Rattle.stack_build.specs.Image.{slots_from}
-use Rattle.stack_build.specs.Internal.Showing.{shapes_in}
-use Rattle.stack_build.proofs.Laying.{reversed_append, reversed_front}
+use Rattle.gypsy_syntax.{specs.declared.literal.Decl.Decl, specs.Resolved.shape_of, specs.ValuesFit.VarsFit}
+use Rattle.stack_build.{specs.Image.slots_from, specs.Internal.Showing.shapes_in, proofs.Laying.{reversed_append, reversed_front}}
 
 -- the words of values, one after the other
 abbrev pub items_words : List ValueOf → List ℕ

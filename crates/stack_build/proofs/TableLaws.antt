@@ -1,54 +1,28 @@
 -- The procedures and the marks of an accepted source keep the limits of images.
 use Rattle.std.proofs.Common.{◌≡◌, ◌<◌, ◌≤◌, ◌+◌, ◌-◌, ℕ, zero, suc, Bool, true, false, cond, eqb, ltb, List, [], ◌∷◌, ◌++◌, length, map, flat_map, get_or}
-use Rattle.std.proofs.Common.{Some, refl, sym, ap, subst, ◌∙◌, inl, inr, arith, length-append}
-use Rattle.std.specs.Prelude.{◌^◌, All, nat_lt, slice_get, take}
-use Rattle.std.specs.List.{Contains, list_all, AllByRecursion, IsDistinct}
-use Rattle.std.specs.Str.{bytes_eq}
-use Rattle.std.proofs.lemmas.Bool.{and_parts, and_from, le-leb, lt-ltb, ltb-true}
-use Rattle.std.proofs.lemmas.List.{length-map, map-append}
-use Rattle.std.proofs.lemmas.List.Elements.{All-head, All-tail}
-use Rattle.stack_text.specs.Names.{is_name}
-use Rattle.stack_text.specs.Grammar.Parts.{IsNamed}
-use Rattle.stack_text.specs.declared.name.Named.{Named}
-use Rattle.stack_text.specs.declared.shape.Shape.{Shape}
-use Rattle.stack_text.specs.Values.{ValueOf}
-use Rattle.stack_text.proofs.SharedLaws.{append_none}
-use Rattle.fm_image.specs.declared.procedure.Mark.{Mark}
-use Rattle.fm_image.specs.declared.procedure.VarInfo.{VarInfo}
-use Rattle.fm_image.specs.declared.window.Window.{Window}
-use Rattle.fm_image.specs.Limits.{Tables, no_tables, is_place, is_inside, are_tables, all_after}
-use Rattle.fm_image.specs.Procedure.{ProcedureOf}
-use Rattle.fm_image.proofs.MarkLaws.{Climbing, fits_mark, marks_fit, marks_few}
-use Rattle.fm_image.proofs.NameLaws.{conditions_fit, fits_frame, variables_fit, fits_lists, procedures_fit}
+use Rattle.std.{proofs.Common.{Some, refl, sym, ap, subst, ◌∙◌, inl, inr, arith, length-append}, specs.Prelude.{◌^◌, All, nat_lt, slice_get, take}}
+use Rattle.std.{specs.List.{Contains, list_all, AllByRecursion, IsDistinct}, specs.Str.bytes_eq, proofs.lemmas.Bool.{and_parts, and_from, le-leb, lt-ltb}}
+use Rattle.std.{proofs.lemmas.Bool.ltb-true, proofs.lemmas.List.{length-map, map-append}, proofs.lemmas.List.Elements.{All-head, All-tail}}
+use Rattle.stack_text.{specs.Names.is_name, specs.Grammar.Parts.IsNamed, specs.declared.name.Named.Named, specs.declared.shape.Shape.Shape}
+use Rattle.stack_text.{specs.Values.ValueOf, proofs.SharedLaws.append_none}
+use Rattle.fm_image.{specs.declared.procedure.Mark.Mark, specs.declared.procedure.VarInfo.VarInfo, specs.declared.window.Window.Window, specs.Limits.Tables}
+use Rattle.fm_image.{specs.Limits.{no_tables, is_place, is_inside, are_tables, all_after}, specs.Procedure.ProcedureOf, proofs.MarkLaws.{Climbing, fits_mark}}
+use Rattle.fm_image.{proofs.MarkLaws.{marks_fit, marks_few}, proofs.NameLaws.{conditions_fit, fits_frame, variables_fit, fits_lists, procedures_fit}}
 use Rattle.display_maps.specs.Reading.{space_name}
-use Rattle.piton_check.specs.Instruction.{Instruction, ProgramView, SystemView}
-use Rattle.piton_check.specs.Sound.{IsSound}
-use Rattle.piton_semantics.specs.State.{program_of as program_in}
-use Rattle.piton_semantics.specs.Fits.{IsPlace}
-use Rattle.piton_semantics.specs.Placed.{placed, instructions_size, program_size, programs_size, address_of_place, final_pc_of}
-use Rattle.piton_semantics.proofs.AddressLaws.{offset_of, sum_below, programs_offset, length_at, program_there}
-use Rattle.gypsy_syntax.specs.declared.literal.Decl.{Decl}
-use Rattle.gypsy_syntax.specs.Fits.{FitsDecl, FitsLocal, FitsProcedure}
-use Rattle.gypsy_syntax.specs.ProgramFits.{Each}
-use Rattle.gypsy_syntax.specs.ValuesFit.{ValueFits}
-use Rattle.gypsy_syntax.specs.Programs.{Proc, Program, no_proc, proc_at, shapes_of}
-use Rattle.gypsy_syntax.specs.Resolved.{condition_names, local_value, procedure_of, program_of, shape_of, variable_names}
-use Rattle.gypsy_syntax.specs.Sources.{LocalOf, ProcOf, SourceOf}
-use Rattle.gypsy_syntax.specs.Resolved.{variable_types}
-use Rattle.gypsy_syntax.proofs.FitsLaws.{keeps_fits}
-use Rattle.gypsy_check.specs.Accepted.{IsAccepted}
-use Rattle.gypsy_check.specs.Declarations.{variables_of, conditions_of, repeats}
-use Rattle.gypsy_check.specs.Rules.{type_breaches, local_breaches, main_breaches, name_breaches, condition_breaches, variable_breaches, condition_name_breaches}
-use Rattle.gypsy_check.specs.Rules.{size_breaches, statement_breaches, procedure_breaches, violations}
-use Rattle.gypsy_check.proofs.CleanLaws.{three, four, get_or_map}
+use Rattle.piton_check.{specs.Instruction.{Instruction, ProgramView, SystemView}, specs.Sound.IsSound}
+use Rattle.piton_semantics.{specs.State.program_of as program_in, specs.Fits.IsPlace, specs.Placed.{placed, instructions_size, program_size, programs_size}}
+use Rattle.piton_semantics.{specs.Placed.{address_of_place, final_pc_of}, proofs.AddressLaws.{offset_of, sum_below, programs_offset, length_at, program_there}}
+use Rattle.gypsy_syntax.{specs.declared.literal.Decl.Decl, specs.Fits.{FitsDecl, FitsLocal, FitsProcedure}, specs.ProgramFits.Each, specs.ValuesFit.ValueFits}
+use Rattle.gypsy_syntax.{specs.Programs.{Proc, Program, no_proc, proc_at, shapes_of}, specs.Resolved.{condition_names, local_value, procedure_of, program_of}}
+use Rattle.gypsy_syntax.{specs.Resolved.{shape_of, variable_names, variable_types}, specs.Sources.{LocalOf, ProcOf, SourceOf}, proofs.FitsLaws.keeps_fits}
+use Rattle.gypsy_check.{specs.Accepted.IsAccepted, specs.Declarations.{variables_of, conditions_of, repeats}, specs.Rules.{type_breaches, local_breaches}}
+use Rattle.gypsy_check.specs.Rules.{main_breaches, name_breaches, condition_breaches, variable_breaches, condition_name_breaches, size_breaches}
+use Rattle.gypsy_check.{specs.Rules.{statement_breaches, procedure_breaches, violations}, proofs.CleanLaws.{three, four, get_or_map}}
 use Rattle.gypsy_space.specs.Needs.{StackSizes}
-use Rattle.gypsy_codegen.specs.declared.marking.MarkAt.{MarkAt}
-use Rattle.gypsy_codegen.specs.Generated.{offset, generated_view}
-use Rattle.gypsy_codegen.specs.Marks.{marks_of, IsBefore, Ascend, IsMarkPlace}
-use Rattle.gypsy_codegen.proofs.DeclareLaws.{Differ, differ_source}
-use Rattle.gypsy_codegen.proofs.MarkOrderLaws.{marks_ascend, marks_are_places}
-use Rattle.stack_build.specs.Image.{variable_infos, procedure_info, procedure_infos, mark_info, places_fit, source_tables}
-use Rattle.stack_build.proofs.ImageLimits.{placed_window, distinct_names, all_named, mapped_front, others_than_space}
+use Rattle.gypsy_codegen.{specs.declared.marking.MarkAt.MarkAt, specs.Generated.{offset, generated_view}, specs.Marks.{marks_of, IsBefore, Ascend, IsMarkPlace}}
+use Rattle.gypsy_codegen.{proofs.DeclareLaws.{Differ, differ_source}, proofs.MarkOrderLaws.{marks_ascend, marks_are_places}}
+use Rattle.stack_build.{specs.Image.{variable_infos, procedure_info, procedure_infos, mark_info, places_fit, source_tables}, proofs.ImageLimits.placed_window}
+use Rattle.stack_build.proofs.ImageLimits.{distinct_names, all_named, mapped_front, others_than_space}
 
 -- ---- addresses ascend as places do
 

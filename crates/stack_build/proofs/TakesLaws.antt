@@ -1,37 +1,20 @@
 -- Values that are read for the image of a source fit the formals of its main procedure.
 use Rattle.std.proofs.Common.{◌≡◌, ◌≤◌, ◌-◌, ℕ, ℤ, pos, negsuc, true, eqb, List, [], ◌∷◌, length, map, Option, Result, Ok, Err, IfOk, refl, sym, ap, subst, ◌∙◌}
-use Rattle.std.specs.Prelude.{IsTrue}
-use Rattle.std.specs.List.{list_all, IsDistinct}
-use Rattle.std.specs.Str.{bytes_eq}
-use Rattle.std.proofs.lemmas.Bool.{and_parts, and_from, eqb-true}
-use Rattle.stack_text.specs.declared.shape.Kind.{Kind}
-use Rattle.stack_text.specs.declared.shape.Kind.TheVariants.{Integer, Boolean, Character}
-use Rattle.stack_text.specs.declared.shape.Shape.{Shape}
+use Rattle.std.{specs.Prelude.IsTrue, specs.List.{list_all, IsDistinct}, specs.Str.bytes_eq, proofs.lemmas.Bool.{and_parts, and_from, eqb-true}}
+use Rattle.stack_text.{specs.declared.shape.Kind.Kind, specs.declared.shape.Kind.TheVariants.{Integer, Boolean, Character}, specs.declared.shape.Shape.Shape}
 use Rattle.stack_text.specs.Values.{ValueOf, item_count, is_item, is_value}
 use Rattle.fm_words.specs.Word.{is_int}
-use Rattle.fm_image.specs.declared.slot.Slot.{Slot}
-use Rattle.fm_image.specs.Limits.{is_image}
-use Rattle.fm_loader.specs.declared.fault.ValuesFault.{ValuesFault}
-use Rattle.fm_loader.specs.Rules.{GivesValuesUnless}
-use Rattle.fm_loader.specs.Values.{values_in, HaveOwnNames}
-use Rattle.fm_loader.proofs.ImageLaws.{own_names}
-use Rattle.fm_loader.proofs.ValuesLaws.{values_fit, values_are, values_have_32_bits}
-use Rattle.gypsy_syntax.specs.declared.literal.Decl.{Decl}
-use Rattle.gypsy_syntax.specs.Sources.{ProcOf, SourceOf}
-use Rattle.gypsy_syntax.specs.Programs.{Proc, proc_at}
-use Rattle.gypsy_syntax.specs.ProgramFits.{Each}
-use Rattle.gypsy_syntax.specs.Ranges.{is_in_range}
-use Rattle.gypsy_syntax.specs.ValuesFit.{ValueFits, VarsFit}
-use Rattle.gypsy_syntax.specs.Resolved.{shape_of, program_of}
+use Rattle.fm_image.{specs.declared.slot.Slot.Slot, specs.Limits.is_image}
+use Rattle.fm_loader.{specs.declared.fault.ValuesFault.ValuesFault, specs.Rules.GivesValuesUnless, specs.Values.{values_in, HaveOwnNames}}
+use Rattle.fm_loader.{proofs.ImageLaws.own_names, proofs.ValuesLaws.{values_fit, values_are, values_have_32_bits}}
+use Rattle.gypsy_syntax.{specs.declared.literal.Decl.Decl, specs.Sources.{ProcOf, SourceOf}, specs.Programs.{Proc, proc_at}, specs.ProgramFits.Each}
+use Rattle.gypsy_syntax.{specs.Ranges.is_in_range, specs.ValuesFit.{ValueFits, VarsFit}, specs.Resolved.{shape_of, program_of}}
 use Rattle.gypsy_check.specs.Accepted.{IsAccepted}
 use Rattle.gypsy_space.specs.Needs.{StackSizes, stack_sizes}
 use Rattle.gypsy_codegen.specs.Generated.{generated_view}
-use Rattle.stack_build.specs.Formals.{formals_in, shown_formals, shown_conditions}
-use Rattle.stack_build.specs.Image.{slots_from, formal_slots, image_of}
-use Rattle.stack_build.specs.Internal.Showing.{HaveShortArrays, shapes_in, IsShowable}
-use Rattle.stack_build.specs.Implements.{FitsFormals}
-use Rattle.stack_build.proofs.ImageLimits.{names-slots_from, generated_shows}
-use Rattle.stack_build.proofs.MainLaws.{main_is}
+use Rattle.stack_build.{specs.Formals.{formals_in, shown_formals, shown_conditions}, specs.Image.{slots_from, formal_slots, image_of}}
+use Rattle.stack_build.{specs.Internal.Showing.{HaveShortArrays, shapes_in, IsShowable}, specs.Implements.FitsFormals, proofs.ImageLimits.names-slots_from}
+use Rattle.stack_build.{proofs.ImageLimits.generated_shows, proofs.MainLaws.main_is}
 
 item_ranges : (k : Kind) (z : ℤ) → is_item k z ≡ true → is_int z ≡ true → is_in_range k z ≡ true
 item_ranges Integer (pos n) h i = i

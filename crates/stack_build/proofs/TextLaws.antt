@@ -1,28 +1,19 @@
 -- A text of so many bytes has no place past them, and no more names and statements than they allow: so the image file of its source has
 -- room for the places of all marks, and stays short.
 use Rattle.std.proofs.Common.{◌≡◌, ◌<◌, ◌≤◌, ◌+◌, ◌*◌, ◌&&◌, ℕ, suc, true, List, [], ◌∷◌, ◌++◌, length, map, Option, Some, None, Ok, Err, refl, sym, ap, subst}
-use Rattle.std.proofs.Common.{◌∙◌, arith, append_assoc}
-use Rattle.std.specs.Prelude.{codes, nat_le}
-use Rattle.std.proofs.lemmas.List.{append-nil}
-use Rattle.stack_text.specs.declared.class.Class.{Class}
-use Rattle.stack_text.specs.declared.class.Class.TheVariants.{LineEnd, Space, Semicolon, Opening, Closing, AtomByte, Invalid}
-use Rattle.stack_text.specs.declared.name.Named.{Named}
-use Rattle.stack_text.specs.Names.{is_name}
-use Rattle.stack_text.specs.Tokens.{class_of, Token, opens_at, closes_at, atom_at, invalid_at, Mode, between, in_atom, in_comment, next, if_atom_byte, atom_run}
-use Rattle.stack_text.specs.Tokens.{begins, tokens}
-use Rattle.stack_text.specs.Trees.{Node, Nodes, atom, list, none, more, place_of, tokens_of, tokens_of_all, as_kept, TreeOf}
-use Rattle.stack_text.specs.Grammar.Judged.{Judged, ◌⊛◌, front, each_of}
-use Rattle.stack_text.specs.Grammar.Parts.{count_of, list_or}
-use Rattle.stack_text.proofs.KeepsLaws.{Holds, holds_judged, holds_one, holds_two, holds_three, holds_six, holds_at, holds_more}
-use Rattle.gypsy_syntax.specs.declared.keyword.Keyword.{Keyword}
+use Rattle.std.{proofs.Common.{◌∙◌, arith, append_assoc}, specs.Prelude.{codes, nat_le}, proofs.lemmas.List.append-nil}
+use Rattle.stack_text.{specs.declared.class.Class.Class, specs.declared.class.Class.TheVariants.{LineEnd, Space, Semicolon, Opening, Closing, AtomByte}}
+use Rattle.stack_text.{specs.declared.class.Class.TheVariants.Invalid, specs.declared.name.Named.Named, specs.Names.is_name, specs.Tokens.{class_of, Token}}
+use Rattle.stack_text.specs.Tokens.{opens_at, closes_at, atom_at, invalid_at, Mode, between, in_atom, in_comment, next, if_atom_byte, atom_run, begins, tokens}
+use Rattle.stack_text.{specs.Trees.{Node, Nodes, atom, list, none, more, place_of, tokens_of, tokens_of_all, as_kept, TreeOf}, specs.Grammar.Judged.Judged}
+use Rattle.stack_text.{specs.Grammar.Judged.{◌⊛◌, front, each_of}, specs.Grammar.Parts.{count_of, list_or}, proofs.KeepsLaws.{Holds, holds_judged, holds_one}}
+use Rattle.stack_text.proofs.KeepsLaws.{holds_two, holds_three, holds_six, holds_at, holds_more}
+use Rattle.gypsy_syntax.{specs.declared.keyword.Keyword.Keyword, specs.declared.literal.Decl.Decl, specs.Grammar.{named_in, names_in, is_word, type_in}}
+use Rattle.gypsy_syntax.specs.Grammar.{literal_in, decl_in, local_in, arg_in, is_empty_list, statement_in, form_in, statements_in, are_few, procedure_in}
+use Rattle.gypsy_syntax.{specs.Grammar.source_in, specs.Keywords.keyword_named, specs.Made.{statements, new_decl, new_local, new_seq, new_branch, new_begin}}
+use Rattle.gypsy_syntax.{specs.Made.{new_call, new_predef, new_proc, new_source}, specs.Sources.{StmtOf, StmtsOf, no_op, signal, seq, loop, branch, begin}}
+use Rattle.gypsy_syntax.{specs.Sources.{call, predef, no_parts, part, LocalOf, ProcOf, SourceOf}, proofs.KeepsLaws.by_empty}
 use Rattle.gypsy_syntax.specs.declared.keyword.Keyword.TheVariants as word
-use Rattle.gypsy_syntax.specs.declared.literal.Decl.{Decl}
-use Rattle.gypsy_syntax.specs.Grammar.{named_in, names_in, is_word, type_in, literal_in, decl_in, local_in, arg_in, is_empty_list, statement_in, form_in}
-use Rattle.gypsy_syntax.specs.Grammar.{statements_in, are_few, procedure_in, source_in}
-use Rattle.gypsy_syntax.specs.Keywords.{keyword_named}
-use Rattle.gypsy_syntax.specs.Made.{statements, new_decl, new_local, new_seq, new_branch, new_begin, new_call, new_predef, new_proc, new_source}
-use Rattle.gypsy_syntax.specs.Sources.{StmtOf, StmtsOf, no_op, signal, seq, loop, branch, begin, call, predef, no_parts, part, LocalOf, ProcOf, SourceOf}
-use Rattle.gypsy_syntax.proofs.KeepsLaws.{by_empty}
 
 -- ---- tokens
 

@@ -1,46 +1,27 @@
 -- At every moment the processor's memory has all activations.
 use Rattle.std.proofs.Common.{◌≡◌, ◌≢◌, ◌+◌, ◌-◌, ◌<◌, ℕ, List, [], ◌∷◌, ◌++◌, length, Bool, None, Some, refl, sym, ap, subst, ◌∙◌, arith, length-append}
-use Rattle.std.specs.Prelude.{slice_index, if◌then◌else◌}
-use Rattle.std.proofs.lemmas.Bool.{lt-ltb}
-use Rattle.std.proofs.lemmas.List.{length-map}
-use Rattle.stack_text.specs.Values.{ValueOf}
-use Rattle.stack_text.proofs.SharedLaws.{get_map}
+use Rattle.std.{specs.Prelude.{slice_index, if◌then◌else◌}, proofs.lemmas.Bool.lt-ltb, proofs.lemmas.List.length-map}
+use Rattle.stack_text.{specs.Values.ValueOf, proofs.SharedLaws.get_map}
 use Rattle.fm_words.specs.Word.{word_of_int}
-use Rattle.fm_machine.specs.State.{Fm}
-use Rattle.fm_machine.specs.Run.{fm_run}
+use Rattle.fm_machine.{specs.State.Fm, specs.Run.fm_run}
 use Rattle.fm_code.specs.Execution.{Holds}
 use Rattle.fm_image.specs.Image.{ImageOf}
 use Rattle.fm_loader.specs.Loaded as loader
 use Rattle.display_maps.specs.Reading.{word_in}
 use Rattle.piton_check.specs.Instruction.{SystemView}
 use Rattle.piton_semantics.specs.State as piton
-use Rattle.piton_semantics.specs.State.{PitonState}
-use Rattle.piton_semantics.specs.Addresses.{word_number, numbers}
-use Rattle.piton_semantics.specs.Placed.{end_of, addresses_of, loaded}
-use Rattle.piton_semantics.specs.Stands.{Stands, frame_words, pointer_to, return_address}
-use Rattle.piton_semantics.proofs.ReadyLaws.{end_fits}
+use Rattle.piton_semantics.{specs.State.PitonState, specs.Addresses.{word_number, numbers}, specs.Placed.{end_of, addresses_of, loaded}, specs.Stands.Stands}
+use Rattle.piton_semantics.{specs.Stands.{frame_words, pointer_to, return_address}, proofs.ReadyLaws.end_fits}
 use Rattle.piton_linker.specs.Theorem.{PitonRunsOnProcessor}
-use Rattle.gypsy_syntax.specs.Programs.{Program, proc_at, shapes_of}
-use Rattle.gypsy_syntax.specs.ValuesFit.{ValueFits}
-use Rattle.gypsy_syntax.specs.Effects.{value_at}
-use Rattle.gypsy_syntax.specs.Resolved.{program_of}
+use Rattle.gypsy_syntax.{specs.Programs.{Program, proc_at, shapes_of}, specs.ValuesFit.ValueFits, specs.Effects.value_at, specs.Resolved.program_of}
 use Rattle.gypsy_space.specs.Needs.{vars_of}
-use Rattle.gypsy_semantics.specs.Calls.{main_start}
-use Rattle.gypsy_semantics.specs.Machine.{Frame, Held, Move, At, Next, Ended}
-use Rattle.gypsy_semantics.specs.Views.RunView.{handed_back}
+use Rattle.gypsy_semantics.{specs.Calls.main_start, specs.Machine.{Frame, Held, Move, At, Next, Ended}, specs.Views.RunView.handed_back}
 use Rattle.gypsy_semantics.proofs.EffectLaws.{value_fits}
-use Rattle.gypsy_predef.specs.Runs.{word_of_item}
-use Rattle.gypsy_predef.proofs.StackLaws.{element_there}
-use Rattle.gypsy_codegen.specs.Acceptable.{GeneratedIsAcceptable}
-use Rattle.gypsy_codegen.specs.Generated.{offset, generated_view}
-use Rattle.gypsy_codegen.specs.Moments.{moment_from}
-use Rattle.gypsy_codegen.specs.Traces.{StandsIn, FrameStands, FramesStand, HasFrames, EachMomentHasFrames}
-use Rattle.gypsy_codegen.specs.Whole.{opened}
-use Rattle.gypsy_codegen.specs.WordsOf.{words_of_values}
-use Rattle.stack_build.specs.Image.{image_of}
-use Rattle.stack_build.specs.Traces.{HoldsIn, HoldsAll, HoldsTrace, TracesAt, GeneratedImageKeepsTraces}
-use Rattle.stack_build.proofs.MomentLaws.{Holds-behind, element_held, local_held, pointer_held, item_in_range, stands_for, loaded_is, last_is}
-use Rattle.stack_build.proofs.Numbers.{item_number}
+use Rattle.gypsy_predef.{specs.Runs.word_of_item, proofs.StackLaws.element_there}
+use Rattle.gypsy_codegen.{specs.Acceptable.GeneratedIsAcceptable, specs.Generated.{offset, generated_view}, specs.Moments.moment_from, specs.Traces.StandsIn}
+use Rattle.gypsy_codegen.{specs.Traces.{FrameStands, FramesStand, HasFrames, EachMomentHasFrames}, specs.Whole.opened, specs.WordsOf.words_of_values}
+use Rattle.stack_build.{specs.Image.image_of, specs.Traces.{HoldsIn, HoldsAll, HoldsTrace, TracesAt, GeneratedImageKeepsTraces}, proofs.MomentLaws.Holds-behind}
+use Rattle.stack_build.{proofs.MomentLaws.{element_held, local_held, pointer_held, item_in_range, stands_for, loaded_is, last_is}, proofs.Numbers.item_number}
 
 module _ (q : Program) (s : SystemView) (m : Fm) (a : PitonState) (stands : Stands s m a) (image : ImageOf) (base : image.base ≡ s.base)
     (last : image.base + image.size ≡ end_of s) where

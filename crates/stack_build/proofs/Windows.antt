@@ -1,12 +1,9 @@
 -- A window of zeros into which words are stored up to the last that isn't zero.
 use Rattle.std.proofs.Common.{◌≡◌, ◌≤◌, ◌+◌, ◌-◌, ℕ, zero, suc, List, [], ◌∷◌, ◌++◌, length, drop, refl, sym, ap, ◌∙◌, append_assoc, arith}
-use Rattle.std.specs.Prelude.{replicate, slice_set}
-use Rattle.std.proofs.Math.Seq.{set-append_seam}
-use Rattle.std.proofs.lemmas.List.{length-append, length-replicate}
+use Rattle.std.{specs.Prelude.{replicate, slice_set}, proofs.Math.Seq.set-append_seam, proofs.lemmas.List.{length-append, length-replicate}}
 use Rattle.fm_machine.specs.State.{with_word}
 use Rattle.fm_loader.specs.Loaded.{with_words}
-use Rattle.piton_linker.specs.Layouts.{trimmed}
-use Rattle.piton_linker.proofs.TrimLaws.{trimmed-rest}
+use Rattle.piton_linker.{specs.Layouts.trimmed, proofs.TrimLaws.trimmed-rest}
 
 -- they are no more than all
 pub shorter : (ws : List ℕ) → length (trimmed ws) ≤ length ws

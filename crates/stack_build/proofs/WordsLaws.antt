@@ -1,39 +1,25 @@
 -- The words of a placed system are numbers of 32 bits.
 use Rattle.std.proofs.Common.{◌≡◌, ◌<◌, ◌≤◌, ◌+◌, ◌-◌, ℕ, zero, suc, true, false, List, [], ◌∷◌, ◌++◌, length, map, refl, sym, subst, ◌∙◌, arith}
-use Rattle.std.specs.Prelude.{◌^◌, nat_lt, replicate, reverse, take, slice_index_or}
-use Rattle.std.specs.Int.{from_bool as bit_of}
-use Rattle.std.proofs.lemmas.Bool.{and_parts, and_from, lt-ltb}
-use Rattle.std.proofs.lemmas.List.Folds.{list_all-append}
+use Rattle.std.{specs.Prelude.{◌^◌, nat_lt, replicate, reverse, take, slice_index_or}, specs.Int.from_bool as bit_of, proofs.lemmas.Bool.{and_parts, and_from}}
+use Rattle.std.{proofs.lemmas.Bool.lt-ltb, proofs.lemmas.List.Folds.list_all-append}
 use mathlib.Core.List.{reverse_aux}
 use Rattle.stack_build.proofs.Laying.{map-reversed}
-use Rattle.fm_words.specs.Word.{word_of_int}
-use Rattle.fm_words.proofs.WordLaws.{word_of_int_below}
-use Rattle.fm_code.specs.Areas.{joined}
-use Rattle.fm_code.specs.InstructionWords.{reg, push, pop, literal, mov, halt_word}
-use Rattle.fm_code.specs.Templates.{below_end, temporaries_code}
+use Rattle.fm_words.{specs.Word.word_of_int, proofs.WordLaws.word_of_int_below}
+use Rattle.fm_code.{specs.Areas.joined, specs.InstructionWords.{reg, push, pop, literal, mov, halt_word}, specs.Templates.{below_end, temporaries_code}}
 use Rattle.fm_image.specs.Spelling.{are_words}
-use Rattle.piton_words.specs.declared.word.Word.{Word}
-use Rattle.piton_words.specs.declared.word.Word.TheVariants.{Int, Nat, Bitv, Bool as Truth, Addr, Pc, Subr}
+use Rattle.piton_words.{specs.declared.word.Word.Word, specs.declared.word.Word.TheVariants.{Int, Nat, Bitv, Bool as Truth, Addr, Pc, Subr}}
 use Rattle.piton_words.specs.declared.op.WordOp.{WordOp}
 use Rattle.piton_words.specs.declared.op.WordOp.TheVariants as op
 use Rattle.piton_syntax.specs.declared.test_kind.TestKind.{TestKind}
 use Rattle.piton_syntax.specs.declared.test_kind.TestKind.TheVariants as test
 use Rattle.piton_check.specs.Instruction as i
-use Rattle.piton_check.specs.Instruction.{Instruction, ProgramView, SystemView}
-use Rattle.piton_check.specs.Sound.{IsPlaced, IsSoundProgram, IsSound, local_count}
-use Rattle.piton_semantics.specs.State.{program_of}
-use Rattle.piton_semantics.specs.Fits.{Each, IsWordOf}
-use Rattle.piton_semantics.specs.Addresses.{word_number, numbers}
-use Rattle.piton_semantics.specs.Templates.{operation_code, condition_of, words_of, prelude_words, template, instructions_words, program_words, programs_words}
-use Rattle.piton_semantics.specs.Templates.{test_pieces}
+use Rattle.piton_check.{specs.Instruction.{Instruction, ProgramView, SystemView}, specs.Sound.{IsPlaced, IsSoundProgram, IsSound, local_count}}
+use Rattle.piton_semantics.{specs.State.program_of, specs.Fits.{Each, IsWordOf}, specs.Addresses.{word_number, numbers}, specs.Templates.operation_code}
+use Rattle.piton_semantics.specs.Templates.{condition_of, words_of, prelude_words, template, instructions_words, program_words, programs_words, test_pieces}
 use Rattle.piton_semantics.specs.Placed.{program_size, programs_size, entry_of, address_of_place, final_pc_of, address_of_area, ctrl_start, temp_start, end_of}
-use Rattle.piton_semantics.specs.Placed.{addresses_of, code_of, first_frame, first_frame_at, first_top, placed}
-use Rattle.piton_semantics.proofs.PieceLaws.{codes_are, jump_case_is, prelude_is}
-use Rattle.piton_semantics.proofs.ReadyLaws.{area_end}
-use Rattle.piton_semantics.proofs.SoundLaws.{all_each, word_known, words_known, known}
-use Rattle.piton_linker.specs.Layouts.{trimmed}
-use Rattle.piton_linker.proofs.BoundLaws.{lengths_within, programs_within, areas_within}
-use Rattle.piton_linker.proofs.TrimLaws.{trimmed-rest}
+use Rattle.piton_semantics.{specs.Placed.{addresses_of, code_of, first_frame, first_frame_at, first_top, placed}, proofs.PieceLaws.{codes_are, jump_case_is}}
+use Rattle.piton_semantics.{proofs.PieceLaws.prelude_is, proofs.ReadyLaws.area_end, proofs.SoundLaws.{all_each, word_known, words_known, known}}
+use Rattle.piton_linker.{specs.Layouts.trimmed, proofs.BoundLaws.{lengths_within, programs_within, areas_within}, proofs.TrimLaws.trimmed-rest}
 
 -- ---- lists
 

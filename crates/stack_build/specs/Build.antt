@@ -1,39 +1,24 @@
 -- What is built from the text of a source.
 use Rattle.std.specs.Prelude.{◌≡◌, ◌≤◌, ℕ, List, length, Option, Some, None, Result, Ok, Err, IsTrue, nat_lt, if◌then◌else◌}
 use Rattle.fm_words.specs.WindowLimit.{most_window}
-use Rattle.stack_text.specs.SharedLimits.{most_text, most_image_file}
-use Rattle.stack_text.specs.declared.breach.Breach.{Breach}
-use Rattle.stack_text.specs.Breaches.{least}
+use Rattle.stack_text.specs.{SharedLimits.{most_text, most_image_file}, declared.breach.Breach.{Breach}, Breaches.{least}, Results.{◌>>=◌}}
 use Rattle.stack_text.specs.Gives as common
-use Rattle.stack_text.specs.Results.{◌>>=◌}
-use Rattle.fm_image.specs.Image.{ImageOf}
-use Rattle.fm_image.specs.Spelling.{Spelled, spelling}
+use Rattle.fm_image.specs.{Image.{ImageOf}, Spelling.{Spelled, spelling}}
 use Rattle.piton_syntax.specs.Systems.{SystemOf}
-use Rattle.piton_check.specs.PitonChecking.{CheckedOf}
-use Rattle.piton_check.specs.Resolved.{resolved}
+use Rattle.piton_check.specs.{PitonChecking.{CheckedOf}, Resolved.{resolved}}
 use Rattle.piton_semantics.specs.Placed.{placed}
 use Rattle.piton_linker.specs.declared.fault.LinkFault.{LinkFault}
 use Rattle.piton_linker.specs.declared.fault.LinkFault.TheVariants as link
-use Rattle.gypsy_syntax.specs.declared.fault.GypsyFault.{GypsyFault}
+use Rattle.gypsy_syntax.specs.{declared.fault.GypsyFault.{GypsyFault}, GypsyReading.{gypsy_in}, Sources.{SourceOf}, Resolved.{program_of}}
 use Rattle.gypsy_syntax.specs.declared.fault.GypsyFault.TheVariants as gypsy
-use Rattle.gypsy_syntax.specs.GypsyReading.{gypsy_in}
-use Rattle.gypsy_syntax.specs.Sources.{SourceOf}
-use Rattle.gypsy_syntax.specs.Resolved.{program_of}
-use Rattle.gypsy_check.specs.declared.fault.CheckFault.{CheckFault}
+use Rattle.gypsy_check.specs.{declared.fault.CheckFault.{CheckFault}, Rules.{violations}}
 use Rattle.gypsy_check.specs.declared.fault.CheckFault.TheVariants as check
-use Rattle.gypsy_check.specs.Rules.{violations}
 use Rattle.gypsy_space.specs.Needs.{StackSizes, stack_sizes}
-use Rattle.gypsy_codegen.specs.Generated.{generated_view}
-use Rattle.gypsy_codegen.specs.Generation.{generation}
-use Rattle.gypsy_codegen.specs.declared.fault.GenFault.{GenFault}
+use Rattle.gypsy_codegen.specs.{Generated.{generated_view}, Generation.{generation}, declared.fault.GenFault.{GenFault}}
 use Rattle.gypsy_codegen.specs.declared.fault.GenFault.TheVariants as gen
-use Rattle.stack_build.specs.declared.fault.BuildFault.{BuildFault}
-use Rattle.stack_build.specs.declared.fault.BuildFault.TheVariants.{Text, Form, Rule, Size, Control, Temporary}
-use Rattle.stack_build.specs.declared.fault.BuildFault.TheVariants.{Words as TooManyWords, Memory}
-use Rattle.stack_build.specs.Image.{image_of, places_fit}
-use Rattle.stack_build.specs.Implements.{Implements}
-use Rattle.stack_build.specs.Moments.{KeepsMoments}
-use Rattle.stack_build.specs.StaysUnfinished.{StaysUnfinished}
+use Rattle.stack_build.specs.{declared.fault.BuildFault.{BuildFault}, declared.fault.BuildFault.TheVariants.{Text, Form, Rule, Size}}
+use Rattle.stack_build.specs.{declared.fault.BuildFault.TheVariants.{Control, Temporary, Words as TooManyWords, Memory}, Image.{image_of}}
+use Rattle.stack_build.specs.{Image.{places_fit}, Implements.{Implements}, Moments.{KeepsMoments}, StaysUnfinished.{StaysUnfinished}}
 
 -- a checked Piton system, an image, and the bytes of its file
 pub record BuiltOf : Type 0 where

@@ -1,9 +1,7 @@
 -- What is shown of a source: the formals of its main procedure, spaceerror, and its formal conditions.
 use Rattle.std.specs.Prelude.{ℕ, List, [], ◌∷◌, map, Option, Some, None}
 use Rattle.display_maps.specs.Reading.{space_name}
-use Rattle.gypsy_syntax.specs.declared.literal.Decl.{Decl}
-use Rattle.gypsy_syntax.specs.Sources.{ProcOf, SourceOf}
-use Rattle.gypsy_syntax.specs.Resolved.{procedure_named}
+use Rattle.gypsy_syntax.specs.{declared.literal.Decl.{Decl}, Sources.{ProcOf, SourceOf}, Resolved.{procedure_named}}
 
 -- the formals of a procedure, and the names of its formal conditions; none where there is no procedure
 abbrev pub formals_in : Option ProcOf → List Decl

@@ -1,27 +1,16 @@
 -- The image of a source.
-use Rattle.std.specs.Prelude.{ℕ, suc, ◌+◌, ◌-◌, List, [], ◌∷◌, map, Bool, Some, if◌then◌else◌}
-use Rattle.std.specs.List.{list_all}
-use Rattle.stack_text.specs.declared.shape.Shape.{Shape}
-use Rattle.stack_text.specs.Values.{item_count}
-use Rattle.fm_image.specs.declared.procedure.Mark.{Mark}
-use Rattle.fm_image.specs.declared.procedure.VarInfo.{VarInfo}
-use Rattle.fm_image.specs.declared.slot.Slot.{Slot}
-use Rattle.fm_image.specs.Image.{ImageOf}
-use Rattle.fm_image.specs.Limits.{Tables, no_tables, is_place}
-use Rattle.fm_image.specs.Bare.{bare_image}
-use Rattle.fm_image.specs.Procedure.{ProcedureOf}
+use Rattle.std.specs.{Prelude.{ℕ, suc, ◌+◌, ◌-◌, List, [], ◌∷◌, map, Bool, Some, if◌then◌else◌}, List.{list_all}}
+use Rattle.stack_text.specs.{declared.shape.Shape.{Shape}, Values.{item_count}}
+use Rattle.fm_image.specs.{declared.procedure.Mark.{Mark}, declared.procedure.VarInfo.{VarInfo}, declared.slot.Slot.{Slot}, Image.{ImageOf}}
+use Rattle.fm_image.specs.{Limits.{Tables, no_tables, is_place}, Bare.{bare_image}, Procedure.{ProcedureOf}}
 use Rattle.display_maps.specs.Reading.{space_name}
 use Rattle.piton_check.specs.Instruction.{SystemView}
 use Rattle.piton_semantics.specs.Placed.{placed, address_of_place, areas_start, end_of}
 use Rattle.piton_linker.specs.Layouts.{trimmed}
-use Rattle.gypsy_syntax.specs.declared.literal.Decl.{Decl}
-use Rattle.gypsy_syntax.specs.Programs.{Program, proc_at, shapes_of}
-use Rattle.gypsy_syntax.specs.Resolved.{condition_names, shape_of, program_of, variable_names}
-use Rattle.gypsy_syntax.specs.Sources.{ProcOf, SourceOf}
+use Rattle.gypsy_syntax.specs.{declared.literal.Decl.{Decl}, Programs.{Program, proc_at, shapes_of}, Resolved.{condition_names, shape_of}}
+use Rattle.gypsy_syntax.specs.{Resolved.{program_of, variable_names}, Sources.{ProcOf, SourceOf}}
 use Rattle.gypsy_space.specs.Needs.{StackSizes}
-use Rattle.gypsy_codegen.specs.declared.marking.MarkAt.{MarkAt}
-use Rattle.gypsy_codegen.specs.Generated.{generated_view, offset}
-use Rattle.gypsy_codegen.specs.Marks.{marks_of}
+use Rattle.gypsy_codegen.specs.{declared.marking.MarkAt.{MarkAt}, Generated.{generated_view, offset}, Marks.{marks_of}}
 use Rattle.stack_build.specs.Formals.{shown_formals, shown_conditions}
 
 -- 1. What it tells of its source at each mark.

@@ -1,22 +1,14 @@
 -- What it is for an image to do what a source means.
-use Rattle.std.specs.Prelude.{◌≡◌, ℕ, List, [], map, get_or, Some, None}
-use Rattle.std.specs.List.{zip}
+use Rattle.std.specs.{Prelude.{◌≡◌, ℕ, List, [], map, get_or, Some, None}, List.{zip}}
 use Rattle.stack_text.specs.Values.{ValueOf}
 use Rattle.fm_image.specs.Image.{ImageOf}
-use Rattle.display_maps.specs.declared.shown.Shown.{Shown}
+use Rattle.display_maps.specs.{declared.shown.Shown.{Shown}, Reading.{ReadingOf, space_name}, ValueReading.{value_shown}}
 use Rattle.display_maps.specs.declared.shown.Shown.TheVariants as shown
-use Rattle.display_maps.specs.Reading.{ReadingOf, space_name}
-use Rattle.display_maps.specs.ValueReading.{value_shown}
-use Rattle.gypsy_syntax.specs.Sources.{SourceOf}
-use Rattle.gypsy_syntax.specs.Programs.{Leave, Routine, Space, Declared, proc_at}
-use Rattle.gypsy_syntax.specs.Resolved.{program_of}
+use Rattle.gypsy_syntax.specs.{Sources.{SourceOf}, Programs.{Leave, Routine, Space, Declared, proc_at}, Resolved.{program_of}}
 use Rattle.gypsy_syntax.specs.ValuesFit.{VarsFit}
 use Rattle.gypsy_space.specs.Needs.{StackSizes}
-use Rattle.gypsy_semantics.specs.Calls.{CurrentCondition}
-use Rattle.gypsy_semantics.specs.Meaning.{Done, meaning}
-use Rattle.gypsy_semantics.specs.Counted.{instruction_count}
-use Rattle.stack_build.specs.Formals.{shown_names, formal_conditions}
-use Rattle.stack_build.specs.ComesTo.{ComesTo}
+use Rattle.gypsy_semantics.specs.{Calls.{CurrentCondition}, Meaning.{Done, meaning}, Counted.{instruction_count}}
+use Rattle.stack_build.specs.{Formals.{shown_names, formal_conditions}, ComesTo.{ComesTo}}
 
 -- what a run ends with, as the word of its number is read: spaceerror has its name, and each declared condition its own among these
 abbrev pub way_shown : List (List ℕ) → CurrentCondition → Shown

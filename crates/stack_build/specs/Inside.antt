@@ -1,15 +1,11 @@
 -- Each run of an image that is built stays inside the image's window.
 use Rattle.std.specs.Prelude.{◌≡◌, ◌≢◌, ℕ, ◌+◌, ◌≤◌, ◌^◌, List, length, Ok, Err}
 use Rattle.stack_text.specs.Values.{ValueOf}
-use Rattle.fm_machine.specs.State.{Fm}
-use Rattle.fm_machine.specs.Step.{fm_step}
-use Rattle.fm_machine.specs.Run.{fm_run, Avoids}
-use Rattle.fm_machine.specs.declared.fault.Outside.{Outside}
+use Rattle.fm_machine.specs.{State.{Fm}, Step.{fm_step}, Run.{fm_run, Avoids}, declared.fault.Outside.{Outside}}
 use Rattle.fm_image.specs.Image.{ImageOf}
 use Rattle.fm_loader.specs.Loaded.{loaded}
 use Rattle.gypsy_syntax.specs.Sources.{SourceOf}
-use Rattle.stack_build.specs.Build.{BuiltOf, accepted_source, built}
-use Rattle.stack_build.specs.Implements.{FitsFormals}
+use Rattle.stack_build.specs.{Build.{BuiltOf, accepted_source, built}, Implements.{FitsFormals}}
 
 -- no step of the run, from the machine that is loaded with the values to its first stand at the final pc, needs an address
 -- outside the image's window

@@ -4,15 +4,11 @@ use Rattle.fm_words.specs.WindowLimit.{most_window}
 use Rattle.stack_text.specs.Values.{ValueOf}
 use Rattle.fm_loader.specs.Values.{values_in}
 use Rattle.piton_semantics.specs.Placed.{placed}
-use Rattle.gypsy_syntax.specs.Sources.{SourceOf}
-use Rattle.gypsy_syntax.specs.Resolved.{program_of}
+use Rattle.gypsy_syntax.specs.{Sources.{SourceOf}, Resolved.{program_of}}
 use Rattle.gypsy_check.specs.Accepted.{IsAccepted}
 use Rattle.gypsy_space.specs.Needs.{StackSizes}
-use Rattle.gypsy_codegen.specs.Generated.{generated_view}
-use Rattle.gypsy_codegen.specs.Acceptable.{LimitsFit}
-use Rattle.stack_build.specs.Image.{image_of}
-use Rattle.stack_build.specs.Implements.{FitsFormals, Implements}
-use Rattle.stack_build.specs.Build.{BuiltOf, accepted_source, built, BuildsText}
+use Rattle.gypsy_codegen.specs.{Generated.{generated_view}, Acceptable.{LimitsFit}}
+use Rattle.stack_build.specs.{Image.{image_of}, Implements.{FitsFormals, Implements}, Build.{BuiltOf, accepted_source, built, BuildsText}}
 
 -- within the limits, and where the placed size is at most 2^20
 abbrev pub GeneratedImageImplements : Type 0

@@ -1,20 +1,15 @@
 -- The other way round: what a run of an image ends with is what its source means.
 use Rattle.std.specs.Prelude.{◌≡◌, ◌≤◌, ◌⊎◌, ℕ, List}
 use Rattle.stack_text.specs.Values.{ValueOf}
-use Rattle.fm_machine.specs.State.{Fm}
-use Rattle.fm_machine.specs.Run.{IsFirst}
-use Rattle.fm_machine.specs.Outcome.{outcome}
+use Rattle.fm_machine.specs.{State.{Fm}, Run.{IsFirst}, Outcome.{outcome}}
 use Rattle.fm_machine.specs.declared.processor.Run.TheVariants as run
 use Rattle.fm_image.specs.Image.{ImageOf}
 use Rattle.fm_loader.specs.Loaded.{loaded}
 use Rattle.display_maps.specs.Reading.{reading}
-use Rattle.gypsy_syntax.specs.Sources.{SourceOf}
-use Rattle.gypsy_syntax.specs.Resolved.{program_of}
+use Rattle.gypsy_syntax.specs.{Sources.{SourceOf}, Resolved.{program_of}}
 use Rattle.gypsy_space.specs.Needs.{StackSizes}
-use Rattle.gypsy_semantics.specs.Calls.{CurrentCondition}
-use Rattle.gypsy_semantics.specs.Meaning.{Unfinished, meaning}
-use Rattle.stack_build.specs.Implements.{meaning_shown, FitsFormals, Finishes}
-use Rattle.stack_build.specs.Moments.{KeepsMoments}
+use Rattle.gypsy_semantics.specs.{Calls.{CurrentCondition}, Meaning.{Unfinished, meaning}}
+use Rattle.stack_build.specs.{Implements.{meaning_shown, FitsFormals, Finishes}, Moments.{KeepsMoments}}
 
 -- the meaning is done after so many counted instructions, and the memory of this state shows it
 pub record IsMeant (source : SourceOf) (sizes : StackSizes) (image : ImageOf) (values : List ValueOf) (count : ℕ) (state : Fm) :

@@ -1,30 +1,17 @@
 -- Every moment of a run of the source, as the processor's memory has it.
-use Rattle.std.specs.Prelude.{◌≡◌, ◌≢◌, ℕ, ◌+◌, ◌≤◌, ℤ, List, [], ◌∷◌, Some, Ok, IsOk, slice_get, slice_index}
-use Rattle.std.specs.Option.{option_map}
-use Rattle.stack_text.specs.declared.shape.Shape.{Shape}
-use Rattle.stack_text.specs.Values.{ValueOf}
+use Rattle.std.specs.{Prelude.{◌≡◌, ◌≢◌, ℕ, ◌+◌, ◌≤◌, ℤ, List, [], ◌∷◌, Some, Ok, IsOk, slice_get, slice_index}, Option.{option_map}}
+use Rattle.stack_text.specs.{declared.shape.Shape.{Shape}, Values.{ValueOf}}
 use Rattle.fm_words.specs.Word.{word_of_int}
-use Rattle.fm_machine.specs.State.{Fm}
-use Rattle.fm_machine.specs.Run.{fm_run, pc_of}
+use Rattle.fm_machine.specs.{State.{Fm}, Run.{fm_run, pc_of}}
 use Rattle.fm_image.specs.Image.{ImageOf}
 use Rattle.fm_loader.specs.Loaded.{loaded}
-use Rattle.display_maps.specs.Reading.{word_in}
-use Rattle.display_maps.specs.ReadingAt.{word_below, word_from_frame}
+use Rattle.display_maps.specs.{Reading.{word_in}, ReadingAt.{word_below, word_from_frame}}
 use Rattle.piton_semantics.specs.Placed.{address_of_place}
-use Rattle.gypsy_syntax.specs.Programs.{Program, proc_at, shapes_of}
-use Rattle.gypsy_syntax.specs.Effects.{value_at}
-use Rattle.gypsy_syntax.specs.Resolved.{program_of}
-use Rattle.gypsy_syntax.specs.Sources.{SourceOf}
+use Rattle.gypsy_syntax.specs.{Programs.{Program, proc_at, shapes_of}, Effects.{value_at}, Resolved.{program_of}, Sources.{SourceOf}}
 use Rattle.gypsy_space.specs.Needs.{StackSizes, vars_of}
-use Rattle.gypsy_semantics.specs.Machine.{Item, Frame, Held, At, Move, Next, Ended}
-use Rattle.gypsy_semantics.specs.Calls.{CurrentCondition}
-use Rattle.gypsy_semantics.specs.Views.RunView.{top_way}
-use Rattle.gypsy_codegen.specs.WordsOf.{number_of_way}
-use Rattle.gypsy_codegen.specs.Generated.{offset, generated_view}
-use Rattle.gypsy_codegen.specs.Showing.{mark_of}
-use Rattle.gypsy_codegen.specs.Moments.{moment_from}
-use Rattle.stack_build.specs.Implements.{FitsFormals, meaning_shown}
-use Rattle.stack_build.specs.ComesTo.{ComesTo}
+use Rattle.gypsy_semantics.specs.{Machine.{Item, Frame, Held, At, Move, Next, Ended}, Calls.{CurrentCondition}, Views.RunView.{top_way}}
+use Rattle.gypsy_codegen.specs.{WordsOf.{number_of_way}, Generated.{offset, generated_view}, Showing.{mark_of}, Moments.{moment_from}}
+use Rattle.stack_build.specs.{Implements.{FitsFormals, meaning_shown}, ComesTo.{ComesTo}}
 
 -- the frame at r0 has the index of variable b, and item h of its value is the word that lies the index and h below the window's last
 pub record HoldsVariable (q : Program) (image : ImageOf) (m : Fm) (p b : ℕ) (v : ValueOf) : Type 0 where

@@ -2,8 +2,7 @@
 use Rattle.std.specs.Prelude.{◌≤◌, IsTrue}
 use Rattle.fm_words.specs.WindowLimit.{most_window}
 use Rattle.fm_image.specs.Spelling.{are_words}
-use Rattle.piton_check.specs.Instruction.{SystemView}
-use Rattle.piton_check.specs.Sound.{IsSound}
+use Rattle.piton_check.specs.{Instruction.{SystemView}, Sound.{IsSound}}
 use Rattle.piton_semantics.specs.Placed.{placed}
 use Rattle.piton_linker.specs.Layouts.{trimmed}
 

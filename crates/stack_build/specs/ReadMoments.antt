@@ -1,23 +1,16 @@
 -- Every moment of a run of the source, as memory is read by the image alone.
 use Rattle.std.specs.Prelude.{◌≡◌, ◌≢◌, ◌≤◌, ℕ, List, Some, Ok, IsOk, IsTrue}
 use Rattle.stack_text.specs.Values.{ValueOf}
-use Rattle.fm_machine.specs.State.{Fm}
-use Rattle.fm_machine.specs.Run.{fm_run, pc_of}
+use Rattle.fm_machine.specs.{State.{Fm}, Run.{fm_run, pc_of}}
 use Rattle.fm_image.specs.Image.{ImageOf}
 use Rattle.fm_loader.specs.Loaded.{loaded}
 use Rattle.display_maps.specs.ReadingAt.{reading_at}
-use Rattle.gypsy_syntax.specs.Sources.{SourceOf}
-use Rattle.gypsy_syntax.specs.Resolved.{program_of}
+use Rattle.gypsy_syntax.specs.{Sources.{SourceOf}, Resolved.{program_of}}
 use Rattle.gypsy_space.specs.Needs.{StackSizes}
-use Rattle.gypsy_semantics.specs.Machine.{State, Move, Next, Ended}
-use Rattle.gypsy_semantics.specs.Views.Moments.{moment_from}
-use Rattle.gypsy_semantics.specs.Views.RunView.{spent_at}
+use Rattle.gypsy_semantics.specs.{Machine.{State, Move, Next, Ended}, Views.Moments.{moment_from}, Views.RunView.{spent_at}}
 use Rattle.gypsy_check.specs.Accepted.{IsAccepted}
-use Rattle.stack_build.specs.Image.{image_of, places_fit}
-use Rattle.stack_build.specs.Implements.{FitsFormals, meaning_shown}
-use Rattle.stack_build.specs.ComesTo.{ComesTo}
-use Rattle.stack_build.specs.Moments.{KeepsMoments}
-use Rattle.stack_build.specs.SourceMoments.{moment_shown}
+use Rattle.stack_build.specs.{Image.{image_of, places_fit}, Implements.{FitsFormals, meaning_shown}, ComesTo.{ComesTo}}
+use Rattle.stack_build.specs.{Moments.{KeepsMoments}, SourceMoments.{moment_shown}}
 
 -- after exactly the counted instructions, each of them inside the window and none at the final program counter, memory says this state
 pub record SaysState (source : SourceOf) (image : ImageOf) (values : List ValueOf) (g : State) : Type 0 where

@@ -1,29 +1,20 @@
 -- What a run of a source's image says at each mark.
 use Rattle.std.specs.Prelude.{◌≡◌, ℕ, ◌+◌, ℤ, List, [], ◌∷◌, get_or, slice_get, IsTrue, Some}
-use Rattle.stack_text.specs.declared.shape.Shape.{Shape}
-use Rattle.stack_text.specs.Values.{ValueOf}
+use Rattle.stack_text.specs.{declared.shape.Shape.{Shape}, Values.{ValueOf}}
 use Rattle.fm_words.specs.Word.{word_of_int}
 use Rattle.fm_machine.specs.State.{Fm}
 use Rattle.fm_image.specs.Image.{ImageOf}
 use Rattle.display_maps.specs.ReadingAt.{StandingOf, ItemsOf, ReadingAtOf, condition_word, read_from, reading_at}
 use Rattle.display_maps.specs.ValueReading.{value_shown}
 use Rattle.piton_semantics.specs.Placed.{address_of_place}
-use Rattle.gypsy_syntax.specs.Programs.{Program, proc_at, shapes_of}
-use Rattle.gypsy_syntax.specs.Effects.{value_at}
-use Rattle.gypsy_syntax.specs.Resolved.{procedure_names, program_of}
+use Rattle.gypsy_syntax.specs.{Programs.{Program, proc_at, shapes_of}, Effects.{value_at}, Resolved.{procedure_names, program_of}}
 use Rattle.gypsy_syntax.specs.Sources.{SourceOf}
 use Rattle.gypsy_check.specs.Accepted.{IsAccepted}
 use Rattle.gypsy_space.specs.Needs.{StackSizes}
-use Rattle.gypsy_semantics.specs.Machine.{Item, State, At, Next, place_of}
-use Rattle.gypsy_semantics.specs.Views.RunView.{top_way}
-use Rattle.gypsy_semantics.specs.Views.Shown.{conditions_at, variables_at}
-use Rattle.gypsy_codegen.specs.WordsOf.{number_of_way}
-use Rattle.gypsy_codegen.specs.Generated.{offset, generated_view}
-use Rattle.gypsy_codegen.specs.Showing.{mark_of}
-use Rattle.gypsy_codegen.specs.Moments.{moment_from}
-use Rattle.stack_build.specs.Image.{image_of, places_fit}
-use Rattle.stack_build.specs.Implements.{FitsFormals, way_shown}
-use Rattle.stack_build.specs.Moments.{MemoryReads}
+use Rattle.gypsy_semantics.specs.{Machine.{Item, State, At, Next, place_of}, Views.RunView.{top_way}, Views.Shown.{conditions_at}}
+use Rattle.gypsy_semantics.specs.Views.Shown.{variables_at}
+use Rattle.gypsy_codegen.specs.{WordsOf.{number_of_way}, Generated.{offset, generated_view}, Showing.{mark_of}, Moments.{moment_from}}
+use Rattle.stack_build.specs.{Image.{image_of, places_fit}, Implements.{FitsFormals, way_shown}, Moments.{MemoryReads}}
 
 -- 1. A run that shows a state of the step machine.
 

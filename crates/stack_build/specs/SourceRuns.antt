@@ -1,20 +1,14 @@
 -- What a run of a source on values tells, where both are texts.
 use Rattle.std.specs.Prelude.{◌≡◌, ◌≤◌, ◌<◌, ◌^◌, ℕ, List, length, Result, Ok, IfOk}
-use Rattle.stack_text.specs.Results.{◌>>=◌}
-use Rattle.stack_text.specs.Values.{ValueOf}
+use Rattle.stack_text.specs.{Results.{◌>>=◌}, Values.{ValueOf}}
 use Rattle.fm_loader.specs.Values.{values_in}
-use Rattle.display_maps.specs.declared.ending.Ending.{Ending}
-use Rattle.display_maps.specs.declared.ending.Ending.TheVariants.{Finished, Unfinished, Outside}
-use Rattle.display_maps.specs.Endings.{run_with}
-use Rattle.display_maps.specs.Reading.{ReadingOf}
+use Rattle.display_maps.specs.{declared.ending.Ending.{Ending}, declared.ending.Ending.TheVariants.{Finished, Unfinished, Outside}}
+use Rattle.display_maps.specs.{Endings.{run_with}, Reading.{ReadingOf}}
 use Rattle.gypsy_syntax.specs.Sources.{SourceOf}
 use Rattle.gypsy_space.specs.Needs.{StackSizes, stack_sizes}
 use Rattle.gypsy_semantics.specs.Calls.{CurrentCondition}
-use Rattle.stack_build.specs.declared.start_fault.StartFault.{StartFault}
-use Rattle.stack_build.specs.Build.{accepted_source, built}
-use Rattle.stack_build.specs.Image.{formal_slots}
-use Rattle.stack_build.specs.Implements.{meaning_shown, FitsFormals, Finishes}
-use Rattle.stack_build.specs.Starts.{or_build, or_values}
+use Rattle.stack_build.specs.{declared.start_fault.StartFault.{StartFault}, Build.{accepted_source, built}, Image.{formal_slots}}
+use Rattle.stack_build.specs.{Implements.{meaning_shown, FitsFormals, Finishes}, Starts.{or_build, or_values}}
 
 -- how a run of what is built of a text ends, on the values of a second text; or why there is none
 unfoldable pub source_run : List ℕ → StackSizes → List ℕ → ℕ → Result Ending StartFault

@@ -5,21 +5,14 @@ use Rattle.stack_text.specs.Values.{ValueOf}
 use Rattle.fm_image.specs.Image.{ImageOf}
 use Rattle.fm_loader.specs.Loaded.{loaded}
 use Rattle.piton_check.specs.Instruction.{SystemView}
-use Rattle.piton_semantics.specs.Placed.{placed}
-use Rattle.piton_semantics.specs.StateView.{started}
-use Rattle.piton_semantics.specs.State.{PitonState}
-use Rattle.piton_semantics.specs.Step.{piton_run, run_cost}
+use Rattle.piton_semantics.specs.{Placed.{placed}, StateView.{started}, State.{PitonState}, Step.{piton_run, run_cost}}
 use Rattle.piton_linker.specs.Theorem.{ComesToStand}
 use Rattle.gypsy_check.specs.Accepted.{IsAccepted}
-use Rattle.gypsy_codegen.specs.Acceptable.{LimitsFit}
-use Rattle.gypsy_codegen.specs.Generated.{generated_view}
-use Rattle.gypsy_codegen.specs.WordsOf.{words_of_values}
+use Rattle.gypsy_codegen.specs.{Acceptable.{LimitsFit}, Generated.{generated_view}, WordsOf.{words_of_values}}
 use Rattle.gypsy_semantics.specs.Calls.{main_start}
 use Rattle.gypsy_space.specs.Needs.{StackSizes}
-use Rattle.gypsy_syntax.specs.Resolved.{program_of}
-use Rattle.gypsy_syntax.specs.Sources.{SourceOf}
-use Rattle.stack_build.specs.Image.{image_of}
-use Rattle.stack_build.specs.Implements.{FitsFormals}
+use Rattle.gypsy_syntax.specs.{Resolved.{program_of}, Sources.{SourceOf}}
+use Rattle.stack_build.specs.{Image.{image_of}, Implements.{FitsFormals}}
 
 -- the system before its first step, with the words of main's variables on its stack
 abbrev pub opened_on : SystemView → SourceOf → List ValueOf → PitonState

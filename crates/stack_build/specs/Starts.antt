@@ -2,32 +2,22 @@
 use Rattle.std.specs.Prelude.{◌≡◌, ◌≤◌, ℕ, List, length, drop, ◌++◌, Option, Some, None, Result, Ok, Err, nat_lt, if◌then◌else◌}
 use Rattle.fm_words.specs.WindowLimit.{most_window}
 use Rattle.stack_text.specs.Gives as common
-use Rattle.stack_text.specs.Results.{◌>>=◌}
-use Rattle.stack_text.specs.Values.{ValueOf}
+use Rattle.stack_text.specs.{Results.{◌>>=◌}, Values.{ValueOf}}
 use Rattle.fm_machine.specs.State.{Fm}
 use Rattle.fm_image.specs.Image.{ImageOf}
-use Rattle.fm_loader.specs.declared.fault.ValuesFault.{ValuesFault}
+use Rattle.fm_loader.specs.{declared.fault.ValuesFault.{ValuesFault}, Loaded.{loaded}, Values.{values_in}}
 use Rattle.fm_loader.specs.declared.fault.ValuesFault.TheVariants as values
-use Rattle.fm_loader.specs.Loaded.{loaded}
-use Rattle.fm_loader.specs.Values.{values_in}
 use Rattle.piton_words.specs.declared.word.Word.{Word}
 use Rattle.piton_check.specs.PitonChecking.{CheckedOf}
-use Rattle.piton_semantics.specs.Fits.{IsInitialStack, system_in}
-use Rattle.piton_semantics.specs.Placed.{placed}
-use Rattle.piton_semantics.specs.StateView.{opening as piton_opening}
-use Rattle.gypsy_syntax.specs.Sources.{SourceOf}
-use Rattle.gypsy_syntax.specs.Resolved.{program_of}
+use Rattle.piton_semantics.specs.{Fits.{IsInitialStack, system_in}, Placed.{placed}, StateView.{opening as piton_opening}}
+use Rattle.gypsy_syntax.specs.{Sources.{SourceOf}, Resolved.{program_of}}
 use Rattle.gypsy_space.specs.Needs.{StackSizes, main_need}
-use Rattle.gypsy_semantics.specs.Calls.{main_start}
-use Rattle.gypsy_semantics.specs.Views.RunView.{Seen, opening}
+use Rattle.gypsy_semantics.specs.{Calls.{main_start}, Views.RunView.{Seen, opening}}
 use Rattle.gypsy_codegen.specs.WordsOf.{words_of_values}
-use Rattle.stack_build.specs.declared.fault.BuildFault.{BuildFault}
-use Rattle.stack_build.specs.declared.fault.BuildFault.TheVariants as build
-use Rattle.stack_build.specs.Build.{BuiltOf, source_built}
-use Rattle.stack_build.specs.Image.{formal_slots}
-use Rattle.stack_build.specs.declared.built_starts.SystemStart.{SystemStart}
-use Rattle.stack_build.specs.declared.start_fault.StartFault.{StartFault}
+use Rattle.stack_build.specs.{declared.fault.BuildFault.{BuildFault}, Build.{BuiltOf, source_built}, Image.{formal_slots}}
+use Rattle.stack_build.specs.{declared.built_starts.SystemStart.{SystemStart}, declared.start_fault.StartFault.{StartFault}}
 use Rattle.stack_build.specs.declared.start_fault.StartFault.TheVariants.{Build, Values}
+use Rattle.stack_build.specs.declared.fault.BuildFault.TheVariants as build
 
 -- 1. Faults.
 

@@ -5,8 +5,7 @@ use Rattle.fm_machine.specs.Outcome.{outcome}
 use Rattle.fm_machine.specs.declared.processor.Run.TheVariants as run
 use Rattle.fm_image.specs.Image.{ImageOf}
 use Rattle.fm_loader.specs.Loaded.{loaded}
-use Rattle.gypsy_syntax.specs.Resolved.{program_of}
-use Rattle.gypsy_syntax.specs.Sources.{SourceOf}
+use Rattle.gypsy_syntax.specs.{Resolved.{program_of}, Sources.{SourceOf}}
 use Rattle.gypsy_space.specs.Needs.{StackSizes}
 use Rattle.gypsy_semantics.specs.Views.Moments.{NeverEnds}
 use Rattle.stack_build.specs.Implements.{FitsFormals}

@@ -1,29 +1,18 @@
 -- Every moment of a run with all activations, as the processor's memory has them: a back-trace.
 use Rattle.std.specs.Prelude.{◌≡◌, ◌≢◌, ◌≤◌, ℕ, ◌+◌, ℤ, List, [], ◌∷◌, Some, Ok, slice_get, slice_index}
-use Rattle.fm_words.specs.WindowLimit.{most_window}
-use Rattle.stack_text.specs.declared.shape.Shape.{Shape}
-use Rattle.stack_text.specs.Values.{ValueOf}
-use Rattle.fm_words.specs.Word.{word_of_int}
-use Rattle.fm_machine.specs.State.{Fm}
-use Rattle.fm_machine.specs.Run.{fm_run}
+use Rattle.fm_words.specs.{WindowLimit.{most_window}, Word.{word_of_int}}
+use Rattle.stack_text.specs.{declared.shape.Shape.{Shape}, Values.{ValueOf}}
+use Rattle.fm_machine.specs.{State.{Fm}, Run.{fm_run}}
 use Rattle.fm_image.specs.Image.{ImageOf}
 use Rattle.fm_loader.specs.Loaded.{loaded}
-use Rattle.display_maps.specs.Reading.{word_in}
-use Rattle.display_maps.specs.ReadingAt.{word_below}
+use Rattle.display_maps.specs.{Reading.{word_in}, ReadingAt.{word_below}}
 use Rattle.piton_semantics.specs.Placed.{placed}
-use Rattle.gypsy_syntax.specs.Programs.{Program, proc_at, shapes_of}
-use Rattle.gypsy_syntax.specs.Effects.{value_at}
-use Rattle.gypsy_syntax.specs.Resolved.{program_of}
-use Rattle.gypsy_syntax.specs.Sources.{SourceOf}
+use Rattle.gypsy_syntax.specs.{Programs.{Program, proc_at, shapes_of}, Effects.{value_at}, Resolved.{program_of}, Sources.{SourceOf}}
 use Rattle.gypsy_check.specs.Accepted.{IsAccepted}
 use Rattle.gypsy_space.specs.Needs.{StackSizes, vars_of}
-use Rattle.gypsy_semantics.specs.Machine.{Frame, Held, Move, At, Next, Ended}
-use Rattle.gypsy_semantics.specs.Views.RunView.{handed_back}
-use Rattle.gypsy_codegen.specs.Acceptable.{LimitsFit}
-use Rattle.gypsy_codegen.specs.Generated.{offset, generated_view}
-use Rattle.gypsy_codegen.specs.Moments.{moment_from}
-use Rattle.stack_build.specs.Image.{image_of}
-use Rattle.stack_build.specs.Implements.{FitsFormals}
+use Rattle.gypsy_semantics.specs.{Machine.{Frame, Held, Move, At, Next, Ended}, Views.RunView.{handed_back}}
+use Rattle.gypsy_codegen.specs.{Acceptable.{LimitsFit}, Generated.{offset, generated_view}, Moments.{moment_from}}
+use Rattle.stack_build.specs.{Image.{image_of}, Implements.{FitsFormals}}
 
 -- the frame at an address has the index of variable b, and item h of its value is the word that lies the index and h below the
 -- window's last

@@ -4,9 +4,7 @@ ghost use Rattle.std.specs.Prelude.{◌≤◌, ◌^◌, IfOk, length};
 ghost use Rattle.gypsy_space.specs.Needs.{stack_sizes};
 ghost use Rattle.gypsy_syntax.specs.Views.SourceView.{source_of};
 ghost use Rattle.fm_loader.specs.Loaded.{Fits};
-ghost use Rattle.piton_semantics.specs.Fits.{system_in};
-ghost use Rattle.piton_semantics.specs.Placed.{placed};
-ghost use Rattle.piton_semantics.specs.StateView.{IsSeen};
+ghost use Rattle.piton_semantics.specs.{Fits.{system_in}, Placed.{placed}, StateView.{IsSeen}};
 ghost use Rattle.stack_build.specs.Starts.{GivesStartUnless, CanRun, built_start, system_start, image_start};
 
 use crate::building::{Built, build_accepted};

@@ -1,10 +1,8 @@
 //! Values of main's formals, without an image.
 ghost use Rattle.std.specs.Prelude.{◌≤◌, ◌^◌, IfOk, length};
-ghost use Rattle.fm_loader.specs.Rules.{GivesValuesUnless};
-ghost use Rattle.fm_loader.specs.Values.{values_in};
+ghost use Rattle.fm_loader.specs.{Rules.{GivesValuesUnless}, Values.{values_in}};
 ghost use Rattle.gypsy_syntax.specs.Views.SourceView.{source_of};
-ghost use Rattle.stack_build.specs.Image.{formal_slots};
-ghost use Rattle.stack_build.specs.Implements.{FitsFormals};
+ghost use Rattle.stack_build.specs.{Image.{formal_slots}, Implements.{FitsFormals}};
 
 use crate::imaging::slots_from;
 use crate::shown::shown_formals;

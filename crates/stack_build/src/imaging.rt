@@ -3,18 +3,12 @@ ghost use Rattle.std.specs.Prelude.{◌≡◌, ◌≤◌, ◌^◌, ◌∷◌, If
 ghost use Rattle.stack_heap.specs.Heaps.{IfOkUnless};
 ghost use Rattle.display_maps.specs.Reading.{space_name};
 ghost use Rattle.piton_check.specs.PitonChecking.{IsChecked};
-ghost use Rattle.piton_semantics.specs.Fits.{system_in};
-ghost use Rattle.piton_semantics.specs.Placed.{placed};
-ghost use Rattle.piton_linker.specs.Layouts.{places_of, IsFaultUnless};
-ghost use Rattle.piton_linker.specs.Theorem.{RunsOnProcessor};
-ghost use Rattle.gypsy_syntax.specs.Resolved.{program_of, shape_of};
-ghost use Rattle.gypsy_syntax.specs.Views.SourceView.{source_of};
+ghost use Rattle.piton_semantics.specs.{Fits.{system_in}, Placed.{placed}};
+ghost use Rattle.piton_linker.specs.{Layouts.{places_of, IsFaultUnless}, Theorem.{RunsOnProcessor}};
+ghost use Rattle.gypsy_syntax.specs.{Resolved.{program_of, shape_of}, Views.SourceView.{source_of}};
 ghost use Rattle.gypsy_check.specs.Accepted.{IsAccepted};
-ghost use Rattle.gypsy_space.specs.Events.{AreNeeds};
-ghost use Rattle.gypsy_space.specs.Nodes.{declared_names, seen_proc_names, seen_program};
-ghost use Rattle.stack_build.specs.Image.{slots_from, linked_image, image_on};
-ghost use Rattle.stack_build.specs.Internal.Listing.{IsGenerated};
-ghost use Rattle.stack_build.specs.Internal.Showing.{HaveShortArrays};
+ghost use Rattle.gypsy_space.specs.{Events.{AreNeeds}, Nodes.{declared_names, seen_proc_names, seen_program}};
+ghost use Rattle.stack_build.specs.{Image.{slots_from, linked_image, image_on}, Internal.Listing.{IsGenerated}, Internal.Showing.{HaveShortArrays}};
 
 use crate::shown::{formal_conditions, shown_formals};
 use crate::tables::tables;

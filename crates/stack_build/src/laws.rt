@@ -1,13 +1,8 @@
 //! Laws. The functions do nothing: their clauses hold of all sources, sizes, texts and systems.
 
-ghost use Rattle.stack_build.specs.Inside.{BuiltAtBase, BuiltRunsInside};
-ghost use Rattle.stack_build.specs.Joined.{GeneratedImageImplements, BuiltImplements, BuiltTakesValues};
-ghost use Rattle.stack_build.specs.PlacedWords.{PlacedAreWords};
-ghost use Rattle.stack_build.specs.Meant.{KeptMeansOnly};
-ghost use Rattle.stack_build.specs.ReadMoments.{KeptMomentsAreSaid};
-ghost use Rattle.stack_build.specs.StandsForPiton.{GeneratedImageStandsForPiton};
-ghost use Rattle.stack_build.specs.Traces.{GeneratedImageKeepsTraces};
-ghost use Rattle.stack_build.specs.SourceRuns.{SourceRunsTellMeaning};
+ghost use Rattle.stack_build.specs.{Inside.{BuiltAtBase, BuiltRunsInside}, Joined.{GeneratedImageImplements, BuiltImplements, BuiltTakesValues}};
+ghost use Rattle.stack_build.specs.{PlacedWords.{PlacedAreWords}, Meant.{KeptMeansOnly}, ReadMoments.{KeptMomentsAreSaid}};
+ghost use Rattle.stack_build.specs.{StandsForPiton.{GeneratedImageStandsForPiton}, Traces.{GeneratedImageKeepsTraces}, SourceRuns.{SourceRunsTellMeaning}};
 ghost use Rattle.stack_build.specs.SourceMoments.{MomentsAreRead, ShownMomentsAreRead};
 
 /// The image of each accepted source, at sizes and a base within the limits, does what the source means: loaded with

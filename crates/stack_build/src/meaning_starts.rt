@@ -2,12 +2,9 @@
 
 ghost use Rattle.std.specs.Prelude.{◌≡◌, ◌≤◌, ◌^◌, IfOk, length};
 ghost use Rattle.stack_heap.specs.Heaps.{IfOkUnless};
-ghost use Rattle.gypsy_meaning.specs.Views.Belongs.{BelongsTo};
-ghost use Rattle.gypsy_meaning.specs.Views.Running.{seen};
-ghost use Rattle.gypsy_space.specs.Events.{AreNeeds, AreSmall};
-ghost use Rattle.gypsy_space.specs.Needs.{stack_sizes, main_need};
-ghost use Rattle.gypsy_syntax.specs.Resolved.{program_of};
-ghost use Rattle.gypsy_syntax.specs.Views.SourceView.{source_of};
+ghost use Rattle.gypsy_meaning.specs.{Views.Belongs.{BelongsTo}, Views.Running.{seen}};
+ghost use Rattle.gypsy_space.specs.{Events.{AreNeeds, AreSmall}, Needs.{stack_sizes, main_need}};
+ghost use Rattle.gypsy_syntax.specs.{Resolved.{program_of}, Views.SourceView.{source_of}};
 ghost use Rattle.stack_build.specs.Starts.{GivesStartUnless, shortage_of, gypsy_start};
 
 use crate::fault::BuildFault;

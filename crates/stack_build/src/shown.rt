@@ -1,8 +1,5 @@
 //! What an image shows of a source: the formals of its main procedure, spaceerror, and its formal conditions.
-ghost use Rattle.std.specs.Prelude.{◌≡◌, map};
-ghost use Rattle.std.specs.List.{find};
-ghost use Rattle.std.specs.Option.{option_map};
-ghost use Rattle.std.specs.Str.{bytes_eq};
+ghost use Rattle.std.specs.{Prelude.{◌≡◌, map}, List.{find}, Option.{option_map}, Str.{bytes_eq}};
 ghost use Rattle.gypsy_syntax.specs.Views.SourceView.{proc_of, source_of};
 ghost use Rattle.stack_build.specs.Formals.{formal_conditions, main_of, shown_formals};
 

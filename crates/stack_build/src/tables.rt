@@ -1,20 +1,16 @@
 //! What an image tells of its source at each mark: the procedures, and the marks.
 
-ghost use Rattle.std.specs.Prelude.{◌≡◌, ◌<◌, ◌≤◌, ◌+◌, ◌^◌, ◌∷◌, ◌++◌, [], length, map, slice_get, IfOk, OnErr};
-ghost use Rattle.std.specs.List.{list_all};
-ghost use Rattle.std.specs.Option.{option_map};
+ghost use Rattle.std.specs.{Prelude.{◌≡◌, ◌<◌, ◌≤◌, ◌+◌, ◌^◌, ◌∷◌, ◌++◌, [], length, map, slice_get, IfOk, OnErr}, List.{list_all}, Option.{option_map}};
 ghost use Rattle.stack_heap.specs.Heaps.{IfOkUnless, OnOkUnless};
 ghost use Rattle.fm_image.specs.Limits.{is_place};
 ghost use Rattle.display_maps.specs.Reading.{space_name};
 ghost use Rattle.piton_check.specs.Instruction.{SystemView};
 ghost use Rattle.piton_linker.specs.Layouts.{places_of};
-ghost use Rattle.gypsy_syntax.specs.Resolved.{program_of};
-ghost use Rattle.gypsy_syntax.specs.Views.SourceView.{proc_of, source_of};
-ghost use Rattle.gypsy_space.specs.Events.{AreNeeds};
-ghost use Rattle.gypsy_space.specs.Nodes.{declared_names, seen_proc_names, seen_program};
+ghost use Rattle.gypsy_syntax.specs.{Resolved.{program_of}, Views.SourceView.{proc_of, source_of}};
+ghost use Rattle.gypsy_space.specs.{Events.{AreNeeds}, Nodes.{declared_names, seen_proc_names, seen_program}};
 ghost use Rattle.gypsy_codegen.specs.Acceptable.{total_words};
-ghost use Rattle.stack_build.specs.Image.{procedure_infos, source_tables};
-ghost use Rattle.stack_build.specs.Internal.Listing.{Declares, IsGenerated, address_among, formal_infos, frame_infos, listed_procedure, local_infos, mark_among, offset_in};
+ghost use Rattle.stack_build.specs.{Image.{procedure_infos, source_tables}, Internal.Listing.{Declares, IsGenerated, address_among, formal_infos, frame_infos}};
+ghost use Rattle.stack_build.specs.Internal.Listing.{listed_procedure, local_infos, mark_among, offset_in};
 
 use display_maps::space_name;
 use fm_image::{Mark, ProcInfo, VarInfo};

@@ -1,25 +1,13 @@
 -- The image of a linked system keeps the limits of images, and its file those of files; where the words are too many, there is none.
-use Rattle.std.proofs.Common.{◌≡◌, ◌≤◌, ℕ, length, Some, None, true, false, refl, arith}
-use Rattle.std.specs.Prelude.{◌^◌, IsTrue}
-use Rattle.std.proofs.lemmas.Bool.{and_from, le-leb, le-ltb, lt-ltb}
-use Rattle.fm_image.specs.Limits.{all_after, is_image}
-use Rattle.fm_image.specs.Spelling.{spelling, Spelled}
-use Rattle.fm_image.proofs.LimitLaws.{from_limits}
-use Rattle.piton_check.specs.PitonChecking.{CheckedOf, IsChecked}
-use Rattle.piton_check.specs.Instruction.{SystemView}
-use Rattle.piton_semantics.specs.Fits.{system_in}
-use Rattle.piton_semantics.specs.Placed.{placed}
-use Rattle.piton_linker.specs.declared.fault.LinkFault.TheVariants.{Large}
-use Rattle.piton_linker.specs.Layouts.{trimmed, IsFault}
-use Rattle.stack_build.specs.Image.{linked_image}
-use Rattle.stack_build.specs.PlacedWords.{PlacedAreWords}
-use Rattle.stack_build.proofs.ImageBytes.{file_few}
-use Rattle.stack_build.proofs.ImageLimits.{placed_fits}
-use Rattle.command_line.specs.declared.role.Role.TheVariants.{Image}
-use Rattle.command_line.specs.Roles.{limit_of}
-use Rattle.command_replies.specs.declared.reply.SizeOf.TheVariants.{Words}
-use Rattle.command_replies.specs.declared.reply.Verdict.TheVariants.{Size}
-use Rattle.command_replies.specs.Replies.{verdict_alone}
+use Rattle.std.{proofs.Common.{◌≡◌, ◌≤◌, ℕ, length, Some, None, true, false, refl, arith}, specs.Prelude.{◌^◌, IsTrue}, proofs.lemmas.Bool.{and_from, le-leb}}
+use Rattle.std.proofs.lemmas.Bool.{le-ltb, lt-ltb}
+use Rattle.fm_image.{specs.Limits.{all_after, is_image}, specs.Spelling.{spelling, Spelled}, proofs.LimitLaws.from_limits}
+use Rattle.piton_check.{specs.PitonChecking.{CheckedOf, IsChecked}, specs.Instruction.SystemView}
+use Rattle.piton_semantics.{specs.Fits.system_in, specs.Placed.placed}
+use Rattle.piton_linker.{specs.declared.fault.LinkFault.TheVariants.Large, specs.Layouts.{trimmed, IsFault}}
+use Rattle.stack_build.{specs.Image.linked_image, specs.PlacedWords.PlacedAreWords, proofs.ImageBytes.file_few, proofs.ImageLimits.placed_fits}
+use Rattle.command_line.{specs.declared.role.Role.TheVariants.Image, specs.Roles.limit_of}
+use Rattle.command_replies.{specs.declared.reply.SizeOf.TheVariants.Words, specs.declared.reply.Verdict.TheVariants.Size, specs.Replies.verdict_alone}
 use Rattle.stack_commands.specs.Commands.Pbuild.{is_large, linked_stored, linked_reply}
 
 -- the image keeps the limits of images

@@ -2,9 +2,7 @@
 use Rattle.std.proofs.Common.{◌≡◌, ℕ, List}
 use Rattle.stack_text.specs.Values.{ValueOf}
 use Rattle.gypsy_syntax.specs.Sources.{SourceOf}
-use Rattle.gypsy_semantics.specs.declared.conditions.Current.{Current}
-use Rattle.gypsy_semantics.specs.Views.RunView.{Seen, values_at}
-use Rattle.gypsy_semantics.specs.Views.Shown.{condition_at, names_at}
+use Rattle.gypsy_semantics.{specs.declared.conditions.Current.Current, specs.Views.RunView.{Seen, values_at}, specs.Views.Shown.{condition_at, names_at}}
 use Rattle.stack_commands.specs.Commands.Mean.{said_text, ended_text}
 
 -- it is said by what is shown of the run

@@ -1,8 +1,6 @@
 -- The procedure that reaches itself, as the source has it.
 use Rattle.std.proofs.Common.{◌≡◌, ◌<◌, ◌∷◌, [], ℕ, zero, suc, List, length, map, get_or, sym, ap, arith}
-use Rattle.gypsy_syntax.specs.declared.proc.Proc.{Proc}
-use Rattle.gypsy_syntax.specs.Sources.{ProcOf}
-use Rattle.gypsy_syntax.specs.Views.SourceView.{proc_of}
+use Rattle.gypsy_syntax.{specs.declared.proc.Proc.Proc, specs.Sources.ProcOf, specs.Views.SourceView.proc_of}
 
 -- the name of a procedure is the one at its position
 pub name_at : (procs : List Proc) (i : ℕ) (p : Proc) → i < length procs → p ≡ get_or procs i p

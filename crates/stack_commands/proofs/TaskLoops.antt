@@ -1,24 +1,15 @@
 -- The loops of `turns`: over sources, images, rounds and tasks.
-use Rattle.std.proofs.Common.{◌≡◌, ◌<◌, ◌+◌, ◌++◌, ℕ, List, [], ◌∷◌, length, map, drop, get_or, replicate, Some, Result, Ok, Err, Bool, true, false}
-use Rattle.std.proofs.Common.{◌&&◌, refl, sym, ap, ◌∙◌, arith, append_assoc}
-use Rattle.std.specs.Prelude.{slice_get, slice_index_or}
-use Rattle.std.specs.List.{list_all}
-use Rattle.std.proofs.lemmas.Grind.{replicate_next}
-use Rattle.std.proofs.lemmas.List.{drop_more}
-use Rattle.std.proofs.lemmas.Option.{slice_get-get_or, same_Some}
-use Rattle.stack_text.specs.Results.{◌>>=◌}
-use Rattle.stack_text.specs.Values.{ValueOf}
-use Rattle.stack_text.proofs.ResultLoops.{with_front, with_front-with_front}
+use Rattle.std.proofs.Common.{◌≡◌, ◌<◌, ◌+◌, ◌++◌, ℕ, List, [], ◌∷◌, length, map, drop, get_or, replicate, Some, Result, Ok, Err, Bool, true, false, ◌&&◌, refl}
+use Rattle.std.{proofs.Common.{sym, ap, ◌∙◌, arith, append_assoc}, specs.Prelude.{slice_get, slice_index_or}, specs.List.list_all}
+use Rattle.std.{proofs.lemmas.Grind.replicate_next, proofs.lemmas.List.drop_more, proofs.lemmas.Option.{slice_get-get_or, same_Some}}
+use Rattle.stack_text.{specs.Results.◌>>=◌, specs.Values.ValueOf, proofs.ResultLoops.{with_front, with_front-with_front}}
 use Rattle.fm_image.specs.Image.{ImageOf}
 use Rattle.fm_loader.specs.Values.{values_in}
-use Rattle.fm_turns.specs.declared.context.TaskContext.{TaskContext}
-use Rattle.fm_turns.specs.Starting.{NewTask, new_task}
-use Rattle.fm_turns.specs.Turns.{TurnsOf, round_of, rounds_of}
+use Rattle.fm_turns.{specs.declared.context.TaskContext.TaskContext, specs.Starting.{NewTask, new_task}, specs.Turns.{TurnsOf, round_of, rounds_of}}
 use Rattle.gypsy_space.specs.Needs.{StackSizes}
 use Rattle.stack_build.specs.Build.{built}
-use Rattle.stack_commands.specs.declared.turns.tasks.TasksFault.{TasksFault}
-use Rattle.stack_commands.specs.Internal.Told.{told_of, told_from}
-use Rattle.stack_commands.specs.Commands.Turns.{image_or_fault, images_from, values_or_fault, tasks_from}
+use Rattle.stack_commands.{specs.declared.turns.tasks.TasksFault.TasksFault, specs.Internal.Told.{told_of, told_from}, specs.Commands.Turns.image_or_fault}
+use Rattle.stack_commands.specs.Commands.Turns.{images_from, values_or_fault, tasks_from}
 
 -- 1. Lists of results.
 

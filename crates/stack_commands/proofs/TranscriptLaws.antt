@@ -1,24 +1,15 @@
 -- What a session says to a script, printed line by line.
-use Rattle.std.proofs.Common.{◌≡◌, ◌<◌, ◌≤◌, inl, ℕ, ◌+◌, List, [], ◌++◌, length, drop, get_or, Option, Some, None, refl, sym, ap, subst, ◌∙◌}
-use Rattle.std.proofs.Common.{append-nil}
+use Rattle.std.proofs.Common.{◌≡◌, ◌<◌, ◌≤◌, inl, ℕ, ◌+◌, List, [], ◌++◌, length, drop, get_or, Option, Some, None, refl, sym, ap, subst, ◌∙◌, append-nil}
 use Rattle.stack_shelf.specs.Shelf.{appended, PrefixAppended}
-use Rattle.command_line.specs.Devices.{lines_of, took_each}
-use Rattle.command_line.proofs.PrintLaws.{appended-appended, last_prefix, early_prefix, took_lines_of_both, whole_prefix}
-use Rattle.debug_script.specs.declared.reading.Line.{Line}
-use Rattle.level_debuggers.specs.declared.script_end.ScriptEnd.{ScriptEnd}
-use Rattle.level_debuggers.specs.declared.script_end.ScriptEnd.TheVariants as end
-use Rattle.level_debuggers.specs.ScriptSteps.{TextStays}
-use Rattle.level_debuggers.specs.Transcripts.{Followed, IsSaid, followed, said_to}
-use Rattle.level_debuggers.specs.Walks.{SessionOf}
-use Rattle.level_debuggers.specs.Levels.{LevelOf}
-use Rattle.level_debuggers.specs.Tallies.{Watching}
-use Rattle.level_debuggers.specs.WholeLines.{AnswersAreLines, AreLines, TranscriptsAreLines}
-use Rattle.level_debuggers.proofs.FollowLaws.{last_line, next_line, no_line}
-use Rattle.level_debuggers.proofs.LineLaws.{both}
+use Rattle.command_line.{specs.Devices.{lines_of, took_each}, proofs.PrintLaws.{appended-appended, last_prefix, early_prefix, took_lines_of_both, whole_prefix}}
 use Rattle.command_line.specs.declared.status.Status.{Status}
-use Rattle.stack_commands.specs.Commands.Debug.{end_verdict, followed_reply, lines_reply, session_on}
+use Rattle.debug_script.specs.declared.reading.Line.{Line}
+use Rattle.level_debuggers.{specs.declared.script_end.ScriptEnd.ScriptEnd, specs.ScriptSteps.TextStays, specs.Transcripts.{Followed, IsSaid, followed, said_to}}
+use Rattle.level_debuggers.{specs.Walks.SessionOf, specs.Levels.LevelOf, specs.Tallies.Watching, specs.WholeLines.{AnswersAreLines, AreLines}}
+use Rattle.level_debuggers.{specs.WholeLines.TranscriptsAreLines, proofs.FollowLaws.{last_line, next_line, no_line}, proofs.LineLaws.both}
+use Rattle.level_debuggers.specs.declared.script_end.ScriptEnd.TheVariants as end
+use Rattle.stack_commands.{specs.Commands.Debug.{end_verdict, followed_reply, lines_reply, session_on}, specs.Internal.Transcript.AllPrinted}
 use Rattle.command_replies.specs.Replies.{ReplyOf, reply_text, status_of, verdict_line}
-use Rattle.stack_commands.specs.Internal.Transcript.{AllPrinted}
 
 -- What was said and printed so far; these lines are left, for the session that is left, and all together is what a whole script says.
 pub record SoFar {K : Type 0} (put : K → List ℕ → K) (before now : K) (taken_before taken_now : Option (List ℕ)) (whole : Followed) (lines : List Line)

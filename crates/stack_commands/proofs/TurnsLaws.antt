@@ -1,46 +1,28 @@
 -- The tasks of `turns` can take turns, and what is told of them then is what each of them comes to alone.
 use Rattle.std.proofs.Common.{◌≡◌, ◌≤◌, ◌+◌, ◌*◌, ◌++◌, ℕ, suc, List, [], ◌∷◌, length, map, append-nil, Bool, true, false, ◌&&◌, ◌||◌, if◌then◌else◌, eqb, leb}
-use Rattle.std.proofs.Common.{ltb, None, Result, Ok, Err, IfOk, refl, sym, ap, subst, ◌∙◌, arith}
-use Rattle.std.specs.Prelude.{◌^◌, All, slice_index_or}
-use Rattle.std.specs.Int.{div_ceil}
-use Rattle.std.specs.List.{list_all}
-use Rattle.std.proofs.lemmas.Bool.{and_parts, and_from, or_parts, eqb-true, eq-eqb, eqb-false, ne_eqb, le-leb, le-ltb, ltb-false}
-use Rattle.std.proofs.lemmas.List.Elements.{All-head, All-tail, All-cons}
-use Rattle.std.proofs.lemmas.List.Sums.{sum_by-cons}
-use Rattle.stack_text.specs.Gives.{GivesUnless}
-use Rattle.stack_text.specs.Results.{◌>>=◌}
-use Rattle.stack_text.specs.Values.{ValueOf}
+use Rattle.std.{proofs.Common.{ltb, None, Result, Ok, Err, IfOk, refl, sym, ap, subst, ◌∙◌, arith}, specs.Prelude.{◌^◌, All, slice_index_or}}
+use Rattle.std.{specs.Int.div_ceil, specs.List.list_all, proofs.lemmas.Bool.{and_parts, and_from, or_parts, eqb-true, eq-eqb, eqb-false, ne_eqb, le-leb}}
+use Rattle.std.{proofs.lemmas.Bool.{le-ltb, ltb-false}, proofs.lemmas.List.Elements.{All-head, All-tail, All-cons}, proofs.lemmas.List.Sums.sum_by-cons}
+use Rattle.stack_text.{specs.Gives.GivesUnless, specs.Results.◌>>=◌, specs.Values.ValueOf}
 use Rattle.fm_machine.specs.declared.processor.Run.{Run}
 use Rattle.fm_machine.specs.declared.processor.Run.TheVariants as run
-use Rattle.fm_image.specs.Image.{ImageOf}
-use Rattle.fm_image.proofs.LimitLaws.{sized}
+use Rattle.fm_image.{specs.Image.ImageOf, proofs.LimitLaws.sized}
 use Rattle.fm_loader.specs.Values.{values_in}
-use Rattle.display_maps.specs.Reading.{ReadingOf, reading}
-use Rattle.display_maps.specs.Report.{report_text}
-use Rattle.fm_turns.specs.declared.context.TaskContext.{TaskContext}
-use Rattle.fm_turns.specs.declared.fault.TurnsFault.{TurnsFault}
-use Rattle.fm_turns.specs.declared.task.Task.{Task}
+use Rattle.display_maps.{specs.Reading.{ReadingOf, reading}, specs.Report.report_text}
+use Rattle.fm_turns.{specs.declared.context.TaskContext.TaskContext, specs.declared.fault.TurnsFault.TurnsFault, specs.declared.task.Task.Task}
+use Rattle.fm_turns.{specs.Alone.StaysInside, specs.EqualTurns.{RoundIsQuotient, whole_run, state_at_end, EndAsAlone}, specs.OwnMachines.own_machine}
+use Rattle.fm_turns.{specs.Readings.readings_of, specs.Starting.{NewTask, new_task, adjoin_from, adjoin, total_size, window_size, started_in, side_by_side}}
+use Rattle.fm_turns.{specs.Starting.started, specs.Turns.{TurnsOf, images_of, states_of}}
 use Rattle.fm_turns.specs.declared.task.Task.TheVariants as state
-use Rattle.fm_turns.specs.Alone.{StaysInside}
-use Rattle.fm_turns.specs.EqualTurns.{RoundIsQuotient, whole_run, state_at_end, EndAsAlone}
-use Rattle.fm_turns.specs.OwnMachines.{own_machine}
-use Rattle.fm_turns.specs.Readings.{readings_of}
-use Rattle.fm_turns.specs.Starting.{NewTask, new_task, adjoin_from, adjoin, total_size, window_size, started_in, side_by_side, started}
-use Rattle.fm_turns.specs.Turns.{TurnsOf, images_of, states_of}
 use Rattle.gypsy_space.specs.Needs.{StackSizes}
-use Rattle.stack_build.specs.declared.fault.BuildFault.{BuildFault}
-use Rattle.stack_build.specs.Build.{BuiltOf, built, BuildsText}
-use Rattle.stack_build.specs.Inside.{BuiltAtBase, BuiltRunsInside}
+use Rattle.stack_build.{specs.declared.fault.BuildFault.BuildFault, specs.Build.{BuiltOf, built, BuildsText}, specs.Inside.{BuiltAtBase, BuiltRunsInside}}
 use Rattle.stack_build.specs.Joined.{BuiltImplements, BuiltTakesValues}
-use Rattle.stack_commands.specs.declared.turns.tasks.TasksFault.{TasksFault}
-use Rattle.stack_commands.specs.declared.turns.tasks.TasksFault.TheVariants.{Count, Large}
-use Rattle.command_replies.specs.declared.reply.Verdict.TheVariants as verdict
-use Rattle.command_replies.specs.Replies.{reply_text, verdict_line}
-use Rattle.command_replies.specs.Commands.Run.{end_reply, run_reply}
-use Rattle.stack_commands.specs.Internal.Tasks.{fault_of, TasksAreShort, AreReady}
-use Rattle.stack_commands.specs.Internal.Told.{told_task, told_of, told_from, has_ended, told_reply}
+use Rattle.stack_commands.{specs.declared.turns.tasks.TasksFault.TasksFault, specs.declared.turns.tasks.TasksFault.TheVariants.{Count, Large}}
+use Rattle.stack_commands.{specs.Internal.Tasks.{fault_of, TasksAreShort, AreReady}, specs.Internal.Told.{told_task, told_of, told_from, has_ended, told_reply}}
 use Rattle.stack_commands.specs.Commands.Turns.{few_enough, image_or_fault, images_from, word_count, small_enough, values_or_fault, tasks_from, tasks_of}
 use Rattle.stack_commands.specs.Commands.Turns.{last_round, round_line, task_text, tasks_text, is_end, tasks_verdict, tasks_reply}
+use Rattle.command_replies.specs.declared.reply.Verdict.TheVariants as verdict
+use Rattle.command_replies.{specs.Replies.{reply_text, verdict_line}, specs.Commands.Run.{end_reply, run_reply}}
 
 -- 1. The images are built side by side.
 

@@ -3,31 +3,18 @@ use Rattle.std.specs.Prelude.{ℕ, List, Option, None}
 use Rattle.gypsy_space.specs.Needs.{stack_sizes}
 use Rattle.stack_build.specs.Build.{built, compiled}
 use Rattle.level_debuggers.specs.Tallies.{Watching}
-use Rattle.command_line.specs.declared.command.Command.{Command}
-use Rattle.command_line.specs.declared.command.Command.TheVariants.{Check, Mean, Pit, Build, Pcheck, Prun, Pbuild}
-use Rattle.command_line.specs.declared.command.Command.TheVariants.{Run, Go, Show, Migrate, Asm, Unasm, Need, Cert, Debug, Turns, Big, Mini}
+use Rattle.command_line.specs.{declared.command.Command.{Command}, declared.command.Command.TheVariants.{Check, Mean, Pit, Build, Pcheck}}
+use Rattle.command_line.specs.declared.command.Command.TheVariants.{Prun, Pbuild, Run, Go, Show, Migrate, Asm, Unasm, Need, Cert, Debug}
+use Rattle.command_line.specs.{declared.command.Command.TheVariants.{Turns, Big, Mini}, Gathered.{Texts, text_of, texts_of}}
 use Rattle.command_line.specs.declared.role.Role.TheVariants as role
-use Rattle.command_line.specs.Gathered.{Texts, text_of, texts_of}
-use Rattle.command_replies.specs.Replies.{ReplyOf}
-use Rattle.stack_commands.specs.Commands.Check.{check_reply}
-use Rattle.stack_commands.specs.Commands.Mean.{mean_reply}
-use Rattle.stack_commands.specs.Commands.Pit.{pit_stored, pit_reply}
-use Rattle.stack_commands.specs.Commands.Build.{image_stored, build_reply}
-use Rattle.command_replies.specs.Commands.Pcheck.{pcheck_reply}
-use Rattle.command_replies.specs.Commands.Prun.{prun_reply}
-use Rattle.stack_commands.specs.Commands.Pbuild.{pbuild_stored, pbuild_reply}
-use Rattle.command_replies.specs.Commands.Run.{image_file_reply}
-use Rattle.stack_commands.specs.Commands.Go.{go_reply}
-use Rattle.command_replies.specs.Commands.Show.{show_reply}
-use Rattle.command_replies.specs.Commands.Migrate.{migrate_stored, migrate_reply}
-use Rattle.command_replies.specs.Commands.Asm.{asm_stored, asm_reply}
-use Rattle.command_replies.specs.Commands.Unasm.{unasm_stored, unasm_reply}
-use Rattle.stack_commands.specs.Commands.Need.{need_stored, need_reply}
-use Rattle.stack_commands.specs.Commands.Cert.{cert_reply}
-use Rattle.stack_commands.specs.Commands.Debug.{debug_reply}
-use Rattle.stack_commands.specs.Commands.Turns.{turns_reply}
-use Rattle.stack_commands.specs.Commands.Big.{big_reply}
-use Rattle.command_replies.specs.Commands.Mini.{mini_stored, mini_reply}
+use Rattle.command_replies.specs.{Replies.{ReplyOf}, Commands.Pcheck.{pcheck_reply}, Commands.Prun.{prun_reply}}
+use Rattle.command_replies.specs.{Commands.Run.{image_file_reply}, Commands.Show.{show_reply}, Commands.Migrate.{migrate_stored}}
+use Rattle.command_replies.specs.{Commands.Migrate.{migrate_reply}, Commands.Asm.{asm_stored, asm_reply}, Commands.Unasm.{unasm_stored}}
+use Rattle.command_replies.specs.{Commands.Unasm.{unasm_reply}, Commands.Mini.{mini_stored, mini_reply}}
+use Rattle.stack_commands.specs.{Commands.Check.{check_reply}, Commands.Mean.{mean_reply}, Commands.Pit.{pit_stored, pit_reply}}
+use Rattle.stack_commands.specs.{Commands.Build.{image_stored, build_reply}, Commands.Pbuild.{pbuild_stored, pbuild_reply}}
+use Rattle.stack_commands.specs.{Commands.Go.{go_reply}, Commands.Need.{need_stored, need_reply}, Commands.Cert.{cert_reply}}
+use Rattle.stack_commands.specs.{Commands.Debug.{debug_reply}, Commands.Turns.{turns_reply}, Commands.Big.{big_reply}}
 
 unfoldable pub stored_by : Command → Texts → Option (List ℕ)
 stored_by (Pit source control temporary piton) texts = pit_stored (compiled (text_of role.Source texts) control temporary 0)

@@ -1,18 +1,11 @@
 -- What is left of a command once its file is stored, a session too, as the reply that it leads to.
 use Rattle.std.specs.Prelude.{List, None}
-use Rattle.level_debuggers.specs.Levels.{IsRunner, level_of}
-use Rattle.level_debuggers.specs.Tallies.{Watching}
-use Rattle.command_replies.specs.declared.plan.Plan.{Plan}
-use Rattle.command_replies.specs.declared.reply.Reply.{Reply}
-use Rattle.command_replies.specs.Plans.{pending_reply}
-use Rattle.command_replies.specs.Replies.{ReplyOf}
-use Rattle.stack_commands.specs.declared.script_run.ScriptRun.{ScriptRun}
-use Rattle.stack_commands.specs.declared.work.Ending.{Ending}
+use Rattle.level_debuggers.specs.{Levels.{IsRunner, level_of}, Tallies.{Watching}}
+use Rattle.command_replies.specs.{declared.plan.Plan.{Plan}, declared.reply.Reply.{Reply}, Plans.{pending_reply}, Replies.{ReplyOf}}
+use Rattle.stack_commands.specs.{declared.script_run.ScriptRun.{ScriptRun}, declared.work.Ending.{Ending}, declared.work.Left.{Left}}
+use Rattle.stack_commands.specs.{declared.work.Work.{Work}, Commands.Debug.{lines_reply}}
 use Rattle.stack_commands.specs.declared.work.Ending.TheVariants as ending
-use Rattle.stack_commands.specs.declared.work.Left.{Left}
 use Rattle.stack_commands.specs.declared.work.Left.TheVariants as left
-use Rattle.stack_commands.specs.declared.work.Work.{Work}
-use Rattle.stack_commands.specs.Commands.Debug.{lines_reply}
 
 -- a plan as the work of a command
 abbrev pub work_of : Plan → Work

@@ -2,15 +2,12 @@
 ghost use Rattle.std.specs.Prelude.{◌≡◌, [], None, IfOk, codes};
 ghost use Rattle.stack_heap.specs.Heaps.{IfOkUnless};
 ghost use Rattle.stack_text.specs.SharedLimits.{most_steps};
-ghost use Rattle.gypsy_syntax.specs.GypsyReading.{KeepsForm};
-ghost use Rattle.gypsy_syntax.specs.Views.SourceView.{source_of};
+ghost use Rattle.gypsy_syntax.specs.{GypsyReading.{KeepsForm}, Views.SourceView.{source_of}};
 ghost use Rattle.gypsy_check.specs.Rules.{violations};
 ghost use Rattle.gypsy_gen.specs.Large.{large_of};
 ghost use Rattle.fm_loader.specs.Values.{values_in};
-ghost use Rattle.command_replies.specs.Commands.Run.{values_reply};
+ghost use Rattle.command_replies.specs.{Commands.Run.{values_reply}, Plans.{pending_reply}, Replies.{reply_of}};
 ghost use Rattle.stack_commands.specs.Commands.Big.{after_text, source_line, go_on_source, big_reply};
-ghost use Rattle.command_replies.specs.Plans.{pending_reply};
-ghost use Rattle.command_replies.specs.Replies.{reply_of};
 
 use crate::build::image_of;
 use crate::lines::push_line;

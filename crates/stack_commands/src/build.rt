@@ -3,8 +3,7 @@ ghost use Rattle.std.specs.Prelude.{◌≡◌, ◌≤◌, ◌^◌, Some, IfOk, l
 ghost use Rattle.stack_heap.specs.Heaps.{IfOkUnless};
 ghost use Rattle.stack_build.specs.Build.{built};
 ghost use Rattle.stack_commands.specs.Commands.Build.{image_stored, build_reply};
-ghost use Rattle.command_replies.specs.Plans.{pending_reply};
-ghost use Rattle.command_replies.specs.Replies.{built_reply};
+ghost use Rattle.command_replies.specs.{Plans.{pending_reply}, Replies.{built_reply}};
 
 use crate::source_text::refused;
 use command_line::StackSize;

@@ -4,8 +4,7 @@ ghost use Rattle.stack_heap.specs.Heaps.{IfOkUnless};
 ghost use Rattle.gypsy_syntax.specs.Views.SourceView.{source_of};
 ghost use Rattle.gypsy_space.specs.Needs.{stack_sizes};
 ghost use Rattle.stack_commands.specs.Commands.Cert.{yes_or_no, certificate_reply, cert_reply};
-ghost use Rattle.command_replies.specs.Plans.{pending_reply};
-ghost use Rattle.command_replies.specs.Replies.{all_said};
+ghost use Rattle.command_replies.specs.{Plans.{pending_reply}, Replies.{all_said}};
 
 use crate::source_text::read_accepted;
 use command_line::StackSize;

@@ -3,17 +3,15 @@ ghost use Rattle.std.specs.Prelude.{◌≡◌, ◌≤◌, ◌^◌, List, None, S
 ghost use Rattle.stack_heap.specs.Heaps.{IfOkUnless};
 ghost use Rattle.gypsy_space.specs.Needs.{stack_sizes};
 ghost use Rattle.gypsy_syntax.specs.Views.SourceView.{source_of};
-ghost use Rattle.level_debuggers.specs.Levels.{IsRunner, level_of};
-ghost use Rattle.level_debuggers.specs.Views.Sessions.{session_of};
-ghost use Rattle.level_debuggers.specs.Tallies.{Watching};
+ghost use Rattle.level_debuggers.specs.{Levels.{IsRunner, level_of}, Views.Sessions.{session_of}, Tallies.{Watching}};
 ghost use Rattle.stack_build.specs.Starts.{GivesStartUnless};
 ghost use Rattle.debug_script.specs.Scripts.{fault_of, script_of};
 ghost use Rattle.command_line.specs.declared.role.Role.TheVariants as Role;
 ghost use Rattle.command_line.specs.declared.words.reader.Level.TheVariants as Level;
 ghost use Rattle.command_line.specs.Gathered.{text_of};
 ghost use Rattle.command_replies.specs.Replies.{verdict_alone};
-ghost use Rattle.stack_commands.specs.Commands.Debug.{run_at, run_in, found_run, end_verdict, script_verdict, script_reply, debug_reply};
-ghost use Rattle.stack_commands.specs.Works.{IsLeft, left_reply};
+ghost use Rattle.stack_commands.specs.{Commands.Debug.{run_at, run_in, found_run, end_verdict, script_verdict, script_reply, debug_reply}, Works.{IsLeft}};
+ghost use Rattle.stack_commands.specs.Works.{left_reply};
 
 use crate::script_run::ScriptRun;
 use crate::source_text::{read_accepted, start_verdict};

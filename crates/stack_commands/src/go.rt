@@ -3,10 +3,8 @@ ghost use Rattle.std.specs.Prelude.{◌≡◌, ◌≤◌, ◌^◌, Some, IfOk, l
 ghost use Rattle.stack_heap.specs.Heaps.{IfOkUnless};
 ghost use Rattle.fm_loader.specs.Values.{values_in};
 ghost use Rattle.stack_build.specs.Build.{built};
-ghost use Rattle.stack_commands.specs.Commands.Build.{image_stored};
-ghost use Rattle.stack_commands.specs.Commands.Go.{go_reply};
-ghost use Rattle.command_replies.specs.Commands.Run.{values_reply};
-ghost use Rattle.command_replies.specs.Plans.{pending_reply};
+ghost use Rattle.stack_commands.specs.{Commands.Build.{image_stored}, Commands.Go.{go_reply}};
+ghost use Rattle.command_replies.specs.{Commands.Run.{values_reply}, Plans.{pending_reply}};
 
 use crate::source_text::refused;
 use command_line::StackSize;

@@ -4,11 +4,8 @@
 ghost use Rattle.std.specs.Prelude.{◌≡◌, List, IfOk};
 ghost use Rattle.stack_heap.specs.Heaps.{IfOkUnless};
 ghost use Rattle.level_debuggers.specs.Tallies.{Watching};
-ghost use Rattle.stack_commands.specs.Internal.Planned.{IsPlanned};
-ghost use Rattle.stack_commands.specs.Prepared.{stored_by, reply_by};
-ghost use Rattle.command_replies.specs.Plans.{pending_reply};
-ghost use Rattle.command_replies.specs.Replies.{reply_of};
-ghost use Rattle.stack_commands.specs.Works.{IsEnding, IsLeft, ending_reply, left_reply};
+ghost use Rattle.stack_commands.specs.{Internal.Planned.{IsPlanned}, Prepared.{stored_by, reply_by}, Works.{IsEnding, IsLeft, ending_reply, left_reply}};
+ghost use Rattle.command_replies.specs.{Plans.{pending_reply}, Replies.{reply_of}};
 
 mod big;
 mod build;

@@ -1,7 +1,6 @@
 //! Lines of replies.
-ghost use Rattle.std.specs.Prelude.{◌≡◌, ◌++◌};
+ghost use Rattle.std.specs.{Prelude.{◌≡◌, ◌++◌}, Fmt.{decimal}};
 ghost use Rattle.stack_heap.specs.Heaps.{OnOkUnless};
-ghost use Rattle.std.specs.Fmt.{decimal};
 ghost use Rattle.stack_text.specs.Lines.{line};
 
 use fm_show::push_number;

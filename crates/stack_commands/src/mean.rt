@@ -3,8 +3,7 @@ ghost use Rattle.std.specs.Prelude.{◌≡◌, ◌≤◌, ◌^◌, None, IfOk, l
 ghost use Rattle.stack_heap.specs.Heaps.{IfOkUnless};
 ghost use Rattle.gypsy_syntax.specs.Views.SourceView.{source_of};
 ghost use Rattle.gypsy_space.specs.Needs.{stack_sizes};
-ghost use Rattle.gypsy_meaning.specs.Views.Belongs.{BelongsTo};
-ghost use Rattle.gypsy_meaning.specs.Views.Running.{seen};
+ghost use Rattle.gypsy_meaning.specs.{Views.Belongs.{BelongsTo}, Views.Running.{seen}};
 ghost use Rattle.stack_commands.specs.Commands.Mean.{said_text, ended_text, mean_end_reply, mean_run_reply, mean_source_reply, mean_reply};
 ghost use Rattle.command_replies.specs.Plans.{pending_reply};
 

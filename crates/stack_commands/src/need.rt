@@ -1,14 +1,11 @@
 //! The command `need`.
 ghost use Rattle.std.specs.Prelude.{◌≡◌, ◌≤◌, ◌<◌, ◌^◌, [], Some, None, Err, IfOk, get_or, length, map};
 ghost use Rattle.stack_heap.specs.Heaps.{IfOkUnless};
-ghost use Rattle.gypsy_syntax.specs.Resolved.{procedure_names, program_of};
-ghost use Rattle.gypsy_syntax.specs.Views.SourceView.{proc_of, source_of};
+ghost use Rattle.gypsy_syntax.specs.{Resolved.{procedure_names, program_of}, Views.SourceView.{proc_of, source_of}};
 ghost use Rattle.gypsy_space.specs.Events.{AreNeeds, AreSmall};
-ghost use Rattle.space_cert.specs.CertText.{certificate_text};
-ghost use Rattle.space_cert.specs.Covers.{as_words, sizes_for};
+ghost use Rattle.space_cert.specs.{CertText.{certificate_text}, Covers.{as_words, sizes_for}};
 ghost use Rattle.stack_commands.specs.Commands.Need.{sizes_text, bounds_reply, certified_stored, certified_reply, need_stored, need_reply};
-ghost use Rattle.command_replies.specs.Plans.{pending_reply};
-ghost use Rattle.command_replies.specs.Replies.{all_said};
+ghost use Rattle.command_replies.specs.{Plans.{pending_reply}, Replies.{all_said}};
 
 use crate::lines::push_line;
 use crate::source_text::read_accepted;

@@ -1,12 +1,10 @@
 //! The command `pit`.
 ghost use Rattle.std.specs.Prelude.{◌≡◌, ◌≤◌, ◌^◌, Some, IfOk, length};
 ghost use Rattle.stack_heap.specs.Heaps.{IfOkUnless};
-ghost use Rattle.piton_syntax.specs.PitonReading.{KeepsForm};
-ghost use Rattle.piton_syntax.specs.Printed.{piton_text};
+ghost use Rattle.piton_syntax.specs.{PitonReading.{KeepsForm}, Printed.{piton_text}};
 ghost use Rattle.stack_build.specs.Build.{compiled};
-ghost use Rattle.command_replies.specs.Replies.{written_reply};
+ghost use Rattle.command_replies.specs.{Replies.{written_reply}, Plans.{pending_reply}};
 ghost use Rattle.stack_commands.specs.Commands.Pit.{pit_stored, pit_reply};
-ghost use Rattle.command_replies.specs.Plans.{pending_reply};
 
 use crate::source_text::refused;
 use command_line::{FileName, StackSize};

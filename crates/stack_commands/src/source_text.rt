@@ -1,10 +1,8 @@
 //! Texts of sources, read and judged.
 ghost use Rattle.std.specs.Prelude.{◌≡◌, ◌≤◌, ◌^◌, Some, None, IfOk, OnErr, length};
 ghost use Rattle.stack_heap.specs.Heaps.{IfOkUnless};
-ghost use Rattle.stack_build.specs.Build.{fault_of};
-ghost use Rattle.stack_build.specs.Starts.{start_fault_of};
-ghost use Rattle.command_replies.specs.Plans.{pending_reply};
-ghost use Rattle.command_replies.specs.Replies.{verdict_alone};
+ghost use Rattle.stack_build.specs.{Build.{fault_of}, Starts.{start_fault_of}};
+ghost use Rattle.command_replies.specs.{Plans.{pending_reply}, Replies.{verdict_alone}};
 ghost use Rattle.stack_commands.specs.Commands.SourceText.{build_verdict, start_verdict, accepted_in, found_source};
 
 use command_replies::{Plan, RuleLetter, SizeOf, Verdict, text_rule_number};

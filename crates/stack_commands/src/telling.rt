@@ -1,15 +1,10 @@
 //! Prints what a session says to a script, while it follows it.
 ghost use Rattle.std.specs.Prelude.{◌≡◌, ◌≤◌, ◌⊎◌, [], IfOk, OnOk, OnErr, IsErrOf, map};
-ghost use Rattle.stack_shelf.specs.Causes.{Rose};
-ghost use Rattle.stack_shelf.specs.Shelf.{appended, PrefixAppended};
+ghost use Rattle.stack_shelf.specs.{Causes.{Rose}, Shelf.{appended, PrefixAppended}};
 ghost use Rattle.command_line.specs.Devices.{lines_of, took_each};
-ghost use Rattle.level_debuggers.specs.Levels.{IsRunner};
-ghost use Rattle.level_debuggers.specs.Views.Sessions.{IsSession, session_of};
-ghost use Rattle.level_debuggers.specs.Transcripts.{followed};
-ghost use Rattle.stack_commands.specs.Commands.Debug.{end_verdict, followed_reply};
-ghost use Rattle.stack_commands.specs.Works.{script_run_reply};
+ghost use Rattle.level_debuggers.specs.{Levels.{IsRunner}, Views.Sessions.{IsSession, session_of}, Transcripts.{followed}};
+ghost use Rattle.stack_commands.specs.{Commands.Debug.{end_verdict, followed_reply}, Works.{script_run_reply}, Internal.Transcript.{AllPrinted}};
 ghost use Rattle.command_replies.specs.Replies.{reply_text, status_of, verdict_line};
-ghost use Rattle.stack_commands.specs.Internal.Transcript.{AllPrinted};
 
 use crate::debug::end_verdict;
 use crate::script_run::ScriptRun;

@@ -2,10 +2,8 @@
 ghost use Rattle.std.specs.Prelude.{◌≡◌, ◌≤◌, ◌^◌, All, None, IfOk, length, map};
 ghost use Rattle.stack_heap.specs.Heaps.{IfOkUnless};
 ghost use Rattle.gypsy_space.specs.Needs.{stack_sizes};
-ghost use Rattle.command_line.specs.declared.role.Role.TheVariants.{TaskSource, TaskValues};
-ghost use Rattle.command_line.specs.Gathered.{texts_of};
-ghost use Rattle.command_replies.specs.Plans.{pending_reply};
-ghost use Rattle.command_replies.specs.Replies.{reply_of};
+ghost use Rattle.command_line.specs.{declared.role.Role.TheVariants.{TaskSource, TaskValues}, Gathered.{texts_of}};
+ghost use Rattle.command_replies.specs.{Plans.{pending_reply}, Replies.{reply_of}};
 ghost use Rattle.stack_commands.specs.Commands.Turns.{turns_reply, fault_reply};
 ghost use Rattle.stack_commands.specs.declared.turns.tasks.TasksFault.TheVariants as TasksFault;
 

@@ -1,7 +1,5 @@
 -- Why memory runs out, and what a call did where it did not.
-use Rattle.std.specs.Prelude.{ℕ, ◌+◌, ◌*◌, ◌^◌, ◌≤◌, Result, Ok, Err}
-use Rattle.std.specs.Mem.{type_size}
-use Rattle.std.specs.Borrow.{RattleType}
+use Rattle.std.specs.{Prelude.{ℕ, ◌+◌, ◌*◌, ◌^◌, ◌≤◌, Result, Ok, Err}, Mem.{type_size}, Borrow.{RattleType}}
 
 -- an item takes memory, but no more than a kilobyte
 abbrev pub IsSmallItem : RattleType → Type 0

@@ -1,6 +1,7 @@
 //! What takes memory.
 
-ghost use Rattle.std.specs.Prelude.{◌≡◌, ℕ, ◌+◌, ◌-◌, ◌≤◌, ◌∷◌, [], ◌++◌, length, replicate, take, vec_capacity, vec_len, string_bytes, IfOk, OnOk, OnErr, is_ok, if◌then◌else◌};
+ghost use Rattle.std.specs.Prelude.{◌≡◌, ℕ, ◌+◌, ◌-◌, ◌≤◌, ◌∷◌, [], ◌++◌, length, replicate, take, vec_capacity, vec_len, string_bytes, IfOk, OnOk, OnErr};
+ghost use Rattle.std.specs.Prelude.{is_ok, if◌then◌else◌};
 ghost use Rattle.stack_heap.specs.Heaps.{IfOkUnless, IsModest, IsSmallItem, RefusesWithin, room_after};
 
 use crate::has_room::HasRoom;

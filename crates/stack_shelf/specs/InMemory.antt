@@ -1,15 +1,10 @@
 -- What a shelf and a sink in memory are.
-use Rattle.std.specs.Prelude.{ℕ, List, ◌++◌, take, Option, unwrap_or, Result, Ok, Err, String, ◌==◌, map, find}
-use Rattle.std.specs.Option.{option_map}
-use Rattle.std.specs.Global.{Vec, Global}
-use Rattle.std.specs.String.{string_bytes}
-use Rattle.stack_shelf.specs.Causes.{Counts, saturating_increment}
-use Rattle.stack_shelf.specs.Files.{Files, put_file}
-use Rattle.stack_shelf.specs.declared.fault.FetchFault.{FetchFault}
+use Rattle.std.specs.{Prelude.{ℕ, List, ◌++◌, take, Option, unwrap_or, Result, Ok, Err, String, ◌==◌, map, find}, Option.{option_map}}
+use Rattle.std.specs.{Global.{Vec, Global}, String.{string_bytes}}
+use Rattle.stack_shelf.specs.{Causes.{Counts, saturating_increment}, Files.{Files, put_file}, declared.fault.FetchFault.{FetchFault}}
+use Rattle.stack_shelf.specs.{declared.fault.StoreFault.{StoreFault}, declared.fault.PutFault.{PutFault}}
 use Rattle.stack_shelf.specs.declared.fault.FetchFault.TheVariants as fetching
-use Rattle.stack_shelf.specs.declared.fault.StoreFault.{StoreFault}
 use Rattle.stack_shelf.specs.declared.fault.StoreFault.TheVariants as storing
-use Rattle.stack_shelf.specs.declared.fault.PutFault.{PutFault}
 use Rattle.stack_shelf.specs.declared.fault.PutFault.TheVariants as putting
 
 -- a shelf in memory: its files, which calls are to fail and how many bytes they keep, the calls so far, and its counts

@@ -1,8 +1,7 @@
 -- What the calls of a shelf and of a sink return and leave.
 use Rattle.std.specs.Prelude.{◌≡◌, ◌⊎◌, ℕ, List, ◌++◌, length, take, Option, Some, None, Result, Ok, Err, nat_lt, if◌then◌else◌}
 use Rattle.std.specs.Option.{option_map}
-use Rattle.stack_shelf.specs.Files.{Files, file_at, put_file, remove_file}
-use Rattle.stack_shelf.specs.declared.fault.FetchFault.{FetchFault}
+use Rattle.stack_shelf.specs.{Files.{Files, file_at, put_file, remove_file}, declared.fault.FetchFault.{FetchFault}}
 use Rattle.stack_shelf.specs.declared.fault.FetchFault.TheVariants as fault
 
 -- why a fetch has no bytes to give where nothing fails: there is no such file, or it is over the limit

@@ -1,11 +1,9 @@
 -- What is read from a stream and written to one.
-use Rattle.std.specs.Prelude.{◌≡◌, ◌≤◌, ◌<◌, ℕ, Bool, true, false, List, length, Option, IfSome, Result, Ok, Err}
-use Rattle.std.specs.Global.{Vec}
-use Rattle.std.specs.declared.io.ErrorKind.{ErrorKind}
-use Rattle.std.specs.declared.io.ErrorKind.TheVariants.{NotFound, PermissionDenied, ReadOnlyFilesystem, InvalidFilename}
-use Rattle.std.specs.declared.io.ErrorKind.TheVariants.{ResourceBusy, Unsupported}
-use Rattle.stack_shelf.specs.declared.fault.FetchFault.{FetchFault}
-use Rattle.stack_shelf.specs.declared.fault.FetchFault.TheVariants.{Missing, TooLong, Failed, Memory}
+use Rattle.std.specs.{Prelude.{◌≡◌, ◌≤◌, ◌<◌, ℕ, Bool, true, false, List, length, Option, IfSome, Result, Ok, Err}, Global.{Vec}}
+use Rattle.std.specs.{declared.io.ErrorKind.{ErrorKind}, declared.io.ErrorKind.TheVariants.{NotFound, PermissionDenied, ReadOnlyFilesystem}}
+use Rattle.std.specs.declared.io.ErrorKind.TheVariants.{InvalidFilename, ResourceBusy, Unsupported}
+use Rattle.stack_shelf.specs.{declared.fault.FetchFault.{FetchFault}, declared.fault.FetchFault.TheVariants.{Missing, TooLong, Failed}}
+use Rattle.stack_shelf.specs.declared.fault.FetchFault.TheVariants.{Memory}
 
 -- why a file that could not be opened has no bytes, by the kind of the error
 abbrev pub opening_fault : ErrorKind → FetchFault

@@ -1,11 +1,9 @@
 -- What the shelf over a folder and the sink over standard output keep: their counts, and nothing of the content.
 use Rattle.std.specs.Prelude.{ℕ, Result, Ok, Err}
-use Rattle.stack_shelf.specs.Causes.{Counts, saturating_increment}
-use Rattle.stack_shelf.specs.declared.fault.FetchFault.{FetchFault}
+use Rattle.stack_shelf.specs.{Causes.{Counts, saturating_increment}, declared.fault.FetchFault.{FetchFault}}
+use Rattle.stack_shelf.specs.{declared.fault.StoreFault.{StoreFault}, declared.fault.PutFault.{PutFault}}
 use Rattle.stack_shelf.specs.declared.fault.FetchFault.TheVariants as fetching
-use Rattle.stack_shelf.specs.declared.fault.StoreFault.{StoreFault}
 use Rattle.stack_shelf.specs.declared.fault.StoreFault.TheVariants as storing
-use Rattle.stack_shelf.specs.declared.fault.PutFault.{PutFault}
 use Rattle.stack_shelf.specs.declared.fault.PutFault.TheVariants as putting
 
 -- a shelf over a folder: one count of each kind, for all names together

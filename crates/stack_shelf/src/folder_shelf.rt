@@ -1,7 +1,6 @@
 //! A shelf over the files of a folder.
 ghost use Rattle.std.specs.Prelude.{◌≡◌, ◌≤◌, length, IfOk};
-ghost use Rattle.stack_shelf.specs.Causes.{NoneFell};
-ghost use Rattle.stack_shelf.specs.System.{for_each_name, folder_after_fetch, folder_after_store};
+ghost use Rattle.stack_shelf.specs.{Causes.{NoneFell}, System.{for_each_name, folder_after_fetch, folder_after_store}};
 
 use crate::replacing::store_at;
 use crate::streams::fetch_from;

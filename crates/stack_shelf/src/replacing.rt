@@ -1,6 +1,5 @@
 //! Bytes that are put under a path of the system. Where that can be, the old file gives way to a new one that is whole.
-ghost use Rattle.std.specs.Prelude.{◌≡◌, OnOk};
-ghost use Rattle.std.specs.Io.KnownBytes.{Appends};
+ghost use Rattle.std.specs.{Prelude.{◌≡◌, OnOk}, Io.KnownBytes.{Appends}};
 ghost use Rattle.stack_shelf.specs.Streams.{is_refusal};
 
 use crate::StoreFault;

@@ -1,8 +1,6 @@
 //! What a shelf or a sink over the system does with the streams that the system gives: which fault an error is, and that
 //! all bytes are read or written. Reads and writes that were interrupted are tried again.
-ghost use Rattle.std.specs.Prelude.{◌≡◌, ◌<◌, ℕ, take, IfOk, IfErr, OnOk, OnErr, IsErrOf};
-ghost use Rattle.std.specs.Io.KnownBytes.{Appends};
-ghost use Rattle.std.specs.IoError.{error_kind};
+ghost use Rattle.std.specs.{Prelude.{◌≡◌, ◌<◌, ℕ, take, IfOk, IfErr, OnOk, OnErr, IsErrOf}, Io.KnownBytes.{Appends}, IoError.{error_kind}};
 ghost use Rattle.stack_shelf.specs.Streams.{opening_fault, ReadsWithin, WithWriter, WithWriterIfAny};
 
 use crate::{FetchFault, PutFault, StoreFault};

@@ -1,21 +1,12 @@
 -- Names and numerals are runs of atom bytes, so that they may be atoms; and a number's decimal digits are a numeral of it.
 use Rattle.std.proofs.Common.{◌≡◌, ◌≢◌, ℕ, zero, suc, ◌<◌, ◌≤◌, ◌^◌, Bool, true, false, not, ◌&&◌, ◌||◌, cond, eqb, leb, ltb, List, [], ◌∷◌, length, Some, refl}
-use Rattle.std.proofs.Common.{ap, subst, ◌∙◌, arith}
-use Rattle.std.specs.Prelude.{ℤ, pos, negsuc, neg_ℤ}
-use Rattle.std.specs.List.{list_all}
-use Rattle.std.specs.Char.{is_ascii_digit, is_ascii_alphanumeric}
-use Rattle.std.specs.Fmt.{decimal, signed_decimal}
-use Rattle.std.specs.Str.{IsAscii}
-use Rattle.std.specs.Str.Parse.{AllDigits, IsNumeral, digits_value, starts_with_minus}
-use Rattle.std.proofs.lemmas.Bool.{and_parts, leb-true, ltb-true, lt-ltb, le-leb, eqb-true, ne_eqb}
-use Rattle.std.proofs.lemmas.Fmt.{decimal_is_IsNumeral_wide}
-use Rattle.std.proofs.lemmas.Str.Parse.{digit_from_value}
-use Rattle.stack_text.specs.declared.class.Class.{Class}
-use Rattle.stack_text.specs.declared.class.Class.TheVariants.{AtomByte}
-use Rattle.stack_text.specs.Names.{is_name, is_name_byte, is_mark, begins_with_letter, is_truth_word}
-use Rattle.stack_text.specs.Numerals.{is_digits, is_numeral, numeral_value, numeral_of, fits_128_bits}
-use Rattle.stack_text.specs.Tokens.{class_of, if_atom_byte, atom_run}
-use Rattle.stack_text.proofs.NumeralLaws.{digit_in_range, no_plus}
+use Rattle.std.{proofs.Common.{ap, subst, ◌∙◌, arith}, specs.Prelude.{ℤ, pos, negsuc, neg_ℤ}, specs.List.list_all, specs.Char.is_ascii_digit}
+use Rattle.std.{specs.Char.is_ascii_alphanumeric, specs.Fmt.{decimal, signed_decimal}, specs.Str.IsAscii, specs.Str.Parse.{AllDigits, IsNumeral, digits_value}}
+use Rattle.std.{specs.Str.Parse.starts_with_minus, proofs.lemmas.Bool.{and_parts, leb-true, ltb-true, lt-ltb, le-leb, eqb-true, ne_eqb}}
+use Rattle.std.{proofs.lemmas.Fmt.decimal_is_IsNumeral_wide, proofs.lemmas.Str.Parse.digit_from_value}
+use Rattle.stack_text.{specs.declared.class.Class.Class, specs.declared.class.Class.TheVariants.AtomByte, specs.Names.{is_name, is_name_byte, is_mark}}
+use Rattle.stack_text.{specs.Names.{begins_with_letter, is_truth_word}, specs.Numerals.{is_digits, is_numeral, numeral_value, numeral_of, fits_128_bits}}
+use Rattle.stack_text.{specs.Tokens.{class_of, if_atom_byte, atom_run}, proofs.NumeralLaws.{digit_in_range, no_plus}}
 
 -- ---- bytes
 

@@ -1,10 +1,7 @@
 -- The least of breaches, part by part.
 use Rattle.std.proofs.Common.{◌≡◌, ℕ, ◌+◌, ◌<◌, List, [], ◌∷◌, ◌++◌, length, get_or, take, Option, Some, None, refl, sym, ap, ◌∙◌, append_assoc, arith}
-use Rattle.std.specs.List.{flat_map}
-use Rattle.std.proofs.lemmas.Bool.Decides.{nat_tests}
-use Rattle.std.proofs.lemmas.List.{append-nil, take_more}
-use Rattle.stack_text.specs.declared.breach.Breach.{Breach}
-use Rattle.stack_text.specs.Breaches.{lesser, lesser_of, least, Notes}
+use Rattle.std.{specs.List.flat_map, proofs.lemmas.Bool.Decides.nat_tests, proofs.lemmas.List.{append-nil, take_more}}
+use Rattle.stack_text.{specs.declared.breach.Breach.Breach, specs.Breaches.{lesser, lesser_of, least, Notes}}
 
 lesser-assoc : (b c d : Breach) → lesser (lesser b c) d ≡ lesser b (lesser c d)
 lesser-assoc b c d = grind (arith, nat_tests)

@@ -1,11 +1,8 @@
 -- A comment up to the first line end.
 use Rattle.std.proofs.Common.{◌≡◌, ◌≢◌, ℕ, suc, zero, ◌+◌, ◌<◌, ◌≤◌, Bool, true, false, cond, eqb, leb, ◌||◌, ◌&&◌, List, length, get_or, drop, take, ◌-◌, refl}
-use Rattle.std.proofs.Common.{sym, ap, ◌∙◌, arith}
-use Rattle.std.proofs.lemmas.List.{take_all, length-drop, get_or-drop}
-use Rattle.std.proofs.lemmas.Bool.{false_from_ne_true}
-use Rattle.stack_text.specs.declared.class.Class.TheVariants.{LineEnd, Space, Semicolon, Opening, Closing, AtomByte, Invalid}
-use Rattle.stack_text.specs.Tokens.{class_of, tokens, between, in_comment}
-use Rattle.stack_text.proofs.TokenLaws.{comment_goes_on, comment_ends, tokens_past}
+use Rattle.std.{proofs.Common.{sym, ap, ◌∙◌, arith}, proofs.lemmas.List.{take_all, length-drop, get_or-drop}, proofs.lemmas.Bool.false_from_ne_true}
+use Rattle.stack_text.{specs.declared.class.Class.TheVariants.{LineEnd, Space, Semicolon, Opening, Closing, AtomByte, Invalid}, specs.Tokens.{class_of, tokens}}
+use Rattle.stack_text.{specs.Tokens.{between, in_comment}, proofs.TokenLaws.{comment_goes_on, comment_ends, tokens_past}}
 
 others : (a b c d e : Bool) → cond a Space (cond b Semicolon (cond c Opening (cond d Closing (cond e AtomByte Invalid)))) ≢ LineEnd
 others true b c d e h = cc

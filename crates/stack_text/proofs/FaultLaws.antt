@@ -1,10 +1,9 @@
 -- A text is a tree's exactly where it has no fault.
 use Rattle.std.proofs.Common.{◌≡◌, ◌↔◌, ℕ, ltb, List, [], ◌∷◌, ◌++◌, map, length, None, refl, sym, ap, ◌∙◌, append_assoc}
-use Rattle.stack_text.specs.Tokens.{Token, opens_at, closes_at, atom_at, invalid_at, between, tokens}
-use Rattle.stack_text.specs.Trees.{Node, Nodes, atom, list, none, more, tokens_of, tokens_of_all, as_kept, TreeOf}
-use Rattle.stack_text.specs.TextFaults.{Context, before, within, after, open_lists, after_tree, first_fault, text_fault}
-use Rattle.stack_text.specs.declared.text_fault.TextRule.TheVariants.{G4}
-use Rattle.stack_text.proofs.TreeLaws.{guarded, tree_has_no_fault, tree_from_no_fault}
+use Rattle.stack_text.{specs.Tokens.{Token, opens_at, closes_at, atom_at, invalid_at, between, tokens}, specs.Trees.{Node, Nodes, atom, list, none, more}}
+use Rattle.stack_text.{specs.Trees.{tokens_of, tokens_of_all, as_kept, TreeOf}, specs.TextFaults.{Context, before, within, after, open_lists, after_tree}}
+use Rattle.stack_text.{specs.TextFaults.{first_fault, text_fault}, specs.declared.text_fault.TextRule.TheVariants.G4, proofs.TreeLaws.guarded}
+use Rattle.stack_text.proofs.TreeLaws.{tree_has_no_fault, tree_from_no_fault}
 
 -- the tokens close all open lists, with whole trees before each `)`, and nothing follows
 abbrev Closes : Context → List Token → Type 0

@@ -1,13 +1,8 @@
 -- What a grammar gives fits in plain words: each item of a list, as many as there are trees, names; and places don't count.
-use Rattle.std.proofs.Common.{◌≡◌, ℕ, ◌<◌, List, [], ◌∷◌, length, map, All, refl, arith}
-use Rattle.std.proofs.lemmas.List.Elements.{All-nil, All-cons, All-head, All-tail}
-use Rattle.stack_text.specs.declared.name.Named.{Named}
-use Rattle.stack_text.specs.Names.{is_name}
-use Rattle.stack_text.specs.Trees.{Node, Nodes, atom, list, none, more, depth}
-use Rattle.stack_text.specs.Grammar.Judged.{Judged, front, each_of}
-use Rattle.stack_text.specs.Grammar.Parts.{IsNamed, count_of, list_length, list_or, name_or}
-use Rattle.stack_text.specs.Grammar.Printed.{unplaced_name}
-use Rattle.stack_text.proofs.KeepsLaws.{Holds, holds_judged, holds_two, holds_more}
+use Rattle.std.{proofs.Common.{◌≡◌, ℕ, ◌<◌, List, [], ◌∷◌, length, map, All, refl, arith}, proofs.lemmas.List.Elements.{All-nil, All-cons, All-head, All-tail}}
+use Rattle.stack_text.{specs.declared.name.Named.Named, specs.Names.is_name, specs.Trees.{Node, Nodes, atom, list, none, more, depth}}
+use Rattle.stack_text.{specs.Grammar.Judged.{Judged, front, each_of}, specs.Grammar.Parts.{IsNamed, count_of, list_length, list_or, name_or}}
+use Rattle.stack_text.{specs.Grammar.Printed.unplaced_name, proofs.KeepsLaws.{Holds, holds_judged, holds_two, holds_more}}
 
 -- ---- lists
 

@@ -1,19 +1,11 @@
 -- What lists ask of the heap while a text is read.
-use Rattle.std.proofs.Common.{◌≡◌, ℕ, suc, ◌+◌, ◌≤◌, List, [], ◌∷◌, ◌++◌, map, length}
-use Rattle.std.proofs.Common.{arith, ap, ◌∙◌, sym, take, slice_index_or, Option, Result, Ok, Err, IfErr}
-use Rattle.std.proofs.lemmas.List.{length-append, take_all, length-map}
-use Rattle.std.proofs.Math.Seq.{take-suc}
+use Rattle.std.proofs.Common.{◌≡◌, ℕ, suc, ◌+◌, ◌≤◌, List, [], ◌∷◌, ◌++◌, map, length, arith, ap, ◌∙◌, sym, take, slice_index_or, Option, Result, Ok, Err}
+use Rattle.std.{proofs.Common.IfErr, proofs.lemmas.List.{length-append, take_all, length-map}, proofs.Math.Seq.take-suc}
 use Rattle.stack_heap.specs.Heaps.{RefusesWithin, room_after}
-use Rattle.stack_text.specs.Tokens.{Token, opens_at, between, tokens}
-use Rattle.stack_text.specs.Trees.{Node, atom, list, tokens_of, tokens_of_all, as_kept}
-use Rattle.stack_text.specs.Views.TreeView.{node_of, nodes_of, nodes}
-use Rattle.stack_text.specs.Internal.OpenLists.{opened}
-use Rattle.stack_text.specs.declared.reader.OpenList.{OpenList}
-use Rattle.stack_text.specs.declared.text_fault.TextFault.{TextFault}
-use Rattle.stack_text.specs.declared.text_fault.TextFault.TheVariants.{Memory}
-use Rattle.stack_text.specs.declared.tree.TextTree.{TextTree}
-use Rattle.stack_text.proofs.OpenListLaws.{opened-push}
-use Rattle.stack_text.proofs.ReadLaws.{few_tokens}
+use Rattle.stack_text.{specs.Tokens.{Token, opens_at, between, tokens}, specs.Trees.{Node, atom, list, tokens_of, tokens_of_all, as_kept}}
+use Rattle.stack_text.{specs.Views.TreeView.{node_of, nodes_of, nodes}, specs.Internal.OpenLists.opened, specs.declared.reader.OpenList.OpenList}
+use Rattle.stack_text.{specs.declared.text_fault.TextFault.TextFault, specs.declared.text_fault.TextFault.TheVariants.Memory}
+use Rattle.stack_text.{specs.declared.tree.TextTree.TextTree, proofs.OpenListLaws.opened-push, proofs.ReadLaws.few_tokens}
 
 pub refuses_less : (refuses : ℕ → Type 0) (m n : ℕ) → m ≤ n → RefusesWithin refuses (room_after m) → RefusesWithin refuses (room_after n)
 refuses_less refuses m n le h = let small = h.1 in (h.0, omega (arith, le, small), h.2)

@@ -1,9 +1,6 @@
 -- Where places go up, the first fault in reading order is the least.
-use Rattle.std.proofs.Common.{◌≡◌, ℕ, ◌+◌, ◌<◌, ◌≤◌, List, [], ◌∷◌, ◌++◌, Ok, Err, refl, ap, ◌∙◌, arith}
-use Rattle.std.proofs.lemmas.Bool.{le-ltb, ne_eqb}
-use Rattle.stack_text.specs.declared.breach.Breach.{Breach}
-use Rattle.stack_text.specs.Breaches.{lesser, least_of}
-use Rattle.stack_text.specs.Grammar.Judged.{Judged, ◌⊛◌}
+use Rattle.std.{proofs.Common.{◌≡◌, ℕ, ◌+◌, ◌<◌, ◌≤◌, List, [], ◌∷◌, ◌++◌, Ok, Err, refl, ap, ◌∙◌, arith}, proofs.lemmas.Bool.{le-ltb, ne_eqb}}
+use Rattle.stack_text.{specs.declared.breach.Breach.Breach, specs.Breaches.{lesser, least_of}, specs.Grammar.Judged.{Judged, ◌⊛◌}}
 
 -- the places go up from low on, and are below high
 abbrev pub Rises : ℕ → List Breach → ℕ → Type 0

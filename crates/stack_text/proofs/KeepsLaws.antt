@@ -1,17 +1,10 @@
 -- What is read keeps the form: its tree has the form of the tree that was read, and is the same value but for places.
 use Rattle.std.proofs.Common.{◌≡◌, ℕ, suc, ◌+◌, ◌<◌, ◌≤◌, ◌^◌, max, Bool, true, false, cond, List, [], ◌∷◌, length, map, Option, Some, Ok, Err, refl, sym, ap}
-use Rattle.std.proofs.Common.{subst, ◌∙◌, arith}
-use Rattle.std.specs.List.{find, list_all}
-use Rattle.stack_text.specs.declared.name.Named.{Named}
-use Rattle.stack_text.specs.Names.{is_name}
-use Rattle.stack_text.specs.Tokens.{atom_run}
-use Rattle.stack_text.specs.Trees.{Node, Nodes, atom, list, none, more, depth, depths, node_count, node_counts, AtomsAreRuns, AllAtomsAreRuns, IsWellFormed}
-use Rattle.stack_text.specs.Views.TreeView.{nodes}
-use Rattle.std.proofs.lemmas.Bool.{and_parts}
-use Rattle.stack_text.proofs.AtomLaws.{name_is_run}
-use Rattle.stack_text.specs.Grammar.Judged.{Judged, judged, ◌⊛◌, front, each_of}
-use Rattle.stack_text.specs.Grammar.Parts.{count_of, list_length, list_or, name_or}
-use Rattle.stack_text.specs.Grammar.Printed.{list_tree, name_tree, unplaced_name}
+use Rattle.std.{proofs.Common.{subst, ◌∙◌, arith}, specs.List.{find, list_all}, proofs.lemmas.Bool.and_parts}
+use Rattle.stack_text.{specs.declared.name.Named.Named, specs.Names.is_name, specs.Tokens.atom_run, specs.Trees.{Node, Nodes, atom, list, none, more, depth}}
+use Rattle.stack_text.{specs.Trees.{depths, node_count, node_counts, AtomsAreRuns, AllAtomsAreRuns, IsWellFormed}, specs.Views.TreeView.nodes}
+use Rattle.stack_text.{proofs.AtomLaws.name_is_run, specs.Grammar.Judged.{Judged, judged, ◌⊛◌, front, each_of}, specs.Grammar.Parts.{count_of, list_length}}
+use Rattle.stack_text.{specs.Grammar.Parts.{list_or, name_or}, specs.Grammar.Printed.{list_tree, name_tree, unplaced_name}}
 
 -- ---- trees of one shape
 

@@ -1,6 +1,5 @@
 -- Loops over a list, of which some items were taken and the others are left.
-use Rattle.std.proofs.Common.{◌≡◌, ◌<◌, ◌+◌, ℕ, List, ◌∷◌, ◌++◌, length, drop, get_or, sym, ap, ◌∙◌, append_assoc}
-use Rattle.std.specs.List.{flat_map}
+use Rattle.std.{proofs.Common.{◌≡◌, ◌<◌, ◌+◌, ℕ, List, ◌∷◌, ◌++◌, length, drop, get_or, sym, ap, ◌∙◌, append_assoc}, specs.List.flat_map}
 use Rattle.std.proofs.lemmas.List.{drop_more}
 
 -- what is left begins with the item at hand

@@ -1,15 +1,9 @@
 -- What fits a grammar keeps its form: the tree of a part is judged to be that part but for places, its atoms are runs, and it is
 -- shallow.
-use Rattle.std.proofs.Common.{◌≡◌, ℕ, ◌≤◌, List, [], ◌∷◌, length, map, Ok, All, refl, arith}
-use Rattle.std.proofs.lemmas.List.Elements.{All-head, All-tail}
-use Rattle.stack_text.specs.declared.name.Named.{Named}
-use Rattle.stack_text.specs.Trees.{Node, depth, depths, AtomsAreRuns, AllAtomsAreRuns}
-use Rattle.stack_text.specs.Views.TreeView.{nodes}
-use Rattle.stack_text.specs.Grammar.Judged.{Judged, front, each_of}
-use Rattle.stack_text.specs.Grammar.Parts.{IsNamed, count_of, name_or}
-use Rattle.stack_text.specs.Grammar.Printed.{name_tree, unplaced_name}
-use Rattle.stack_text.proofs.AtomLaws.{name_is_run}
-use Rattle.stack_text.proofs.KeepsLaws.{named_again, ok_two}
+use Rattle.std.{proofs.Common.{◌≡◌, ℕ, ◌≤◌, List, [], ◌∷◌, length, map, Ok, All, refl, arith}, proofs.lemmas.List.Elements.{All-head, All-tail}}
+use Rattle.stack_text.{specs.declared.name.Named.Named, specs.Trees.{Node, depth, depths, AtomsAreRuns, AllAtomsAreRuns}, specs.Views.TreeView.nodes}
+use Rattle.stack_text.{specs.Grammar.Judged.{Judged, front, each_of}, specs.Grammar.Parts.{IsNamed, count_of, name_or}, specs.Grammar.Printed.name_tree}
+use Rattle.stack_text.{specs.Grammar.Printed.unplaced_name, proofs.AtomLaws.name_is_run, proofs.KeepsLaws.{named_again, ok_two}}
 
 -- the tree of a part is that part but for places, its atoms are runs, and at most n of its lists nest
 pub record Made {X : Type 0} (judge : Node → Judged X) (tree : X → Node) (view : X → X) (n : ℕ) (x : X) : Type 0 where

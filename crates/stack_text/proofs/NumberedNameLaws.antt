@@ -1,14 +1,8 @@
 -- A letter and a number: a name, and one that differs from those of other numbers.
 use Rattle.std.proofs.Common.{◌≡◌, ◌≢◌, ℕ, suc, ◌<◌, ◌≤◌, ◌^◌, List, [], ◌∷◌, length, drop, bytes_eq, Bool, true, false, refl, ap, sym, ◌∙◌, arith}
-use Rattle.std.specs.Prelude.{IsTrue, ◌||◌}
-use Rattle.std.specs.Char.{is_ascii_alphabetic, is_ascii_digit, is_ascii_uppercase, is_ascii_lowercase}
-use Rattle.std.specs.List.{list_all}
-use Rattle.std.specs.Fmt.{decimal}
-use Rattle.std.specs.Str.Parse.{AllDigits, digits_value}
-use Rattle.std.proofs.lemmas.Bool.{le-leb}
-use Rattle.std.proofs.lemmas.Fmt.{decimal_is_IsNumeral_wide, length-decimal-le}
-use Rattle.std.proofs.lemmas.Str.Parse.{digit_from_value}
-use Rattle.std.proofs.lemmas.Slice.Eq.{bytes_eq-Decides}
+use Rattle.std.{specs.Prelude.{IsTrue, ◌||◌}, specs.Char.{is_ascii_alphabetic, is_ascii_digit, is_ascii_uppercase, is_ascii_lowercase}, specs.List.list_all}
+use Rattle.std.{specs.Fmt.decimal, specs.Str.Parse.{AllDigits, digits_value}, proofs.lemmas.Bool.le-leb, proofs.lemmas.Fmt.decimal_is_IsNumeral_wide}
+use Rattle.std.{proofs.lemmas.Fmt.length-decimal-le, proofs.lemmas.Str.Parse.digit_from_value, proofs.lemmas.Slice.Eq.bytes_eq-Decides}
 use Rattle.stack_text.specs.Names.{is_name, is_name_byte, is_mark, is_truth_word}
 
 digits_pass : (ds : List ℕ) → AllDigits 10 ds → list_all is_name_byte ds ≡ true

@@ -1,15 +1,8 @@
 -- A numeral's bytes, as std's `parse` speaks of them.
 use Rattle.std.proofs.Common.{◌≡◌, ℕ, zero, suc, ◌^◌, Bool, true, false, cond, leb, ltb, List, [], ◌∷◌, length, drop, Result, Ok, Err, refl, sym, ap, subst}
-use Rattle.std.proofs.Common.{arith}
-use Rattle.std.specs.Prelude.{ℤ, pos, negsuc, FitsSigned}
-use Rattle.std.specs.List.{list_all}
-use Rattle.std.specs.Char.{is_ascii_digit}
-use Rattle.std.specs.Int.{IsInRange, w128}
-use Rattle.std.specs.Str.{IsAscii}
-use Rattle.std.specs.Option.{SomeIff}
-use Rattle.std.specs.Result.{OkIff, result_ok}
-use Rattle.std.specs.Str.Parse.{AllDigits, IsNumeral, starts_with_minus, without_leading_sign, without_leading_plus}
-use Rattle.std.proofs.lemmas.Bool.{and_parts, leb-true, ltb-true, lt-ltb, eqb-true, ne_eqb}
+use Rattle.std.{proofs.Common.arith, specs.Prelude.{ℤ, pos, negsuc, FitsSigned}, specs.List.list_all, specs.Char.is_ascii_digit, specs.Int.{IsInRange, w128}}
+use Rattle.std.{specs.Str.IsAscii, specs.Option.SomeIff, specs.Result.{OkIff, result_ok}, specs.Str.Parse.{AllDigits, IsNumeral, starts_with_minus}}
+use Rattle.std.{specs.Str.Parse.{without_leading_sign, without_leading_plus}, proofs.lemmas.Bool.{and_parts, leb-true, ltb-true, lt-ltb, eqb-true, ne_eqb}}
 use Rattle.std.proofs.lemmas.Str.{digit_value_digit}
 use Rattle.stack_text.specs.Numerals.{is_digits, is_numeral, numeral_value, fits_128_bits}
 

@@ -1,12 +1,9 @@
 -- The decimal digits of a number are a numeral of it, and without a sign where the number was read from digits alone.
-use Rattle.std.proofs.Common.{◌≡◌, ℕ, ◌^◌, Bool, true, false, ◌&&◌, cond, List, Some, None, refl, sym, subst, arith}
-use Rattle.std.specs.Prelude.{ℤ, pos, negsuc}
-use Rattle.std.specs.Fmt.{decimal, signed_decimal}
-use Rattle.std.specs.Str.Parse.{digits_value, without_leading_plus}
-use Rattle.std.proofs.lemmas.Bool.{ltb-true, lt-ltb}
+use Rattle.std.{proofs.Common.{◌≡◌, ℕ, ◌^◌, Bool, true, false, ◌&&◌, cond, List, Some, None, refl, sym, subst, arith}, specs.Prelude.{ℤ, pos, negsuc}}
+use Rattle.std.{specs.Fmt.{decimal, signed_decimal}, specs.Str.Parse.{digits_value, without_leading_plus}, proofs.lemmas.Bool.{ltb-true, lt-ltb}}
 use Rattle.std.proofs.lemmas.Fmt.{decimal_is_IsNumeral_wide}
-use Rattle.stack_text.specs.Numerals.{is_digits, is_numeral, numeral_value, fits_128_bits, IsNatural}
-use Rattle.stack_text.proofs.AtomLaws.{no_minus, numeral_passes, numeral_of-signed_decimal}
+use Rattle.stack_text.{specs.Numerals.{is_digits, is_numeral, numeral_value, fits_128_bits, IsNatural}, proofs.AtomLaws.{no_minus, numeral_passes}}
+use Rattle.stack_text.proofs.AtomLaws.{numeral_of-signed_decimal}
 
 numeral_found : (numeral fits : Bool) (v z : ℤ) → cond (numeral && fits) (Some v) None ≡ Some z → v ≡ z
 numeral_found true true v z h = cc

@@ -1,22 +1,13 @@
 -- How the open lists change.
 use Rattle.std.proofs.Common.{◌≡◌, ◌≢◌, Bor, Vec, Global, ℕ, suc, ◌+◌, ◌<◌, ◌≤◌, List, [], ◌∷◌, ◌++◌, map, length, Option, Some, None, Result, Ok, Err, refl}
-use Rattle.std.proofs.Common.{sym, ap, ◌∙◌, append_assoc, arith}
-use Rattle.std.proofs.lemmas.List.{append-nil, length-set, map_push, take_all, take_more_set}
-use Rattle.std.proofs.Math.Seq.{take-suc}
-use Rattle.std.specs.Prelude.{slice_index_or, slice_set, take}
-use Rattle.std.proofs.lemmas.Bool.{lt-ltb, le-ltb}
-use Rattle.stack_text.specs.Tokens.{Token, opens_at, closes_at, atom_at, between, tokens}
-use Rattle.stack_text.specs.Trees.{Node, tokens_of, tokens_of_all, as_kept}
-use Rattle.stack_text.specs.Views.TreeView.{nodes, node_of, nodes_of}
-use Rattle.stack_text.specs.TextFaults.{Context, before, within, after, open_lists, after_tree, first_fault, text_fault}
-use Rattle.stack_text.specs.Internal.OpenLists.{opened, context_from, context, Puts, Steps, ReadsText, ReturnsAlone}
-use Rattle.stack_text.specs.declared.reader.OpenList.{OpenList}
-use Rattle.stack_text.specs.declared.tree.TextTree.{TextTree}
-use Rattle.stack_text.specs.declared.tree.TextTree.TheBlock.{Atom}
-use Rattle.stack_text.specs.declared.tree.TextTree.TheViews.{List as MadeList}
-use Rattle.stack_text.specs.declared.text_fault.TextFault.{TextFault}
-use Rattle.stack_text.specs.declared.text_fault.TextFault.TheVariants.{Fault, Memory}
-use Rattle.stack_text.specs.declared.text_fault.TextRule.TheVariants.{G2, G4}
+use Rattle.std.{proofs.Common.{sym, ap, ◌∙◌, append_assoc, arith}, proofs.lemmas.List.{append-nil, length-set, map_push, take_all, take_more_set}}
+use Rattle.std.{proofs.Math.Seq.take-suc, specs.Prelude.{slice_index_or, slice_set, take}, proofs.lemmas.Bool.{lt-ltb, le-ltb}}
+use Rattle.stack_text.{specs.Tokens.{Token, opens_at, closes_at, atom_at, between, tokens}, specs.Trees.{Node, tokens_of, tokens_of_all, as_kept}}
+use Rattle.stack_text.{specs.Views.TreeView.{nodes, node_of, nodes_of}, specs.TextFaults.{Context, before, within, after, open_lists, after_tree, first_fault}}
+use Rattle.stack_text.{specs.TextFaults.text_fault, specs.Internal.OpenLists.{opened, context_from, context, Puts, Steps, ReadsText, ReturnsAlone}}
+use Rattle.stack_text.{specs.declared.reader.OpenList.OpenList, specs.declared.tree.TextTree.TextTree, specs.declared.tree.TextTree.TheBlock.Atom}
+use Rattle.stack_text.{specs.declared.tree.TextTree.TheViews.List as MadeList, specs.declared.text_fault.TextFault.TextFault}
+use Rattle.stack_text.{specs.declared.text_fault.TextFault.TheVariants.{Fault, Memory}, specs.declared.text_fault.TextRule.TheVariants.{G2, G4}}
 use Rattle.stack_text.proofs.TreeViewLaws.{node_of-atom, node_of-list}
 
 pub opened-push : (os : List OpenList) (o : OpenList) → opened (os ++ o ∷ []) ≡ opened os ++ (opens_at o.place ∷ tokens_of_all (nodes_of o.items.items))

@@ -1,15 +1,10 @@
 -- Lists of parts, read one after the other.
 use Rattle.std.proofs.Common.{◌≡◌, ℕ, ◌+◌, ◌<◌, ◌≤◌, List, [], ◌∷◌, ◌++◌, length, drop, get_or, Ok, Err, refl, sym, ap, subst, ◌∙◌}
 use Rattle.std.proofs.lemmas.List.{drop_all}
-use Rattle.stack_text.specs.Trees.{Node, Nodes, more}
-use Rattle.stack_text.specs.Views.TreeView.{node_of, nodes_of}
-use Rattle.stack_text.specs.declared.tree.TextTree.{TextTree}
-use Rattle.stack_text.specs.declared.grammar.fault.FormFault.{FormFault}
-use Rattle.stack_text.specs.declared.grammar.fault.FormFault.TheVariants.{Form, Memory}
-use Rattle.stack_text.proofs.Loops.{drop-item}
-use Rattle.stack_text.proofs.ResultLoops.{with_front, with_front-with_front, with_front-none}
-use Rattle.stack_text.specs.Grammar.Judged.{Judged, ◌⊛◌, front, each_of}
-use Rattle.stack_text.specs.Grammar.Reading.{IsFirstFault}
+use Rattle.stack_text.{specs.Trees.{Node, Nodes, more}, specs.Views.TreeView.{node_of, nodes_of}, specs.declared.tree.TextTree.TextTree}
+use Rattle.stack_text.{specs.declared.grammar.fault.FormFault.FormFault, specs.declared.grammar.fault.FormFault.TheVariants.{Form, Memory}}
+use Rattle.stack_text.{proofs.Loops.drop-item, proofs.ResultLoops.{with_front, with_front-with_front, with_front-none}, specs.Grammar.Judged.{Judged, ◌⊛◌}}
+use Rattle.stack_text.{specs.Grammar.Judged.{front, each_of}, specs.Grammar.Reading.IsFirstFault}
 
 -- a part that is there, before the others
 pub one_more : {X : Type 0} → (judge : Node → Judged X) (t : Node) (ts : Nodes) (x : X) → judge t ≡ Ok x

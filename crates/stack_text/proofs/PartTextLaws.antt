@@ -1,12 +1,7 @@
 -- A printed text spells its tree.
-use Rattle.std.proofs.Common.{◌≡◌, ℕ, List, [], ◌∷◌, ◌++◌, map, refl, ap, append_assoc, arith}
-use Rattle.std.specs.List.{flat_map}
-use Rattle.stack_text.specs.Trees.{Node, list}
-use Rattle.stack_text.specs.Trees.{without_places as unplaced_tree, all_without_places}
-use Rattle.stack_text.specs.TreeText.{tree_text, items_text, spaced_text}
-use Rattle.stack_text.specs.Views.TreeView.{nodes}
-use Rattle.stack_text.specs.Internal.Spellings.{Spells, SpellsRest}
-use Rattle.stack_text.proofs.PrintLaws.{Spells-tree_text}
+use Rattle.std.{proofs.Common.{◌≡◌, ℕ, List, [], ◌∷◌, ◌++◌, map, refl, ap, append_assoc, arith}, specs.List.flat_map}
+use Rattle.stack_text.{specs.Trees.{Node, list, without_places as unplaced_tree, all_without_places}, specs.TreeText.{tree_text, items_text, spaced_text}}
+use Rattle.stack_text.{specs.Views.TreeView.nodes, specs.Internal.Spellings.{Spells, SpellsRest}, proofs.PrintLaws.Spells-tree_text}
 use Rattle.stack_text.specs.Grammar.Printed.{lines_text}
 
 -- items on lines of their own

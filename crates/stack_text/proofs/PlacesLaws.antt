@@ -1,11 +1,8 @@
 -- A grammar is independent of places: a tree and the same tree without places are one value but for places, or both have faults.
-use Rattle.std.proofs.Common.{◌≡◌, ℕ, Bool, true, false, cond, List, map, Ok, Err, refl, sym, ap, subst, ◌∙◌}
-use Rattle.std.specs.Prelude.{◌+◌}
-use Rattle.stack_text.specs.Names.{is_name}
-use Rattle.stack_text.specs.Trees.{Node, Nodes, atom, list, none, more, without_places, all_without_places, place_of}
-use Rattle.stack_text.specs.Grammar.Judged.{Judged, fault, judged, ◌⊛◌, front, each_of}
-use Rattle.stack_text.specs.Grammar.Parts.{count_of, list_length, is_atom_of, list_or, name_or}
-use Rattle.stack_text.specs.Grammar.Printed.{unplaced_name}
+use Rattle.std.{proofs.Common.{◌≡◌, ℕ, Bool, true, false, cond, List, map, Ok, Err, refl, sym, ap, subst, ◌∙◌}, specs.Prelude.◌+◌}
+use Rattle.stack_text.{specs.Names.is_name, specs.Trees.{Node, Nodes, atom, list, none, more, without_places, all_without_places, place_of}}
+use Rattle.stack_text.{specs.Grammar.Judged.{Judged, fault, judged, ◌⊛◌, front, each_of}, specs.Grammar.Parts.{count_of, list_length, is_atom_of, list_or}}
+use Rattle.stack_text.{specs.Grammar.Parts.name_or, specs.Grammar.Printed.unplaced_name}
 
 -- ---- two judgements
 

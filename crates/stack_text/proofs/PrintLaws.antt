@@ -1,16 +1,10 @@
 -- What is printed spells the tree, so that it is read again.
 use Rattle.std.proofs.Common.{◌≡◌, Vec, Global, ℕ, suc, ◌+◌, ◌<◌, ◌≤◌, List, [], ◌∷◌, ◌++◌, map, length, get_or, take, cond, eqb, refl, sym, ap, subst, ◌∙◌}
-use Rattle.std.proofs.Common.{append_assoc, arith}
-use Rattle.std.specs.Prelude.{Bool, true, false, if◌then◌else◌}
-use Rattle.std.proofs.lemmas.List.{append-nil, map_push, take_more, length-take, length-map, take_all}
-use Rattle.std.proofs.lemmas.Bool.{ne_eqb}
-use Rattle.stack_text.specs.Trees.{Node, Nodes, atom, list, none, more, IsWellFormed, ReadsAs}
-use Rattle.stack_text.specs.Views.TreeView.{nodes, owned_node, owned_nodes}
-use Rattle.stack_text.specs.TreeText.{tree_text, items_text, spaced_text}
-use Rattle.stack_text.specs.Internal.Spellings.{Spells, SpellsAll, SpellsRest}
-use Rattle.stack_text.specs.declared.tree.Tree.{Tree}
-use Rattle.stack_text.specs.declared.tree.Tree.TheViews.{List as MadeList}
-use Rattle.stack_text.proofs.TreeViewLaws.{owned_node-list}
+use Rattle.std.{proofs.Common.{append_assoc, arith}, specs.Prelude.{Bool, true, false, if◌then◌else◌}, proofs.lemmas.List.{append-nil, map_push, take_more}}
+use Rattle.std.{proofs.lemmas.List.{length-take, length-map, take_all}, proofs.lemmas.Bool.ne_eqb}
+use Rattle.stack_text.{specs.Trees.{Node, Nodes, atom, list, none, more, IsWellFormed, ReadsAs}, specs.Views.TreeView.{nodes, owned_node, owned_nodes}}
+use Rattle.stack_text.{specs.TreeText.{tree_text, items_text, spaced_text}, specs.Internal.Spellings.{Spells, SpellsAll, SpellsRest}}
+use Rattle.stack_text.{specs.declared.tree.Tree.Tree, specs.declared.tree.Tree.TheViews.List as MadeList, proofs.TreeViewLaws.owned_node-list}
 use Rattle.stack_text.proofs.SpellingLaws.{spelled_is_read}
 
 -- ---- printing in a loop

@@ -1,12 +1,10 @@
 -- What is read has its places in order, and its atoms are runs of atom bytes.
 use Rattle.std.proofs.Common.{◌≡◌, ℕ, ◌+◌, ◌<◌, ◌≤◌, ◌^◌, List, [], ◌∷◌, ◌++◌, map, length, refl, sym, ap, subst, ◌∙◌, append_assoc, arith}
 use Rattle.std.proofs.lemmas.List.{append-nil, length-append, length-map}
-use Rattle.stack_text.specs.declared.class.Class.{Class}
-use Rattle.stack_text.specs.declared.class.Class.TheVariants.{LineEnd, Space, Semicolon, Opening, Closing, AtomByte, Invalid}
-use Rattle.stack_text.specs.Tokens.{class_of, Token, opens_at, closes_at, atom_at, invalid_at, Mode, between, in_atom, in_comment, next, if_atom_byte, atom_run}
-use Rattle.stack_text.specs.Tokens.{begins, tokens}
-use Rattle.stack_text.specs.Trees.{Node, Nodes, atom, list, none, more, tokens_of, tokens_of_all, as_kept, TreeOf, AtomsAreRuns, AllAtomsAreRuns, node_count}
-use Rattle.stack_text.specs.Trees.{node_counts, IsWellFormed}
+use Rattle.stack_text.{specs.declared.class.Class.Class, specs.declared.class.Class.TheVariants.{LineEnd, Space, Semicolon, Opening, Closing, AtomByte}}
+use Rattle.stack_text.{specs.declared.class.Class.TheVariants.Invalid, specs.Tokens.{class_of, Token, opens_at, closes_at, atom_at, invalid_at, Mode, between}}
+use Rattle.stack_text.{specs.Tokens.{in_atom, in_comment, next, if_atom_byte, atom_run, begins, tokens}, specs.Trees.{Node, Nodes, atom, list, none, more}}
+use Rattle.stack_text.specs.Trees.{tokens_of, tokens_of_all, as_kept, TreeOf, AtomsAreRuns, AllAtomsAreRuns, node_count, node_counts, IsWellFormed}
 use Rattle.stack_text.specs.PlaceOrder.{InOrder, AllInOrder, IsInOrder}
 
 -- the places of the tokens go up from lo on, and their atoms are runs

@@ -1,28 +1,14 @@
 -- What a reader of texts by a grammar returns is what the text has; what is read keeps the form, and is read back.
-use Rattle.std.proofs.Common.{◌≡◌, ◌≤◌, ℕ, List, Option, Some, None, Result, Ok, Err, length, refl, sym, ap, ◌∙◌, subst}
-use Rattle.std.specs.Prelude.{◌^◌}
-use Rattle.stack_text.specs.declared.text_fault.TextRule.{TextRule}
-use Rattle.stack_text.specs.declared.text_fault.TextFault.{TextFault}
+use Rattle.std.{proofs.Common.{◌≡◌, ◌≤◌, ℕ, List, Option, Some, None, Result, Ok, Err, length, refl, sym, ap, ◌∙◌, subst}, specs.Prelude.◌^◌}
+use Rattle.stack_text.{specs.declared.text_fault.TextRule.TextRule, specs.declared.text_fault.TextFault.TextFault}
+use Rattle.stack_text.{specs.declared.grammar.fault.FormFault.FormFault, specs.declared.grammar.fault.FormFault.TheVariants.{Form, Memory}}
+use Rattle.stack_text.{specs.Gives.FailsUnless, specs.PlaceOrder.IsInOrder, specs.Results.unless_fault, specs.Views.TreeView.node_of}
+use Rattle.stack_text.{specs.TextFaults.text_fault, specs.Tokens.{between, tokens}, specs.TreeIn.{GivesTreeUnless, first_item, items_of, tree_in}}
+use Rattle.stack_text.{specs.Trees.{Node, TreeOf, ReadsAs, IsWellFormed, without_places}, specs.Grammar.Judged.Judged, specs.Grammar.Reading.IsFirstFault}
+use Rattle.stack_text.specs.Grammar.TextReaders.{TextReader, fault_of_breach, fault_of_form, fault_of_text, judgement, value_by, value_in, KeepsFormOf}
+use Rattle.stack_text.{specs.Grammar.TextReaders.ReadsBack, proofs.FaultLaws.no_fault_has_tree, proofs.PlacesLaws.{IsSame, same_lifted}}
+use Rattle.stack_text.{proofs.ReadLaws.text_is_well_formed, proofs.RiseLaws.{Rising, first_is_judged}, proofs.TreeInLaws.tree_in-TreeOf}
 use Rattle.stack_text.specs.declared.text_fault.TextFault.TheVariants as text
-use Rattle.stack_text.specs.declared.grammar.fault.FormFault.{FormFault}
-use Rattle.stack_text.specs.declared.grammar.fault.FormFault.TheVariants.{Form, Memory}
-use Rattle.stack_text.specs.Gives.{FailsUnless}
-use Rattle.stack_text.specs.PlaceOrder.{IsInOrder}
-use Rattle.stack_text.specs.Results.{unless_fault}
-use Rattle.stack_text.specs.Views.TreeView.{node_of}
-use Rattle.stack_text.specs.TextFaults.{text_fault}
-use Rattle.stack_text.specs.Tokens.{between, tokens}
-use Rattle.stack_text.specs.TreeIn.{GivesTreeUnless, first_item, items_of, tree_in}
-use Rattle.stack_text.specs.Trees.{Node, TreeOf, ReadsAs, IsWellFormed, without_places}
-use Rattle.stack_text.specs.Grammar.Judged.{Judged}
-use Rattle.stack_text.specs.Grammar.Reading.{IsFirstFault}
-use Rattle.stack_text.specs.Grammar.TextReaders.{TextReader, fault_of_breach, fault_of_form, fault_of_text, judgement}
-use Rattle.stack_text.specs.Grammar.TextReaders.{value_by, value_in, KeepsFormOf, ReadsBack}
-use Rattle.stack_text.proofs.FaultLaws.{no_fault_has_tree}
-use Rattle.stack_text.proofs.PlacesLaws.{IsSame, same_lifted}
-use Rattle.stack_text.proofs.ReadLaws.{text_is_well_formed}
-use Rattle.stack_text.proofs.RiseLaws.{Rising, first_is_judged}
-use Rattle.stack_text.proofs.TreeInLaws.{tree_in-TreeOf}
 
 -- ---- faults
 

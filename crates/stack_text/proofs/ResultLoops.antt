@@ -1,13 +1,8 @@
 -- Trees that are read one after the other, each of which has a value or a fault.
 use Rattle.std.proofs.Common.{◌≡◌, ◌<◌, ◌≤◌, ◌+◌, ℕ, List, [], ◌∷◌, ◌++◌, length, drop, get_or, Option, Some, None, Result, Ok, Err, refl, sym, ap, ◌∙◌}
-use Rattle.std.proofs.Common.{append_assoc, append-nil}
-use Rattle.std.proofs.lemmas.List.{drop_all}
-use Rattle.stack_text.specs.Gives.{Fails}
-use Rattle.stack_text.specs.Results.{◌>>=◌}
-use Rattle.stack_text.specs.Trees.{Node, Nodes, none, more}
-use Rattle.stack_text.specs.Views.TreeView.{node_of, nodes_of}
-use Rattle.stack_text.specs.declared.tree.TextTree.{TextTree}
-use Rattle.stack_text.proofs.Loops.{drop-item}
+use Rattle.std.{proofs.Common.{append_assoc, append-nil}, proofs.lemmas.List.drop_all}
+use Rattle.stack_text.{specs.Gives.Fails, specs.Results.◌>>=◌, specs.Trees.{Node, Nodes, none, more}, specs.Views.TreeView.{node_of, nodes_of}}
+use Rattle.stack_text.{specs.declared.tree.TextTree.TextTree, proofs.Loops.drop-item}
 
 -- items in front of those that are left
 abbrev pub with_front : {X F : Type 0} → List X → Result (List X) F → Result (List X) F

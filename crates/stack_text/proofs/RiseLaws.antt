@@ -1,14 +1,9 @@
 -- In a tree whose places go up, the faults of each part go up too.
-use Rattle.std.proofs.Common.{◌≡◌, ◌+◌, ◌<◌, ◌≤◌, ℕ, List, [], ◌∷◌, Ok, Err, subst, arith}
-use Rattle.std.specs.Prelude.{Bool, true, false}
-use Rattle.stack_text.specs.Names.{is_name}
-use Rattle.stack_text.specs.Breaches.{least_of}
-use Rattle.stack_text.specs.PlaceOrder.{AllInOrder, InOrder, IsInOrder}
-use Rattle.stack_text.specs.Trees.{Node, Nodes, atom, list, none, more, place_of}
-use Rattle.stack_text.specs.declared.breach.Breach.{Breach}
-use Rattle.stack_text.specs.Grammar.Judged.{Judged, ◌⊛◌, each_of, fault, front, judged}
-use Rattle.stack_text.specs.Grammar.Parts.{name_or, list_or}
-use Rattle.stack_text.proofs.JudgedLaws.{JudgedRises, JudgedRises-apply, Rises, Rises-lower, Rises-higher, first_is_least}
+use Rattle.std.{proofs.Common.{◌≡◌, ◌+◌, ◌<◌, ◌≤◌, ℕ, List, [], ◌∷◌, Ok, Err, subst, arith}, specs.Prelude.{Bool, true, false}}
+use Rattle.stack_text.{specs.Names.is_name, specs.Breaches.least_of, specs.PlaceOrder.{AllInOrder, InOrder, IsInOrder}, specs.Trees.{Node, Nodes, atom, list}}
+use Rattle.stack_text.{specs.Trees.{none, more, place_of}, specs.declared.breach.Breach.Breach, specs.Grammar.Judged.{Judged, ◌⊛◌, each_of, fault, front}}
+use Rattle.stack_text.{specs.Grammar.Judged.judged, specs.Grammar.Parts.{name_or, list_or}, proofs.JudgedLaws.{JudgedRises, JudgedRises-apply, Rises}}
+use Rattle.stack_text.proofs.JudgedLaws.{Rises-lower, Rises-higher, first_is_least}
 
 -- the faults have places from low on and below high, and go up
 pub record Up {X : Type 0} (low : ℕ) (r : Judged X) (high : ℕ) : Type 0 where

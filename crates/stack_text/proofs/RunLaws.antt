@@ -1,9 +1,8 @@
 -- Runs of atom bytes at the front of a text, and one byte of it after the other.
 use Rattle.std.proofs.Common.{◌≡◌, ℕ, ◌+◌, ◌<◌, List, [], ◌∷◌, ◌++◌, map, length, refl, ap, ◌∙◌, arith}
-use Rattle.stack_text.specs.declared.class.Class.{Class}
-use Rattle.stack_text.specs.declared.class.Class.TheVariants.{LineEnd, Space, Semicolon, Opening, Closing, AtomByte, Invalid}
-use Rattle.stack_text.specs.Tokens.{class_of, Token, atom_at, between, in_atom, next, if_atom_byte, atom_run, begins, tokens}
-use Rattle.stack_text.specs.Trees.{as_kept}
+use Rattle.stack_text.{specs.declared.class.Class.Class, specs.declared.class.Class.TheVariants.{LineEnd, Space, Semicolon, Opening, Closing, AtomByte}}
+use Rattle.stack_text.{specs.declared.class.Class.TheVariants.Invalid, specs.Tokens.{class_of, Token, atom_at, between, in_atom, next, if_atom_byte, atom_run}}
+use Rattle.stack_text.{specs.Tokens.{begins, tokens}, specs.Trees.as_kept}
 
 -- bytes that are all one run
 atom_front : (k : Class) (b : ℕ) (r bs : List ℕ) → if_atom_byte k (b ∷ r) ≡ b ∷ bs → (k ≡ AtomByte) × (r ≡ bs)

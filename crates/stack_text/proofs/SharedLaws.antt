@@ -1,18 +1,11 @@
 -- Lemmas on truth values, options, lists, names and kinds that several crates need.
 use Rattle.std.proofs.Common.{◌≡◌, Bool, true, false, refl, ◌&&◌, not, ℕ, [], Option, Some, None, is_none, List, ◌∷◌, ◌++◌, ◌+◌, ap, ◌∙◌, zero, suc, ◌<◌}
 use Rattle.std.proofs.Common.{length, arith, slice_get, map, get_or, take, reverse, ℤ, pos, append_assoc, sym, ap₂, ◌||◌, ◌≤◌, find, cond, option_map}
-use Rattle.std.specs.Prelude.{nat_le, nat_lt}
-use Rattle.std.proofs.lemmas.List.{reverse-append, map-append, length-map}
-use Rattle.std.specs.Str.{bytes_eq}
-use Rattle.std.proofs.lemmas.Slice.Eq.{bytes_eq-Decides}
-use Rattle.std.specs.List.{list_any, list_all, position, position_or_len, IsDistinct}
-use Rattle.std.proofs.lemmas.Map.Keys.{IsDistinct-tail, apart_from_distinct}
-use Rattle.std.proofs.lemmas.Bool.{and_parts, leb-true}
-use Rattle.stack_text.specs.Breaches.{when}
-use Rattle.stack_text.specs.Names.{is_name, begins_with_letter, is_name_byte, is_truth_word, place_among}
-use Rattle.stack_text.specs.declared.shape.Kind.{Kind}
-use Rattle.stack_text.specs.declared.shape.Kind.TheVariants.{Integer, Boolean, Character}
-use Rattle.stack_text.specs.Values.{same_kind}
+use Rattle.std.{specs.Prelude.{nat_le, nat_lt}, proofs.lemmas.List.{reverse-append, map-append, length-map}, specs.Str.bytes_eq}
+use Rattle.std.{proofs.lemmas.Slice.Eq.bytes_eq-Decides, specs.List.{list_any, list_all, position, position_or_len, IsDistinct}}
+use Rattle.std.{proofs.lemmas.Map.Keys.{IsDistinct-tail, apart_from_distinct}, proofs.lemmas.Bool.{and_parts, leb-true}}
+use Rattle.stack_text.{specs.Breaches.when, specs.Names.{is_name, begins_with_letter, is_name_byte, is_truth_word, place_among}, specs.declared.shape.Kind.Kind}
+use Rattle.stack_text.{specs.declared.shape.Kind.TheVariants.{Integer, Boolean, Character}, specs.Values.same_kind}
 
 pub and_false : (b : Bool) → (b && false) ≡ false
 and_false true = refl

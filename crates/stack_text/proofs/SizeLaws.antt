@@ -1,10 +1,6 @@
 -- How many atoms and lists the trees of a list have at most.
-use Rattle.std.proofs.Common.{◌≡◌, ℕ, ◌+◌, ◌*◌, ◌≤◌, List, [], ◌∷◌, map, length, arith}
-use Rattle.std.specs.List.{sum_by}
-use Rattle.std.proofs.lemmas.List.Sums.{sum_by-cons}
-use Rattle.stack_text.specs.declared.name.Named.{Named}
-use Rattle.stack_text.specs.Trees.{Node, node_count, node_counts}
-use Rattle.stack_text.specs.Views.TreeView.{nodes}
+use Rattle.std.{proofs.Common.{◌≡◌, ℕ, ◌+◌, ◌*◌, ◌≤◌, List, [], ◌∷◌, map, length, arith}, specs.List.sum_by, proofs.lemmas.List.Sums.sum_by-cons}
+use Rattle.stack_text.{specs.declared.name.Named.Named, specs.Trees.{Node, node_count, node_counts}, specs.Views.TreeView.nodes}
 use Rattle.stack_text.specs.Grammar.Printed.{name_tree}
 
 -- by a bound for each

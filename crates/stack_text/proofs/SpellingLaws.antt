@@ -1,13 +1,12 @@
 -- A text that spells a tree with any separators is read as that tree but for places.
 use Rattle.std.proofs.Common.{◌≡◌, ℕ, suc, ◌+◌, ◌<◌, max, List, [], ◌∷◌, ◌++◌, map, length, refl, sym, ap, ◌∙◌, append_assoc, arith}
 use Rattle.std.proofs.lemmas.List.{append-nil, length-append}
-use Rattle.stack_text.specs.declared.class.Class.{Class}
-use Rattle.stack_text.specs.declared.class.Class.TheVariants.{LineEnd, Space, Semicolon, Opening, Closing, AtomByte, Invalid}
-use Rattle.stack_text.specs.Tokens.{class_of, Token, opens_at, closes_at, atom_at, between, if_atom_byte, atom_run, tokens}
-use Rattle.stack_text.specs.Trees.{Node, Nodes, atom, list, none, more, tokens_of, tokens_of_all, depth, depths, as_kept, AtomsAreRuns, AllAtomsAreRuns}
-use Rattle.stack_text.specs.Trees.{IsWellFormed, without_places, all_without_places, ReadsAs}
-use Rattle.stack_text.specs.Internal.Spellings.{IsSeparator, IsWhitespace, Spells, SpellsAll, SpellsRest}
-use Rattle.stack_text.proofs.RunLaws.{kept_from, tokens-atom_at, tokens-byte, tokens-nil}
+use Rattle.stack_text.{specs.declared.class.Class.Class, specs.declared.class.Class.TheVariants.{LineEnd, Space, Semicolon, Opening, Closing, AtomByte}}
+use Rattle.stack_text.{specs.declared.class.Class.TheVariants.Invalid, specs.Tokens.{class_of, Token, opens_at, closes_at, atom_at, between, if_atom_byte}}
+use Rattle.stack_text.{specs.Tokens.{atom_run, tokens}, specs.Trees.{Node, Nodes, atom, list, none, more, tokens_of, tokens_of_all, depth, depths, as_kept}}
+use Rattle.stack_text.specs.Trees.{AtomsAreRuns, AllAtomsAreRuns, IsWellFormed, without_places, all_without_places, ReadsAs}
+use Rattle.stack_text.{specs.Internal.Spellings.{IsSeparator, IsWhitespace, Spells, SpellsAll, SpellsRest}, proofs.RunLaws.{kept_from, tokens-atom_at}}
+use Rattle.stack_text.proofs.RunLaws.{tokens-byte, tokens-nil}
 
 -- a tree that was read from a place on: its tokens, and that it differs in places alone
 record Lies (t : Node) (at : ℕ) (text rest : List ℕ) : Type 0 where

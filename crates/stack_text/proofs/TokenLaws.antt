@@ -1,11 +1,10 @@
 -- One byte of a text after the other.
 use Rattle.std.proofs.Common.{◌≡◌, ◌≢◌, ◌⊎◌, inl, inr, ℕ, ◌+◌, ◌-◌, ◌<◌, ◌≤◌, List, [], ◌∷◌, ◌++◌, length, get_or, take, drop, refl, sym, ap, ◌∙◌, append_assoc}
-use Rattle.std.proofs.Common.{arith}
-use Rattle.std.specs.List.{slice_range}
-use Rattle.std.proofs.lemmas.List.{drop_more, drop_all, take_more, get_or-drop, length-drop, length-take, append-nil}
-use Rattle.stack_text.specs.declared.class.Class.{Class}
-use Rattle.stack_text.specs.declared.class.Class.TheVariants.{LineEnd, Space, Semicolon, Opening, Closing, AtomByte, Invalid}
-use Rattle.stack_text.specs.Tokens.{class_of, Token, atom_at, Mode, between, in_atom, in_comment, next, if_atom_byte, atom_run, begins, tokens}
+use Rattle.std.{proofs.Common.arith, specs.List.slice_range, proofs.lemmas.List.{drop_more, drop_all, take_more, get_or-drop, length-drop, length-take}}
+use Rattle.std.proofs.lemmas.List.{append-nil}
+use Rattle.stack_text.{specs.declared.class.Class.Class, specs.declared.class.Class.TheVariants.{LineEnd, Space, Semicolon, Opening, Closing, AtomByte}}
+use Rattle.stack_text.{specs.declared.class.Class.TheVariants.Invalid, specs.Tokens.{class_of, Token, atom_at, Mode, between, in_atom, in_comment, next}}
+use Rattle.stack_text.specs.Tokens.{if_atom_byte, atom_run, begins, tokens}
 
 -- the tokens from a byte of class k on
 pub tokens_step : (m : Mode) (text : List ℕ) (at : ℕ) (k : Class) → at < length text → class_of (get_or text at 0) ≡ k →

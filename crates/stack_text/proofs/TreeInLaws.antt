@@ -1,14 +1,9 @@
 -- The tokens of a tree are put together to that tree.
-use Rattle.std.proofs.Common.{◌≡◌, ℕ, List, [], ◌∷◌, ◌++◌, map, Ok, Err, Result, IfErr, refl, sym, ap, ◌∙◌, append_assoc}
-use Rattle.std.proofs.lemmas.List.{append-nil}
-use Rattle.stack_text.specs.declared.text_fault.TextFault.{TextFault}
-use Rattle.stack_text.specs.declared.text_fault.TextFault.TheVariants.{Fault, Memory}
-use Rattle.stack_text.specs.declared.text_fault.TextRule.{TextRule}
-use Rattle.stack_text.specs.Tokens.{Token, opens_at, closes_at, atom_at, invalid_at, between, tokens}
-use Rattle.stack_text.specs.Trees.{Node, Nodes, atom, list, none, more, tokens_of, tokens_of_all, as_kept, TreeOf}
-use Rattle.stack_text.specs.Internal.OpenLists.{ReadsText}
-use Rattle.stack_text.proofs.TreeLaws.{tree_has_no_fault}
-use Rattle.stack_text.specs.TreeIn.{in_front, as_item, items_of, first_item, tree_in, GivesTreeUnless, ReadsExactly}
+use Rattle.std.{proofs.Common.{◌≡◌, ℕ, List, [], ◌∷◌, ◌++◌, map, Ok, Err, Result, IfErr, refl, sym, ap, ◌∙◌, append_assoc}, proofs.lemmas.List.append-nil}
+use Rattle.stack_text.{specs.declared.text_fault.TextFault.TextFault, specs.declared.text_fault.TextFault.TheVariants.{Fault, Memory}}
+use Rattle.stack_text.{specs.declared.text_fault.TextRule.TextRule, specs.Tokens.{Token, opens_at, closes_at, atom_at, invalid_at, between, tokens}}
+use Rattle.stack_text.{specs.Trees.{Node, Nodes, atom, list, none, more, tokens_of, tokens_of_all, as_kept, TreeOf}, specs.Internal.OpenLists.ReadsText}
+use Rattle.stack_text.{proofs.TreeLaws.tree_has_no_fault, specs.TreeIn.{in_front, as_item, items_of, first_item, tree_in, GivesTreeUnless, ReadsExactly}}
 
 -- trees put in front of the items of the innermost list
 abbrev all_in_front : Nodes → List Nodes → List Nodes

@@ -1,17 +1,12 @@
 -- One tree at most has given tokens, and a text that has a tree has no fault.
 use Rattle.std.proofs.Common.{◌≡◌, ◌≢◌, ℕ, suc, ◌+◌, ◌≤◌, Bool, true, false, cond, ltb, List, [], ◌∷◌, ◌++◌, map, length, Option, Some, None, Result, Ok, Err}
-use Rattle.std.proofs.Common.{refl, sym, ap, ◌∙◌, append_assoc, arith}
-use Rattle.std.specs.Prelude.{is_some, IfOk, MatchResult}
-use Rattle.std.proofs.lemmas.Bool.{lt-ltb, ltb-true}
+use Rattle.std.{proofs.Common.{refl, sym, ap, ◌∙◌, append_assoc, arith}, specs.Prelude.{is_some, IfOk, MatchResult}, proofs.lemmas.Bool.{lt-ltb, ltb-true}}
 use Rattle.std.proofs.lemmas.List.{append-nil}
-use Rattle.stack_text.specs.Tokens.{Token, opens_at, closes_at, atom_at, invalid_at, between, tokens}
-use Rattle.stack_text.specs.Trees.{Node, Nodes, atom, list, none, more, tokens_of, tokens_of_all, depth, depths, as_kept, TreeOf}
-use Rattle.stack_text.specs.TextFaults.{Context, before, within, after, open_lists, after_tree, first_fault, text_fault, ReportsFault}
-use Rattle.stack_text.specs.Internal.OpenLists.{ReadsText}
-use Rattle.stack_text.specs.declared.text_fault.TextRule.{TextRule}
-use Rattle.stack_text.specs.declared.text_fault.TextRule.TheVariants.{G4}
-use Rattle.stack_text.specs.declared.text_fault.TextFault.{TextFault}
-use Rattle.stack_text.specs.declared.text_fault.TextFault.TheVariants.{Fault, Memory}
+use Rattle.stack_text.{specs.Tokens.{Token, opens_at, closes_at, atom_at, invalid_at, between, tokens}, specs.Trees.{Node, Nodes, atom, list, none, more}}
+use Rattle.stack_text.{specs.Trees.{tokens_of, tokens_of_all, depth, depths, as_kept, TreeOf}, specs.TextFaults.{Context, before, within, after, open_lists}}
+use Rattle.stack_text.{specs.TextFaults.{after_tree, first_fault, text_fault, ReportsFault}, specs.Internal.OpenLists.ReadsText}
+use Rattle.stack_text.{specs.declared.text_fault.TextRule.TextRule, specs.declared.text_fault.TextRule.TheVariants.G4}
+use Rattle.stack_text.{specs.declared.text_fault.TextFault.TextFault, specs.declared.text_fault.TextFault.TheVariants.{Fault, Memory}}
 
 -- ---- no tree's tokens begin another's
 

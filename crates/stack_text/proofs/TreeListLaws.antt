@@ -1,9 +1,7 @@
 -- Lists of trees by how many they are.
 use Rattle.std.proofs.Common.{◌≡◌, ◌≢◌, ◌+◌, ◌-◌, ℕ, List, [], ◌∷◌, length, take, drop, get_or, length-drop, refl, ap, ◌∙◌, arith}
 use Rattle.std.proofs.lemmas.List.{take_all}
-use Rattle.stack_text.specs.Grammar.Parts.{count_of}
-use Rattle.stack_text.specs.Trees.{Node, Nodes, none, more}
-use Rattle.stack_text.specs.Views.TreeView.{node_of, nodes_of}
+use Rattle.stack_text.{specs.Grammar.Parts.count_of, specs.Trees.{Node, Nodes, none, more}, specs.Views.TreeView.{node_of, nodes_of}}
 use Rattle.stack_text.specs.declared.tree.TextTree.{TextTree}
 
 -- what holds of none and of two or more holds of all but one

@@ -1,18 +1,11 @@
 -- What a clause sees of a tree that is made, and that is matched.
 use Rattle.std.proofs.Common.{◌≡◌, Vec, Global, ℕ, ◌+◌, ◌<◌, ◌≤◌, List, [], ◌∷◌, ◌++◌, map, length, get_or, take, sym, ap, ap₂, ◌∙◌}
-use Rattle.std.proofs.lemmas.List.{map_push, take_more, take_all}
-use Rattle.std.specs.Borrow.{Bor}
-use Rattle.stack_text.specs.Trees.{Node, atom, list}
-use Rattle.stack_text.specs.Views.TreeView.{nodes, node_of_layer, node_of, nodes_of, owned_layer, owned_node, owned_nodes}
-use Rattle.stack_text.specs.declared.tree.TextTree.{TextTree}
-use Rattle.stack_text.specs.declared.tree.TextTree.TheBlock.{Atom}
-use Rattle.stack_text.specs.declared.tree.TextTree.TheViews.{List as MadeList}
-use Rattle.stack_text.specs.declared.tree.TextTree.TheOpen.{Atom as AtomF, List as ListF}
-use Rattle.stack_text.specs.declared.tree.TextTree.TheVariants.{rolls-Atom, rolls-List}
-use Rattle.stack_text.specs.declared.tree.TextTree.TheFolds.{fold-roll-TextTree}
-use Rattle.stack_text.specs.declared.tree.Tree.{Tree}
-use Rattle.stack_text.specs.declared.tree.Tree.TheBlock.{Atom as OwnedAtom}
-use Rattle.stack_text.specs.declared.tree.Tree.TheViews.{List as OwnedList}
+use Rattle.std.{proofs.lemmas.List.{map_push, take_more, take_all}, specs.Borrow.Bor}
+use Rattle.stack_text.{specs.Trees.{Node, atom, list}, specs.Views.TreeView.{nodes, node_of_layer, node_of, nodes_of, owned_layer, owned_node, owned_nodes}}
+use Rattle.stack_text.{specs.declared.tree.TextTree.TextTree, specs.declared.tree.TextTree.TheBlock.Atom}
+use Rattle.stack_text.{specs.declared.tree.TextTree.TheViews.List as MadeList, specs.declared.tree.TextTree.TheOpen.{Atom as AtomF, List as ListF}}
+use Rattle.stack_text.{specs.declared.tree.TextTree.TheVariants.{rolls-Atom, rolls-List}, specs.declared.tree.TextTree.TheFolds.fold-roll-TextTree}
+use Rattle.stack_text.{specs.declared.tree.Tree.Tree, specs.declared.tree.Tree.TheBlock.Atom as OwnedAtom, specs.declared.tree.Tree.TheViews.List as OwnedList}
 use Rattle.stack_text.specs.declared.tree.Tree.TheOpen.{Atom as OwnedAtomF, List as OwnedListF}
 use Rattle.stack_text.specs.declared.tree.Tree.TheVariants.{rolls-Atom as rolls-OwnedAtom, rolls-List as rolls-OwnedList}
 use Rattle.stack_text.specs.declared.tree.Tree.TheFolds.{fold-roll-Tree}

@@ -1,6 +1,5 @@
 -- Lines of a text.
-use Rattle.std.specs.Prelude.{ℕ, List, [], ◌∷◌, ◌++◌, length, Bool, ◌&&◌, nat_le}
-use Rattle.std.specs.List.{list_all}
+use Rattle.std.specs.{Prelude.{ℕ, List, [], ◌∷◌, ◌++◌, length, Bool, ◌&&◌, nat_le}, List.{list_all}}
 use Rattle.stack_text.specs.SharedLimits.{most_line_bytes}
 
 -- a text and a line feed

@@ -1,9 +1,7 @@
 -- Which bytes are a name, and where one stands.
-use Rattle.std.specs.Prelude.{ℕ, List, [], ◌∷◌, length, position, Option, Some, None, Bool, false}
-use Rattle.std.specs.Prelude.{not, ◌&&◌, ◌||◌, ◌==◌, nat_le, if◌then◌else◌, codes}
-use Rattle.std.specs.List.{list_all, list_any}
-use Rattle.std.specs.Str.{bytes_eq}
-use Rattle.std.specs.Char.{is_ascii_alphabetic, is_ascii_alphanumeric}
+use Rattle.std.specs.Prelude.{ℕ, List, [], ◌∷◌, length, position, Option, Some, None, Bool, false, not, ◌&&◌, ◌||◌, ◌==◌, nat_le}
+use Rattle.std.specs.{Prelude.{if◌then◌else◌, codes}, List.{list_all, list_any}, Str.{bytes_eq}, Char.{is_ascii_alphabetic}}
+use Rattle.std.specs.Char.{is_ascii_alphanumeric}
 use Rattle.stack_text.specs.SharedLimits.{most_name_bytes}
 
 -- `-`, `_`, `*` or `$`

@@ -1,9 +1,6 @@
 -- Numerals: decimal digits, with or without a `-` before them. They may begin with zeros.
-use Rattle.std.specs.Prelude.{ℕ, ℤ, pos, negsuc, ◌<◌, ◌^◌, List, length, drop, Option, Some, None}
-use Rattle.std.specs.Prelude.{Bool, ◌&&◌, nat_lt, if◌then◌else◌, IsTrue}
-use Rattle.std.specs.List.{list_all}
-use Rattle.std.specs.Char.{is_ascii_digit}
-use Rattle.std.specs.Str.Parse.{starts_with_minus, signed_digits_value}
+use Rattle.std.specs.Prelude.{ℕ, ℤ, pos, negsuc, ◌<◌, ◌^◌, List, length, drop, Option, Some, None, Bool, ◌&&◌, nat_lt, if◌then◌else◌}
+use Rattle.std.specs.{Prelude.{IsTrue}, List.{list_all}, Char.{is_ascii_digit}, Str.Parse.{starts_with_minus, signed_digits_value}}
 
 -- one decimal digit or more
 abbrev pub is_digits : List ℕ → Bool

@@ -1,11 +1,9 @@
 -- What is wrong with a text that is no tree's, the first thing from the left.
 use Rattle.std.specs.Prelude.{◌≡◌, ℕ, suc, List, [], ◌∷◌, length, Option, Some, None, Result, Ok, Err, nat_lt, if◌then◌else◌}
-use Rattle.stack_text.specs.SharedLimits.{most_nesting}
-use Rattle.stack_text.specs.declared.text_fault.TextRule.{TextRule}
-use Rattle.stack_text.specs.declared.text_fault.TextRule.TheVariants.{G1, G2, G3, G4, G5, G6}
-use Rattle.stack_text.specs.declared.text_fault.TextFault.{TextFault}
-use Rattle.stack_text.specs.declared.text_fault.TextFault.TheVariants.{Fault, Memory}
-use Rattle.stack_text.specs.Tokens.{Token, opens_at, closes_at, atom_at, invalid_at, between, tokens}
+use Rattle.stack_text.specs.{SharedLimits.{most_nesting}, declared.text_fault.TextRule.{TextRule}}
+use Rattle.stack_text.specs.{declared.text_fault.TextRule.TheVariants.{G1, G2, G3, G4, G5, G6}, declared.text_fault.TextFault.{TextFault}}
+use Rattle.stack_text.specs.{declared.text_fault.TextFault.TheVariants.{Fault, Memory}, Tokens.{Token, opens_at, closes_at, atom_at}}
+use Rattle.stack_text.specs.Tokens.{invalid_at, between, tokens}
 
 -- where a token is: before the tree, in a list that opened at a place and has a context itself, or after the tree
 pub data Context : Type 0 where

@@ -1,7 +1,7 @@
 -- The tokens of a text, with the places of their first bytes.
 use Rattle.std.specs.Prelude.{ℕ, ◌+◌, List, [], ◌∷◌, ◌++◌, ◌==◌, ◌&&◌, ◌||◌, nat_le, if◌then◌else◌}
-use Rattle.stack_text.specs.declared.class.Class.{Class}
-use Rattle.stack_text.specs.declared.class.Class.TheVariants.{LineEnd, Space, Semicolon, Opening, Closing, AtomByte, Invalid}
+use Rattle.stack_text.specs.{declared.class.Class.{Class}, declared.class.Class.TheVariants.{LineEnd, Space, Semicolon, Opening, Closing}}
+use Rattle.stack_text.specs.declared.class.Class.TheVariants.{AtomByte, Invalid}
 
 -- LF; space, tab or CR; `;`; `(`; `)`; another of 0x21 to 0x7E; or none of these
 abbrev pub class_of : ℕ → Class

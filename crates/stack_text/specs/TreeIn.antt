@@ -1,12 +1,8 @@
 -- The tree of a text as a function of the text: its tokens are put together from the last to the first.
 use Rattle.std.specs.Prelude.{◌≡◌, ℕ, List, [], ◌∷◌, Option, Some, None, Result, Ok, Err}
-use Rattle.stack_text.specs.Results.{unless_fault}
-use Rattle.stack_text.specs.declared.text_fault.TextRule.{TextRule}
-use Rattle.stack_text.specs.declared.text_fault.TextFault.{TextFault}
-use Rattle.stack_text.specs.declared.text_fault.TextFault.TheVariants.{Fault, Memory}
-use Rattle.stack_text.specs.Gives.{GivesUnless}
-use Rattle.stack_text.specs.Tokens.{Token, opens_at, closes_at, atom_at, invalid_at, between, tokens}
-use Rattle.stack_text.specs.Trees.{Node, Nodes, atom, list, none, more}
+use Rattle.stack_text.specs.{Results.{unless_fault}, declared.text_fault.TextRule.{TextRule}, declared.text_fault.TextFault.{TextFault}}
+use Rattle.stack_text.specs.{declared.text_fault.TextFault.TheVariants.{Fault, Memory}, Gives.{GivesUnless}, Tokens.{Token, opens_at}}
+use Rattle.stack_text.specs.{Tokens.{closes_at, atom_at, invalid_at, between, tokens}, Trees.{Node, Nodes, atom, list, none, more}}
 use Rattle.stack_text.specs.TextFaults.{text_fault}
 
 -- a tree put in front of the items of the innermost list

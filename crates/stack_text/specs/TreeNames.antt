@@ -1,7 +1,6 @@
 -- Trees that are names.
 use Rattle.std.specs.Prelude.{ℕ, List, Option, None}
-use Rattle.stack_text.specs.Names.{name_of}
-use Rattle.stack_text.specs.Trees.{Node, atom, list}
+use Rattle.stack_text.specs.{Names.{name_of}, Trees.{Node, atom, list}}
 
 -- the name that a tree is
 abbrev pub name_of_tree : Node → Option (List ℕ)

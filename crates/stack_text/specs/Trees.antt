@@ -1,7 +1,7 @@
 -- Trees, and the grammar of texts: a text is a tree where both have the same tokens.
 use Rattle.std.specs.Prelude.{◌≡◌, ℕ, suc, ◌+◌, ◌<◌, ◌≤◌, ◌^◌, max, List, [], ◌∷◌, ◌++◌, length, map}
-use Rattle.stack_text.specs.SharedLimits.{most_nesting}
-use Rattle.stack_text.specs.Tokens.{Token, opens_at, closes_at, atom_at, invalid_at, between, tokens, atom_run}
+use Rattle.stack_text.specs.{SharedLimits.{most_nesting}, Tokens.{Token, opens_at, closes_at, atom_at, invalid_at, between, tokens}}
+use Rattle.stack_text.specs.Tokens.{atom_run}
 
 -- a tree: an atom with its place and bytes, or a list with the place of its `(` and its items
 mutual

@@ -1,8 +1,7 @@
 -- Values: a shape, and the items of it.
 use Rattle.std.specs.Prelude.{ℕ, ℤ, pos, negsuc, List, Bool, true, false, ◌==◌, ◌&&◌, ◌||◌, nat_le, length, if◌then◌else◌, codes}
 use Rattle.std.specs.List.{list_all}
-use Rattle.stack_text.specs.declared.shape.Kind.{Kind}
-use Rattle.stack_text.specs.declared.shape.Kind.TheVariants.{Integer, Boolean, Character}
+use Rattle.stack_text.specs.{declared.shape.Kind.{Kind}, declared.shape.Kind.TheVariants.{Integer, Boolean, Character}}
 use Rattle.stack_text.specs.declared.shape.Shape.{Shape}
 
 -- any integer of 32 bits; 0 or 1; or 0 to 127

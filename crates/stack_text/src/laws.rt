@@ -1,8 +1,7 @@
 //! Laws of texts and trees.
 
 ghost use Rattle.std.specs.Prelude.{◌≡◌, ◌↔◌, ℕ, List, None};
-ghost use Rattle.stack_text.specs.TextFaults.{text_fault};
-ghost use Rattle.stack_text.specs.Trees.{Node, TreeOf};
+ghost use Rattle.stack_text.specs.{TextFaults.{text_fault}, Trees.{Node, TreeOf}};
 
 /// A text is one tree, or has a fault. It does nothing: its clauses hold of all texts and all trees.
 pub fn tree_or_fault()

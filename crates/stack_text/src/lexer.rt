@@ -1,8 +1,7 @@
 //! Tokens, one after the other.
 
 ghost use Rattle.std.specs.Prelude.{◌≡◌, ◌+◌, ◌<◌, ◌≤◌, ◌^◌, length, drop, slice_range, [], IfNone, IfSome};
-ghost use Rattle.stack_text.specs.Tokens.{tokens, atom_run, between, in_atom, in_comment};
-ghost use Rattle.stack_text.specs.Internal.TokenSpans.{FindsToken};
+ghost use Rattle.stack_text.specs.{Tokens.{tokens, atom_run, between, in_atom, in_comment}, Internal.TokenSpans.{FindsToken}};
 
 use crate::class::{Class, class_of_byte};
 use bstr::ByteSlice;

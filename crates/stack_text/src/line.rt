@@ -1,7 +1,6 @@
 //! Lines of a text.
 
-ghost use Rattle.std.specs.Prelude.{◌≡◌};
-ghost use Rattle.std.specs.List.{list_all};
+ghost use Rattle.std.specs.{Prelude.{◌≡◌}, List.{list_all}};
 ghost use Rattle.stack_text.specs.Lines.{is_plain_byte, is_plain_line};
 
 use crate::limits::MOST_LINE_BYTES;

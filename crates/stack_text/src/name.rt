@@ -1,12 +1,9 @@
 //! Names.
 
-ghost use Rattle.std.specs.Prelude.{◌≡◌, IfOk, IsTrue};
-ghost use Rattle.std.specs.List.{list_all};
+ghost use Rattle.std.specs.{Prelude.{◌≡◌, IfOk, IsTrue}, List.{list_all}};
 ghost use Rattle.stack_heap.specs.Heaps.{IfOkUnless};
-ghost use Rattle.stack_text.specs.Gives.{ReturnsUnless};
-ghost use Rattle.stack_text.specs.Grammar.Printed.{unplaced};
-ghost use Rattle.stack_text.specs.Names.{begins_with_letter, is_mark, is_name, is_name_byte, is_truth_word, name_of};
-ghost use Rattle.stack_text.specs.Views.NameView.{kept_bytes, FitsInPlace};
+ghost use Rattle.stack_text.specs.{Gives.{ReturnsUnless}, Grammar.Printed.{unplaced}, Names.{begins_with_letter, is_mark, is_name, is_name_byte}};
+ghost use Rattle.stack_text.specs.{Names.{is_truth_word, name_of}, Views.NameView.{kept_bytes, FitsInPlace}};
 
 use crate::Memory;
 use crate::limits::MOST_NAME_BYTES;
@@ -43,8 +40,7 @@ pub struct Name {
 
 impl Model for Name {
     ghost use Rattle.std.specs.Prelude.{List, ℕ, IsTrue};
-    ghost use Rattle.stack_text.specs.Names.{is_name};
-    ghost use Rattle.stack_text.specs.Views.NameView.{kept_bytes, FitsInPlace};
+    ghost use Rattle.stack_text.specs.{Names.{is_name}, Views.NameView.{kept_bytes, FitsInPlace}};
 
     ghost Value = { List ℕ };
 
@@ -128,8 +124,7 @@ impl fmt::Display for Name {
 }
 
 impl PartialEq for Name {
-    ghost use Rattle.std.specs.Str.{bytes_eq};
-    ghost use Rattle.std.specs.Cmp.Rules.{comparing};
+    ghost use Rattle.std.specs.{Str.{bytes_eq}, Cmp.Rules.{comparing}};
     ghost use Rattle.std.proofs.Common.{rules};
 
     ghost eq = { bytes_eq };

@@ -1,9 +1,6 @@
 //! Numerals.
 
-ghost use Rattle.std.specs.Prelude.{◌≡◌, IsTrue};
-ghost use Rattle.std.specs.List.{list_all};
-ghost use Rattle.std.specs.Char.{is_ascii_digit};
-ghost use Rattle.std.specs.Option.{SomeIff};
+ghost use Rattle.std.specs.{Prelude.{◌≡◌, IsTrue}, List.{list_all}, Char.{is_ascii_digit}, Option.{SomeIff}};
 ghost use Rattle.stack_text.specs.Numerals.{fits_128_bits, is_digits, is_numeral, numeral_of, numeral_value};
 
 use std::str;

@@ -1,7 +1,6 @@
 //! Pieces of text that stand side by side.
 
-ghost use Rattle.std.specs.Prelude.{◌≡◌, ◌++◌};
-ghost use Rattle.std.specs.List.{flat_map};
+ghost use Rattle.std.specs.{Prelude.{◌≡◌, ◌++◌}, List.{flat_map}};
 ghost use Rattle.stack_heap.specs.Heaps.{OnOkUnless};
 
 use crate::memory::Memory;

@@ -2,9 +2,7 @@
 
 ghost use Rattle.std.specs.Prelude.{◌≡◌, ◌++◌, ◌==◌, ◌∷◌, [], if◌then◌else◌, IfOk};
 ghost use Rattle.stack_heap.specs.Heaps.{IfOkUnless, OnOkUnless};
-ghost use Rattle.stack_text.specs.Trees.{IsWellFormed, ReadsAs};
-ghost use Rattle.stack_text.specs.TreeText.{tree_text};
-ghost use Rattle.stack_text.specs.Views.TreeView.{owned_node};
+ghost use Rattle.stack_text.specs.{Trees.{IsWellFormed, ReadsAs}, TreeText.{tree_text}, Views.TreeView.{owned_node}};
 
 use crate::memory::Memory;
 use crate::tree::Tree;

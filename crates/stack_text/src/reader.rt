@@ -1,16 +1,11 @@
 //! Reading a tree.
 
 ghost use Rattle.std.specs.Prelude.{◌≡◌, ◌<◌, ◌≤◌, ◌^◌, length, drop, IfOk, IfErr, MatchResult};
-ghost use Rattle.stack_text.specs.Tokens.{tokens, between};
-ghost use Rattle.stack_text.specs.Trees.{Node, TreeOf, IsWellFormed};
-ghost use Rattle.stack_text.specs.Views.TreeView.{node_of, owned_node};
-ghost use Rattle.stack_text.specs.TextFaults.{ReportsFault};
-ghost use Rattle.stack_text.specs.TreeIn.{tree_in, GivesTreeUnless, ReadsExactly};
-ghost use Rattle.stack_text.specs.PlaceOrder.{IsInOrder};
-ghost use Rattle.stack_text.specs.Internal.TokenSpans.{token_in};
-ghost use Rattle.stack_heap.specs.Heaps.{RefusesWithin, room_after};
-ghost use Rattle.stack_text.specs.Internal.OpenLists.{opened, Puts, Steps, ReturnsAlone, ReadsText};
+ghost use Rattle.stack_text.specs.{Tokens.{tokens, between}, Trees.{Node, TreeOf, IsWellFormed}, Views.TreeView.{node_of, owned_node}};
+ghost use Rattle.stack_text.specs.{TextFaults.{ReportsFault}, TreeIn.{tree_in, GivesTreeUnless, ReadsExactly}, PlaceOrder.{IsInOrder}};
+ghost use Rattle.stack_text.specs.{Internal.TokenSpans.{token_in}, Internal.OpenLists.{opened, Puts, Steps, ReturnsAlone, ReadsText}};
 ghost use Rattle.stack_text.specs.declared.text_fault.TextFault.TheVariants.{Fault, Memory};
+ghost use Rattle.stack_heap.specs.Heaps.{RefusesWithin, room_after};
 
 use crate::lexer::{TokenKind, TokenSpan, next_token};
 use crate::text_fault::{TextFault, TextRule};

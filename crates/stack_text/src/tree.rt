@@ -2,8 +2,7 @@
 
 ghost use Rattle.std.specs.Prelude.{◌≡◌};
 ghost use Rattle.stack_heap.specs.Heaps.{IfOkUnless};
-ghost use Rattle.stack_text.specs.Trees.{place_of};
-ghost use Rattle.stack_text.specs.Views.TreeView.{node_of, owned_node};
+ghost use Rattle.stack_text.specs.{Trees.{place_of}, Views.TreeView.{node_of, owned_node}};
 
 use stack_heap::Heap;
 use std::alloc::AllocError;

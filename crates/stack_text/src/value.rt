@@ -1,7 +1,6 @@
 //! Values of a shape.
 
-ghost use Rattle.std.specs.Prelude.{◌≡◌, IsTrue, IfSome, ◌↔◌, IsSome};
-ghost use Rattle.std.specs.List.{list_all};
+ghost use Rattle.std.specs.{Prelude.{◌≡◌, IsTrue, IfSome, ◌↔◌, IsSome}, List.{list_all}};
 ghost use Rattle.stack_heap.specs.Heaps.{IfOkUnless};
 ghost use Rattle.stack_text.specs.Values.{is_item, is_value, ValueOf};
 

@@ -1,31 +1,18 @@
 -- Each cycle of the module is a cycle of the circuit.
-use Rattle.std.proofs.Common.{◌≡◌, ℕ, ◌+◌, ◌%◌, ◌^◌, ◌<◌, ◌==◌, ◌&&◌, max, Bool, true, not, [], ◌∷◌, refl, sym, ap, subst, ◌∙◌, arith}
-use Rattle.std.proofs.Common.{codes, pow_pos, mod-lt, nat_lt, Contains, if◌then◌else◌}
-use Rattle.std.proofs.lemmas.Bool.{eqb-true, ltb-true, and_parts}
-use Rattle.std.proofs.lemmas.List.Elements.{All-contains}
-use Rattle.std.specs.Prelude.{map, slice_index, slice_set}
-use Rattle.std.specs.Int.{from_bool as bit_of}
-use Rattle.fm_circuit.specs.declared.wire.Wire.{Wire}
+use Rattle.std.proofs.Common.{◌≡◌, ℕ, ◌+◌, ◌%◌, ◌^◌, ◌<◌, ◌==◌, ◌&&◌, max, Bool, true, not, [], ◌∷◌, refl, sym, ap, subst, ◌∙◌, arith, codes, pow_pos, mod-lt}
+use Rattle.std.{proofs.Common.{nat_lt, Contains, if◌then◌else◌}, proofs.lemmas.Bool.{eqb-true, ltb-true, and_parts}, proofs.lemmas.List.Elements.All-contains}
+use Rattle.std.{specs.Prelude.{map, slice_index, slice_set}, specs.Int.from_bool as bit_of}
+use Rattle.fm_circuit.{specs.declared.wire.Wire.Wire, specs.declared.circuit.Driver.Driver, specs.Widths.width_of, specs.Circuit.{pin_of, driven, taken}}
+use Rattle.fm_circuit.{specs.Circuit.reset_of, specs.Processor.driver_of, specs.Board.{Board, registers, on_board, kept_next}, specs.Sizes.FitsBoard}
+use Rattle.fm_circuit.{specs.Sizes.{register_widths, has_width, is_sized}, proofs.SettledLaws.only_settled, proofs.SizeLaws.{driven_fits, sized}}
 use Rattle.fm_circuit.specs.declared.wire.Wire.TheVariants as w
-use Rattle.fm_circuit.specs.declared.circuit.Driver.{Driver}
 use Rattle.fm_circuit.specs.declared.circuit.Driver.TheVariants as d
-use Rattle.fm_circuit.specs.Widths.{width_of}
-use Rattle.fm_circuit.specs.Circuit.{pin_of, driven, taken, reset_of}
-use Rattle.fm_circuit.specs.Processor.{driver_of}
-use Rattle.fm_circuit.specs.Board.{Board, registers, on_board, kept_next}
-use Rattle.fm_circuit.specs.Sizes.{FitsBoard, register_widths, has_width, is_sized}
-use Rattle.fm_circuit.proofs.SettledLaws.{only_settled}
-use Rattle.fm_circuit.proofs.SizeLaws.{driven_fits, sized}
-use Rattle.fm_gates.specs.Gates.{file_numbers}
-use Rattle.fm_gates.proofs.WordLaws.{file_words}
+use Rattle.fm_gates.{specs.Gates.file_numbers, proofs.WordLaws.file_words}
 use Rattle.fm_verilog.specs.WireNames.{name_of}
-use Rattle.verilog_meaning.specs.Syntax.{Item}
-use Rattle.verilog_meaning.specs.Meaning.{Snapshot, size, value_of, width_in, HasSettled, HasTaken, IsCycle}
+use Rattle.verilog_meaning.{specs.Syntax.Item, specs.Meaning.{Snapshot, size, value_of, width_in, HasSettled, HasTaken, IsCycle}}
 use Rattle.verilog_meaning.specs.ProcessorModule.{expression_of, driving_of, file_line, address_line, data_line, write_line, out_items, processor}
-use Rattle.verilog_meaning.specs.Laws.{Keeps, Shows, IsBoardCycle, Means}
-use Rattle.verilog_meaning.proofs.WidthLaws.{width_is, address_width, data_width, file_count}
-use Rattle.verilog_meaning.proofs.ValueLaws.{carried, assigned_value}
-use Rattle.verilog_meaning.proofs.ItemLaws.{positive, driving_there, out_there, IsAt, all_at, number_at}
+use Rattle.verilog_meaning.{specs.Laws.{Keeps, Shows, IsBoardCycle, Means}, proofs.WidthLaws.{width_is, address_width, data_width, file_count}}
+use Rattle.verilog_meaning.{proofs.ValueLaws.{carried, assigned_value}, proofs.ItemLaws.{positive, driving_there, out_there, IsAt, all_at, number_at}}
 use Rattle.verilog_meaning.proofs.EdgeLaws.{edge_value, write_value, store_value, whole_value}
 
 cut : (x y n m : ℕ) → n ≡ m → x ≡ y % 2 ^ n → x < 2 ^ m

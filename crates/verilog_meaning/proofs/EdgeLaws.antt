@@ -1,23 +1,15 @@
 -- What is taken at an edge of the clock, and what is written.
-use Rattle.std.proofs.Common.{◌≡◌, ℕ, zero, suc, ◌%◌, ◌^◌, ◌<◌, ◌==◌, ◌&&◌, max, Bool, true, false, not, List, refl, sym, ap, subst, ◌∙◌}
-use Rattle.std.proofs.Common.{arith, codes, mod-eq_of_lt, nat_lt, if◌then◌else◌}
-use Rattle.std.proofs.lemmas.Bool.{ltb-true, and_parts}
-use Rattle.std.specs.Prelude.{slice_index}
+use Rattle.std.proofs.Common.{◌≡◌, ℕ, zero, suc, ◌%◌, ◌^◌, ◌<◌, ◌==◌, ◌&&◌, max, Bool, true, false, not, List, refl, sym, ap, subst, ◌∙◌, arith, codes}
+use Rattle.std.{proofs.Common.{mod-eq_of_lt, nat_lt, if◌then◌else◌}, proofs.lemmas.Bool.{ltb-true, and_parts}, specs.Prelude.slice_index}
 use Rattle.std.specs.Int.{from_bool as bit_of}
-use Rattle.fm_circuit.specs.declared.wire.Wire.{Wire}
+use Rattle.fm_circuit.{specs.declared.wire.Wire.Wire, specs.declared.circuit.Pin.Pin, specs.Widths.width_of, specs.Circuit.pin_of, specs.Sizes.register_widths}
+use Rattle.fm_circuit.{specs.Sizes.{has_width, is_sized}, proofs.SizeLaws.pin_fits}
 use Rattle.fm_circuit.specs.declared.wire.Wire.TheVariants as w
-use Rattle.fm_circuit.specs.declared.circuit.Pin.{Pin}
 use Rattle.fm_circuit.specs.declared.circuit.Driver.TheVariants as d
-use Rattle.fm_circuit.specs.Widths.{width_of}
-use Rattle.fm_circuit.specs.Circuit.{pin_of}
-use Rattle.fm_circuit.specs.Sizes.{register_widths, has_width, is_sized}
-use Rattle.fm_circuit.proofs.SizeLaws.{pin_fits}
 use Rattle.fm_verilog.specs.WireNames.{name_of}
 use Rattle.verilog_meaning.specs.Syntax as v
-use Rattle.verilog_meaning.specs.Meaning.{Snapshot, size, assigned, width_in}
-use Rattle.verilog_meaning.specs.ProcessorModule.{pin_expression, no_reset, processor}
-use Rattle.verilog_meaning.proofs.WidthLaws.{width_is, file_width, write_width}
-use Rattle.verilog_meaning.proofs.ValueLaws.{carried, pin_value}
+use Rattle.verilog_meaning.{specs.Meaning.{Snapshot, size, assigned, width_in}, specs.ProcessorModule.{pin_expression, no_reset, processor}}
+use Rattle.verilog_meaning.{proofs.WidthLaws.{width_is, file_width, write_width}, proofs.ValueLaws.{carried, pin_value}}
 
 small_bit : (t : Bool) → bit_of t < 2 ^ 1
 small_bit true = omega arith

@@ -1,22 +1,15 @@
 -- The items of the module: where each wire's line is, and what holds of all.
 use Rattle.std.proofs.Common.{◌≡◌, ℕ, zero, suc, ◌+◌, ◌<◌, true, List, [], ◌∷◌, ◌++◌, length, refl, sym, ap, ◌∙◌, arith, get_or, nat_lt, All, Contains}
-use Rattle.std.proofs.lemmas.Bool.{ltb-true}
-use Rattle.std.proofs.lemmas.Grind.{flat_map-append}
-use Rattle.std.proofs.lemmas.List.{length-map, get_or-map, get_or_default}
-use Rattle.std.proofs.lemmas.List.Elements.{All-append, All-map, Contains-append_left, Contains-append_right}
-use Rattle.std.specs.List.{flat_map}
-use Rattle.std.specs.Prelude.{map, slice_index, position, bytes_eq, unwrap_or}
-use Rattle.fm_circuit.specs.declared.wire.Wire.{Wire}
-use Rattle.fm_circuit.specs.declared.wire.Wire.TheVariants as w
-use Rattle.fm_circuit.specs.declared.circuit.Driver.{Driver}
-use Rattle.fm_circuit.specs.declared.circuit.Driver.TheVariants as d
-use Rattle.fm_circuit.specs.Widths.{width_of, wires}
-use Rattle.fm_circuit.specs.Processor.{driver_of}
+use Rattle.std.{proofs.lemmas.Bool.ltb-true, proofs.lemmas.Grind.flat_map-append, proofs.lemmas.List.{length-map, get_or-map, get_or_default}}
+use Rattle.std.{proofs.lemmas.List.Elements.{All-append, All-map, Contains-append_left, Contains-append_right}, specs.List.flat_map, specs.Prelude.map}
+use Rattle.std.specs.Prelude.{slice_index, position, bytes_eq, unwrap_or}
+use Rattle.fm_circuit.{specs.declared.wire.Wire.Wire, specs.declared.circuit.Driver.Driver, specs.Widths.{width_of, wires}, specs.Processor.driver_of}
 use Rattle.fm_circuit.specs.Board.{registers}
+use Rattle.fm_circuit.specs.declared.wire.Wire.TheVariants as w
+use Rattle.fm_circuit.specs.declared.circuit.Driver.TheVariants as d
 use Rattle.fm_verilog.specs.WireNames.{name_of}
-use Rattle.verilog_meaning.specs.Syntax.{Item}
-use Rattle.verilog_meaning.specs.Laws.{Names, is_name}
-use Rattle.verilog_meaning.specs.ProcessorModule.{declaration_of, driving_of, declarations, drivings, file_items, out_items, module_of, processor}
+use Rattle.verilog_meaning.{specs.Syntax.Item, specs.Laws.{Names, is_name}, specs.ProcessorModule.{declaration_of, driving_of, declarations, drivings}}
+use Rattle.verilog_meaning.specs.ProcessorModule.{file_items, out_items, module_of, processor}
 
 -- where a wire stands
 abbrev place : Wire → ℕ

@@ -3,12 +3,9 @@ use Rattle.std.proofs.Common.{◌≡◌, ℕ, zero, suc, ◌==◌, ◌&&◌, fal
 use Rattle.std.specs.Int.{from_bool as bit_of}
 use Rattle.fm_machine.specs.State.{word_at, with_word}
 use Rattle.fm_circuit.specs.declared.wire.Wire.TheVariants as w
-use Rattle.fm_circuit.specs.Board.{Board, cycle, cycles, on_board}
-use Rattle.fm_circuit.proofs.SizeLaws.{fitting}
+use Rattle.fm_circuit.{specs.Board.{Board, cycle, cycles, on_board}, proofs.SizeLaws.fitting}
 use Rattle.fm_gates.proofs.WordLaws.{is_one}
-use Rattle.verilog_meaning.specs.Meaning.{Snapshot}
-use Rattle.verilog_meaning.specs.Laws.{Shows, IsBoardCycle, Answers, IsRun, Runs}
-use Rattle.verilog_meaning.proofs.CycleLaws.{means}
+use Rattle.verilog_meaning.{specs.Meaning.Snapshot, specs.Laws.{Shows, IsBoardCycle, Answers, IsRun, Runs}, proofs.CycleLaws.means}
 
 stepped : (now next : Snapshot) (b : Board) (before after : List ℕ) → Shows now false b → before ≡ b.memory → IsBoardCycle now next false b →
     Answers now next b.base before after → next.value (codes "reset") ≡ 0 → Shows next false (cycle b) × (after ≡ (cycle b).memory)

@@ -1,32 +1,19 @@
 -- The snapshot of a board, and a cycle of the module from it to that of the next.
-use Rattle.std.proofs.Common.{◌≡◌, ℕ, ◌+◌, ◌^◌, ◌<◌, ◌==◌, ◌&&◌, Bool, true, false, not, List, [], ◌∷◌, length, refl, sym, ap, subst, ◌∙◌}
-use Rattle.std.proofs.Common.{⊎_elim, arith, codes, eq-eqb, get_or-set_same, get_or-set_other, length-set, All, if◌then◌else◌}
-use Rattle.std.proofs.lemmas.Bool.{cases_eq, ltb-true, ne_eqb}
-use Rattle.std.proofs.lemmas.List.Elements.{All-nil, All-cons}
-use Rattle.std.specs.Prelude.{map, bytes_eq, slice_index, slice_set}
-use Rattle.std.specs.Int.{from_bool as bit_of}
-use Rattle.fm_circuit.specs.declared.wire.Wire.{Wire}
+use Rattle.std.proofs.Common.{◌≡◌, ℕ, ◌+◌, ◌^◌, ◌<◌, ◌==◌, ◌&&◌, Bool, true, false, not, List, [], ◌∷◌, length, refl, sym, ap, subst, ◌∙◌, ⊎_elim, arith, codes}
+use Rattle.std.{proofs.Common.{eq-eqb, get_or-set_same, get_or-set_other, length-set, All, if◌then◌else◌}, proofs.lemmas.Bool.{cases_eq, ltb-true, ne_eqb}}
+use Rattle.std.{proofs.lemmas.List.Elements.{All-nil, All-cons}, specs.Prelude.{map, bytes_eq, slice_index, slice_set}, specs.Int.from_bool as bit_of}
+use Rattle.fm_circuit.{specs.declared.wire.Wire.Wire, specs.declared.circuit.Pin.Pin, specs.declared.circuit.Driver.Driver, specs.Widths.{width_of, wires}}
+use Rattle.fm_circuit.{specs.Circuit.{pin_of, driven, taken, reset_of}, specs.Processor.driver_of, specs.Board.{Board, cycle_with, on_board, registers}}
+use Rattle.fm_circuit.{specs.Sizes.{FitsBoard, is_sized}, proofs.SettledLaws.settled_on, proofs.SizeLaws.{driven_fits, fitting, sized}}
 use Rattle.fm_circuit.specs.declared.wire.Wire.TheVariants as w
-use Rattle.fm_circuit.specs.declared.circuit.Pin.{Pin}
-use Rattle.fm_circuit.specs.declared.circuit.Driver.{Driver}
 use Rattle.fm_circuit.specs.declared.circuit.Driver.TheVariants as d
-use Rattle.fm_circuit.specs.Widths.{width_of, wires}
-use Rattle.fm_circuit.specs.Circuit.{pin_of, driven, taken, reset_of}
-use Rattle.fm_circuit.specs.Processor.{driver_of}
-use Rattle.fm_circuit.specs.Board.{Board, cycle_with, on_board, registers}
-use Rattle.fm_circuit.specs.Sizes.{FitsBoard, is_sized}
-use Rattle.fm_circuit.proofs.SettledLaws.{settled_on}
-use Rattle.fm_circuit.proofs.SizeLaws.{driven_fits, fitting, sized}
 use Rattle.fm_verilog.specs.WireNames.{name_of}
 use Rattle.verilog_meaning.specs.Syntax as v
-use Rattle.verilog_meaning.specs.Meaning.{Snapshot, width_in, HasSettled, HasTaken, IsCycle}
-use Rattle.verilog_meaning.specs.ProcessorModule.{declaration_of, driving_of, processor}
-use Rattle.verilog_meaning.specs.ProcessorModule.{register_file, first_words, file_line, address_line, data_line, write_line}
-use Rattle.verilog_meaning.specs.Laws.{Shows, GoesOn}
-use Rattle.verilog_meaning.proofs.WidthLaws.{width_is, address_width, data_width, file_count}
-use Rattle.verilog_meaning.proofs.ValueLaws.{carried, assigned_value}
-use Rattle.verilog_meaning.proofs.ItemLaws.{positive, all_items, IsAt, all_at, numbers_from, rebuilt}
-use Rattle.verilog_meaning.proofs.EdgeLaws.{edge_value, write_value, store_value, whole_value}
+use Rattle.verilog_meaning.{specs.Meaning.{Snapshot, width_in, HasSettled, HasTaken, IsCycle}, specs.ProcessorModule.{declaration_of, driving_of, processor}}
+use Rattle.verilog_meaning.{specs.ProcessorModule.{register_file, first_words, file_line, address_line, data_line, write_line}, specs.Laws.{Shows, GoesOn}}
+use Rattle.verilog_meaning.{proofs.WidthLaws.{width_is, address_width, data_width, file_count}, proofs.ValueLaws.{carried, assigned_value}}
+use Rattle.verilog_meaning.{proofs.ItemLaws.{positive, all_items, IsAt, all_at, numbers_from, rebuilt}, proofs.EdgeLaws.{edge_value, write_value, store_value}}
+use Rattle.verilog_meaning.proofs.EdgeLaws.{whole_value}
 
 -- a name with its value
 record Valued : Type 0 where

@@ -1,25 +1,16 @@
 -- The printed text is that of the module.
 use Rattle.std.proofs.Common.{◌≡◌, ℕ, zero, suc, ◌+◌, ◌-◌, List, [], ◌∷◌, ◌++◌, refl, sym, ap, ◌∙◌, append_assoc, false, nat_lt, codes, if◌then◌else◌}
-use Rattle.std.specs.Prelude.{map}
-use Rattle.std.specs.List.{flat_map}
-use Rattle.std.specs.Fmt.{decimal, digits}
+use Rattle.std.{specs.Prelude.map, specs.List.flat_map, specs.Fmt.{decimal, digits}}
 use Rattle.fm_circuit.specs.declared.wire.Wire as wires
-use Rattle.fm_circuit.specs.declared.circuit.Pin.{Pin}
-use Rattle.fm_circuit.specs.declared.circuit.Pin.TheVariants.{Whole, Bits, Constant}
-use Rattle.fm_circuit.specs.declared.circuit.Driver.{Driver}
+use Rattle.fm_circuit.{specs.declared.circuit.Pin.Pin, specs.declared.circuit.Pin.TheVariants.{Whole, Bits, Constant}, specs.declared.circuit.Driver.Driver}
+use Rattle.fm_circuit.{specs.Widths.{width_of, wires as all_wires}, specs.Circuit.pin_width, specs.Processor.driver_of}
 use Rattle.fm_circuit.specs.declared.circuit.Driver.TheVariants as d
-use Rattle.fm_circuit.specs.Widths.{width_of, wires as all_wires}
-use Rattle.fm_circuit.specs.Circuit.{pin_width}
-use Rattle.fm_circuit.specs.Processor.{driver_of}
-use Rattle.fm_verilog.specs.WireNames.{name_of}
-use Rattle.fm_verilog.specs.VerilogText.{constant_text, pin_text, widened_text, row_text, rows_text, expression_text, clock_text}
-use Rattle.fm_verilog.specs.VerilogText.{at_reset_text, clocked_text, assigned_text, target_text, kind_text, declaration_text, driving_text}
-use Rattle.fm_verilog.specs.VerilogText.{head_text, tail_text, verilog_text}
-use Rattle.verilog_meaning.specs.Syntax.{Item, operand_text, written, item_text, module_text}
-use Rattle.verilog_meaning.specs.ProcessorModule.{pin_expression, rows_expression, widened, expression_of, declaration_of, driving_of}
-use Rattle.verilog_meaning.specs.ProcessorModule.{file_items, out_items, module_of, processor}
-use Rattle.verilog_meaning.specs.Laws.{Written}
-use Rattle.verilog_meaning.proofs.ItemLaws.{items_mapped}
+use Rattle.fm_verilog.{specs.WireNames.name_of, specs.VerilogText.{constant_text, pin_text, widened_text, row_text, rows_text, expression_text, clock_text}}
+use Rattle.fm_verilog.specs.VerilogText.{at_reset_text, clocked_text, assigned_text, target_text, kind_text, declaration_text, driving_text, head_text}
+use Rattle.fm_verilog.specs.VerilogText.{tail_text, verilog_text}
+use Rattle.verilog_meaning.{specs.Syntax.{Item, operand_text, written, item_text, module_text}, specs.ProcessorModule.{pin_expression, rows_expression}}
+use Rattle.verilog_meaning.specs.ProcessorModule.{widened, expression_of, declaration_of, driving_of, file_items, out_items, module_of, processor}
+use Rattle.verilog_meaning.{specs.Laws.Written, proofs.ItemLaws.items_mapped}
 
 pin_written : (p : Pin) → written (pin_expression p) ≡ pin_text p
 pin_written (Whole wire) = refl

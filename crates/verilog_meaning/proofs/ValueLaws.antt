@@ -1,24 +1,14 @@
 -- The value of each expression is the circuit's.
-use Rattle.std.proofs.Common.{◌≡◌, ℕ, zero, suc, ◌+◌, ◌-◌, ◌*◌, ◌/◌, ◌%◌, ◌^◌, ◌<◌, ◌≤◌, ◌==◌, ◌&&◌, max, Bool, true, false, List, [], ◌∷◌}
-use Rattle.std.proofs.Common.{length, refl, sym, ap, subst, ◌∙◌, ⊎_elim, arith, codes, pow_pos, pow_mono, div-one, mod-eq_of_lt, eq-eqb}
-use Rattle.std.proofs.Common.{nat_lt, if◌then◌else◌}
-use Rattle.std.proofs.lemmas.Bool.{cases_lt, ne_eqb, eqb-true, ltb-true, and_parts, false≢true}
-use Rattle.std.specs.Prelude.{map, slice_index, bit_and, bit_or, bit_xor}
-use Rattle.std.specs.List.{list_all}
-use Rattle.std.specs.Int.{from_bool as bit_of}
-use Rattle.fm_circuit.specs.declared.wire.Wire.{Wire}
-use Rattle.fm_circuit.specs.declared.circuit.Pin.{Pin}
-use Rattle.fm_circuit.specs.declared.circuit.Pin.TheVariants.{Whole, Bits, Constant}
-use Rattle.fm_circuit.specs.declared.circuit.Driver.{Driver}
+use Rattle.std.proofs.Common.{◌≡◌, ℕ, zero, suc, ◌+◌, ◌-◌, ◌*◌, ◌/◌, ◌%◌, ◌^◌, ◌<◌, ◌≤◌, ◌==◌, ◌&&◌, max, Bool, true, false, List, [], ◌∷◌, length, refl, sym}
+use Rattle.std.proofs.Common.{ap, subst, ◌∙◌, ⊎_elim, arith, codes, pow_pos, pow_mono, div-one, mod-eq_of_lt, eq-eqb, nat_lt, if◌then◌else◌}
+use Rattle.std.{proofs.lemmas.Bool.{cases_lt, ne_eqb, eqb-true, ltb-true, and_parts, false≢true}, specs.Prelude.{map, slice_index, bit_and, bit_or, bit_xor}}
+use Rattle.std.{specs.List.list_all, specs.Int.from_bool as bit_of}
+use Rattle.fm_circuit.{specs.declared.wire.Wire.Wire, specs.declared.circuit.Pin.Pin, specs.declared.circuit.Pin.TheVariants.{Whole, Bits, Constant}}
+use Rattle.fm_circuit.{specs.declared.circuit.Driver.Driver, specs.Widths.width_of, specs.Circuit.{Kept, above, pin_of, pin_width, chosen, driven}}
+use Rattle.fm_circuit.{specs.Sizes.{has_width, is_choice, is_sized, input_widths}, proofs.SizeLaws.{width_is, pin_fits}}
 use Rattle.fm_circuit.specs.declared.circuit.Driver.TheVariants as d
-use Rattle.fm_circuit.specs.Widths.{width_of}
-use Rattle.fm_circuit.specs.Circuit.{Kept, above, pin_of, pin_width, chosen, driven}
-use Rattle.fm_circuit.specs.Sizes.{has_width, is_choice, is_sized, input_widths}
-use Rattle.fm_circuit.proofs.SizeLaws.{width_is, pin_fits}
-use Rattle.fm_verilog.specs.WireNames.{name_of}
-use Rattle.fm_verilog.specs.VerilogText.{port_name}
-use Rattle.verilog_meaning.specs.Meaning.{Snapshot, size, value_of}
-use Rattle.verilog_meaning.specs.ProcessorModule.{pin_expression, rows_expression, widened, expression_of}
+use Rattle.fm_verilog.{specs.WireNames.name_of, specs.VerilogText.port_name}
+use Rattle.verilog_meaning.{specs.Meaning.{Snapshot, size, value_of}, specs.ProcessorModule.{pin_expression, rows_expression, widened, expression_of}}
 
 -- what the wires carry in a snapshot
 abbrev pub carried : Snapshot → Wire → ℕ

@@ -1,19 +1,12 @@
 -- The widths that the module declares are those of the wires.
-use Rattle.std.proofs.Common.{◌≡◌, ℕ, List, [], ◌∷◌, ◌++◌, refl, ap, ◌∙◌, codes}
-use Rattle.std.specs.Prelude.{map, find, option_map, unwrap_or, bytes_eq}
+use Rattle.std.{proofs.Common.{◌≡◌, ℕ, List, [], ◌∷◌, ◌++◌, refl, ap, ◌∙◌, codes}, specs.Prelude.{map, find, option_map, unwrap_or, bytes_eq}}
 use Rattle.std.specs.List.{flat_map}
-use Rattle.fm_circuit.specs.declared.wire.Wire.{Wire}
+use Rattle.fm_circuit.{specs.declared.wire.Wire.Wire, specs.declared.circuit.Driver.Driver, specs.Widths.{width_of, wires}, specs.Processor.driver_of}
 use Rattle.fm_circuit.specs.declared.wire.Wire.TheVariants as w
-use Rattle.fm_circuit.specs.declared.circuit.Driver.{Driver}
 use Rattle.fm_circuit.specs.declared.circuit.Driver.TheVariants as d
-use Rattle.fm_circuit.specs.Widths.{width_of, wires}
-use Rattle.fm_circuit.specs.Processor.{driver_of}
 use Rattle.fm_verilog.specs.WireNames.{name_of}
-use Rattle.verilog_meaning.specs.Syntax.{Signal}
-use Rattle.verilog_meaning.specs.Meaning.{declared, width_in, words_in}
-use Rattle.verilog_meaning.specs.ProcessorModule.{signal_of, declaration_of, driving_of, declarations, drivings}
-use Rattle.verilog_meaning.specs.ProcessorModule.{file_items, out_items, module_of, processor}
-use Rattle.verilog_meaning.proofs.ItemLaws.{items_mapped}
+use Rattle.verilog_meaning.{specs.Syntax.Signal, specs.Meaning.{declared, width_in, words_in}, specs.ProcessorModule.{signal_of, declaration_of, driving_of}}
+use Rattle.verilog_meaning.{specs.ProcessorModule.{declarations, drivings, file_items, out_items, module_of, processor}, proofs.ItemLaws.items_mapped}
 
 one : (wire : Wire) (driver : Driver) → declared (declaration_of wire driver) ≡ signal_of wire ∷ []
 one wire (d.Register number reset next) = refl

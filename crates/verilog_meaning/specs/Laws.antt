@@ -1,20 +1,13 @@
 -- The law of the printed text: it is the text of a module of Verilog, and each cycle of that module is a cycle of the circuit.
 use Rattle.std.specs.Prelude.{◌≡◌, ℕ, suc, ◌<◌, ◌==◌, ◌&&◌, ◌||◌, nat_le, Bool, true, false, not, List, [], ◌∷◌, map, length, codes}
-use Rattle.std.specs.Prelude.{is_some, unwrap_or, if◌then◌else◌}
-use Rattle.std.specs.List.{list_all}
-use Rattle.std.specs.Int.{from_bool as bit_of}
+use Rattle.std.specs.{Prelude.{is_some, unwrap_or, if◌then◌else◌}, List.{list_all}, Int.{from_bool as bit_of}}
 use Rattle.fm_machine.specs.State.{word_at, with_word}
-use Rattle.fm_circuit.specs.declared.wire.Wire.{Wire}
-use Rattle.fm_circuit.specs.declared.wire.Wire.TheVariants as w
-use Rattle.fm_circuit.specs.Circuit.{Kept}
-use Rattle.fm_circuit.specs.Board.{Board, cycle_with, cycles, on_board, registers}
+use Rattle.fm_circuit.specs.{declared.wire.Wire.{Wire}, Circuit.{Kept}, Board.{Board, cycle_with, cycles, on_board, registers}}
 use Rattle.fm_circuit.specs.Sizes.{FitsBoard}
+use Rattle.fm_circuit.specs.declared.wire.Wire.TheVariants as w
 use Rattle.fm_gates.specs.Gates.{file_numbers}
-use Rattle.fm_verilog.specs.WireNames.{name_of}
-use Rattle.fm_verilog.specs.VerilogText.{verilog_text}
-use Rattle.verilog_meaning.specs.Syntax.{module_text}
-use Rattle.verilog_meaning.specs.Meaning.{Snapshot, IsCycle}
-use Rattle.verilog_meaning.specs.ProcessorModule.{processor}
+use Rattle.fm_verilog.specs.{WireNames.{name_of}, VerilogText.{verilog_text}}
+use Rattle.verilog_meaning.specs.{Syntax.{module_text}, Meaning.{Snapshot, IsCycle}, ProcessorModule.{processor}}
 
 -- a snapshot has what the circuit keeps
 pub record Keeps (now : Snapshot) (kept : Kept) : Type 0 where

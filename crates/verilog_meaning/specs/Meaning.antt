@@ -2,13 +2,10 @@
 -- settled, and an edge of the clock. A bit is 0 or 1, never unknown.
 -- It is so of modules whose names are declared, whose parts have bits that are there, and where an integer without a width stands beside
 -- something that has one: then no value has a sign.
-use Rattle.std.specs.Prelude.{◌≡◌, ℕ, ◌+◌, ◌-◌, ◌*◌, ◌/◌, ◌%◌, ◌^◌, ◌<◌, ◌==◌, ◌&&◌, not, max, List, [], ◌∷◌, ◌++◌, All}
-use Rattle.std.specs.Prelude.{bytes_eq, find, option_map, unwrap_or, bit_and, bit_or, bit_xor, if◌then◌else◌}
-use Rattle.std.specs.List.{flat_map}
-use Rattle.std.specs.Int.{from_bool as bit_of}
-use Rattle.verilog_meaning.specs.Syntax.{Expression, Number, Integer, Named, Part, Word, Join, Inverse, Not}
-use Rattle.verilog_meaning.specs.Syntax.{Sum, Equal, And, Xor, Or, Both, Choice}
-use Rattle.verilog_meaning.specs.Syntax.{Signal, Item, Wire, Register, Memory, Assign, Clocked, Stored, Module}
+use Rattle.std.specs.Prelude.{◌≡◌, ℕ, ◌+◌, ◌-◌, ◌*◌, ◌/◌, ◌%◌, ◌^◌, ◌<◌, ◌==◌, ◌&&◌, not, max, List, [], ◌∷◌, ◌++◌, All, bytes_eq, find}
+use Rattle.std.specs.{Prelude.{option_map, unwrap_or, bit_and, bit_or, bit_xor, if◌then◌else◌}, List.{flat_map}, Int.{from_bool as bit_of}}
+use Rattle.verilog_meaning.specs.Syntax.{Expression, Number, Integer, Named, Part, Word, Join, Inverse, Not, Sum, Equal, And, Xor, Or, Both}
+use Rattle.verilog_meaning.specs.Syntax.{Choice, Signal, Item, Wire, Register, Memory, Assign, Clocked, Stored, Module}
 
 -- what an item declares
 abbrev pub declared : Item → List Signal

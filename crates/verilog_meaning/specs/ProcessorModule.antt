@@ -1,15 +1,11 @@
 -- The processor's circuit as a module of Verilog.
 use Rattle.std.specs.Prelude.{ℕ, ◌+◌, List, [], ◌∷◌, ◌++◌, map, codes}
 use Rattle.fm_circuit.specs.declared.wire.Wire as wires
-use Rattle.fm_circuit.specs.declared.circuit.Pin.{Pin}
-use Rattle.fm_circuit.specs.declared.circuit.Pin.TheVariants.{Whole, Bits, Constant}
-use Rattle.fm_circuit.specs.declared.circuit.Driver.{Driver}
-use Rattle.fm_circuit.specs.declared.circuit.Driver.TheVariants as d
-use Rattle.fm_circuit.specs.Widths.{width_of, wires as all_wires}
-use Rattle.fm_circuit.specs.Circuit.{pin_width}
+use Rattle.fm_circuit.specs.{declared.circuit.Pin.{Pin}, declared.circuit.Pin.TheVariants.{Whole, Bits, Constant}}
+use Rattle.fm_circuit.specs.{declared.circuit.Driver.{Driver}, Widths.{width_of, wires as all_wires}, Circuit.{pin_width}}
 use Rattle.fm_circuit.specs.Processor.{driver_of}
-use Rattle.fm_verilog.specs.WireNames.{name_of}
-use Rattle.fm_verilog.specs.VerilogText.{port_name}
+use Rattle.fm_circuit.specs.declared.circuit.Driver.TheVariants as d
+use Rattle.fm_verilog.specs.{WireNames.{name_of}, VerilogText.{port_name}}
 use Rattle.verilog_meaning.specs.Syntax as v
 
 -- a pin

@@ -1,7 +1,5 @@
 -- The few forms of Verilog in which a circuit is printed, and how they are written.
-use Rattle.std.specs.Prelude.{ℕ, ◌-◌, ◌==◌, List, [], ◌∷◌, ◌++◌, codes, nat_lt, if◌then◌else◌}
-use Rattle.std.specs.List.{flat_map}
-use Rattle.std.specs.Fmt.{decimal}
+use Rattle.std.specs.{Prelude.{ℕ, ◌-◌, ◌==◌, List, [], ◌∷◌, ◌++◌, codes, nat_lt, if◌then◌else◌}, List.{flat_map}, Fmt.{decimal}}
 
 -- an expression: a number of so many bits, an integer, a name, some bits of a name, and a word of a memory; and the operators
 pub data Expression : Type 0 where

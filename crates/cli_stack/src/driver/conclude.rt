@@ -2,9 +2,7 @@
 ghost use Rattle.std.specs.Prelude.{◌≡◌, ◌⊎◌, IfOk, Some, None, map};
 ghost use Rattle.stack_heap.specs.Heaps.{IfOkUnless};
 ghost use Rattle.stack_commands.specs.Works.{IsEnding};
-ghost use Rattle.cli_stack.specs.World.{out_of};
-ghost use Rattle.cli_stack.specs.RepliesTo.{TookLines};
-ghost use Rattle.cli_stack.specs.Driver.{machine_kept, conclusion_of, replied, Printed, Stopped, Concludes};
+ghost use Rattle.cli_stack.specs.{World.{out_of}, RepliesTo.{TookLines}, Driver.{machine_kept, conclusion_of, replied, Printed, Stopped, Concludes}};
 
 use command_line::{EarlyEnd, Status, print};
 use fm_machine::Machine;

@@ -2,13 +2,10 @@
 ghost use Rattle.std.specs.Prelude.{◌⊎◌, List, IfOk, IfErr, IfSome, Some};
 ghost use Rattle.level_debuggers.specs.Tallies.{Watching};
 ghost use Rattle.stack_shelf.specs.Causes.{NoneFell};
-ghost use Rattle.command_line.specs.CommandWords.{spelled};
-ghost use Rattle.command_line.specs.CommandRows.{command_of};
-ghost use Rattle.cli_stack.specs.World.{shelf_of};
+ghost use Rattle.command_line.specs.{CommandWords.{spelled}, CommandRows.{command_of}};
+ghost use Rattle.cli_stack.specs.{World.{shelf_of}, RepliesTo.{IsReplyTo}, Driver.{Leaves, HasReason, replied}};
 ghost use Rattle.stack_commands.specs.Works.{IsEnding, ending_reply};
 ghost use Rattle.command_replies.specs.Replies.{reply_of};
-ghost use Rattle.cli_stack.specs.RepliesTo.{IsReplyTo};
-ghost use Rattle.cli_stack.specs.Driver.{Leaves, HasReason, replied};
 
 use command_line::{Command, EarlyEnd, WordsFault, command_of, gather, save};
 use stack_commands::{Ending, Reply, Verdict, Work, finish, prepare};

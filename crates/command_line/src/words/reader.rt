@@ -1,6 +1,7 @@
 //! Reads words one after the other.
 ghost use Rattle.std.specs.Prelude.{◌≡◌};
-ghost use Rattle.command_line.specs.CommandWords.{ReadsWordsUnless, ReadsExactly, spelled, first, file, size, limit, seed, procedures, debug_level, level_named, turn_length, task, tasks_within, tasks, end};
+ghost use Rattle.command_line.specs.CommandWords.{ReadsWordsUnless, ReadsExactly, spelled, first, file, size, limit, seed, procedures, debug_level};
+ghost use Rattle.command_line.specs.CommandWords.{level_named, turn_length, task, tasks_within, tasks, end};
 
 use crate::command::TaskFiles;
 use crate::words::name::FileName;

@@ -1,6 +1,7 @@
 //! The words of each command.
-ghost use Rattle.command_line.specs.CommandWords.{ReadsWordsUnless, ReadsExactly, spelled};
-ghost use Rattle.command_line.specs.CommandRows.{check_row, mean_row, pit_row, build_row, pcheck_row, prun_row, pbuild_row, run_row, go_row, show_row, migrate_row, asm_row, unasm_row, need_row, cert_row, debug_row, turns_row, big_row, mini_row, row_of, command_of};
+ghost use Rattle.command_line.specs.{CommandWords.{ReadsWordsUnless, ReadsExactly, spelled}, CommandRows.{check_row, mean_row, pit_row, build_row, pcheck_row}};
+ghost use Rattle.command_line.specs.CommandRows.{prun_row, pbuild_row, run_row, go_row, show_row, migrate_row, asm_row, unasm_row, need_row, cert_row};
+ghost use Rattle.command_line.specs.CommandRows.{debug_row, turns_row, big_row, mini_row, row_of, command_of};
 
 use crate::command::Command;
 use crate::words::reader::{

@@ -1,11 +1,9 @@
 -- The command `asm`: the image of an assembly text.
 use Rattle.std.specs.Prelude.{ℕ, List, Option, Some, None, Result, Ok, Err}
 use Rattle.stack_text.specs.declared.breach.Breach.{Breach}
-use Rattle.fm_image.specs.Image.{ImageOf}
-use Rattle.fm_image.specs.Spelling.{spelling}
+use Rattle.fm_image.specs.{Image.{ImageOf}, Spelling.{spelling}}
 use Rattle.fm_asm.specs.Assembling.{assembly_of}
-use Rattle.command_replies.specs.declared.reply.RuleLetter.TheVariants.{A}
-use Rattle.command_replies.specs.declared.reply.Verdict.TheVariants.{Refused}
+use Rattle.command_replies.specs.{declared.reply.RuleLetter.TheVariants.{A}, declared.reply.Verdict.TheVariants.{Refused}}
 use Rattle.command_replies.specs.Replies.{ReplyOf, verdict_alone, built_reply}
 
 abbrev pub assembled_stored : Result ImageOf Breach → Option (List ℕ)

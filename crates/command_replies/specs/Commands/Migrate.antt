@@ -1,11 +1,7 @@
 -- The command `migrate`.
 use Rattle.std.specs.Prelude.{ℕ, List, Option, Some, None, Result, Ok, Err}
-use Rattle.fm_image.specs.Image.{ImageOf}
-use Rattle.fm_image.specs.Limits.{in_version_2}
-use Rattle.fm_image.specs.Reading.{read_of}
-use Rattle.fm_image.specs.Spelling.{spelling}
-use Rattle.command_replies.specs.declared.reply.Verdict.TheVariants.{Image}
-use Rattle.command_replies.specs.Replies.{written_reply, ReplyOf, verdict_alone}
+use Rattle.fm_image.specs.{Image.{ImageOf}, Limits.{in_version_2}, Reading.{read_of}, Spelling.{spelling}}
+use Rattle.command_replies.specs.{declared.reply.Verdict.TheVariants.{Image}, Replies.{written_reply, ReplyOf, verdict_alone}}
 
 -- what is stored: the file of the same image in version 2
 abbrev pub migrated_stored : Result ImageOf (ℕ × ℕ) → Option (List ℕ)

@@ -1,12 +1,10 @@
 -- The command `mini`: the source that a program of the infix language becomes.
 use Rattle.std.specs.Prelude.{ℕ, List, Option, Some, None, Result, Ok, Err}
 use Rattle.stack_text.specs.declared.breach.Breach.{Breach}
-use Rattle.gypsy_syntax.specs.Printed.{gypsy_text}
-use Rattle.gypsy_syntax.specs.Sources.{SourceOf}
+use Rattle.gypsy_syntax.specs.{Printed.{gypsy_text}, Sources.{SourceOf}}
 use Rattle.mini_gypsy.specs.Stored.{lowering_by}
 use Rattle.mini_syntax.proofs.AnswerLaws.{read}
-use Rattle.command_replies.specs.declared.reply.RuleLetter.TheVariants.{Y}
-use Rattle.command_replies.specs.declared.reply.Verdict.TheVariants.{Refused}
+use Rattle.command_replies.specs.{declared.reply.RuleLetter.TheVariants.{Y}, declared.reply.Verdict.TheVariants.{Refused}}
 use Rattle.command_replies.specs.Replies.{ReplyOf, verdict_alone, written_reply}
 
 -- The source that a text becomes, or the rule that it breaks, and where. Each text is a program that breaks no rule, or has a fault; by

@@ -1,7 +1,6 @@
 -- The command `pcheck`.
 use Rattle.std.specs.Prelude.{ℕ, List}
-use Rattle.command_replies.specs.Replies.{ReplyOf, judgement_reply}
-use Rattle.command_replies.specs.Commands.PitonText.{checked_in}
+use Rattle.command_replies.specs.{Replies.{ReplyOf, judgement_reply}, Commands.PitonText.{checked_in}}
 
 -- the judgement of a Piton text
 abbrev pub pcheck_reply : List ℕ → ReplyOf

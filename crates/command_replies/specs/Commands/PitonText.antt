@@ -1,18 +1,11 @@
 -- A Piton text, read and judged. What a command with such a text goes on with is the checked system.
 use Rattle.std.specs.Prelude.{ℕ, List, Option, Some, None, Result, Ok, Err}
-use Rattle.stack_text.specs.declared.breach.Breach.{Breach}
-use Rattle.stack_text.specs.Breaches.{least}
-use Rattle.piton_syntax.specs.declared.fault.PitonFault.{PitonFault}
-use Rattle.piton_syntax.specs.declared.fault.PitonFault.TheVariants.{Text, Form, Memory}
-use Rattle.piton_syntax.specs.PitonReading.{piton_in}
-use Rattle.piton_syntax.specs.Systems.{SystemOf}
-use Rattle.piton_check.specs.PitonChecking.{CheckedOf}
-use Rattle.piton_check.specs.Resolved.{resolved}
-use Rattle.piton_check.specs.Violations.{violations}
-use Rattle.command_replies.specs.declared.reply.RuleLetter.TheVariants.{G, P, Q}
-use Rattle.command_replies.specs.declared.reply.Verdict.{Verdict}
-use Rattle.command_replies.specs.declared.reply.Verdict.TheVariants.{Usage, Refused}
-use Rattle.command_replies.specs.Replies.{text_rule_number}
+use Rattle.stack_text.specs.{declared.breach.Breach.{Breach}, Breaches.{least}}
+use Rattle.piton_syntax.specs.{declared.fault.PitonFault.{PitonFault}, declared.fault.PitonFault.TheVariants.{Text, Form, Memory}}
+use Rattle.piton_syntax.specs.{PitonReading.{piton_in}, Systems.{SystemOf}}
+use Rattle.piton_check.specs.{PitonChecking.{CheckedOf}, Resolved.{resolved}, Violations.{violations}}
+use Rattle.command_replies.specs.{declared.reply.RuleLetter.TheVariants.{G, P, Q}, declared.reply.Verdict.{Verdict}}
+use Rattle.command_replies.specs.{declared.reply.Verdict.TheVariants.{Usage, Refused}, Replies.{text_rule_number}}
 
 -- why a text is no system: a rule of the form of texts, or of that of systems; `piton_in` never runs out of memory
 abbrev pub piton_verdict : PitonFault → Verdict

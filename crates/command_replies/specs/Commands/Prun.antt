@@ -1,20 +1,15 @@
 -- The command `prun`.
-use Rattle.std.specs.Prelude.{ℕ, List, [], ◌++◌, Result, Ok, Err, reverse, slice_index_or, codes}
-use Rattle.std.specs.List.{flat_map, enumerate_from}
+use Rattle.std.specs.{Prelude.{ℕ, List, [], ◌++◌, Result, Ok, Err, reverse, slice_index_or, codes}, List.{flat_map, enumerate_from}}
 use Rattle.std.specs.Fmt.{decimal}
 use Rattle.piton_words.specs.declared.word.Word.{Word}
 use Rattle.piton_syntax.specs.Systems.{AreaOf, SystemOf}
-use Rattle.piton_check.specs.PitonChecking.{CheckedOf}
-use Rattle.piton_semantics.specs.declared.stepped.PitonRun.{PitonRun}
-use Rattle.piton_semantics.specs.declared.stepped.PitonRun.TheVariants.{Halted, Spent, Error}
-use Rattle.piton_semantics.specs.Fits.{system_in}
-use Rattle.piton_semantics.specs.StateView.{Seen, Ran, state_run, opening}
-use Rattle.piton_check.specs.NamedWords.{program_name_at, words_line}
+use Rattle.piton_check.specs.{PitonChecking.{CheckedOf}, NamedWords.{program_name_at, words_line}}
+use Rattle.piton_semantics.specs.{declared.stepped.PitonRun.{PitonRun}, declared.stepped.PitonRun.TheVariants.{Halted, Spent, Error}}
+use Rattle.piton_semantics.specs.{Fits.{system_in}, StateView.{Seen, Ran, state_run, opening}}
 use Rattle.stack_text.specs.Lines.{line}
-use Rattle.command_replies.specs.declared.reply.Verdict.{Verdict}
-use Rattle.command_replies.specs.declared.reply.Verdict.TheVariants as verdict
-use Rattle.command_replies.specs.Replies.{ReplyOf, verdict_alone, all_said}
+use Rattle.command_replies.specs.{declared.reply.Verdict.{Verdict}, Replies.{ReplyOf, verdict_alone, all_said}}
 use Rattle.command_replies.specs.Commands.PitonText.{checked_in}
+use Rattle.command_replies.specs.declared.reply.Verdict.TheVariants as verdict
 
 -- an area's name and its words
 abbrev pub area_line : SystemOf → List (List Word) → ℕ × AreaOf → List ℕ

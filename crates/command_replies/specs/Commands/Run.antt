@@ -1,18 +1,13 @@
 -- A run of an image on values, and the command `run`.
 use Rattle.std.specs.Prelude.{ℕ, List, [], Some, Result, Ok, Err}
 use Rattle.stack_text.specs.Values.{ValueOf}
-use Rattle.fm_machine.specs.Outcome.{RunOutcome, outcome}
-use Rattle.fm_machine.specs.State.{Fm}
-use Rattle.fm_machine.specs.declared.processor.Run.{Run}
+use Rattle.fm_machine.specs.{Outcome.{RunOutcome, outcome}, State.{Fm}, declared.processor.Run.{Run}}
 use Rattle.fm_machine.specs.declared.processor.Run.TheVariants as run
-use Rattle.fm_image.specs.Image.{ImageOf}
-use Rattle.fm_image.specs.Reading.{read_of}
-use Rattle.fm_loader.specs.Loaded.{loaded}
-use Rattle.fm_loader.specs.Values.{values_in}
-use Rattle.display_maps.specs.Reading.{reading}
-use Rattle.display_maps.specs.Report.{report_text}
-use Rattle.command_replies.specs.declared.reply.Verdict.TheVariants.{Done, Values, Image, Unfinished, Outside}
-use Rattle.command_replies.specs.Replies.{ReplyOf, verdict_alone}
+use Rattle.fm_image.specs.{Image.{ImageOf}, Reading.{read_of}}
+use Rattle.fm_loader.specs.{Loaded.{loaded}, Values.{values_in}}
+use Rattle.display_maps.specs.{Reading.{reading}, Report.{report_text}}
+use Rattle.command_replies.specs.{declared.reply.Verdict.TheVariants.{Done, Values, Image, Unfinished, Outside}, Replies.{ReplyOf}}
+use Rattle.command_replies.specs.Replies.{verdict_alone}
 
 -- how a run ended, and the report where it came to the image's final program counter
 abbrev pub end_reply : ImageOf → ℕ → Run → Fm → ReplyOf

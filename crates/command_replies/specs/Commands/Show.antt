@@ -1,10 +1,8 @@
 -- The command `show`.
 use Rattle.std.specs.Prelude.{ℕ, List, Result, Ok, Err}
-use Rattle.fm_image.specs.Image.{ImageOf}
-use Rattle.fm_image.specs.Reading.{read_of}
+use Rattle.fm_image.specs.{Image.{ImageOf}, Reading.{read_of}}
 use Rattle.fm_show.specs.ImageListing.{image_listing}
-use Rattle.command_replies.specs.declared.reply.Verdict.TheVariants.{Image}
-use Rattle.command_replies.specs.Replies.{ReplyOf, verdict_alone, all_said}
+use Rattle.command_replies.specs.{declared.reply.Verdict.TheVariants.{Image}, Replies.{ReplyOf, verdict_alone, all_said}}
 
 -- the listing of an image, or the rule that the file breaks, and where
 abbrev pub listing_reply : Result ImageOf (ℕ × ℕ) → ReplyOf

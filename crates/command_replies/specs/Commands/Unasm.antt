@@ -1,10 +1,8 @@
 -- The command `unasm`: the assembly text of a plain image.
 use Rattle.std.specs.Prelude.{ℕ, List, Option, Some, None, Result, Ok, Err, if◌then◌else◌}
-use Rattle.fm_image.specs.Image.{ImageOf}
-use Rattle.fm_image.specs.Reading.{read_of}
+use Rattle.fm_image.specs.{Image.{ImageOf}, Reading.{read_of}}
 use Rattle.fm_asm.specs.Printing.{is_plain, assembly_text}
-use Rattle.command_replies.specs.declared.reply.Verdict.TheVariants.{Image, NotPlain}
-use Rattle.command_replies.specs.Replies.{ReplyOf, verdict_alone, written_reply}
+use Rattle.command_replies.specs.{declared.reply.Verdict.TheVariants.{Image, NotPlain}, Replies.{ReplyOf, verdict_alone, written_reply}}
 
 -- the text of an image, where it is plain
 abbrev pub plain_stored : ImageOf → Option (List ℕ)

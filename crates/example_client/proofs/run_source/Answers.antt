@@ -1,10 +1,7 @@
-use Rattle.std.proofs.Common.{IfOk, Result, subst}
-use Rattle.std.proofs.lemmas.Result.{err_from_is_err_and}
+use Rattle.std.{proofs.Common.{IfOk, Result, subst}, proofs.lemmas.Result.err_from_is_err_and}
 use Rattle.display_maps.specs.declared.ending.Ending.{Ending}
 use Rattle.gypsy_space.specs.Needs.{stack_sizes}
-use Rattle.stack_build.specs.declared.start_fault.StartFault.{StartFault}
-use Rattle.stack_build.specs.SourceRuns.{TellsMeaning}
-use Rattle.stack_build.proofs.SourceRunLaws.{run_told, run_refused}
+use Rattle.stack_build.{specs.declared.start_fault.StartFault.StartFault, specs.SourceRuns.TellsMeaning, proofs.SourceRunLaws.{run_told, run_refused}}
 use Rattle.example_client.proofs.run_source.Goals as goal
 
 pub returns-in_err-run_on-clause-value : goal.returns-in_err-run_on-clause-value

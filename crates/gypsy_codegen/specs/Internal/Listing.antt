@@ -1,10 +1,7 @@
 -- Internal: what listing the marks of a procedure knows.
 use Rattle.std.specs.Prelude.{map}
-use Rattle.gypsy_syntax.specs.Programs.{Program, Stmt, Call, Apply}
-use Rattle.gypsy_syntax.specs.ProgramFits.{ProgramFits}
-use Rattle.gypsy_space.specs.declared.program.Application.{Application}
-use Rattle.gypsy_space.specs.declared.program.CallSite.{CallSite}
-use Rattle.gypsy_space.specs.Events.{AreNeeds}
+use Rattle.gypsy_syntax.specs.{Programs.{Program, Stmt, Call, Apply}, ProgramFits.{ProgramFits}}
+use Rattle.gypsy_space.specs.{declared.program.Application.{Application}, declared.program.CallSite.{CallSite}, Events.{AreNeeds}}
 use Rattle.gypsy_space.specs.Nodes.{seen_arg, seen_cond, seen_program}
 use Rattle.gypsy_codegen.specs.declared.marking.Marking.{Marking}
 

@@ -1,36 +1,22 @@
 -- What clauses see of the generator's types, and what its code needs.
 use Rattle.std.specs.Prelude.{◌≡◌, ℕ, suc, ◌+◌, ◌<◌, ◌≤◌, pos, List, [], ◌∷◌, ◌++◌, map, length, Option, Some, None, option_map, ◌^◌}
-use Rattle.stack_text.specs.declared.shape.Shape.{Shape}
-use Rattle.stack_text.specs.Values.{ValueOf}
-use Rattle.stack_text.specs.Grammar.Printed.{unplaced}
-use Rattle.piton_words.specs.declared.word.Word.{Word}
-use Rattle.piton_words.specs.declared.word.Word.TheVariants.{Nat}
-use Rattle.piton_syntax.specs.declared.argument.ArgText.{ArgText}
+use Rattle.stack_text.specs.{declared.shape.Shape.{Shape}, Values.{ValueOf}, Grammar.Printed.{unplaced}}
+use Rattle.piton_words.specs.{declared.word.Word.{Word}, declared.word.Word.TheVariants.{Nat}}
+use Rattle.piton_syntax.specs.{declared.argument.ArgText.{ArgText}, declared.op.PitonOp.{PitonOp}, declared.word_text.WordText.{WordText}}
+use Rattle.piton_syntax.specs.Systems.{InstrOf, AreaOf, new_area}
 use Rattle.piton_syntax.specs.declared.argument.ArgText.TheVariants as arg
-use Rattle.piton_syntax.specs.declared.op.PitonOp.{PitonOp}
 use Rattle.piton_syntax.specs.declared.op.PitonOp.TheVariants as op
 use Rattle.piton_syntax.specs.declared.test_kind.TestKind.TheVariants as test
 use Rattle.piton_syntax.specs.declared.word_text.WordItem.TheVariants as item
-use Rattle.piton_syntax.specs.declared.word_text.WordText.{WordText}
-use Rattle.piton_syntax.specs.Systems.{InstrOf, AreaOf, new_area}
 use Rattle.piton_check.specs.Instruction.{Instruction}
-use Rattle.gypsy_syntax.specs.Predefined.{predefs}
-use Rattle.gypsy_syntax.specs.Programs.{Program, Proc, Arg, Var, Lit, proc_at, shapes_of, body_of}
-use Rattle.gypsy_syntax.specs.Programs.{Stmt, Skip, NoOp, Signal, Seq, Loop, If, Begin, Call, Apply}
-use Rattle.gypsy_syntax.specs.Sources.{ProcOf}
-use Rattle.gypsy_syntax.specs.ProgramFits.{Each, ProgramFits}
-use Rattle.gypsy_space.specs.declared.need.Need.{Need}
-use Rattle.gypsy_space.specs.Events.{AreNeeds, AreSmall}
-use Rattle.gypsy_space.specs.Needs.{vars_of}
-use Rattle.gypsy_space.specs.Nodes.{seen_cond, seen_program}
+use Rattle.gypsy_syntax.specs.{Predefined.{predefs}, Programs.{Program, Proc, Arg, Var, Lit, proc_at, shapes_of, body_of, Stmt, Skip, NoOp}}
+use Rattle.gypsy_syntax.specs.{Programs.{Signal, Seq, Loop, If, Begin, Call, Apply}, Sources.{ProcOf}, ProgramFits.{Each, ProgramFits}}
+use Rattle.gypsy_space.specs.{declared.need.Need.{Need}, Events.{AreNeeds, AreSmall}, Needs.{vars_of}, Nodes.{seen_cond, seen_program}}
 use Rattle.gypsy_predef.specs.Texts.{instruction, constant, of_name, condition_area, number}
-use Rattle.gypsy_codegen.specs.declared.context.Context.{Context}
-use Rattle.gypsy_codegen.specs.declared.context.Scopes.{Scopes, Outside, InLoop', InBegin'}
-use Rattle.gypsy_codegen.specs.WordsOf.{words_of_values, number_of_way, zero_value}
-use Rattle.gypsy_codegen.specs.Generated.{Scope, InLoop, InBegin, offset, push_indices}
-use Rattle.gypsy_codegen.specs.Lines.{unmarked, labels, lines}
-use Rattle.gypsy_codegen.specs.Text.{names_by, frame_texts}
-use Rattle.gypsy_codegen.specs.Written.{Names, label_name, label_arg, written_word, written}
+use Rattle.gypsy_codegen.specs.{declared.context.Context.{Context}, declared.context.Scopes.{Scopes, Outside, InLoop', InBegin'}}
+use Rattle.gypsy_codegen.specs.{WordsOf.{words_of_values, number_of_way, zero_value}, Generated.{Scope, InLoop, InBegin, offset}}
+use Rattle.gypsy_codegen.specs.{Generated.{push_indices}, Lines.{unmarked, labels, lines}, Text.{names_by, frame_texts}, Written.{Names}}
+use Rattle.gypsy_codegen.specs.Written.{label_name, label_arg, written_word, written}
 
 -- the names with which a procedure is written
 abbrev pub names_of : Context → Names

@@ -1,25 +1,13 @@
 -- The call of a procedure, as the code has it.
-use Rattle.std.specs.Prelude.{◌≡◌, ℕ, ◌<◌, List, ◌∷◌, [], ◌++◌, map, length, drop}
-use Rattle.std.specs.declared.alloc.Global.{Global}
-use Rattle.std.specs.declared.rc.Rc.{Rc}
+use Rattle.std.specs.{Prelude.{◌≡◌, ℕ, ◌<◌, List, ◌∷◌, [], ◌++◌, map, length, drop}, declared.alloc.Global.{Global}, declared.rc.Rc.{Rc}}
 use Rattle.std.specs.Global.{Vec}
-use Rattle.stack_text.specs.declared.name.Name.{Name}
-use Rattle.stack_text.specs.declared.value.Value.{Value}
-use Rattle.gypsy_syntax.specs.Effects.{value_at}
-use Rattle.gypsy_syntax.specs.ProgramFits.{Distinct, Each}
-use Rattle.gypsy_syntax.specs.Programs.{Call, Space}
-use Rattle.gypsy_space.specs.Costs.{start_tally, pay}
-use Rattle.gypsy_space.specs.Nodes.{held_names, held_values, seen_cond, seen_program}
-use Rattle.gypsy_space.specs.declared.event.CostEvent.{CostEvent}
-use Rattle.gypsy_space.specs.declared.need.Need.{Need}
-use Rattle.gypsy_space.specs.declared.program.CallSite.{CallSite}
-use Rattle.gypsy_semantics.specs.Calls.{copied_out}
-use Rattle.gypsy_semantics.specs.Machine.{Item, Do, Next, gypsy_step, raise}
-use Rattle.gypsy_meaning.specs.Views.Running.{frames_in, sizes_of, state_of}
-use Rattle.gypsy_semantics.specs.Views.RunView.{added}
-use Rattle.gypsy_meaning.specs.declared.running.Meaning.{Meaning}
-use Rattle.gypsy_meaning.specs.declared.work.Item.{Item as Kept}
-use Rattle.gypsy_meaning.specs.Views.Work.{work_of}
+use Rattle.stack_text.specs.{declared.name.Name.{Name}, declared.value.Value.{Value}}
+use Rattle.gypsy_syntax.specs.{Effects.{value_at}, ProgramFits.{Distinct, Each}, Programs.{Call, Space}}
+use Rattle.gypsy_space.specs.{Costs.{start_tally, pay}, Nodes.{held_names, held_values, seen_cond, seen_program}}
+use Rattle.gypsy_space.specs.{declared.event.CostEvent.{CostEvent}, declared.need.Need.{Need}, declared.program.CallSite.{CallSite}}
+use Rattle.gypsy_semantics.specs.{Calls.{copied_out}, Machine.{Item, Do, Next, gypsy_step, raise}, Views.RunView.{added}}
+use Rattle.gypsy_meaning.specs.{Views.Running.{frames_in, sizes_of, state_of}, declared.running.Meaning.{Meaning}}
+use Rattle.gypsy_meaning.specs.{declared.work.Item.{Item as Kept}, Views.Work.{work_of}}
 
 -- the item of a call
 abbrev pub call_top : CallSite → Item

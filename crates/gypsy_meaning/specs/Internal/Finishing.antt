@@ -1,12 +1,9 @@
 -- The step that ends a run, as the code has it.
 use Rattle.std.specs.Prelude.{◌≡◌, ℕ, length, take, Bool, Some}
 use Rattle.gypsy_syntax.specs.Programs.{proc_at}
-use Rattle.gypsy_space.specs.Costs.{count_of, leaving}
-use Rattle.gypsy_space.specs.Nodes.{held_names, held_values, seen_program}
+use Rattle.gypsy_space.specs.{Costs.{count_of, leaving}, Nodes.{held_names, held_values, seen_program}}
 use Rattle.gypsy_semantics.specs.Calls.{main_formals}
-use Rattle.gypsy_meaning.specs.Views.Running.{paid}
-use Rattle.gypsy_meaning.specs.declared.running.Ending.{Ending}
-use Rattle.gypsy_meaning.specs.declared.running.Meaning.{Meaning}
+use Rattle.gypsy_meaning.specs.{Views.Running.{paid}, declared.running.Ending.{Ending}, declared.running.Meaning.{Meaning}}
 
 -- of a condition that leaves main: a formal one or spaceerror, or another
 abbrev pub end_price : Bool → ℕ

@@ -1,17 +1,14 @@
 -- Effects of predefined calls, as the code has them.
 use Rattle.std.specs.Prelude.{ℕ, List, map, get_or, IsTrue}
 use Rattle.stack_text.specs.Values.{ValueOf, is_item}
-use Rattle.gypsy_syntax.specs.Programs.{Lit}
-use Rattle.gypsy_syntax.specs.Predefined.{effect_by}
-use Rattle.gypsy_syntax.specs.Effects.{Effect, no_value, item_of_value}
+use Rattle.gypsy_syntax.specs.{Programs.{Lit}, Predefined.{effect_by}, Effects.{Effect, no_value, item_of_value}}
 use Rattle.gypsy_syntax.specs.declared.predef.Predef.{Predef}
 use Rattle.gypsy_syntax.specs.declared.predef.Predef.TheVariants as row
 use Rattle.gypsy_syntax.specs.Effects as effect
-use Rattle.gypsy_space.specs.declared.program.Argument.{Argument}
-use Rattle.gypsy_space.specs.Nodes.{seen_arg}
+use Rattle.gypsy_space.specs.{declared.program.Argument.{Argument}, Nodes.{seen_arg}}
 use Rattle.gypsy_semantics.specs.Calls.{value_of}
-use Rattle.gypsy_meaning.specs.declared.effects.OwnedEffect.{OwnedEffect}
-use Rattle.gypsy_meaning.specs.declared.effects.OwnedEffect.TheVariants.{Normal, Fault, Beyond}
+use Rattle.gypsy_meaning.specs.{declared.effects.OwnedEffect.{OwnedEffect}, declared.effects.OwnedEffect.TheVariants.{Normal, Fault}}
+use Rattle.gypsy_meaning.specs.declared.effects.OwnedEffect.TheVariants.{Beyond}
 
 abbrev pub effect_of : OwnedEffect → Effect
 effect_of (Normal v) = effect.Normal v

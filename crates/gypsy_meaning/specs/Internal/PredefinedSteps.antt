@@ -2,16 +2,10 @@
 use Rattle.std.specs.Prelude.{◌≡◌, ℕ, List, ◌∷◌, map, slice_set}
 use Rattle.stack_text.specs.Values.{ValueOf}
 use Rattle.gypsy_syntax.specs.Programs.{Program, Apply}
-use Rattle.gypsy_space.specs.declared.program.Application.{Application}
-use Rattle.gypsy_space.specs.Nodes.{seen_arg}
-use Rattle.gypsy_space.specs.Costs.{Tally, pay}
-use Rattle.gypsy_space.specs.Needs.{StackSizes}
+use Rattle.gypsy_space.specs.{declared.program.Application.{Application}, Nodes.{seen_arg}, Costs.{Tally, pay}, Needs.{StackSizes}}
 use Rattle.gypsy_semantics.specs.Machine.{Item, Do, Frame, At, Next, gypsy_step}
-use Rattle.gypsy_meaning.specs.Views.Work.{caught_spend}
-use Rattle.gypsy_meaning.specs.Internal.Turns.{IsPlain, GoesOn}
-use Rattle.gypsy_meaning.specs.declared.turn.Advance.{Advance}
-use Rattle.gypsy_meaning.specs.declared.applying.Applied.{Applied}
-use Rattle.gypsy_meaning.specs.declared.applying.Applied.TheVariants.{Writes, Fails}
+use Rattle.gypsy_meaning.specs.{Views.Work.{caught_spend}, Internal.Turns.{IsPlain, GoesOn}, declared.turn.Advance.{Advance}}
+use Rattle.gypsy_meaning.specs.{declared.applying.Applied.{Applied}, declared.applying.Applied.TheVariants.{Writes, Fails}}
 
 abbrev pub call_item : Application → Item
 call_item call = Do (Apply call.place call.which (map seen_arg call.args.items))

@@ -1,11 +1,9 @@
 -- The end of a procedure for which another waits, as the code has it.
 use Rattle.std.specs.Prelude.{◌≡◌, ℕ, ◌+◌, Bool, true, false}
-use Rattle.gypsy_space.specs.Costs.{count_of, raised_price}
+use Rattle.gypsy_space.specs.{Costs.{count_of, raised_price}, Nodes.{held_names, held_values}}
 use Rattle.gypsy_space.specs.declared.event.CostEvent.TheVariants as event
-use Rattle.gypsy_space.specs.Nodes.{held_names, held_values}
 use Rattle.gypsy_semantics.specs.Calls.{copied_out}
-use Rattle.gypsy_meaning.specs.declared.running.Frame.{Frame}
-use Rattle.gypsy_meaning.specs.declared.running.Meaning.{Meaning}
+use Rattle.gypsy_meaning.specs.{declared.running.Frame.{Frame}, declared.running.Meaning.{Meaning}}
 
 -- what a condition costs that leaves a procedure: a formal one or spaceerror, or another, and where it was caught or not
 abbrev pub out_price : Bool → Bool → ℕ

@@ -1,16 +1,11 @@
 -- A step, as the code makes it.
 use Rattle.std.specs.Prelude.{◌≡◌, ℕ, ◌+◌, List, length}
 use Rattle.gypsy_syntax.specs.Programs.{proc_at}
-use Rattle.gypsy_space.specs.Events.{AreNeeds, AreSmall}
-use Rattle.gypsy_space.specs.Nodes.{seen_program}
-use Rattle.gypsy_space.specs.declared.need.Need.{Need}
-use Rattle.gypsy_meaning.specs.Views.Held.{EndsRun, IsHeld, Moves}
-use Rattle.gypsy_semantics.specs.Kept.{StateFits}
-use Rattle.gypsy_meaning.specs.Views.Named.{variables_of}
-use Rattle.gypsy_meaning.specs.Views.Running.{state_of}
-use Rattle.gypsy_semantics.specs.declared.answers.Moved.{Moved}
-use Rattle.gypsy_semantics.specs.declared.answers.Moved.TheVariants as moved
+use Rattle.gypsy_space.specs.{Events.{AreNeeds, AreSmall}, Nodes.{seen_program}, declared.need.Need.{Need}}
+use Rattle.gypsy_meaning.specs.{Views.Held.{EndsRun, IsHeld, Moves}, Views.Named.{variables_of}, Views.Running.{state_of}}
 use Rattle.gypsy_meaning.specs.declared.running.Meaning.{Meaning}
+use Rattle.gypsy_semantics.specs.{Kept.{StateFits}, declared.answers.Moved.{Moved}}
+use Rattle.gypsy_semantics.specs.declared.answers.Moved.TheVariants as moved
 
 -- what a step of a run that isn't over wants
 pub record IsReady (needs : List Need) (m : Meaning) : Type 0 where

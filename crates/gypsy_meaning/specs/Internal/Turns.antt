@@ -1,23 +1,16 @@
 -- What a step does with the top of the work.
 use Rattle.std.specs.Prelude.{◌≡◌, ℕ, List, [], ◌∷◌, map}
 use Rattle.stack_text.specs.Values.{ValueOf}
-use Rattle.gypsy_syntax.specs.Programs.{ConditionOf, Program, Apply, Call, Routine}
-use Rattle.gypsy_syntax.specs.declared.predef.Predef.{Predef}
-use Rattle.gypsy_space.specs.declared.event.Outcome.{Outcome}
-use Rattle.gypsy_space.specs.Nodes.{seen_cond, seen_arg}
-use Rattle.gypsy_space.specs.Costs.{Tally, effect_of, pay, predef_spend}
-use Rattle.gypsy_space.specs.Needs.{StackSizes}
-use Rattle.gypsy_space.specs.declared.event.CostEvent.{CostEvent}
+use Rattle.gypsy_syntax.specs.{Programs.{ConditionOf, Program, Apply, Call, Routine}, declared.predef.Predef.{Predef}}
+use Rattle.gypsy_space.specs.{declared.event.Outcome.{Outcome}, Nodes.{seen_cond, seen_arg}, Costs.{Tally, effect_of, pay, predef_spend}}
+use Rattle.gypsy_space.specs.{Needs.{StackSizes}, declared.event.CostEvent.{CostEvent}, declared.program.Application.{Application}}
+use Rattle.gypsy_space.specs.declared.program.CallSite.{CallSite}
 use Rattle.gypsy_space.specs.declared.event.CostEvent.TheVariants as event
 use Rattle.gypsy_semantics.specs.Machine.{Item, Do, Frame, At, Next, gypsy_step}
 use Rattle.gypsy_semantics.specs.Machine as machine
-use Rattle.gypsy_meaning.specs.Views.Work.{caught_spend}
-use Rattle.gypsy_meaning.specs.declared.turn.Advance.{Advance}
-use Rattle.gypsy_meaning.specs.declared.turn.Turn.{Turn}
+use Rattle.gypsy_meaning.specs.{Views.Work.{caught_spend}, declared.turn.Advance.{Advance}, declared.turn.Turn.{Turn}}
 use Rattle.gypsy_meaning.specs.declared.turn.Turn.TheVariants.{Opens, Goes, Calls, Applies, Ends, Leaves as Leaves'}
 use Rattle.gypsy_meaning.specs.declared.work.Item.{Item as Kept}
-use Rattle.gypsy_space.specs.declared.program.Application.{Application}
-use Rattle.gypsy_space.specs.declared.program.CallSite.{CallSite}
 
 -- events but calls
 abbrev pub IsPlain : CostEvent → Type 0

@@ -1,18 +1,12 @@
 -- A step within a procedure, as the code makes it.
 use Rattle.std.specs.Prelude.{◌≡◌, List, [], ◌∷◌, Option, Some, None}
 use Rattle.stack_text.specs.Values.{ValueOf}
-use Rattle.gypsy_space.specs.declared.program.Application.{Application}
-use Rattle.gypsy_space.specs.Nodes.{seen_cond}
-use Rattle.gypsy_meaning.specs.Internal.PredefinedSteps.{call_item}
-use Rattle.gypsy_meaning.specs.Internal.PredefinedEffects.{Suits}
-use Rattle.gypsy_meaning.specs.Internal.Turns.{IsCall}
-use Rattle.gypsy_meaning.specs.Views.Held.{Moves}
+use Rattle.gypsy_space.specs.{declared.program.Application.{Application}, Nodes.{seen_cond}}
+use Rattle.gypsy_meaning.specs.{Internal.PredefinedSteps.{call_item}, Internal.PredefinedEffects.{Suits}, Internal.Turns.{IsCall}}
+use Rattle.gypsy_meaning.specs.{Views.Held.{Moves}, Views.Work.{work_of}, declared.running.Crossing.{Crossing}}
+use Rattle.gypsy_meaning.specs.{declared.running.Crossing.TheVariants.{Calls, Ends, Leaves}, declared.running.Meaning.{Meaning}}
 use Rattle.gypsy_semantics.specs.Machine.{Item}
 use Rattle.gypsy_meaning.specs.Internal.Turns as turn
-use Rattle.gypsy_meaning.specs.Views.Work.{work_of}
-use Rattle.gypsy_meaning.specs.declared.running.Crossing.{Crossing}
-use Rattle.gypsy_meaning.specs.declared.running.Crossing.TheVariants.{Calls, Ends, Leaves}
-use Rattle.gypsy_meaning.specs.declared.running.Meaning.{Meaning}
 
 -- on top of this work
 abbrev pub IsCrossing : List Item → Crossing → Type 0

@@ -1,20 +1,11 @@
 -- What belongs together: an accepted source, its needs, and a run of it.
 use Rattle.std.specs.Prelude.{◌≡◌, ℕ, List, map, take, length, Option, Some, None}
-use Rattle.gypsy_syntax.specs.Sources.{SourceOf}
-use Rattle.gypsy_syntax.specs.Programs.{proc_at}
-use Rattle.gypsy_syntax.specs.Resolved.{program_of}
-use Rattle.gypsy_syntax.specs.ValuesFit.{VarsFit}
+use Rattle.gypsy_syntax.specs.{Sources.{SourceOf}, Programs.{proc_at}, Resolved.{program_of}, ValuesFit.{VarsFit}}
 use Rattle.gypsy_check.specs.Accepted.{IsAccepted}
-use Rattle.gypsy_space.specs.Events.{AreNeeds, AreSmall}
-use Rattle.gypsy_space.specs.Nodes.{held_names, seen_program}
-use Rattle.gypsy_space.specs.declared.need.Need.{Need}
-use Rattle.gypsy_meaning.specs.Views.Held.{IsHeld}
-use Rattle.gypsy_semantics.specs.Room.{Suffices}
-use Rattle.gypsy_meaning.specs.Views.Named.{proc_names, seen_names, unnamed, variables_of}
-use Rattle.gypsy_meaning.specs.Views.Running.{seen, sizes_of}
-use Rattle.gypsy_semantics.specs.Views.RunView.{StageFits, after, opening}
-use Rattle.gypsy_meaning.specs.declared.running.Ending.{Ending}
-use Rattle.gypsy_meaning.specs.declared.running.Meaning.{Meaning}
+use Rattle.gypsy_space.specs.{Events.{AreNeeds, AreSmall}, Nodes.{held_names, seen_program}, declared.need.Need.{Need}}
+use Rattle.gypsy_meaning.specs.{Views.Held.{IsHeld}, Views.Named.{proc_names, seen_names, unnamed, variables_of}, Views.Running.{seen}}
+use Rattle.gypsy_meaning.specs.{Views.Running.{sizes_of}, declared.running.Ending.{Ending}, declared.running.Meaning.{Meaning}}
+use Rattle.gypsy_semantics.specs.{Room.{Suffices}, Views.RunView.{StageFits, after, opening}}
 
 -- the code's own: as long as the run goes on, and once it ended
 abbrev pub IsKept : Meaning → Option Ending → Type 0

@@ -1,19 +1,12 @@
 -- What the code keeps from step to step beside the state: names and the words in use.
 use Rattle.std.specs.Prelude.{◌≡◌, ℕ, List, [], ◌∷◌, map, length, reverse, take, Some}
-use Rattle.stack_text.specs.declared.name.Name.{Name}
-use Rattle.stack_text.specs.declared.value.Value.{Value}
+use Rattle.stack_text.specs.{declared.name.Name.{Name}, declared.value.Value.{Value}}
 use Rattle.gypsy_syntax.specs.Programs.{Program, proc_at}
-use Rattle.gypsy_space.specs.Costs.{Tally}
-use Rattle.gypsy_space.specs.Needs.{stack_sizes}
-use Rattle.gypsy_space.specs.Nodes.{held_names, held_values, seen_program}
-use Rattle.gypsy_semantics.specs.Machine.{Ended, gypsy_step, used}
+use Rattle.gypsy_space.specs.{Costs.{Tally}, Needs.{stack_sizes}, Nodes.{held_names, held_values, seen_program}}
+use Rattle.gypsy_semantics.specs.{Machine.{Ended, gypsy_step, used}, Views.RunView.{added}}
 use Rattle.gypsy_semantics.specs.Machine as machine
-use Rattle.gypsy_meaning.specs.Views.Named.{variables_of}
-use Rattle.gypsy_semantics.specs.Views.RunView.{added}
-use Rattle.gypsy_meaning.specs.Views.Running.{Costs, Goes, frame_of, kept_frames, sizes_of, state_of, way_of}
-use Rattle.gypsy_meaning.specs.declared.names.Names.{Names}
-use Rattle.gypsy_meaning.specs.declared.running.Ending.{Ending}
-use Rattle.gypsy_meaning.specs.declared.running.Frame.{Frame}
+use Rattle.gypsy_meaning.specs.{Views.Named.{variables_of}, Views.Running.{Costs, Goes, frame_of, kept_frames, sizes_of, state_of, way_of}}
+use Rattle.gypsy_meaning.specs.{declared.names.Names.{Names}, declared.running.Ending.{Ending}, declared.running.Frame.{Frame}}
 use Rattle.gypsy_meaning.specs.declared.running.Meaning.{Meaning}
 
 abbrev pub Variables : Type 0

@@ -1,11 +1,9 @@
 -- The names of procedures, as the code keeps them.
 use Rattle.std.specs.Prelude.{ℕ, List, [], map, get_or, Option, Some, None}
-use Rattle.gypsy_syntax.specs.Sources.{ProcOf}
-use Rattle.gypsy_syntax.specs.Resolved.{condition_names, variable_names}
+use Rattle.gypsy_syntax.specs.{Sources.{ProcOf}, Resolved.{condition_names, variable_names}}
 use Rattle.gypsy_semantics.specs.declared.conditions.Current.{Current}
 use Rattle.gypsy_semantics.specs.declared.conditions.Current.TheVariants as current
-use Rattle.gypsy_meaning.specs.declared.names.Names.{Names}
-use Rattle.gypsy_meaning.specs.declared.names.Unnamed.{Unnamed}
+use Rattle.gypsy_meaning.specs.{declared.names.Names.{Names}, declared.names.Unnamed.{Unnamed}}
 
 -- the names of variables, and conditions as they are shown
 pub record NamesOf : Type 0 where

@@ -5,24 +5,15 @@
 use Rattle.std.specs.Prelude.{◌≡◌, ℕ, ◌+◌, List, map, reverse, Bool, true, false, Option, Some, None}
 use Rattle.stack_text.specs.Values.{ValueOf}
 use Rattle.gypsy_syntax.specs.Programs.{Program}
-use Rattle.gypsy_space.specs.Nodes.{held_values, seen_cond, seen_program}
-use Rattle.gypsy_space.specs.Costs.{start_tally, count_of}
-use Rattle.gypsy_space.specs.Needs.{StackSizes, stack_sizes}
-use Rattle.gypsy_space.specs.Events.{event_count}
-use Rattle.gypsy_space.specs.declared.event.CostEvent.{CostEvent}
+use Rattle.gypsy_space.specs.{Nodes.{held_values, seen_cond, seen_program}, Costs.{start_tally, count_of}, Needs.{StackSizes, stack_sizes}}
+use Rattle.gypsy_space.specs.{Events.{event_count}, declared.event.CostEvent.{CostEvent}, declared.need.Need.{Need}}
 use Rattle.gypsy_space.specs.declared.event.CostEvent.TheVariants as event
-use Rattle.gypsy_space.specs.declared.need.Need.{Need}
-use Rattle.gypsy_semantics.specs.Calls.{CurrentCondition}
-use Rattle.gypsy_semantics.specs.Machine.{State, At, Held, Next, gypsy_step}
+use Rattle.gypsy_semantics.specs.{Calls.{CurrentCondition}, Machine.{State, At, Held, Next, gypsy_step}, Views.RunView.{Seen, Stage}}
+use Rattle.gypsy_semantics.specs.Views.RunView.{Running, Finished, added, bare, handed_back, spent_at}
 use Rattle.gypsy_semantics.specs.Machine as machine
-use Rattle.gypsy_semantics.specs.Views.RunView.{Seen, Stage, Running, Finished, added, bare, handed_back, spent_at}
-use Rattle.gypsy_meaning.specs.Views.Work.{work_of}
-use Rattle.gypsy_meaning.specs.declared.turn.Advance.{Advance}
-use Rattle.gypsy_meaning.specs.declared.work.Item.{Item as Kept}
-use Rattle.gypsy_meaning.specs.declared.running.Ending.{Ending}
+use Rattle.gypsy_meaning.specs.{Views.Work.{work_of}, declared.turn.Advance.{Advance}, declared.work.Item.{Item as Kept}}
+use Rattle.gypsy_meaning.specs.{declared.running.Ending.{Ending}, declared.running.Frame.{Frame}, declared.running.Meaning.{Meaning}}
 use Rattle.gypsy_meaning.specs.declared.running.Ending.TheVariants as ending
-use Rattle.gypsy_meaning.specs.declared.running.Frame.{Frame}
-use Rattle.gypsy_meaning.specs.declared.running.Meaning.{Meaning}
 
 abbrev pub frame_of : Frame → machine.Frame
 frame_of f =

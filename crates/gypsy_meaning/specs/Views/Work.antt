@@ -1,13 +1,12 @@
 -- What clauses see of work.
 use Rattle.std.specs.Prelude.{◌≡◌, ℕ, List, [], ◌∷◌, map, drop, take, Bool, true, false}
 use Rattle.gypsy_syntax.specs.Programs.{Stmt, Loop}
-use Rattle.gypsy_space.specs.Costs.{Tally, pay}
+use Rattle.gypsy_space.specs.{Costs.{Tally, pay}, Nodes.{seen_cond, seen_statement, seen_statements}}
 use Rattle.gypsy_space.specs.declared.event.CostEvent.TheVariants as event
 use Rattle.gypsy_semantics.specs.Machine.{Item, opens}
 use Rattle.gypsy_semantics.specs.Machine as machine
-use Rattle.gypsy_space.specs.Nodes.{seen_cond, seen_statement, seen_statements}
-use Rattle.gypsy_meaning.specs.declared.work.Item.{Item as Kept}
-use Rattle.gypsy_meaning.specs.declared.work.Item.TheVariants.{Do, Parts, Again, Back, JoinThen, JoinOne, Guard, Out}
+use Rattle.gypsy_meaning.specs.{declared.work.Item.{Item as Kept}, declared.work.Item.TheVariants.{Do, Parts, Again, Back, JoinThen}}
+use Rattle.gypsy_meaning.specs.declared.work.Item.TheVariants.{JoinOne, Guard, Out}
 
 abbrev pub item_of : Kept → Item
 item_of (Do n) = machine.Do (seen_statement n.value)

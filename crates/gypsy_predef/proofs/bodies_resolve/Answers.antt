@@ -1,5 +1,4 @@
-use Rattle.gypsy_predef.proofs.FormLaws.{fit}
-use Rattle.gypsy_predef.proofs.ResolvingLaws.{resolve, stand_resolved, keep_rules}
+use Rattle.gypsy_predef.{proofs.FormLaws.fit, proofs.ResolvingLaws.{resolve, stand_resolved, keep_rules}}
 use Rattle.gypsy_predef.proofs.bodies_resolve.Goals as goal
 
 pub returns-clause-one : goal.returns-clause-one

@@ -1,6 +1,4 @@
-use Rattle.gypsy_predef.proofs.RowLaws.{runs, counts, written_words}
-use Rattle.gypsy_predef.proofs.CallLaws.{calls, stand}
-use Rattle.gypsy_predef.proofs.ArgumentLaws.{arguments_hold, values_kept}
+use Rattle.gypsy_predef.{proofs.RowLaws.{runs, counts, written_words}, proofs.CallLaws.{calls, stand}, proofs.ArgumentLaws.{arguments_hold, values_kept}}
 use Rattle.std.proofs.Common.{refl}
 use Rattle.gypsy_syntax.specs.Predefined.{predef_effect}
 use Rattle.gypsy_predef.proofs.predefs_run.Goals as goal

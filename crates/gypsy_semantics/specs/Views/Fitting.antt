@@ -1,12 +1,7 @@
 -- Whether values and sizes suit the start of a run.
-use Rattle.std.specs.Prelude.{ℤ, List, [], ◌∷◌, length, Bool, true, false, ◌==◌, ◌&&◌, nat_le}
-use Rattle.std.specs.List.{list_all}
-use Rattle.stack_text.specs.SharedLimits.{most_array}
-use Rattle.stack_text.specs.declared.shape.Shape.{Shape}
-use Rattle.stack_text.specs.Values.{ValueOf, item_count, same_kind}
-use Rattle.gypsy_syntax.specs.Programs.{Program, proc_at}
-use Rattle.gypsy_syntax.specs.Ranges.{is_in_range}
-use Rattle.gypsy_syntax.specs.ValuesFit.{VarsFit}
+use Rattle.std.specs.{Prelude.{ℤ, List, [], ◌∷◌, length, Bool, true, false, ◌==◌, ◌&&◌, nat_le}, List.{list_all}}
+use Rattle.stack_text.specs.{SharedLimits.{most_array}, declared.shape.Shape.{Shape}, Values.{ValueOf, item_count, same_kind}}
+use Rattle.gypsy_syntax.specs.{Programs.{Program, proc_at}, Ranges.{is_in_range}, ValuesFit.{VarsFit}}
 use Rattle.gypsy_space.specs.Needs.{StackSizes, main_need}
 use Rattle.gypsy_semantics.specs.Room.{Suffices}
 

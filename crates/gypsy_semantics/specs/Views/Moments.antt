@@ -3,8 +3,8 @@ use Rattle.std.specs.Prelude.{◌≡◌, ℕ, zero, suc, List}
 use Rattle.stack_text.specs.Values.{ValueOf}
 use Rattle.gypsy_syntax.specs.Programs.{Program}
 use Rattle.gypsy_space.specs.Needs.{StackSizes}
-use Rattle.gypsy_semantics.specs.Machine.{State, Move, Next, Ended, gypsy_step, start}
-use Rattle.gypsy_semantics.specs.Views.RunView.{Seen, Stage, Running, Finished, ShowsSum, bare, spent_at}
+use Rattle.gypsy_semantics.specs.{Machine.{State, Move, Next, Ended, gypsy_step, start}, Views.RunView.{Seen, Stage, Running, Finished}}
+use Rattle.gypsy_semantics.specs.Views.RunView.{ShowsSum, bare, spent_at}
 
 -- one step more: what has ended stays as it is
 abbrev pub moved_on : Move → (State → Move) → Move

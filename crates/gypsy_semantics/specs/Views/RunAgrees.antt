@@ -1,11 +1,8 @@
 -- A run of the step machine and the meaning of its program.
 use Rattle.std.specs.Prelude.{◌≡◌, ℕ, suc, List, Some}
 use Rattle.stack_text.specs.Values.{ValueOf}
-use Rattle.gypsy_semantics.specs.Calls.{CurrentCondition}
-use Rattle.gypsy_semantics.specs.Meaning.{Done, meaning}
-use Rattle.gypsy_semantics.specs.Counted.{instruction_count}
-use Rattle.gypsy_semantics.specs.Views.RunView.{Seen, Stage, Running, Finished, ShowsSum}
-use Rattle.gypsy_semantics.specs.declared.answers.MeanRun.{MeanRun}
+use Rattle.gypsy_semantics.specs.{Calls.{CurrentCondition}, Meaning.{Done, meaning}, Counted.{instruction_count}, Views.RunView.{Seen}}
+use Rattle.gypsy_semantics.specs.{Views.RunView.{Stage, Running, Finished, ShowsSum}, declared.answers.MeanRun.{MeanRun}}
 use Rattle.gypsy_semantics.specs.declared.answers.MeanRun.TheVariants as ran
 
 -- after so many steps, the last of which ended the run, the meaning at one more is done, and its instructions are counted

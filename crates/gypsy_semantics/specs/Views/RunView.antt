@@ -1,17 +1,12 @@
 -- What a run of the step machine shows, and what its steps do. The state has nothing spent: costs are counted apart.
 use Rattle.std.specs.Prelude.{◌≡◌, ℕ, zero, suc, ◌+◌, ◌-◌, ◌^◌, min, length, List, [], ◌∷◌, Bool, true, false, Some, None}
 use Rattle.stack_text.specs.Values.{ValueOf}
-use Rattle.gypsy_syntax.specs.Programs.{Program, proc_at}
-use Rattle.gypsy_syntax.specs.ValuesFit.{VarsFit}
-use Rattle.gypsy_space.specs.Costs.{start_tally}
-use Rattle.gypsy_space.specs.Needs.{StackSizes}
-use Rattle.gypsy_semantics.specs.Calls.{CurrentCondition, copied_out}
-use Rattle.gypsy_semantics.specs.Kept.{EndFits, StateFits}
-use Rattle.gypsy_semantics.specs.Machine.{Item, Do, Back, JoinThen, JoinOne, Guard, Out, Frame, Held, State, At, Move, Next, Ended}
-use Rattle.gypsy_semantics.specs.Machine.{gypsy_step, place_of, start}
-use Rattle.gypsy_semantics.specs.declared.answers.Moved.{Moved}
+use Rattle.gypsy_syntax.specs.{Programs.{Program, proc_at}, ValuesFit.{VarsFit}}
+use Rattle.gypsy_space.specs.{Costs.{start_tally}, Needs.{StackSizes}}
+use Rattle.gypsy_semantics.specs.{Calls.{CurrentCondition, copied_out}, Kept.{EndFits, StateFits}, Machine.{Item, Do, Back, JoinThen}}
+use Rattle.gypsy_semantics.specs.Machine.{JoinOne, Guard, Out, Frame, Held, State, At, Move, Next, Ended, gypsy_step, place_of, start}
+use Rattle.gypsy_semantics.specs.{declared.answers.Moved.{Moved}, declared.answers.MeanRun.{MeanRun}}
 use Rattle.gypsy_semantics.specs.declared.answers.Moved.TheVariants as moved
-use Rattle.gypsy_semantics.specs.declared.answers.MeanRun.{MeanRun}
 use Rattle.gypsy_semantics.specs.declared.answers.MeanRun.TheVariants as ran
 
 -- where a run stands: in a state, or at its end with main's formals and a condition

@@ -1,10 +1,8 @@
 -- The names that are shown: those of the accepted source.
 use Rattle.std.specs.Prelude.{ℕ, List, [], map, length, take, get_or, slice_get, Option, Some, None}
-use Rattle.gypsy_syntax.specs.Sources.{SourceOf}
-use Rattle.gypsy_syntax.specs.Programs.{Leave, Routine, Space, Declared, proc_at}
-use Rattle.gypsy_syntax.specs.Resolved.{condition_names, program_of, variable_names}
-use Rattle.gypsy_semantics.specs.Calls.{CurrentCondition}
-use Rattle.gypsy_semantics.specs.Views.RunView.{Stage, Running, Finished, procedure_at, way_at}
+use Rattle.gypsy_syntax.specs.{Sources.{SourceOf}, Programs.{Leave, Routine, Space, Declared, proc_at}, Resolved.{condition_names}}
+use Rattle.gypsy_syntax.specs.Resolved.{program_of, variable_names}
+use Rattle.gypsy_semantics.specs.{Calls.{CurrentCondition}, Views.RunView.{Stage, Running, Finished, procedure_at, way_at}}
 use Rattle.gypsy_semantics.specs.declared.conditions.Current.{Current}
 use Rattle.gypsy_semantics.specs.declared.conditions.Current.TheVariants as current
 

@@ -1,8 +1,7 @@
 -- What clauses see of a predefined procedure's cost.
 use Rattle.std.specs.Prelude.{ℕ}
-use Rattle.gypsy_syntax.specs.declared.predef.Cost.{Cost}
-use Rattle.gypsy_syntax.specs.declared.predef.Cost.TheVariants.{Always, ByOutcome}
-use Rattle.gypsy_syntax.specs.Effects.{Effect, Normal, Fault, Beyond}
+use Rattle.gypsy_syntax.specs.{declared.predef.Cost.{Cost}, declared.predef.Cost.TheVariants.{Always, ByOutcome}, Effects.{Effect, Normal}}
+use Rattle.gypsy_syntax.specs.Effects.{Fault, Beyond}
 
 -- the instructions of a call with this effect
 abbrev pub count_by : Cost → Effect → ℕ

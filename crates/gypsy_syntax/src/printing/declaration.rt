@@ -2,10 +2,8 @@
 
 ghost use Rattle.std.specs.Prelude.{◌≡◌, ◌++◌, ◌∷◌, Some, map};
 ghost use Rattle.stack_heap.specs.Heaps.{OnOkUnless};
-ghost use Rattle.stack_text.specs.TreeText.{tree_text};
-ghost use Rattle.stack_text.specs.Grammar.Printed.{list_tree};
-ghost use Rattle.gypsy_syntax.specs.Printed.{local_tree, type_tree, type_tree_by};
-ghost use Rattle.gypsy_syntax.specs.Views.SourceView.{local_of};
+ghost use Rattle.stack_text.specs.{TreeText.{tree_text}, Grammar.Printed.{list_tree}};
+ghost use Rattle.gypsy_syntax.specs.{Printed.{local_tree, type_tree, type_tree_by}, Views.SourceView.{local_of}};
 
 use crate::literal::{Decl, Local, TypeText};
 use crate::printing::literals::print_literal;
@@ -67,8 +65,7 @@ impl Print for Decl {
 }
 
 impl Print for Local {
-    ghost use Rattle.gypsy_syntax.specs.Printed.{local_tree};
-    ghost use Rattle.gypsy_syntax.specs.Views.SourceView.{local_of};
+    ghost use Rattle.gypsy_syntax.specs.{Printed.{local_tree}, Views.SourceView.{local_of}};
 
     ghost tree = { λ local. local_tree (local_of local) };
 

@@ -1,11 +1,9 @@
 //! Numbers, values and arguments.
 
-ghost use Rattle.std.specs.Prelude.{◌≡◌, ◌++◌};
+ghost use Rattle.std.specs.{Prelude.{◌≡◌, ◌++◌}, Fmt.{signed_decimal}};
 ghost use Rattle.stack_heap.specs.Heaps.{OnOkUnless};
-ghost use Rattle.std.specs.Fmt.{signed_decimal};
 ghost use Rattle.stack_text.specs.TreeText.{items_text, tree_text};
-ghost use Rattle.gypsy_syntax.specs.Printed.{literal_tree, literal_trees, truth_tree};
-ghost use Rattle.gypsy_syntax.specs.Views.SourceView.{items_of_list, literal_of};
+ghost use Rattle.gypsy_syntax.specs.{Printed.{literal_tree, literal_trees, truth_tree}, Views.SourceView.{items_of_list, literal_of}};
 
 use crate::literal::Literal;
 use crate::statement::Arg;
@@ -71,8 +69,7 @@ pub fn print_literal<H: Heap>(heap: H, out: &mut Vec<u8>, literal: &Literal) -> 
 }
 
 impl Print for Arg {
-    ghost use Rattle.gypsy_syntax.specs.Printed.{arg_tree};
-    ghost use Rattle.gypsy_syntax.specs.Views.SourceView.{arg_of};
+    ghost use Rattle.gypsy_syntax.specs.{Printed.{arg_tree}, Views.SourceView.{arg_of}};
 
     ghost tree = { λ arg. arg_tree (arg_of arg) };
 

@@ -2,12 +2,9 @@
 
 ghost use Rattle.std.specs.Prelude.{◌≡◌, ◌++◌, ◌∷◌, []};
 ghost use Rattle.stack_heap.specs.Heaps.{OnOkUnless};
-ghost use Rattle.stack_text.specs.Grammar.Printed.{list_tree, name_tree};
-ghost use Rattle.stack_text.specs.TreeText.{spaced_text, tree_text};
-ghost use Rattle.stack_text.specs.Views.TreeView.{nodes};
-ghost use Rattle.gypsy_syntax.specs.Keywords.{keyword_name};
-ghost use Rattle.gypsy_syntax.specs.Printed.{keyword_of, stmt_parts, stmt_tree, stmt_trees};
-ghost use Rattle.gypsy_syntax.specs.Views.SourceView.{parts_of_list, stmt_of};
+ghost use Rattle.stack_text.specs.{Grammar.Printed.{list_tree, name_tree}, TreeText.{spaced_text, tree_text}, Views.TreeView.{nodes}};
+ghost use Rattle.gypsy_syntax.specs.{Keywords.{keyword_name}, Printed.{keyword_of, stmt_parts, stmt_tree, stmt_trees}, Views.SourceView.{parts_of_list}};
+ghost use Rattle.gypsy_syntax.specs.Views.SourceView.{stmt_of};
 
 use crate::keyword::Keyword;
 use crate::printing::declaration::spaced_list;

@@ -1,13 +1,9 @@
 //! Types and declarations.
 
 ghost use Rattle.std.specs.Prelude.{◌≡◌, Some, Ok};
-ghost use Rattle.stack_text.specs.Trees.{list};
-ghost use Rattle.stack_text.specs.Views.TreeView.{node_of, nodes_of};
-ghost use Rattle.stack_text.specs.Grammar.Judged.{◌⊛◌};
-ghost use Rattle.stack_text.specs.Grammar.Parts.{list_or};
-ghost use Rattle.stack_text.specs.Grammar.Reading.{Finds, ReadsUnless};
-ghost use Rattle.gypsy_syntax.specs.Grammar.{array_type, decl_in, literal_in, local_in, named_in, type_in};
-ghost use Rattle.gypsy_syntax.specs.Made.{new_decl, new_local};
+ghost use Rattle.stack_text.specs.{Trees.{list}, Views.TreeView.{node_of, nodes_of}, Grammar.Judged.{◌⊛◌}, Grammar.Parts.{list_or}, Grammar.Reading.{Finds}};
+ghost use Rattle.stack_text.specs.Grammar.Reading.{ReadsUnless};
+ghost use Rattle.gypsy_syntax.specs.{Grammar.{array_type, decl_in, literal_in, local_in, named_in, type_in}, Made.{new_decl, new_local}};
 ghost use Rattle.gypsy_syntax.specs.Views.SourceView.{local_of};
 
 use crate::keyword::kind_named;
@@ -102,8 +98,7 @@ fn decl_at<H: Heap>(heap: H, place: u32, items: &[TextTree]) -> Result<Decl, For
 }
 
 impl Part for Decl {
-    ghost use Rattle.gypsy_syntax.specs.Grammar.{decl_in};
-    ghost use Rattle.gypsy_syntax.specs.declared.literal.Decl.{Decl as DeclText};
+    ghost use Rattle.gypsy_syntax.specs.{Grammar.{decl_in}, declared.literal.Decl.{Decl as DeclText}};
 
     ghost Seen = { DeclText };
 
@@ -163,9 +158,7 @@ fn local_at<H: Heap>(heap: H, place: u32, items: &[TextTree]) -> Result<Local, F
 }
 
 impl Part for Local {
-    ghost use Rattle.gypsy_syntax.specs.Grammar.{local_in};
-    ghost use Rattle.gypsy_syntax.specs.Sources.{LocalOf};
-    ghost use Rattle.gypsy_syntax.specs.Views.SourceView.{local_of};
+    ghost use Rattle.gypsy_syntax.specs.{Grammar.{local_in}, Sources.{LocalOf}, Views.SourceView.{local_of}};
 
     ghost Seen = { LocalOf };
 

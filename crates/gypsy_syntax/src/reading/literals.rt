@@ -1,10 +1,8 @@
 //! Values, and the arguments of predefined procedures.
 
 ghost use Rattle.std.specs.Prelude.{◌≡◌};
-ghost use Rattle.stack_text.specs.Views.TreeView.{node_of};
-ghost use Rattle.stack_text.specs.Grammar.Reading.{Finds, ReadsUnless};
-ghost use Rattle.gypsy_syntax.specs.Grammar.{arg_at, is_character, literal_in, simple_at, truth_at};
-ghost use Rattle.gypsy_syntax.specs.Views.SourceView.{arg_of, literal_of};
+ghost use Rattle.stack_text.specs.{Views.TreeView.{node_of}, Grammar.Reading.{Finds, ReadsUnless}};
+ghost use Rattle.gypsy_syntax.specs.{Grammar.{arg_at, is_character, literal_in, simple_at, truth_at}, Views.SourceView.{arg_of, literal_of}};
 
 use crate::literal::Literal;
 use crate::reading::word::number_at;
@@ -62,9 +60,7 @@ fn simple_at(place: u32, text: &[u8]) -> Result<Literal, Breach>
 }
 
 impl Part for Literal {
-    ghost use Rattle.gypsy_syntax.specs.Grammar.{simple_in};
-    ghost use Rattle.gypsy_syntax.specs.Sources.{LiteralOf};
-    ghost use Rattle.gypsy_syntax.specs.Views.SourceView.{literal_of};
+    ghost use Rattle.gypsy_syntax.specs.{Grammar.{simple_in}, Sources.{LiteralOf}, Views.SourceView.{literal_of}};
 
     ghost Seen = { LiteralOf };
 
@@ -107,9 +103,7 @@ fn arg_at<H: Heap>(heap: H, place: u32, text: &[u8]) -> Result<Arg, FormFault>
 }
 
 impl Part for Arg {
-    ghost use Rattle.gypsy_syntax.specs.Grammar.{arg_in};
-    ghost use Rattle.gypsy_syntax.specs.Sources.{ArgOf};
-    ghost use Rattle.gypsy_syntax.specs.Views.SourceView.{arg_of};
+    ghost use Rattle.gypsy_syntax.specs.{Grammar.{arg_in}, Sources.{ArgOf}, Views.SourceView.{arg_of}};
 
     ghost Seen = { ArgOf };
 

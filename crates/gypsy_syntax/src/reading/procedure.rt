@@ -1,14 +1,10 @@
 //! Procedures, and whole sources.
 
 ghost use Rattle.std.specs.Prelude.{◌≡◌, Ok};
-ghost use Rattle.stack_text.specs.Trees.{list};
-ghost use Rattle.stack_text.specs.Views.TreeView.{node_of, nodes_of};
-ghost use Rattle.stack_text.specs.Grammar.Judged.{each_of, ◌⊛◌};
-ghost use Rattle.stack_text.specs.Grammar.Parts.{list_or};
+ghost use Rattle.stack_text.specs.{Trees.{list}, Views.TreeView.{node_of, nodes_of}, Grammar.Judged.{each_of, ◌⊛◌}, Grammar.Parts.{list_or}};
 ghost use Rattle.stack_text.specs.Grammar.Reading.{ReadsUnless};
-ghost use Rattle.gypsy_syntax.specs.Grammar.{are_few, decl_in, local_in, named_in, names_in, procedure_in, source_in, statement_in};
-ghost use Rattle.gypsy_syntax.specs.Made.{new_proc, new_source};
-ghost use Rattle.gypsy_syntax.specs.Views.SourceView.{proc_of, source_of};
+ghost use Rattle.gypsy_syntax.specs.{Grammar.{are_few, decl_in, local_in, named_in, names_in, procedure_in, source_in, statement_in}, Made.{new_proc}};
+ghost use Rattle.gypsy_syntax.specs.{Made.{new_source}, Views.SourceView.{proc_of, source_of}};
 
 use crate::proc::{Proc, Source};
 use crate::reading::declaration::formals as read_formals;
@@ -103,9 +99,7 @@ fn procedure_at<H: Heap>(heap: H, place: u32, items: &[TextTree]) -> Result<Proc
 }
 
 impl Part for Proc {
-    ghost use Rattle.gypsy_syntax.specs.Grammar.{procedure_in};
-    ghost use Rattle.gypsy_syntax.specs.Sources.{ProcOf};
-    ghost use Rattle.gypsy_syntax.specs.Views.SourceView.{proc_of};
+    ghost use Rattle.gypsy_syntax.specs.{Grammar.{procedure_in}, Sources.{ProcOf}, Views.SourceView.{proc_of}};
 
     ghost Seen = { ProcOf };
 

@@ -1,13 +1,9 @@
 //! Statements.
 
 ghost use Rattle.std.specs.Prelude.{◌≡◌, Ok, Some, map};
-ghost use Rattle.stack_text.specs.Trees.{place_of};
-ghost use Rattle.stack_text.specs.Views.TreeView.{node_of, nodes_of};
-ghost use Rattle.stack_text.specs.Grammar.Judged.{◌⊛◌};
-ghost use Rattle.stack_text.specs.Grammar.Reading.{Finds, ReadsUnless};
+ghost use Rattle.stack_text.specs.{Trees.{place_of}, Views.TreeView.{node_of, nodes_of}, Grammar.Judged.{◌⊛◌}, Grammar.Reading.{Finds, ReadsUnless}};
 ghost use Rattle.gypsy_syntax.specs.declared.keyword.Keyword.TheVariants as words;
-ghost use Rattle.gypsy_syntax.specs.Grammar.{form_in, is_empty_list, named_in, names_in, statement_in, statements_in};
-ghost use Rattle.gypsy_syntax.specs.Made.{new_call};
+ghost use Rattle.gypsy_syntax.specs.{Grammar.{form_in, is_empty_list, named_in, names_in, statement_in, statements_in}, Made.{new_call}};
 ghost use Rattle.gypsy_syntax.specs.Views.SourceView.{stmt_of};
 
 use crate::keyword::{Keyword, keyword_named};

@@ -1,10 +1,7 @@
 //! Words, names and numerals.
 
 ghost use Rattle.std.specs.Prelude.{◌≡◌, IsTrue, codes};
-ghost use Rattle.stack_text.specs.Numerals.{is_numeral};
-ghost use Rattle.stack_text.specs.Views.TreeView.{node_of};
-ghost use Rattle.stack_text.specs.Grammar.Parts.{is_atom_of};
-ghost use Rattle.stack_text.specs.Grammar.Reading.{Finds, ReadsUnless};
+ghost use Rattle.stack_text.specs.{Numerals.{is_numeral}, Views.TreeView.{node_of}, Grammar.Parts.{is_atom_of}, Grammar.Reading.{Finds, ReadsUnless}};
 ghost use Rattle.gypsy_syntax.specs.Grammar.{is_word, kind_in, named_in, names_in, number_at, number_in};
 
 use crate::keyword::kind_named;

@@ -1,12 +1,9 @@
 -- Runs as the code keeps them.
 use Rattle.gypsy_syntax.specs.Views.SourceView.{source_of}
-use Rattle.gypsy_meaning.specs.Views.Running.{seen}
-use Rattle.gypsy_meaning.specs.Views.Belongs.{BelongsTo}
-use Rattle.level_debuggers.specs.declared.gypsy_level.GypsyLevel.{GypsyLevel}
-use Rattle.level_debuggers.specs.declared.level.Level.{Level}
-use Rattle.level_debuggers.specs.declared.level.Level.TheVariants as level
-use Rattle.level_debuggers.specs.GypsyLevels.{GypsyLevelOf}
+use Rattle.gypsy_meaning.specs.{Views.Running.{seen}, Views.Belongs.{BelongsTo}}
+use Rattle.level_debuggers.specs.{declared.gypsy_level.GypsyLevel.{GypsyLevel}, declared.level.Level.{Level}, GypsyLevels.{GypsyLevelOf}}
 use Rattle.level_debuggers.specs.Levels.{LevelOf, Gypsy, Piton, Fm}
+use Rattle.level_debuggers.specs.declared.level.Level.TheVariants as level
 
 -- what clauses see of a `GypsyLevel`
 abbrev pub gypsy_of : GypsyLevel → GypsyLevelOf

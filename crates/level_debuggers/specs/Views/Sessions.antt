@@ -1,10 +1,6 @@
 -- Sessions.
-use Rattle.std.specs.Prelude.{map}
-use Rattle.std.specs.declared.dyn_box.DynBox.{DynBox}
-use Rattle.std.specs.declared.alloc.Global.{Global}
-use Rattle.level_debuggers.specs.declared.session.Session.{Session}
-use Rattle.level_debuggers.specs.Views.Belonging.{IsLevel, level_seen}
-use Rattle.level_debuggers.specs.Tallies.{Watching}
+use Rattle.std.specs.{Prelude.{map}, declared.dyn_box.DynBox.{DynBox}, declared.alloc.Global.{Global}}
+use Rattle.level_debuggers.specs.{declared.session.Session.{Session}, Views.Belonging.{IsLevel, level_seen}, Tallies.{Watching}}
 use Rattle.level_debuggers.specs.Walks.{SessionOf}
 
 -- what clauses see of a `Session`, where `seen` is a boxed watch's rule and tally

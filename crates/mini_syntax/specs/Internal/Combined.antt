@@ -1,13 +1,8 @@
 -- Expressions that were made from their operands.
 use Rattle.std.specs.Prelude.{◌≡◌, ℕ, Option, Some}
-use Rattle.stack_text.specs.declared.breach.Breach.{Breach}
-use Rattle.stack_text.specs.Breaches.{Notes}
-use Rattle.mini_syntax.specs.declared.operator.Infix.{Infix}
-use Rattle.mini_syntax.specs.declared.operator.Prefix.{Prefix}
-use Rattle.mini_syntax.specs.declared.typed.Typed.{Typed}
-use Rattle.mini_syntax.specs.Breaches.{infix_breaches, prefix_breaches}
-use Rattle.mini_syntax.specs.Language.{Before, Between}
-use Rattle.mini_syntax.specs.ProgramView.{exp_of}
+use Rattle.stack_text.specs.{declared.breach.Breach.{Breach}, Breaches.{Notes}}
+use Rattle.mini_syntax.specs.{declared.operator.Infix.{Infix}, declared.operator.Prefix.{Prefix}, declared.typed.Typed.{Typed}}
+use Rattle.mini_syntax.specs.{Breaches.{infix_breaches, prefix_breaches}, Language.{Before, Between}, ProgramView.{exp_of}}
 use Rattle.mini_syntax.specs.Operands.{infix_sort, prefix_sort}
 
 -- the operator before its operand, or between its operands, and noted where these have other sorts than it takes

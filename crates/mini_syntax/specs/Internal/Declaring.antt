@@ -1,18 +1,11 @@
 -- What the reader has read of a text's declarations, and of a whole text.
-use Rattle.std.specs.Prelude.{◌≡◌, List, [], ◌∷◌, ◌++◌, map, Option, Bool, true}
-use Rattle.std.specs.List.{list_all}
-use Rattle.stack_text.specs.declared.breach.Breach.{Breach}
-use Rattle.stack_text.specs.Breaches.{Notes, least}
-use Rattle.mini_syntax.specs.declared.expected.Expected.{Expected}
+use Rattle.std.specs.{Prelude.{◌≡◌, List, [], ◌∷◌, ◌++◌, map, Option, Bool, true}, List.{list_all}}
+use Rattle.stack_text.specs.{declared.breach.Breach.{Breach}, Breaches.{Notes, least}}
+use Rattle.mini_syntax.specs.{declared.expected.Expected.{Expected}, declared.program.Declared.{Declared}}
+use Rattle.mini_syntax.specs.{declared.reading.Reading.{Reading}, Breaches.{body_of, breaches, declared_by, declared_of, decl_breaches}}
+use Rattle.mini_syntax.specs.{Breaches.{decls_breaches}, Grammar.{Decl, InfixProgram, decl_tokens, decls_tokens, program_tokens}}
+use Rattle.mini_syntax.specs.{Names.{is_variable_name}, Internal.Phrases.{Completes}, ProgramView.{block_in}, Tokens.{Token, name_at}}
 use Rattle.mini_syntax.specs.declared.expected.Expected.TheVariants as wants
-use Rattle.mini_syntax.specs.declared.program.Declared.{Declared}
-use Rattle.mini_syntax.specs.declared.reading.Reading.{Reading}
-use Rattle.mini_syntax.specs.Breaches.{body_of, breaches, declared_by, declared_of, decl_breaches, decls_breaches}
-use Rattle.mini_syntax.specs.Grammar.{Decl, InfixProgram, decl_tokens, decls_tokens, program_tokens}
-use Rattle.mini_syntax.specs.Names.{is_variable_name}
-use Rattle.mini_syntax.specs.Internal.Phrases.{Completes}
-use Rattle.mini_syntax.specs.ProgramView.{block_in}
-use Rattle.mini_syntax.specs.Tokens.{Token, name_at}
 
 -- a token that is a name has the bytes of one
 abbrev pub is_proper : Token → Bool

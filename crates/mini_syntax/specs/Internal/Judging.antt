@@ -1,16 +1,11 @@
 -- What a token breaks, by what is expected and what was counted before it.
-use Rattle.std.specs.Prelude.{◌≡◌, ℕ, ◌+◌, ◌<◌, List, reverse, Option, Some, None, Bool, true, false, ◌&&◌, nat_le, if◌then◌else◌}
-use Rattle.std.specs.Prelude.{Result, Ok, Err}
-use Rattle.mini_syntax.specs.declared.fault.MiniFault.{MiniFault}
-use Rattle.mini_syntax.specs.declared.fault.MiniFault.TheVariants.{Refused, Memory}
-use Rattle.mini_syntax.specs.declared.expected.Expected.{Expected}
-use Rattle.mini_syntax.specs.declared.judging.Counts.{Counts}
-use Rattle.mini_syntax.specs.declared.lexer.TokenKind.{TokenKind}
+use Rattle.std.specs.Prelude.{◌≡◌, ℕ, ◌+◌, ◌<◌, List, reverse, Option, Some, None, Bool, true, false, ◌&&◌, nat_le, if◌then◌else◌, Result}
+use Rattle.std.specs.Prelude.{Ok, Err}
+use Rattle.mini_syntax.specs.{declared.fault.MiniFault.{MiniFault}, declared.fault.MiniFault.TheVariants.{Refused, Memory}}
+use Rattle.mini_syntax.specs.{declared.expected.Expected.{Expected}, declared.judging.Counts.{Counts}, declared.lexer.TokenKind.{TokenKind}}
+use Rattle.mini_syntax.specs.{Expected.{takes}, Faults.{opens_bracket, closes_bracket, opens_block, closes_block, is_operator}}
+use Rattle.mini_syntax.specs.{Faults.{begins_expression, IsTextFault, count_of, operators}, Tokens.{Token}}
 use Rattle.mini_syntax.specs.declared.lexer.TokenKind.TheVariants as kind
-use Rattle.mini_syntax.specs.Expected.{takes}
-use Rattle.mini_syntax.specs.Faults.{opens_bracket, closes_bracket, opens_block, closes_block, is_operator, begins_expression}
-use Rattle.mini_syntax.specs.Faults.{IsTextFault, count_of, operators}
-use Rattle.mini_syntax.specs.Tokens.{Token}
 
 -- the counts of tokens
 abbrev pub counts_of : List Token → Counts

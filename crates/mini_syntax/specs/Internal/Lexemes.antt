@@ -1,10 +1,8 @@
 -- Tokens as the code has them.
 use Rattle.std.specs.Prelude.{List, [], ◌∷◌, map}
-use Rattle.mini_syntax.specs.declared.lexeme.Cursor.{Cursor}
-use Rattle.mini_syntax.specs.declared.lexeme.Lexeme.{Lexeme}
-use Rattle.mini_syntax.specs.declared.lexer.TokenKind.{TokenKind}
-use Rattle.mini_syntax.specs.declared.lexer.TokenKind.TheVariants as kind
+use Rattle.mini_syntax.specs.{declared.lexeme.Cursor.{Cursor}, declared.lexeme.Lexeme.{Lexeme}, declared.lexer.TokenKind.{TokenKind}}
 use Rattle.mini_syntax.specs.Tokens.{Token, kind_of, token_of}
+use Rattle.mini_syntax.specs.declared.lexer.TokenKind.TheVariants as kind
 
 abbrev pub token_seen : Lexeme → Token
 token_seen l = token_of l.kind l.place l.bytes.now

@@ -1,10 +1,7 @@
 -- The limits of a program: at most 40 operators in an expression, and at most 40 levels of brackets and of blocks.
-use Rattle.std.specs.Prelude.{◌≡◌, ℕ, suc, ◌+◌, ◌≤◌, max, true}
-use Rattle.std.specs.List.{list_all}
-use Rattle.mini_syntax.specs.Grammar.{Expression, unary, binary, group}
-use Rattle.mini_syntax.specs.Grammar.{Form, assign, loop, branch, Block, block, Forms, no_forms, form}
-use Rattle.mini_syntax.specs.Grammar.{InfixProgram}
-use Rattle.mini_syntax.specs.Names.{is_variable_name}
+use Rattle.std.specs.{Prelude.{◌≡◌, ℕ, suc, ◌+◌, ◌≤◌, max, true}, List.{list_all}}
+use Rattle.mini_syntax.specs.Grammar.{Expression, unary, binary, group, Form, assign, loop, branch, Block, block, Forms, no_forms, form}
+use Rattle.mini_syntax.specs.{Grammar.{InfixProgram}, Names.{is_variable_name}}
 
 -- how many operators an expression has
 abbrev pub expression_operators : Expression → ℕ

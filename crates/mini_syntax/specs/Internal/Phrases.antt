@@ -1,33 +1,23 @@
 -- What the reader has read of a text's tokens: a tree of the grammar, what it means with sorts and positions in place of names, and the
 -- rules that it breaks.
 use Rattle.std.specs.Prelude.{◌≡◌, ℕ, ◌≤◌, nat_le, List, ◌∷◌, ◌++◌, Bool, true, Option, Some, None, if◌then◌else◌}
-use Rattle.stack_text.specs.declared.breach.Breach.{Breach}
-use Rattle.stack_text.specs.Breaches.{Notes}
-use Rattle.mini_syntax.specs.declared.blocks.StatementKind.{StatementKind}
+use Rattle.stack_text.specs.{declared.breach.Breach.{Breach}, Breaches.{Notes}}
+use Rattle.mini_syntax.specs.{declared.blocks.StatementKind.{StatementKind}, declared.expected.Expected.{Expected}}
+use Rattle.mini_syntax.specs.{declared.expressions.FactorKind.{FactorKind}, declared.lexer.TokenKind.{TokenKind}}
+use Rattle.mini_syntax.specs.{declared.operator.Infix.{Infix}, declared.program.Declared.{Declared}, declared.program.Statement.{Statement}}
+use Rattle.mini_syntax.specs.{declared.sort.Sort.{Sort}, declared.typed.Typed.{Typed}, Breaches.{expression_exp, expression_sort}}
+use Rattle.mini_syntax.specs.Breaches.{expression_breaches, form_breaches, block_breaches, forms_breaches, form_stmt, block_stmt}
+use Rattle.mini_syntax.specs.{Breaches.{forms_stmt}, Expected.{is_over, taken}, Grammar.{Expression, Form, Block, Forms, expression_level}}
+use Rattle.mini_syntax.specs.Grammar.{binds, form_binds, block_binds, forms_bind, expression_tokens, form_tokens, block_tokens}
+use Rattle.mini_syntax.specs.{Grammar.{forms_tokens}, Precedence.{infix_of, level_of}, Internal.Lexemes.{next_kind}, ProgramView.{exp_of}}
+use Rattle.mini_syntax.specs.{ProgramView.{statement_in, block_in}, Tokens.{Token}}
 use Rattle.mini_syntax.specs.declared.blocks.StatementKind.TheVariants as a_statement
-use Rattle.mini_syntax.specs.declared.expected.Expected.{Expected}
 use Rattle.mini_syntax.specs.declared.expected.Expected.TheVariants as wants
-use Rattle.mini_syntax.specs.declared.expressions.FactorKind.{FactorKind}
 use Rattle.mini_syntax.specs.declared.expressions.FactorKind.TheVariants as a_factor
-use Rattle.mini_syntax.specs.declared.lexer.TokenKind.{TokenKind}
 use Rattle.mini_syntax.specs.declared.lexer.TokenKind.TheVariants as kind
 use Rattle.mini_syntax.specs.declared.mark.Mark.TheVariants as mark
-use Rattle.mini_syntax.specs.declared.operator.Infix.{Infix}
 use Rattle.mini_syntax.specs.declared.operator.Prefix.TheVariants as before
-use Rattle.mini_syntax.specs.declared.program.Declared.{Declared}
-use Rattle.mini_syntax.specs.declared.program.Statement.{Statement}
-use Rattle.mini_syntax.specs.declared.sort.Sort.{Sort}
-use Rattle.mini_syntax.specs.declared.typed.Typed.{Typed}
 use Rattle.mini_syntax.specs.declared.word.Word.TheVariants as word
-use Rattle.mini_syntax.specs.Breaches.{expression_exp, expression_sort, expression_breaches}
-use Rattle.mini_syntax.specs.Breaches.{form_breaches, block_breaches, forms_breaches, form_stmt, block_stmt, forms_stmt}
-use Rattle.mini_syntax.specs.Expected.{is_over, taken}
-use Rattle.mini_syntax.specs.Grammar.{Expression, Form, Block, Forms, expression_level, binds, form_binds, block_binds, forms_bind}
-use Rattle.mini_syntax.specs.Grammar.{expression_tokens, form_tokens, block_tokens, forms_tokens}
-use Rattle.mini_syntax.specs.Precedence.{infix_of, level_of}
-use Rattle.mini_syntax.specs.Internal.Lexemes.{next_kind}
-use Rattle.mini_syntax.specs.ProgramView.{exp_of, statement_in, block_in}
-use Rattle.mini_syntax.specs.Tokens.{Token}
 
 -- the tokens end a program where these are expected
 pub record Completes (st : List Expected) (ts : List Token) : Type 0 where

@@ -1,9 +1,7 @@
 -- The table of the declared variables.
 use Rattle.std.specs.Prelude.{◌≡◌, ℕ, List}
 use Rattle.name_tables.specs.Entries.{Entries, look_up}
-use Rattle.mini_syntax.specs.declared.program.Declared.{Declared}
-use Rattle.mini_syntax.specs.declared.scope.Scope.{Scope}
-use Rattle.mini_syntax.specs.declared.scope.Variable.{Variable}
+use Rattle.mini_syntax.specs.{declared.program.Declared.{Declared}, declared.scope.Scope.{Scope}, declared.scope.Variable.{Variable}}
 use Rattle.mini_syntax.specs.Breaches.{variable_named}
 
 -- the table has the first declaration of each name

@@ -1,11 +1,8 @@
 -- A token that was found in a text.
-use Rattle.std.specs.Prelude.{◌≡◌, ℕ, ◌<◌, ◌≤◌, List, ◌∷◌, Bool, drop, length, slice_range}
-use Rattle.std.specs.Char.{is_ascii_digit}
-use Rattle.mini_syntax.specs.declared.lexer.Run.{Run}
+use Rattle.std.specs.{Prelude.{◌≡◌, ℕ, ◌<◌, ◌≤◌, List, ◌∷◌, Bool, drop, length, slice_range}, Char.{is_ascii_digit}}
+use Rattle.mini_syntax.specs.{declared.lexer.Run.{Run}, declared.lexer.TokenSpan.{TokenSpan}, Names.{is_word_byte}, Tokens.{Token, Mode}}
+use Rattle.mini_syntax.specs.Tokens.{between, in_word, in_number, token_of, tokens}
 use Rattle.mini_syntax.specs.declared.lexer.Run.TheVariants as runs
-use Rattle.mini_syntax.specs.declared.lexer.TokenSpan.{TokenSpan}
-use Rattle.mini_syntax.specs.Names.{is_word_byte}
-use Rattle.mini_syntax.specs.Tokens.{Token, Mode, between, in_word, in_number, token_of, tokens}
 
 -- the bytes of a word and of a number, and the mode in one
 abbrev pub run_test : Run → ℕ → Bool

@@ -1,10 +1,7 @@
 //! The arguments of an operation.
 
-ghost use Rattle.std.specs.Prelude.{◌≡◌, IsTrue};
-ghost use Rattle.std.specs.List.{list_all};
-ghost use Rattle.stack_text.specs.Grammar.Judged.{each_of};
-ghost use Rattle.stack_text.specs.Grammar.Reading.{Finds, ReadsUnless};
-ghost use Rattle.stack_text.specs.Views.TreeView.{node_of, nodes_of};
+ghost use Rattle.std.specs.{Prelude.{◌≡◌, IsTrue}, List.{list_all}};
+ghost use Rattle.stack_text.specs.{Grammar.Judged.{each_of}, Grammar.Reading.{Finds, ReadsUnless}, Views.TreeView.{node_of, nodes_of}};
 ghost use Rattle.piton_syntax.specs.Grammar.{are_of_kind, argument_of, arguments_of, is_of_kind, test_at};
 ghost use Rattle.piton_syntax.specs.declared.argument.Arguments.TheVariants as row;
 

@@ -1,10 +1,7 @@
 //! Names and numerals.
 
 ghost use Rattle.std.specs.Prelude.{◌≡◌, IsTrue};
-ghost use Rattle.stack_text.specs.Grammar.Parts.{is_atom_of};
-ghost use Rattle.stack_text.specs.Grammar.Reading.{Finds, ReadsUnless};
-ghost use Rattle.stack_text.specs.Names.{is_name};
-ghost use Rattle.stack_text.specs.Numerals.{is_digits, is_numeral};
+ghost use Rattle.stack_text.specs.{Grammar.Parts.{is_atom_of}, Grammar.Reading.{Finds, ReadsUnless}, Names.{is_name}, Numerals.{is_digits, is_numeral}};
 ghost use Rattle.stack_text.specs.Views.TreeView.{node_of};
 ghost use Rattle.piton_syntax.specs.Grammar.{named_of, number_of};
 

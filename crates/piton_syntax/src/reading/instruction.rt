@@ -1,13 +1,8 @@
 //! Instructions.
 
-ghost use Rattle.std.specs.Prelude.{◌≡◌, Ok, None, Some, codes};
-ghost use Rattle.std.specs.Str.{bytes_eq};
-ghost use Rattle.stack_text.specs.Grammar.Judged.{◌⊛◌};
-ghost use Rattle.stack_text.specs.Grammar.Reading.{ReadsUnless};
-ghost use Rattle.stack_text.specs.Trees.{list, none, more};
-ghost use Rattle.stack_text.specs.Views.TreeView.{node_of, nodes_of};
-ghost use Rattle.piton_syntax.specs.Grammar.{called_of, instruction_of, labelled_of, named_of};
-ghost use Rattle.piton_syntax.specs.Operations.{operation_named};
+ghost use Rattle.std.specs.{Prelude.{◌≡◌, Ok, None, Some, codes}, Str.{bytes_eq}};
+ghost use Rattle.stack_text.specs.{Grammar.Judged.{◌⊛◌}, Grammar.Reading.{ReadsUnless}, Trees.{list, none, more}, Views.TreeView.{node_of, nodes_of}};
+ghost use Rattle.piton_syntax.specs.{Grammar.{called_of, instruction_of, labelled_of, named_of}, Operations.{operation_named}};
 
 use crate::op::operation_named;
 use crate::reading::argument::arguments;
@@ -174,8 +169,7 @@ fn instruction<H: Heap>(heap: H, tree: &TextTree) -> Result<InstrText, FormFault
 }
 
 impl Part for InstrText {
-    ghost use Rattle.piton_syntax.specs.Grammar.{instruction_of};
-    ghost use Rattle.piton_syntax.specs.Systems.{InstrOf};
+    ghost use Rattle.piton_syntax.specs.{Grammar.{instruction_of}, Systems.{InstrOf}};
 
     ghost Seen = { InstrOf };
 

@@ -1,13 +1,8 @@
 //! Programs.
 
 ghost use Rattle.std.specs.Prelude.{◌≡◌, Ok};
-ghost use Rattle.stack_text.specs.Grammar.Judged.{each_of, ◌⊛◌};
-ghost use Rattle.stack_text.specs.Grammar.Reading.{ReadsUnless};
-ghost use Rattle.stack_text.specs.Trees.{list, place_of};
-ghost use Rattle.stack_text.specs.Views.TreeView.{node_of, nodes_of};
-ghost use Rattle.piton_syntax.specs.Grammar.{instruction_of, list_of, named_of, program_of, temporary_of};
-ghost use Rattle.piton_syntax.specs.Limits.{is_small_program};
-ghost use Rattle.piton_syntax.specs.Systems.{new_program};
+ghost use Rattle.stack_text.specs.{Grammar.Judged.{each_of, ◌⊛◌}, Grammar.Reading.{ReadsUnless}, Trees.{list, place_of}, Views.TreeView.{node_of, nodes_of}};
+ghost use Rattle.piton_syntax.specs.{Grammar.{instruction_of, list_of, named_of, program_of, temporary_of}, Limits.{is_small_program}, Systems.{new_program}};
 
 use crate::reading::atom::name as read_name;
 use crate::reading::word::word as read_word;
@@ -136,8 +131,7 @@ fn program_at<H: Heap>(heap: H, place: u32, items: &[TextTree]) -> Result<Progra
 }
 
 impl Part for Program {
-    ghost use Rattle.piton_syntax.specs.Grammar.{program_of};
-    ghost use Rattle.piton_syntax.specs.Systems.{ProgramOf};
+    ghost use Rattle.piton_syntax.specs.{Grammar.{program_of}, Systems.{ProgramOf}};
 
     ghost Seen = { ProgramOf };
 

@@ -1,16 +1,10 @@
 //! Areas, and whole systems.
 
-ghost use Rattle.std.specs.Prelude.{◌≡◌, ℕ, IsTrue, List, ◌&&◌, Ok, MatchOption, codes};
-ghost use Rattle.std.specs.Str.{bytes_eq};
-ghost use Rattle.stack_text.specs.Grammar.Judged.{each_of, ◌⊛◌};
-ghost use Rattle.stack_text.specs.Grammar.Parts.{is_atom_of};
-ghost use Rattle.stack_text.specs.Grammar.Reading.{ReadsUnless};
-ghost use Rattle.stack_text.specs.Numerals.{is_digits};
-ghost use Rattle.stack_text.specs.Trees.{atom, list};
-ghost use Rattle.stack_text.specs.Views.TreeView.{node_of, nodes_of};
-ghost use Rattle.piton_syntax.specs.Grammar.{area_of, named_of, number_of, program_of, system_of, word_of};
-ghost use Rattle.piton_syntax.specs.Limits.{is_small_system};
-ghost use Rattle.piton_syntax.specs.Systems.{new_area, new_system};
+ghost use Rattle.std.specs.{Prelude.{◌≡◌, ℕ, IsTrue, List, ◌&&◌, Ok, MatchOption, codes}, Str.{bytes_eq}};
+ghost use Rattle.stack_text.specs.{Grammar.Judged.{each_of, ◌⊛◌}, Grammar.Parts.{is_atom_of}, Grammar.Reading.{ReadsUnless}, Numerals.{is_digits}};
+ghost use Rattle.stack_text.specs.{Trees.{atom, list}, Views.TreeView.{node_of, nodes_of}};
+ghost use Rattle.piton_syntax.specs.{Grammar.{area_of, named_of, number_of, program_of, system_of, word_of}, Limits.{is_small_system}, Systems.{new_area}};
+ghost use Rattle.piton_syntax.specs.Systems.{new_system};
 
 use crate::reading::atom::{is_digits_atom, name as read_name, number};
 use crate::system::{Area, System};
@@ -57,8 +51,7 @@ fn area_at<H: Heap>(heap: H, place: u32, items: &[TextTree]) -> Result<Area, For
 }
 
 impl Part for Area {
-    ghost use Rattle.piton_syntax.specs.Grammar.{area_of};
-    ghost use Rattle.piton_syntax.specs.Systems.{AreaOf};
+    ghost use Rattle.piton_syntax.specs.{Grammar.{area_of}, Systems.{AreaOf}};
 
     ghost Seen = { AreaOf };
 

@@ -1,17 +1,11 @@
 //! Words.
 
 ghost use Rattle.std.specs.Prelude.{◌≡◌, ◌&&◌, if◌then◌else◌, Some};
-ghost use Rattle.stack_text.specs.Names.{is_name};
-ghost use Rattle.stack_text.specs.Numerals.{is_digits, is_numeral};
-ghost use Rattle.stack_text.specs.Grammar.Parts.{is_atom_of};
-ghost use Rattle.stack_text.specs.Grammar.Reading.{Finds, ReadsUnless};
-ghost use Rattle.stack_text.specs.Trees.{list};
-ghost use Rattle.stack_text.specs.Views.TreeView.{node_of, nodes_of};
-ghost use Rattle.stack_text.specs.declared.name.Named.{Named as NameOf};
+ghost use Rattle.stack_text.specs.{Names.{is_name}, Numerals.{is_digits, is_numeral}, Grammar.Parts.{is_atom_of}, Grammar.Reading.{Finds, ReadsUnless}};
+ghost use Rattle.stack_text.specs.{Trees.{list}, Views.TreeView.{node_of, nodes_of}, declared.name.Named.{Named as NameOf}};
 ghost use Rattle.piton_syntax.specs.Grammar.{is_true_word, is_false_word, item_of, named_number, one_number, word_of};
+ghost use Rattle.piton_syntax.specs.{declared.word_text.Number.{Number as NumberOf}, declared.word_text.WordItem.{WordItem as ItemOf}};
 ghost use Rattle.piton_syntax.specs.declared.tag.Tag.TheVariants as tags;
-ghost use Rattle.piton_syntax.specs.declared.word_text.Number.{Number as NumberOf};
-ghost use Rattle.piton_syntax.specs.declared.word_text.WordItem.{WordItem as ItemOf};
 
 use crate::reading::atom::{is_digits_atom, is_name_atom, name, number};
 use crate::tag::{Tag, tag_named};
@@ -196,8 +190,7 @@ pub fn word<H: Heap>(heap: H, tree: &TextTree) -> Result<WordText, FormFault>
 }
 
 impl Part for WordText {
-    ghost use Rattle.piton_syntax.specs.declared.word_text.WordText.{WordText as WordOf};
-    ghost use Rattle.piton_syntax.specs.Grammar.{word_of};
+    ghost use Rattle.piton_syntax.specs.{declared.word_text.WordText.{WordText as WordOf}, Grammar.{word_of}};
 
     ghost Seen = { WordOf };
 

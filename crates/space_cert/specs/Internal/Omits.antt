@@ -1,10 +1,9 @@
 -- Statements and states without spaceerror: it is neither signalled, nor handed to a callee, nor on its way out of a procedure.
 use Rattle.std.specs.Prelude.{List, [], ◌∷◌, Some, None}
-use Rattle.gypsy_syntax.specs.Programs.{ConditionOf, Leave, Routine, Space, Declared}
-use Rattle.gypsy_syntax.specs.Programs.{Stmt, Skip, NoOp, Signal, Seq, Loop, If, Begin, Call, Apply}
-use Rattle.gypsy_syntax.specs.ProgramFits.{Each}
-use Rattle.gypsy_semantics.specs.Calls.{CurrentCondition}
-use Rattle.gypsy_semantics.specs.Machine.{Item, Do, Back, JoinThen, JoinOne, Guard, Out, Frame, Held, State, At, Move, Next, Ended}
+use Rattle.gypsy_syntax.specs.Programs.{ConditionOf, Leave, Routine, Space, Declared, Stmt, Skip, NoOp, Signal, Seq, Loop, If, Begin, Call}
+use Rattle.gypsy_syntax.specs.{Programs.{Apply}, ProgramFits.{Each}}
+use Rattle.gypsy_semantics.specs.{Calls.{CurrentCondition}, Machine.{Item, Do, Back, JoinThen, JoinOne, Guard, Out, Frame, Held, State, At}}
+use Rattle.gypsy_semantics.specs.Machine.{Move, Next, Ended}
 
 abbrev pub IsOther : ConditionOf → Type 0
 IsOther Leave = Unit {0}

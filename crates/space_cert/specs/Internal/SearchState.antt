@@ -1,11 +1,8 @@
 -- The search, as the code keeps it.
 use Rattle.std.specs.Prelude.{◌≡◌, ℕ, ◌+◌, ◌<◌, ◌≤◌, List, [], ◌∷◌, ◌++◌, length, get_or, take, drop, slice_set, true, false, ◌⊎◌, Option}
 use Rattle.std.specs.List.{Contains}
-use Rattle.space_cert.specs.Reaches.{Leads}
-use Rattle.space_cert.specs.Internal.Search.{GroupOf, AreGroups, AreDone, first_with}
-use Rattle.space_cert.specs.declared.search.Mark.{Mark}
-use Rattle.space_cert.specs.declared.search.Mark.TheVariants.{New, Entered, Done}
-use Rattle.space_cert.specs.declared.search.Group.{Group}
+use Rattle.space_cert.specs.{Reaches.{Leads}, Internal.Search.{GroupOf, AreGroups, AreDone, first_with}, declared.search.Mark.{Mark}}
+use Rattle.space_cert.specs.{declared.search.Mark.TheVariants.{New, Entered, Done}, declared.search.Group.{Group}}
 
 -- `top` is the topmost group, the others follow from the top down; the last procedure that is done stands first
 pub record SearchOf : Type 0 where

@@ -1,10 +1,8 @@
 -- How clauses see the search.
-use Rattle.std.specs.Prelude.{◌≡◌, ℕ, ◌<◌, ◌≤◌, List, [], ◌∷◌, ◌++◌, map, length, reverse, take, drop, Bool, true, false}
-use Rattle.std.specs.List.{All, Contains}
-use Rattle.std.specs.Global.{Vec}
-use Rattle.space_cert.specs.Internal.Search.{first_with}
-use Rattle.space_cert.specs.Internal.SearchState.{SearchOf, call_of, done_marks, with_next, with_top_done, IsSearch, IsFound, left_to_do}
-use Rattle.space_cert.specs.declared.search.Group.{Group}
+use Rattle.std.specs.{Prelude.{◌≡◌, ℕ, ◌<◌, ◌≤◌, List, [], ◌∷◌, ◌++◌, map, length, reverse, take, drop, Bool, true, false}, List.{All}}
+use Rattle.std.specs.{List.{Contains}, Global.{Vec}}
+use Rattle.space_cert.specs.{Internal.Search.{first_with}, Internal.SearchState.{SearchOf, call_of, done_marks, with_next, with_top_done}}
+use Rattle.space_cert.specs.{Internal.SearchState.{IsSearch, IsFound, left_to_do}, declared.search.Group.{Group}}
 use Rattle.space_cert.specs.declared.search.Search.{Search}
 
 -- the callees of each procedure

@@ -1,29 +1,15 @@
 -- Internal: the procedures and marks of an image, as the code lists them.
-use Rattle.std.specs.Prelude.{◌≡◌, ◌≤◌, ℕ, ◌+◌, ◌-◌, Bool, List, ◌∷◌, length, map, slice_get, nat_lt, if◌then◌else◌}
-use Rattle.std.specs.Option.{unwrap_or}
+use Rattle.std.specs.{Prelude.{◌≡◌, ◌≤◌, ℕ, ◌+◌, ◌-◌, Bool, List, ◌∷◌, length, map, slice_get, nat_lt, if◌then◌else◌}, Option.{unwrap_or}}
 use Rattle.fm_words.specs.WindowLimit.{most_window}
-use Rattle.stack_text.specs.SharedLimits.{most_declared, most_procedures}
-use Rattle.stack_text.specs.Options.{◌>>=◌}
-use Rattle.stack_text.specs.declared.shape.Shape.{Shape}
-use Rattle.stack_text.specs.Values.{ValueOf}
-use Rattle.fm_image.specs.declared.procedure.Mark.{Mark}
-use Rattle.fm_image.specs.declared.procedure.VarInfo.{VarInfo}
-use Rattle.fm_image.specs.Procedure.{ProcedureOf}
+use Rattle.stack_text.specs.{SharedLimits.{most_declared, most_procedures}, Options.{◌>>=◌}, declared.shape.Shape.{Shape}, Values.{ValueOf}}
+use Rattle.fm_image.specs.{declared.procedure.Mark.{Mark}, declared.procedure.VarInfo.{VarInfo}, Procedure.{ProcedureOf}}
 use Rattle.display_maps.specs.Reading.{space_name}
 use Rattle.piton_check.specs.Instruction.{SystemView}
-use Rattle.gypsy_syntax.specs.ProgramFits.{Each}
-use Rattle.gypsy_syntax.specs.Programs.{shapes_of}
-use Rattle.gypsy_syntax.specs.Resolved.{program_of}
-use Rattle.gypsy_syntax.specs.Sources.{ProcOf, SourceOf}
-use Rattle.gypsy_space.specs.declared.program.Procedure.{Procedure}
-use Rattle.gypsy_space.specs.declared.program.Program.{Program}
-use Rattle.gypsy_space.specs.Needs.{StackSizes}
+use Rattle.gypsy_syntax.specs.{ProgramFits.{Each}, Programs.{shapes_of}, Resolved.{program_of}, Sources.{ProcOf, SourceOf}}
+use Rattle.gypsy_space.specs.{declared.program.Procedure.{Procedure}, declared.program.Program.{Program}, Needs.{StackSizes}}
 use Rattle.gypsy_space.specs.Nodes.{declared_names, seen_proc, seen_proc_names}
-use Rattle.gypsy_codegen.specs.declared.marking.MarkAt.{MarkAt}
-use Rattle.gypsy_codegen.specs.Acceptable.{total_words}
-use Rattle.gypsy_codegen.specs.Generated.{generated_view}
-use Rattle.stack_build.specs.declared.tables.FrameOrder.{FrameOrder}
-use Rattle.stack_build.specs.Image.{variable_infos}
+use Rattle.gypsy_codegen.specs.{declared.marking.MarkAt.{MarkAt}, Acceptable.{total_words}, Generated.{generated_view}}
+use Rattle.stack_build.specs.{declared.tables.FrameOrder.{FrameOrder}, Image.{variable_infos}}
 
 -- the offset of a variable in a frame of this order
 abbrev pub offset_in : FrameOrder → ℕ → ℕ

@@ -1,17 +1,10 @@
 -- Internal: what keeps the image of a system within the limits of images.
-use Rattle.std.specs.Prelude.{◌≡◌, ◌≤◌, ℕ, List, length, map, true}
-use Rattle.std.specs.List.{list_all, IsDistinct}
-use Rattle.std.specs.Str.{bytes_eq}
+use Rattle.std.specs.{Prelude.{◌≡◌, ◌≤◌, ℕ, List, length, map, true}, List.{list_all, IsDistinct}, Str.{bytes_eq}}
 use Rattle.fm_image.specs.Limits.{most_marked_conditions}
-use Rattle.stack_text.specs.SharedLimits.{most_array, most_declared}
-use Rattle.stack_text.specs.Names.{is_name}
-use Rattle.stack_text.specs.declared.shape.Shape.{Shape}
+use Rattle.stack_text.specs.{SharedLimits.{most_array, most_declared}, Names.{is_name}, declared.shape.Shape.{Shape}}
 use Rattle.piton_check.specs.Instruction.{SystemView}
 use Rattle.piton_semantics.specs.Placed.{areas_size}
-use Rattle.gypsy_syntax.specs.declared.literal.Decl.{Decl}
-use Rattle.gypsy_syntax.specs.ProgramFits.{Each}
-use Rattle.gypsy_syntax.specs.Programs.{words_of}
-use Rattle.gypsy_syntax.specs.Resolved.{shape_of}
+use Rattle.gypsy_syntax.specs.{declared.literal.Decl.{Decl}, ProgramFits.{Each}, Programs.{words_of}, Resolved.{shape_of}}
 
 -- arrays of at most 4,096 items
 abbrev pub HaveShortArrays : List Decl → Type 0

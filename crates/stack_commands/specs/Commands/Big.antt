@@ -1,13 +1,10 @@
 -- The command `big`: builds and runs a large source, without the shelf.
-use Rattle.std.specs.Prelude.{ℕ, List, length, ◌++◌, codes}
-use Rattle.std.specs.Fmt.{decimal}
-use Rattle.stack_text.specs.SharedLimits.{most_steps}
-use Rattle.gypsy_syntax.specs.Printed.{gypsy_text}
-use Rattle.gypsy_syntax.specs.Sources.{SourceOf}
+use Rattle.std.specs.{Prelude.{ℕ, List, length, ◌++◌, codes}, Fmt.{decimal}}
+use Rattle.stack_text.specs.{SharedLimits.{most_steps}, Lines.{line}}
+use Rattle.gypsy_syntax.specs.{Printed.{gypsy_text}, Sources.{SourceOf}}
 use Rattle.gypsy_space.specs.Needs.{stack_sizes}
 use Rattle.gypsy_gen.specs.Large.{large_of}
 use Rattle.stack_build.specs.Build.{source_built}
-use Rattle.stack_text.specs.Lines.{line}
 use Rattle.command_replies.specs.Replies.{ReplyOf}
 use Rattle.stack_commands.specs.Commands.Go.{go_reply}
 

@@ -1,7 +1,6 @@
 -- The command `build`.
 use Rattle.std.specs.Prelude.{ℕ, List, Option, Some, None, Result, Ok, Err}
-use Rattle.stack_build.specs.declared.fault.BuildFault.{BuildFault}
-use Rattle.stack_build.specs.Build.{BuiltOf}
+use Rattle.stack_build.specs.{declared.fault.BuildFault.{BuildFault}, Build.{BuiltOf}}
 use Rattle.command_replies.specs.Replies.{ReplyOf, verdict_alone, built_reply}
 use Rattle.stack_commands.specs.Commands.SourceText.{build_verdict}
 

@@ -1,15 +1,11 @@
 -- The command `cert`: whether a certificate covers a source.
 use Rattle.std.specs.Prelude.{ℕ, List, Bool, Result, Ok, Err, codes, if◌then◌else◌}
-use Rattle.gypsy_syntax.specs.Resolved.{procedure_names, program_of}
-use Rattle.gypsy_syntax.specs.Sources.{SourceOf}
+use Rattle.gypsy_syntax.specs.{Resolved.{procedure_names, program_of}, Sources.{SourceOf}}
 use Rattle.gypsy_space.specs.Needs.{StackSizes, stack_sizes}
-use Rattle.space_cert.specs.Accepting.{is_covered}
-use Rattle.space_cert.specs.CertText.{bounds_in}
-use Rattle.space_cert.specs.Covers.{Bounds}
+use Rattle.space_cert.specs.{Accepting.{is_covered}, CertText.{bounds_in}, Covers.{Bounds}}
 use Rattle.stack_text.specs.Lines.{line}
-use Rattle.command_replies.specs.declared.reply.Verdict.{Verdict}
-use Rattle.command_replies.specs.declared.reply.Verdict.TheVariants.{Certificate}
-use Rattle.command_replies.specs.Replies.{ReplyOf, verdict_alone, all_said}
+use Rattle.command_replies.specs.{declared.reply.Verdict.{Verdict}, declared.reply.Verdict.TheVariants.{Certificate}, Replies.{ReplyOf}}
+use Rattle.command_replies.specs.Replies.{verdict_alone, all_said}
 use Rattle.stack_commands.specs.Commands.SourceText.{accepted_in}
 
 abbrev pub yes_or_no : Bool → List ℕ

@@ -1,28 +1,20 @@
 -- The command `debug`.
 use Rattle.std.specs.Prelude.{ℕ, List, [], Option, Some, None, Result, Ok, Err}
 use Rattle.stack_text.specs.Results.{◌>>=◌}
-use Rattle.debug_script.specs.declared.fault.ScriptFault.{ScriptFault}
+use Rattle.debug_script.specs.{declared.fault.ScriptFault.{ScriptFault}, declared.reading.Line.{Line}, Scripts.{script_of}}
 use Rattle.debug_script.specs.declared.fault.ScriptFault.TheVariants as script
-use Rattle.debug_script.specs.declared.reading.Line.{Line}
-use Rattle.debug_script.specs.Scripts.{script_of}
-use Rattle.level_debuggers.specs.declared.script_end.ScriptEnd.{ScriptEnd}
+use Rattle.level_debuggers.specs.{declared.script_end.ScriptEnd.{ScriptEnd}, Transcripts.{Followed, followed}}
+use Rattle.level_debuggers.specs.{declared.runner.Runner.{Runner}, Levels.{LevelOf, level_of, program_named}, Tallies.{Watching}}
+use Rattle.level_debuggers.specs.Walks.{SessionOf}
 use Rattle.level_debuggers.specs.declared.script_end.ScriptEnd.TheVariants as end
-use Rattle.level_debuggers.specs.Transcripts.{Followed, followed}
 use Rattle.gypsy_syntax.specs.Sources.{SourceOf}
 use Rattle.gypsy_space.specs.Needs.{StackSizes, stack_sizes}
-use Rattle.level_debuggers.specs.declared.runner.Runner.{Runner}
 use Rattle.level_debuggers.specs.Levels as level
-use Rattle.level_debuggers.specs.Levels.{LevelOf, level_of, program_named}
-use Rattle.level_debuggers.specs.Tallies.{Watching}
-use Rattle.level_debuggers.specs.Walks.{SessionOf}
 use Rattle.piton_semantics.specs.declared.error_kind.ErrorKind.{ErrorKind}
-use Rattle.stack_build.specs.declared.start_fault.StartFault.{StartFault}
-use Rattle.stack_build.specs.Starts.{gypsy_start, system_start, image_start}
-use Rattle.command_line.specs.declared.words.reader.Level.{Level}
-use Rattle.command_line.specs.declared.words.reader.Level.TheVariants.{Gypsy, Piton, Fm9001}
-use Rattle.command_replies.specs.declared.reply.Verdict.{Verdict}
-use Rattle.command_replies.specs.declared.reply.Verdict.TheVariants.{Done, Usage, Outside, Error, Script}
-use Rattle.command_replies.specs.Replies.{ReplyOf, verdict_alone}
+use Rattle.stack_build.specs.{declared.start_fault.StartFault.{StartFault}, Starts.{gypsy_start, system_start, image_start}}
+use Rattle.command_line.specs.{declared.words.reader.Level.{Level}, declared.words.reader.Level.TheVariants.{Gypsy, Piton, Fm9001}}
+use Rattle.command_replies.specs.{declared.reply.Verdict.{Verdict}, declared.reply.Verdict.TheVariants.{Done, Usage, Outside, Error}}
+use Rattle.command_replies.specs.{declared.reply.Verdict.TheVariants.{Script}, Replies.{ReplyOf, verdict_alone}}
 use Rattle.stack_commands.specs.Commands.SourceText.{accepted_in, start_verdict}
 
 -- 1. The run that a session begins with.

@@ -1,10 +1,8 @@
 -- The command `go`: what it makes of a source and of values. It stores what `build` does.
 use Rattle.std.specs.Prelude.{ℕ, List, Result, Ok, Err}
 use Rattle.fm_loader.specs.Values.{values_in}
-use Rattle.stack_build.specs.declared.fault.BuildFault.{BuildFault}
-use Rattle.stack_build.specs.Build.{BuiltOf}
-use Rattle.command_replies.specs.Replies.{ReplyOf, verdict_alone}
-use Rattle.command_replies.specs.Commands.Run.{values_reply}
+use Rattle.stack_build.specs.{declared.fault.BuildFault.{BuildFault}, Build.{BuiltOf}}
+use Rattle.command_replies.specs.{Replies.{ReplyOf, verdict_alone}, Commands.Run.{values_reply}}
 use Rattle.stack_commands.specs.Commands.SourceText.{build_verdict}
 
 -- what is replied

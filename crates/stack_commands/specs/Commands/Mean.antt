@@ -1,21 +1,15 @@
 -- The command `mean`.
-use Rattle.std.specs.Prelude.{ℕ, List, ◌++◌, Result, Ok, Err, codes}
-use Rattle.std.specs.Fmt.{decimal}
-use Rattle.stack_text.specs.Values.{ValueOf}
+use Rattle.std.specs.{Prelude.{ℕ, List, ◌++◌, Result, Ok, Err, codes}, Fmt.{decimal}}
+use Rattle.stack_text.specs.{Values.{ValueOf}, Lines.{line}}
 use Rattle.gypsy_syntax.specs.Sources.{SourceOf}
 use Rattle.gypsy_space.specs.Needs.{StackSizes, stack_sizes}
-use Rattle.gypsy_semantics.specs.declared.conditions.Current.{Current}
-use Rattle.gypsy_semantics.specs.declared.answers.MeanRun.{MeanRun}
+use Rattle.gypsy_semantics.specs.{declared.conditions.Current.{Current}, declared.answers.MeanRun.{MeanRun}, Views.RunView.{Seen, Ran}}
+use Rattle.gypsy_semantics.specs.{Views.RunView.{meaning_run, values_at}, Views.Shown.{condition_at, names_at}}
 use Rattle.gypsy_semantics.specs.declared.answers.MeanRun.TheVariants as run
-use Rattle.gypsy_semantics.specs.Views.RunView.{Seen, Ran, meaning_run, values_at}
-use Rattle.gypsy_semantics.specs.Views.Shown.{condition_at, names_at}
 use Rattle.display_maps.specs.Running.{run_lines}
-use Rattle.stack_build.specs.declared.start_fault.StartFault.{StartFault}
-use Rattle.stack_build.specs.Starts.{gypsy_start}
-use Rattle.stack_text.specs.Lines.{line}
-use Rattle.command_replies.specs.declared.reply.Verdict.{Verdict}
-use Rattle.command_replies.specs.declared.reply.Verdict.TheVariants.{Unfinished}
-use Rattle.command_replies.specs.Replies.{ReplyOf, verdict_alone, all_said}
+use Rattle.stack_build.specs.{declared.start_fault.StartFault.{StartFault}, Starts.{gypsy_start}}
+use Rattle.command_replies.specs.{declared.reply.Verdict.{Verdict}, declared.reply.Verdict.TheVariants.{Unfinished}, Replies.{ReplyOf}}
+use Rattle.command_replies.specs.Replies.{verdict_alone, all_said}
 use Rattle.stack_commands.specs.Commands.SourceText.{accepted_in, start_verdict}
 
 -- so many steps at this cost, a condition, and variables by their names and values

@@ -1,16 +1,11 @@
 -- The command `need`: the least certificate of a source, and the sizes of the stacks that it is enough for.
-use Rattle.std.specs.Prelude.{ℕ, List, [], ◌++◌, get_or, Option, Some, None, Result, Ok, Err, codes}
-use Rattle.std.specs.Fmt.{decimal}
-use Rattle.gypsy_syntax.specs.Resolved.{procedure_names, program_of}
-use Rattle.gypsy_syntax.specs.Sources.{SourceOf}
+use Rattle.std.specs.{Prelude.{ℕ, List, [], ◌++◌, get_or, Option, Some, None, Result, Ok, Err, codes}, Fmt.{decimal}}
+use Rattle.gypsy_syntax.specs.{Resolved.{procedure_names, program_of}, Sources.{SourceOf}}
 use Rattle.gypsy_space.specs.Needs.{StackSizes}
-use Rattle.space_cert.specs.CertText.{certificate_text}
-use Rattle.space_cert.specs.Certified.{certified}
-use Rattle.space_cert.specs.Covers.{Bounds, sizes_for}
+use Rattle.space_cert.specs.{CertText.{certificate_text}, Certified.{certified}, Covers.{Bounds, sizes_for}}
 use Rattle.stack_text.specs.Lines.{line}
-use Rattle.command_replies.specs.declared.reply.Verdict.{Verdict}
-use Rattle.command_replies.specs.declared.reply.Verdict.TheVariants.{Recursive}
-use Rattle.command_replies.specs.Replies.{ReplyOf, verdict_alone, all_said}
+use Rattle.command_replies.specs.{declared.reply.Verdict.{Verdict}, declared.reply.Verdict.TheVariants.{Recursive}, Replies.{ReplyOf}}
+use Rattle.command_replies.specs.Replies.{verdict_alone, all_said}
 use Rattle.stack_commands.specs.Commands.SourceText.{accepted_in}
 
 -- the sizes of both stacks

@@ -2,15 +2,11 @@
 use Rattle.std.specs.Prelude.{ℕ, List, Option, Some, None, Bool, Result, Ok, Err, nat_lt, if◌then◌else◌}
 use Rattle.fm_words.specs.WindowLimit.{most_window}
 use Rattle.fm_image.specs.Spelling.{spelling}
-use Rattle.piton_check.specs.PitonChecking.{CheckedOf}
-use Rattle.piton_check.specs.Instruction.{SystemView}
-use Rattle.piton_semantics.specs.Fits.{system_in}
-use Rattle.piton_semantics.specs.Placed.{placed}
+use Rattle.piton_check.specs.{PitonChecking.{CheckedOf}, Instruction.{SystemView}}
+use Rattle.piton_semantics.specs.{Fits.{system_in}, Placed.{placed}}
 use Rattle.stack_build.specs.Image.{linked_image}
-use Rattle.command_replies.specs.declared.reply.SizeOf.TheVariants.{Words}
-use Rattle.command_replies.specs.declared.reply.Verdict.{Verdict}
-use Rattle.command_replies.specs.declared.reply.Verdict.TheVariants.{Size}
-use Rattle.command_replies.specs.Replies.{ReplyOf, verdict_alone, built_reply}
+use Rattle.command_replies.specs.{declared.reply.SizeOf.TheVariants.{Words}, declared.reply.Verdict.{Verdict}}
+use Rattle.command_replies.specs.{declared.reply.Verdict.TheVariants.{Size}, Replies.{ReplyOf, verdict_alone, built_reply}}
 use Rattle.command_replies.specs.Commands.PitonText.{checked_in}
 
 -- more words than a window has

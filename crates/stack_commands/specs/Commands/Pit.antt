@@ -1,7 +1,6 @@
 -- The command `pit`.
 use Rattle.std.specs.Prelude.{ℕ, List, Option, Some, None, Result, Ok, Err}
-use Rattle.piton_syntax.specs.Printed.{piton_text}
-use Rattle.piton_syntax.specs.Systems.{SystemOf}
+use Rattle.piton_syntax.specs.{Printed.{piton_text}, Systems.{SystemOf}}
 use Rattle.stack_build.specs.declared.fault.BuildFault.{BuildFault}
 use Rattle.command_replies.specs.Replies.{ReplyOf, verdict_alone, written_reply}
 use Rattle.stack_commands.specs.Commands.SourceText.{build_verdict}

@@ -1,18 +1,13 @@
 -- The text of a source, read and judged. What a command with such a text goes on with is the accepted source.
 use Rattle.std.specs.Prelude.{ℕ, List, Result, Ok, Err}
-use Rattle.gypsy_syntax.specs.declared.proc.Source.{Source}
-use Rattle.gypsy_syntax.specs.Sources.{SourceOf}
-use Rattle.gypsy_syntax.specs.Views.SourceView.{source_of}
-use Rattle.stack_build.specs.declared.fault.BuildFault.{BuildFault}
-use Rattle.stack_build.specs.declared.fault.BuildFault.TheVariants.{Text, Form, Rule, Size, Control, Temporary, Words, Memory}
-use Rattle.stack_build.specs.Build.{accepted_source}
-use Rattle.stack_build.specs.declared.start_fault.StartFault.{StartFault}
-use Rattle.stack_build.specs.declared.start_fault.StartFault.TheVariants.{Build, Values}
-use Rattle.command_replies.specs.declared.reply.RuleLetter.TheVariants.{G, M, S}
-use Rattle.command_replies.specs.declared.reply.SizeOf.TheVariants as size
-use Rattle.command_replies.specs.declared.reply.Verdict.{Verdict}
-use Rattle.command_replies.specs.declared.reply.Verdict.TheVariants as verdict
+use Rattle.gypsy_syntax.specs.{declared.proc.Source.{Source}, Sources.{SourceOf}, Views.SourceView.{source_of}}
+use Rattle.stack_build.specs.{declared.fault.BuildFault.{BuildFault}, declared.fault.BuildFault.TheVariants.{Text, Form, Rule, Size}}
+use Rattle.stack_build.specs.{declared.fault.BuildFault.TheVariants.{Control, Temporary, Words, Memory}, Build.{accepted_source}}
+use Rattle.stack_build.specs.{declared.start_fault.StartFault.{StartFault}, declared.start_fault.StartFault.TheVariants.{Build, Values}}
+use Rattle.command_replies.specs.{declared.reply.RuleLetter.TheVariants.{G, M, S}, declared.reply.Verdict.{Verdict}}
 use Rattle.command_replies.specs.Replies.{text_rule_number}
+use Rattle.command_replies.specs.declared.reply.SizeOf.TheVariants as size
+use Rattle.command_replies.specs.declared.reply.Verdict.TheVariants as verdict
 
 -- how a command ends where nothing is built; sizes that no stack has are no words of a command, and no definition runs out of memory
 abbrev pub build_verdict : BuildFault → Verdict

@@ -1,32 +1,22 @@
 -- The command `turns`: sources that are built side by side, and whose images take turns in one memory. What is replied is said here by
 -- each task alone, so no definition knows of that memory.
-use Rattle.std.specs.Prelude.{ℕ, ◌+◌, ◌==◌, ◌||◌, List, [], ◌∷◌, ◌++◌, length, sum_by, slice_index_or, nat_lt, if◌then◌else◌}
-use Rattle.std.specs.Prelude.{Bool, true, false, None, Result, Ok, Err, codes}
-use Rattle.std.specs.Fmt.{decimal}
-use Rattle.std.specs.Int.{div_ceil}
-use Rattle.std.specs.List.{list_all}
+use Rattle.std.specs.Prelude.{ℕ, ◌+◌, ◌==◌, ◌||◌, List, [], ◌∷◌, ◌++◌, length, sum_by, slice_index_or, nat_lt, if◌then◌else◌, Bool, true}
+use Rattle.std.specs.{Prelude.{false, None, Result, Ok, Err, codes}, Fmt.{decimal}, Int.{div_ceil}, List.{list_all}}
 use Rattle.fm_words.specs.WindowLimit.{most_window}
-use Rattle.stack_text.specs.SharedLimits.{most_tasks}
-use Rattle.stack_text.specs.Lines.{line}
-use Rattle.stack_text.specs.Results.{◌>>=◌}
-use Rattle.stack_text.specs.Values.{ValueOf}
+use Rattle.stack_text.specs.{SharedLimits.{most_tasks}, Lines.{line}, Results.{◌>>=◌}, Values.{ValueOf}}
 use Rattle.fm_machine.specs.declared.processor.Run.{Run}
 use Rattle.fm_machine.specs.declared.processor.Run.TheVariants as run
 use Rattle.fm_image.specs.Image.{ImageOf}
 use Rattle.fm_loader.specs.Values.{values_in}
-use Rattle.fm_turns.specs.EqualTurns.{whole_run}
-use Rattle.fm_turns.specs.Starting.{NewTask, new_task}
+use Rattle.fm_turns.specs.{EqualTurns.{whole_run}, Starting.{NewTask, new_task}}
 use Rattle.gypsy_space.specs.Needs.{StackSizes}
-use Rattle.stack_build.specs.declared.fault.BuildFault.{BuildFault}
-use Rattle.stack_build.specs.Build.{BuiltOf, built}
-use Rattle.stack_commands.specs.declared.turns.tasks.TasksFault.{TasksFault}
-use Rattle.stack_commands.specs.declared.turns.tasks.TasksFault.TheVariants.{Count, Refused, Large, Memory}
+use Rattle.stack_build.specs.{declared.fault.BuildFault.{BuildFault}, Build.{BuiltOf, built}}
+use Rattle.stack_commands.specs.{declared.turns.tasks.TasksFault.{TasksFault}, declared.turns.tasks.TasksFault.TheVariants.{Count, Refused}}
+use Rattle.stack_commands.specs.{declared.turns.tasks.TasksFault.TheVariants.{Large, Memory}, Commands.SourceText.{build_verdict}}
 use Rattle.command_replies.specs.declared.reply.SizeOf.TheVariants as size
-use Rattle.command_replies.specs.declared.reply.Verdict.{Verdict}
-use Rattle.command_replies.specs.declared.reply.Verdict.TheVariants.{Done, Usage, Values, Size, SomeUnfinished}
-use Rattle.command_replies.specs.Replies.{ReplyOf, verdict_alone, reply_text}
+use Rattle.command_replies.specs.{declared.reply.Verdict.{Verdict}, declared.reply.Verdict.TheVariants.{Done, Usage, Values, Size}}
+use Rattle.command_replies.specs.{declared.reply.Verdict.TheVariants.{SomeUnfinished}, Replies.{ReplyOf, verdict_alone, reply_text}}
 use Rattle.command_replies.specs.Commands.Run.{run_reply}
-use Rattle.stack_commands.specs.Commands.SourceText.{build_verdict}
 
 -- 1. The tasks: an image and values for each source, or the first fault. Tasks are counted from 0 here, and from 1 in what is printed.
 

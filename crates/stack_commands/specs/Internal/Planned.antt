@@ -1,6 +1,5 @@
 -- Which commands have plans.
-use Rattle.command_line.specs.declared.command.Command.{Command}
-use Rattle.command_line.specs.declared.command.Command.TheVariants.{Debug}
+use Rattle.command_line.specs.{declared.command.Command.{Command}, declared.command.Command.TheVariants.{Debug}}
 
 -- a plan tells all that is left to do: it leaves no session
 abbrev pub IsPlanned : Command → Type 0

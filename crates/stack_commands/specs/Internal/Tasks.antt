@@ -1,10 +1,9 @@
 -- What the functions that make the tasks of `turns` say.
 use Rattle.std.specs.Prelude.{◌≡◌, ◌≤◌, ◌^◌, ℕ, List, length, All, Option, Some, None, Ok}
 use Rattle.stack_text.specs.SharedLimits.{most_tasks}
-use Rattle.fm_turns.specs.Alone.{StaysInside}
-use Rattle.fm_turns.specs.Starting.{NewTask, side_by_side, started}
-use Rattle.stack_commands.specs.declared.turns.tasks.TasksFault.{TasksFault}
-use Rattle.stack_commands.specs.declared.turns.tasks.TasksFault.TheVariants.{Count, Refused, Large, Memory}
+use Rattle.fm_turns.specs.{Alone.{StaysInside}, Starting.{NewTask, side_by_side, started}}
+use Rattle.stack_commands.specs.{declared.turns.tasks.TasksFault.{TasksFault}, declared.turns.tasks.TasksFault.TheVariants.{Count, Refused}}
+use Rattle.stack_commands.specs.declared.turns.tasks.TasksFault.TheVariants.{Large, Memory}
 
 -- out of memory is no fault of a text
 abbrev pub fault_of : TasksFault → Option TasksFault

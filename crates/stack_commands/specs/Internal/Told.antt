@@ -1,14 +1,9 @@
 -- What is told of tasks that took turns, by how each of them stands.
-use Rattle.std.specs.Prelude.{◌≡◌, ℕ, ◌+◌, ◌^◌, ◌<◌, List, [], ◌∷◌, ◌++◌, Bool, true, false, None, replicate}
-use Rattle.std.specs.List.{list_all}
+use Rattle.std.specs.{Prelude.{◌≡◌, ℕ, ◌+◌, ◌^◌, ◌<◌, List, [], ◌∷◌, ◌++◌, Bool, true, false, None, replicate}, List.{list_all}}
 use Rattle.fm_image.specs.Image.{ImageOf}
-use Rattle.display_maps.specs.Reading.{ReadingOf, reading}
-use Rattle.display_maps.specs.Report.{report_text}
-use Rattle.fm_turns.specs.declared.context.TaskContext.{TaskContext}
-use Rattle.fm_turns.specs.declared.task.Task.{Task}
-use Rattle.fm_turns.specs.declared.task.Task.TheVariants.{Running, Ended, Spent, Outside}
-use Rattle.fm_turns.specs.EqualTurns.{AreAll}
-use Rattle.fm_turns.specs.OwnMachines.{own_machine}
+use Rattle.display_maps.specs.{Reading.{ReadingOf, reading}, Report.{report_text}}
+use Rattle.fm_turns.specs.{declared.context.TaskContext.{TaskContext}, declared.task.Task.{Task}, declared.task.Task.TheVariants.{Running}}
+use Rattle.fm_turns.specs.{declared.task.Task.TheVariants.{Ended, Spent, Outside}, EqualTurns.{AreAll}, OwnMachines.{own_machine}}
 use Rattle.fm_turns.specs.Turns.{TurnsOf, rounds_of, states_of}
 use Rattle.command_replies.specs.declared.reply.Verdict.TheVariants as verdict
 use Rattle.command_replies.specs.Replies.{ReplyOf, verdict_line}

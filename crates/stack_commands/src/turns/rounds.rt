@@ -1,16 +1,11 @@
 //! Runs tasks by turns, and tells how each of them ended.
-ghost use Rattle.std.specs.Prelude.{◌≡◌, ◌≤◌, ◌<◌, ℕ, length, slice_get, Some, IfOk};
-ghost use Rattle.std.specs.List.{list_all};
+ghost use Rattle.std.specs.{Prelude.{◌≡◌, ◌≤◌, ◌<◌, ℕ, length, slice_get, Some, IfOk}, List.{list_all}};
 ghost use Rattle.stack_heap.specs.Heaps.{IfOkUnless};
-ghost use Rattle.display_maps.specs.Reading.{reading};
-ghost use Rattle.display_maps.specs.Report.{report_text};
-ghost use Rattle.fm_turns.specs.declared.context.TaskContext.{TaskContext};
-ghost use Rattle.fm_turns.specs.OwnMachines.{own_machine};
-ghost use Rattle.fm_turns.specs.Starting.{new_tasks, AllFit, side_by_side};
+ghost use Rattle.display_maps.specs.{Reading.{reading}, Report.{report_text}};
+ghost use Rattle.fm_turns.specs.{declared.context.TaskContext.{TaskContext}, OwnMachines.{own_machine}, Starting.{new_tasks, AllFit, side_by_side}};
 ghost use Rattle.fm_turns.specs.Turns.{AreWithin, images_of, states_of};
 ghost use Rattle.command_replies.specs.Replies.{reply_of};
-ghost use Rattle.stack_commands.specs.Internal.Tasks.{AreReady};
-ghost use Rattle.stack_commands.specs.Internal.Told.{GoneRound, round_in, end_text, told_of, told_from, has_ended, told_reply};
+ghost use Rattle.stack_commands.specs.{Internal.Tasks.{AreReady}, Internal.Told.{GoneRound, round_in, end_text, told_of, told_from, has_ended, told_reply}};
 ghost use Rattle.stack_commands.specs.Commands.Turns.{round_line, tasks_reply};
 
 use command_replies::{Reply, Verdict};

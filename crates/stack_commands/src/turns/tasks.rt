@@ -1,8 +1,7 @@
 //! Makes tasks of the texts of sources and of their values.
 ghost use Rattle.std.specs.Prelude.{◌≡◌, ◌≤◌, ◌^◌, All, IfOk, length, map, slice_index_or, [], Ok};
 ghost use Rattle.stack_text.specs.Gives.{GivesUnless};
-ghost use Rattle.fm_loader.specs.Loaded.{Fits};
-ghost use Rattle.fm_loader.specs.Values.{values_in};
+ghost use Rattle.fm_loader.specs.{Loaded.{Fits}, Values.{values_in}};
 ghost use Rattle.fm_turns.specs.Starting.{new_tasks, AllFit};
 ghost use Rattle.gypsy_space.specs.Needs.{stack_sizes};
 ghost use Rattle.stack_build.specs.Build.{built};

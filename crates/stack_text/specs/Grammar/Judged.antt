@@ -1,7 +1,6 @@
 -- What a tree is judged to be: a value, or what is wrong with it.
 use Rattle.std.specs.Prelude.{ℕ, List, [], ◌∷◌, ◌++◌, Result, Ok, Err, Bool, if◌then◌else◌}
-use Rattle.stack_text.specs.declared.breach.Breach.{Breach}
-use Rattle.stack_text.specs.Trees.{Node, Nodes, none, more}
+use Rattle.stack_text.specs.{declared.breach.Breach.{Breach}, Trees.{Node, Nodes, none, more}}
 
 -- a value, or all faults in reading order, of which there is one at least
 abbrev pub Judged : Type 0 → Type 0

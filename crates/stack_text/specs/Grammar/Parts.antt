@@ -1,8 +1,6 @@
 -- Parts that many grammars have.
 use Rattle.std.specs.Prelude.{ℕ, ◌+◌, List, [], Ok, Bool, false, IsTrue}
-use Rattle.stack_text.specs.Names.{is_name}
-use Rattle.stack_text.specs.Trees.{Node, Nodes, atom, list, none, more}
-use Rattle.stack_text.specs.declared.name.Named.{Named}
+use Rattle.stack_text.specs.{Names.{is_name}, Trees.{Node, Nodes, atom, list, none, more}, declared.name.Named.{Named}}
 use Rattle.stack_text.specs.Grammar.Judged.{Judged, fault, judged, each_of}
 
 -- an atom whose bytes pass the test

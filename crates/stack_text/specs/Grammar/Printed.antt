@@ -1,9 +1,6 @@
 -- Trees with 0 in all their places, and their texts.
-use Rattle.std.specs.Prelude.{ℕ, List, [], ◌∷◌, ◌++◌, map, ◌==◌, if◌then◌else◌}
-use Rattle.std.specs.List.{flat_map}
-use Rattle.stack_text.specs.Trees.{Node, Nodes, atom, list}
-use Rattle.stack_text.specs.TreeText.{items_text, spaced_text}
-use Rattle.stack_text.specs.Views.TreeView.{nodes}
+use Rattle.std.specs.{Prelude.{ℕ, List, [], ◌∷◌, ◌++◌, map, ◌==◌, if◌then◌else◌}, List.{flat_map}}
+use Rattle.stack_text.specs.{Trees.{Node, Nodes, atom, list}, TreeText.{items_text, spaced_text}, Views.TreeView.{nodes}}
 use Rattle.stack_text.specs.declared.name.Named.{Named}
 
 -- a list of trees

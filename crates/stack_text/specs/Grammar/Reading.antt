@@ -1,9 +1,7 @@
 -- What a reader of one part returns: the part, or the first of its faults in reading order.
 use Rattle.std.specs.Prelude.{◌≡◌, List, Result, Ok, Err}
-use Rattle.stack_text.specs.declared.breach.Breach.{Breach}
-use Rattle.stack_text.specs.declared.grammar.fault.FormFault.{FormFault}
-use Rattle.stack_text.specs.declared.grammar.fault.FormFault.TheVariants.{Form, Memory}
-use Rattle.stack_text.specs.Grammar.Judged.{Judged}
+use Rattle.stack_text.specs.{declared.breach.Breach.{Breach}, declared.grammar.fault.FormFault.{FormFault}}
+use Rattle.stack_text.specs.{declared.grammar.fault.FormFault.TheVariants.{Form, Memory}, Grammar.Judged.{Judged}}
 
 -- the part has faults, and this is the first; out of memory comes only where memory was refused
 abbrev pub IsFirstFault : {X : Type 0} → Type 0 → FormFault → Judged X → Type 0

@@ -1,15 +1,10 @@
 -- Readers of texts by a grammar: the value that a text has, or why it has none.
 use Rattle.std.specs.Prelude.{◌≡◌, ℕ, List, Result, Ok, Err}
-use Rattle.stack_text.specs.declared.breach.Breach.{Breach}
-use Rattle.stack_text.specs.declared.text_fault.TextRule.{TextRule}
-use Rattle.stack_text.specs.declared.text_fault.TextFault.{TextFault}
+use Rattle.stack_text.specs.{declared.breach.Breach.{Breach}, declared.text_fault.TextRule.{TextRule}}
+use Rattle.stack_text.specs.{declared.text_fault.TextFault.{TextFault}, declared.grammar.fault.FormFault.{FormFault}, Breaches.{least_of}}
+use Rattle.stack_text.specs.{Trees.{Node, IsWellFormed}, TreeIn.{tree_in}, Grammar.Judged.{Judged}}
 use Rattle.stack_text.specs.declared.text_fault.TextFault.TheVariants as text
-use Rattle.stack_text.specs.declared.grammar.fault.FormFault.{FormFault}
 use Rattle.stack_text.specs.declared.grammar.fault.FormFault.TheVariants as form
-use Rattle.stack_text.specs.Breaches.{least_of}
-use Rattle.stack_text.specs.Trees.{Node, IsWellFormed}
-use Rattle.stack_text.specs.TreeIn.{tree_in}
-use Rattle.stack_text.specs.Grammar.Judged.{Judged}
 
 -- A reader is given by the value that a tree is judged to be, the tree that a value is printed as, a value without its
 -- places, and its faults: those of a text that is no tree, those of the form, and out of memory.

@@ -1,13 +1,9 @@
 -- The lists that are open while a text is read, the outermost first.
 use Rattle.std.specs.Prelude.{◌≡◌, ℕ, List, [], ◌∷◌, ◌++◌, map, Option, Some, None, Result, Ok, Err}
-use Rattle.stack_text.specs.Tokens.{Token, opens_at, between, tokens}
-use Rattle.stack_text.specs.Trees.{Node, tokens_of, tokens_of_all, as_kept}
-use Rattle.stack_text.specs.Views.TreeView.{node_of, nodes_of}
-use Rattle.stack_text.specs.TextFaults.{Context, before, within, after, after_tree, first_fault, text_fault}
-use Rattle.stack_text.specs.declared.reader.OpenList.{OpenList}
-use Rattle.stack_text.specs.declared.tree.TextTree.{TextTree}
-use Rattle.stack_text.specs.declared.text_fault.TextFault.{TextFault}
-use Rattle.stack_text.specs.declared.text_fault.TextFault.TheVariants.{Fault, Memory}
+use Rattle.stack_text.specs.{Tokens.{Token, opens_at, between, tokens}, Trees.{Node, tokens_of, tokens_of_all, as_kept}}
+use Rattle.stack_text.specs.{Views.TreeView.{node_of, nodes_of}, TextFaults.{Context, before, within, after, after_tree, first_fault}}
+use Rattle.stack_text.specs.{TextFaults.{text_fault}, declared.reader.OpenList.{OpenList}, declared.tree.TextTree.{TextTree}}
+use Rattle.stack_text.specs.{declared.text_fault.TextFault.{TextFault}, declared.text_fault.TextFault.TheVariants.{Fault, Memory}}
 
 -- the tokens so far, those of the whole trees in the open lists among them
 abbrev pub opened : List OpenList → List Token

@@ -1,8 +1,6 @@
 -- The texts of a tree with any separators between items.
 use Rattle.std.specs.Prelude.{◌≡◌, ℕ, ◌<◌, List, [], ◌∷◌, ◌++◌, length}
-use Rattle.stack_text.specs.declared.class.Class.{Class}
-use Rattle.stack_text.specs.declared.class.Class.TheVariants.{LineEnd, Space}
-use Rattle.stack_text.specs.Tokens.{class_of}
+use Rattle.stack_text.specs.{declared.class.Class.{Class}, declared.class.Class.TheVariants.{LineEnd, Space}, Tokens.{class_of}}
 use Rattle.stack_text.specs.Trees.{Node, Nodes, atom, list, none, more}
 
 -- space, tab, LF or CR

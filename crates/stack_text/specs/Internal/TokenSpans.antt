@@ -1,8 +1,7 @@
 -- A token that was found in a text.
 use Rattle.std.specs.Prelude.{◌≡◌, ℕ, ◌<◌, ◌≤◌, List, ◌∷◌, drop, length, slice_range}
 use Rattle.stack_text.specs.Tokens.{Token, opens_at, closes_at, atom_at, invalid_at, between, tokens}
-use Rattle.stack_text.specs.declared.lexer.TokenSpan.{TokenSpan}
-use Rattle.stack_text.specs.declared.lexer.TokenKind.{TokenKind}
+use Rattle.stack_text.specs.{declared.lexer.TokenSpan.{TokenSpan}, declared.lexer.TokenKind.{TokenKind}}
 use Rattle.stack_text.specs.declared.lexer.TokenKind.TheVariants.{Opening, Closing, Atom, Invalid}
 
 -- the token of a kind at a place, with its bytes

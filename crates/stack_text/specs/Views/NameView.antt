@@ -1,7 +1,6 @@
 -- Where a name has its bytes.
 use Rattle.std.specs.Prelude.{ℕ, ◌≤◌, List, take}
-use Rattle.stack_text.specs.declared.name.NameBytes.{NameBytes}
-use Rattle.stack_text.specs.declared.name.NameBytes.TheVariants.{InPlace, InVector}
+use Rattle.stack_text.specs.{declared.name.NameBytes.{NameBytes}, declared.name.NameBytes.TheVariants.{InPlace, InVector}}
 
 -- the bytes
 abbrev pub kept_bytes : NameBytes → List ℕ

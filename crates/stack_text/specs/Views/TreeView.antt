@@ -1,11 +1,8 @@
 -- What clauses see of a tree: the same tree with lists in place of the vectors, whether it lends the bytes of its atoms or has its own.
 use Rattle.std.specs.Prelude.{List, [], ◌∷◌, map}
-use Rattle.stack_text.specs.Trees.{Node, Nodes, atom, list, none, more}
-use Rattle.stack_text.specs.declared.tree.Tree.{Tree}
-use Rattle.stack_text.specs.declared.tree.Tree.TheOpen.{Tree-F, Atom as OwnedAtom, List as OwnedList}
-use Rattle.stack_text.specs.declared.tree.Tree.TheFolds.{fold-Tree}
-use Rattle.stack_text.specs.declared.tree.TextTree.{TextTree}
-use Rattle.stack_text.specs.declared.tree.TextTree.TheOpen.{TextTree-F, Atom, List as ListF}
+use Rattle.stack_text.specs.{Trees.{Node, Nodes, atom, list, none, more}, declared.tree.Tree.{Tree}, declared.tree.Tree.TheOpen.{Tree-F}}
+use Rattle.stack_text.specs.{declared.tree.Tree.TheOpen.{Atom as OwnedAtom, List as OwnedList}, declared.tree.Tree.TheFolds.{fold-Tree}}
+use Rattle.stack_text.specs.{declared.tree.TextTree.{TextTree}, declared.tree.TextTree.TheOpen.{TextTree-F, Atom, List as ListF}}
 use Rattle.stack_text.specs.declared.tree.TextTree.TheFolds.{fold-TextTree}
 
 -- a list of trees as the items of a list

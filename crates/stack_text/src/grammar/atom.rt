@@ -1,9 +1,7 @@
 //! Atoms by their bytes.
 
 ghost use Rattle.std.specs.Prelude.{◌≡◌};
-ghost use Rattle.stack_text.specs.Grammar.Parts.{is_atom_of};
-ghost use Rattle.stack_text.specs.Numerals.{is_numeral};
-ghost use Rattle.stack_text.specs.Views.TreeView.{node_of};
+ghost use Rattle.stack_text.specs.{Grammar.Parts.{is_atom_of}, Numerals.{is_numeral}, Views.TreeView.{node_of}};
 
 use crate::{TextTree, is_numeral};
 

@@ -1,8 +1,6 @@
 //! Names.
 
-ghost use Rattle.stack_text.specs.Views.TreeView.{node_of, nodes_of};
-ghost use Rattle.stack_text.specs.Grammar.Judged.{each_of};
-ghost use Rattle.stack_text.specs.Grammar.Parts.{list_or, name_or};
+ghost use Rattle.stack_text.specs.{Views.TreeView.{node_of, nodes_of}, Grammar.Judged.{each_of}, Grammar.Parts.{list_or, name_or}};
 ghost use Rattle.stack_text.specs.Grammar.Reading.{ReadsUnless};
 
 use crate::grammar::fault::FormFault;

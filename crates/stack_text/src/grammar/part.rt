@@ -2,10 +2,7 @@
 
 ghost use Rattle.std.specs.Prelude.{◌≡◌, map};
 ghost use Rattle.stack_heap.specs.Heaps.{IsSmallItem};
-ghost use Rattle.stack_text.specs.Trees.{Node};
-ghost use Rattle.stack_text.specs.Views.TreeView.{node_of, nodes_of};
-ghost use Rattle.stack_text.specs.Grammar.Judged.{Judged, each_of};
-ghost use Rattle.stack_text.specs.Grammar.Parts.{list_length, list_or};
+ghost use Rattle.stack_text.specs.{Trees.{Node}, Views.TreeView.{node_of, nodes_of}, Grammar.Judged.{Judged, each_of}, Grammar.Parts.{list_length, list_or}};
 ghost use Rattle.stack_text.specs.Grammar.Reading.{ReadsUnless};
 
 use crate::TextTree;

@@ -2,9 +2,7 @@
 
 ghost use Rattle.std.specs.Prelude.{◌≡◌, ◌++◌, ◌∷◌, map};
 ghost use Rattle.stack_heap.specs.Heaps.{OnOkUnless};
-ghost use Rattle.stack_text.specs.Trees.{Node};
-ghost use Rattle.stack_text.specs.TreeText.{items_text, spaced_text, tree_text};
-ghost use Rattle.stack_text.specs.Views.TreeView.{nodes};
+ghost use Rattle.stack_text.specs.{Trees.{Node}, TreeText.{items_text, spaced_text, tree_text}, Views.TreeView.{nodes}};
 
 use crate::printer::separate;
 use crate::{Memory, Named};

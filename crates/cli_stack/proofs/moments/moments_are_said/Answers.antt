@@ -1,5 +1,4 @@
-use Rattle.cli_stack.proofs.EndLaws.{built_ends}
-use Rattle.cli_stack.proofs.SessionLaws.{built_says, machine_says, system_says}
+use Rattle.cli_stack.{proofs.EndLaws.built_ends, proofs.SessionLaws.{built_says, machine_says, system_says}}
 use Rattle.cli_stack.proofs.moments.moments_are_said.Goals as goal
 
 pub returns-clause-machine : goal.returns-clause-machine

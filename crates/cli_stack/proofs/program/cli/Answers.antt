@@ -1,10 +1,7 @@
 use Rattle.std.proofs.Common.{List, map}
 use Rattle.level_debuggers.specs.Tallies.{Watching}
-use Rattle.command_line.specs.CommandWords.{spelled}
-use Rattle.command_line.specs.CommandRows.{command_of}
-use Rattle.cli_stack.proofs.AnswerLaws.{answers_mean, answers_tell}
-use Rattle.cli_stack.proofs.PromisesLaws.{promises}
-use Rattle.cli_stack.proofs.TaskCountLaws.{words_few}
+use Rattle.command_line.{specs.CommandWords.spelled, specs.CommandRows.command_of}
+use Rattle.cli_stack.{proofs.AnswerLaws.{answers_mean, answers_tell}, proofs.PromisesLaws.promises, proofs.TaskCountLaws.words_few}
 use Rattle.cli_stack.proofs.program.cli.Goals as goal
 
 pub returns-clause-promises : goal.returns-clause-promises

@@ -1,7 +1,6 @@
 use Rattle.std.proofs.Common.{List, map}
 use Rattle.level_debuggers.specs.Tallies.{Watching}
-use Rattle.command_line.specs.CommandWords.{spelled}
-use Rattle.command_line.specs.CommandRows.{command_of}
+use Rattle.command_line.{specs.CommandWords.spelled, specs.CommandRows.command_of}
 use Rattle.cli_stack.proofs.RanLaws.{ran}
 use Rattle.cli_stack.proofs.ran.run_logged.Goals as goal
 

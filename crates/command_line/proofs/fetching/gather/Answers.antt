@@ -1,5 +1,4 @@
-use Rattle.std.proofs.Common.{arith}
-use Rattle.std.proofs.lemmas.Result.{err_from_is_err_and}
+use Rattle.std.{proofs.Common.arith, proofs.lemmas.Result.err_from_is_err_and}
 use Rattle.command_line.proofs.GatherLaws.{ends_at_input, gave_all}
 use Rattle.command_line.proofs.fetching.gather.Goals as goal
 

@@ -1,8 +1,6 @@
 use Rattle.std.proofs.Common.{◌≡◌, ◌++◌, IfSome, map, drop}
 use Rattle.stack_shelf.specs.Causes.{NoneFell}
-use Rattle.command_line.specs.Gathered.{AreShort, Texts, roles_of, gathered}
-use Rattle.command_line.specs.Devices.{gave_each}
-use Rattle.command_line.proofs.TextsLaws.{with_texts}
+use Rattle.command_line.{specs.Gathered.{AreShort, Texts, roles_of, gathered}, specs.Devices.gave_each, proofs.TextsLaws.with_texts}
 use Rattle.command_line.proofs.fetching.gather.Given as goal
 
 -- the texts so far, and those of the files that are left, are those of all

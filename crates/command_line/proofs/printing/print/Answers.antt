@@ -1,5 +1,4 @@
-use Rattle.std.proofs.Common.{rules, ◌≡◌, ◌++◌}
-use Rattle.std.proofs.lemmas.Result.{err_from_is_err_and}
+use Rattle.std.{proofs.Common.{rules, ◌≡◌, ◌++◌}, proofs.lemmas.Result.err_from_is_err_and}
 use Rattle.command_line.proofs.PrintLaws.{line_printed, later_prefix, line_taken}
 use Rattle.command_line.proofs.printing.print.Goals as goal
 

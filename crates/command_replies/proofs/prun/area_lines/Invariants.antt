@@ -1,5 +1,4 @@
-use Rattle.std.proofs.Common.{◌≡◌, ◌++◌, drop}
-use Rattle.std.specs.List.{flat_map, enumerate_from}
+use Rattle.std.{proofs.Common.{◌≡◌, ◌++◌, drop}, specs.List.{flat_map, enumerate_from}}
 use Rattle.command_replies.specs.Commands.Prun.{area_line}
 use Rattle.command_replies.proofs.prun.area_lines.Given as goal
 

@@ -1,7 +1,5 @@
-use Rattle.std.proofs.Common.{◌≡◌, ◌++◌, map}
-use Rattle.std.specs.Option.{option_copied}
-use Rattle.debug_script.specs.Commands.{words_left, words_of}
-use Rattle.debug_script.proofs.WordLaws.{left_measure}
+use Rattle.std.{proofs.Common.{◌≡◌, ◌++◌, map}, specs.Option.option_copied}
+use Rattle.debug_script.{specs.Commands.{words_left, words_of}, proofs.WordLaws.left_measure}
 use Rattle.debug_script.proofs.line.words_of.Given as goal
 
 -- the words so far and those of what is left are all

@@ -1,8 +1,5 @@
-use Rattle.std.proofs.Common.{arith, ap, length, append-nil, sym}
-use Rattle.std.specs.Prelude.{None, Some}
-use Rattle.std.proofs.lemmas.Result.{err_from_is_err_and}
-use Rattle.debug_script.specs.Scripts.{fault_of}
-use Rattle.debug_script.proofs.ScriptLaws.{next_read, next_fails, all_read}
+use Rattle.std.{proofs.Common.{arith, ap, length, append-nil, sym}, specs.Prelude.{None, Some}, proofs.lemmas.Result.err_from_is_err_and}
+use Rattle.debug_script.{specs.Scripts.fault_of, proofs.ScriptLaws.{next_read, next_fails, all_read}}
 use Rattle.debug_script.proofs.reading.read_script.Goals as goal
 
 pub returns-in_err-read : goal.returns-in_err-read

@@ -1,7 +1,5 @@
-use Rattle.std.proofs.Common.{◌≡◌, ◌++◌, drop, map}
-use Rattle.std.specs.List.{flat_map}
-use Rattle.display_maps.specs.Report.{variable_line}
-use Rattle.display_maps.specs.Variable.{variable_of_line}
+use Rattle.std.{proofs.Common.{◌≡◌, ◌++◌, drop, map}, specs.List.flat_map}
+use Rattle.display_maps.{specs.Report.variable_line, specs.Variable.variable_of_line}
 use Rattle.display_maps.proofs.printing.push_lines.Given as goal
 
 -- the lines so far and those of what is left are those of all

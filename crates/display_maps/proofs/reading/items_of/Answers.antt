@@ -1,10 +1,7 @@
 use Rattle.std.proofs.Common.{◌≡◌, ◌∙◌, ◌-◌, ◌+◌, ◌++◌, ◌∷◌, [], ℕ, List, map, sym, ap, append_assoc, arith, rules}
-use Rattle.stack_text.specs.declared.shape.Kind.{Kind}
-use Rattle.stack_text.specs.Values.{item_count}
+use Rattle.stack_text.{specs.declared.shape.Kind.Kind, specs.Values.item_count}
 use Rattle.fm_machine.specs.State.{Fm}
-use Rattle.display_maps.specs.declared.shown.Shown.{Shown}
-use Rattle.display_maps.specs.Reading.{word_or_zero, item_of, words_down}
-use Rattle.display_maps.proofs.ItemLaws.{items_next}
+use Rattle.display_maps.{specs.declared.shown.Shown.Shown, specs.Reading.{word_or_zero, item_of, words_down}, proofs.ItemLaws.items_next}
 use Rattle.display_maps.proofs.reading.items_of.Goals as goal
 
 pub loop-preserved : goal.loop-preserved

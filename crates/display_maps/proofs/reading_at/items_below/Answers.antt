@@ -1,8 +1,6 @@
 use Rattle.std.proofs.Common.{◌≡◌, ◌+◌, ◌-◌, ℕ, suc, Some, None, ap, sym, ◌∙◌, arith, rules}
 use Rattle.stack_text.specs.Values.{item_count}
-use Rattle.display_maps.specs.Reading.{item_of}
-use Rattle.display_maps.specs.ReadingAt.{StandingOf, items_below}
-use Rattle.display_maps.proofs.StandingLaws.{joined, items_from, item_there, item_missing}
+use Rattle.display_maps.{specs.Reading.item_of, specs.ReadingAt.{StandingOf, items_below}, proofs.StandingLaws.{joined, items_from, item_there, item_missing}}
 use Rattle.display_maps.proofs.reading_at.items_below.Goals as goal
 
 pub returns-in-None : goal.returns-in-None

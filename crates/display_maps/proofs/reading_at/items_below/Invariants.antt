@@ -1,8 +1,6 @@
 use Rattle.std.proofs.Common.{◌≡◌, ◌+◌, ◌-◌}
 use Rattle.stack_text.specs.Values.{item_count}
-use Rattle.display_maps.specs.Reading.{item_of}
-use Rattle.display_maps.specs.ReadingAt.{items_below}
-use Rattle.display_maps.proofs.StandingLaws.{joined, items_from}
+use Rattle.display_maps.{specs.Reading.item_of, specs.ReadingAt.items_below, proofs.StandingLaws.{joined, items_from}}
 use Rattle.display_maps.proofs.reading_at.items_below.Given as goal
 
 -- the items so far and those of what is left are all, if all are there

@@ -1,5 +1,4 @@
-use Rattle.std.proofs.Common.{rules}
-use Rattle.std.proofs.lemmas.List.Sorted.{answers_always}
+use Rattle.std.{proofs.Common.rules, proofs.lemmas.List.Sorted.answers_always}
 use Rattle.fm_image.proofs.MarkLaws.{marks_ascend}
 use Rattle.display_maps.proofs.SearchLaws.{searched}
 use Rattle.display_maps.proofs.reading_at.search.Goals as goal

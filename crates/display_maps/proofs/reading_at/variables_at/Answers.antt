@@ -1,7 +1,6 @@
 use Rattle.std.proofs.Common.{◌≡◌, ◌+◌, None, sym, drop}
 use Rattle.stack_text.proofs.Loops.{drop-item}
-use Rattle.display_maps.specs.ReadingAt.{StandingOf, items_at, variables_at}
-use Rattle.display_maps.proofs.StandingLaws.{variable_missing}
+use Rattle.display_maps.{specs.ReadingAt.{StandingOf, items_at, variables_at}, proofs.StandingLaws.variable_missing}
 use Rattle.display_maps.proofs.reading_at.variables_at.Goals as goal
 
 pub returns-in-None : goal.returns-in-None

@@ -1,6 +1,5 @@
 use Rattle.std.proofs.Common.{◌≡◌, drop, map}
-use Rattle.display_maps.specs.ReadingAt.{variables_at}
-use Rattle.display_maps.proofs.StandingLaws.{joined}
+use Rattle.display_maps.{specs.ReadingAt.variables_at, proofs.StandingLaws.joined}
 use Rattle.display_maps.proofs.reading_at.variables_at.Given as goal
 
 -- the variables so far and those of what is left are all, if all are there

@@ -1,6 +1,5 @@
 use Rattle.std.proofs.Common.{◌≡◌, ◌++◌, drop, map}
-use Rattle.display_maps.specs.ReadingAt.{read_variable}
-use Rattle.display_maps.specs.Variable.{variable_of_line}
+use Rattle.display_maps.{specs.ReadingAt.read_variable, specs.Variable.variable_of_line}
 use Rattle.display_maps.proofs.reading_at.variables_of.Given as goal
 
 -- the variables so far and those of what is left are all

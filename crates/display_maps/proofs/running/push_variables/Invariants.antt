@@ -1,7 +1,5 @@
-use Rattle.std.proofs.Common.{◌≡◌, ◌++◌, drop, map}
-use Rattle.std.specs.List.{flat_map}
-use Rattle.display_maps.specs.Report.{variable_line}
-use Rattle.display_maps.specs.Running.{variables_shown}
+use Rattle.std.{proofs.Common.{◌≡◌, ◌++◌, drop, map}, specs.List.flat_map}
+use Rattle.display_maps.{specs.Report.variable_line, specs.Running.variables_shown}
 use Rattle.display_maps.proofs.running.push_variables.Given as goal
 
 abbrev pub invariant-loop-variable : goal.invariant-loop-variable

@@ -1,7 +1,5 @@
 use Rattle.std.proofs.Common.{take, ap, ◌∙◌, refl}
-use Rattle.fm_asm.specs.Cuts.{without_trailing}
-use Rattle.fm_asm.proofs.CutLaws.{same_next, other_next}
-use Rattle.fm_asm.proofs.assembling.used.Goals.{then-word-ne0, else-word-ne0}
+use Rattle.fm_asm.{specs.Cuts.without_trailing, proofs.CutLaws.{same_next, other_next}, proofs.assembling.used.Goals.{then-word-ne0, else-word-ne0}}
 use Rattle.fm_asm.proofs.assembling.used.Goals as goal
 
 pub loop-at-preserved : goal.loop-at-preserved

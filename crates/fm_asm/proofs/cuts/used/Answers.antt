@@ -1,7 +1,5 @@
 use Rattle.std.proofs.Common.{take, ap, ◌∙◌, arith, refl}
-use Rattle.fm_asm.specs.Cuts.{without_trailing}
-use Rattle.fm_asm.proofs.CutLaws.{same_next, other_next}
-use Rattle.fm_asm.proofs.cuts.used.Goals.{then-byte-ne32, else-byte-ne32}
+use Rattle.fm_asm.{specs.Cuts.without_trailing, proofs.CutLaws.{same_next, other_next}, proofs.cuts.used.Goals.{then-byte-ne32, else-byte-ne32}}
 use Rattle.fm_asm.proofs.cuts.used.Goals as goal
 
 pub loop-at-init : goal.loop-at-init

@@ -1,6 +1,4 @@
-use Rattle.fm_asm.proofs.AssemblyLaws.{spelled_is_assembled}
-use Rattle.fm_asm.proofs.FileLaws.{assembled_fits}
-use Rattle.fm_asm.proofs.FormLaws.{form_least}
+use Rattle.fm_asm.{proofs.AssemblyLaws.spelled_is_assembled, proofs.FileLaws.assembled_fits, proofs.FormLaws.form_least}
 use Rattle.fm_asm.proofs.RelatedLaws.{assembled_is_spelled, one_image, fault_or_image}
 use Rattle.fm_asm.proofs.laws.assembled_as_spelled.Goals as goal
 

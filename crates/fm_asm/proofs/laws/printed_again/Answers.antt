@@ -1,5 +1,4 @@
-use Rattle.fm_asm.proofs.LengthLaws.{printed_short}
-use Rattle.fm_asm.proofs.PrintLaws.{printed_spells, printed_is_assembled}
+use Rattle.fm_asm.{proofs.LengthLaws.printed_short, proofs.PrintLaws.{printed_spells, printed_is_assembled}}
 use Rattle.fm_asm.proofs.laws.printed_again.Goals as goal
 
 pub returns-clause-spells : goal.returns-clause-spells

@@ -1,6 +1,5 @@
 use Rattle.std.proofs.Common.{refl}
-use Rattle.fm_asm.specs.Printing.{word_line}
-use Rattle.fm_asm.proofs.LoopLaws.{pieces_at, fit_next, all_pieces, all_fit}
+use Rattle.fm_asm.{specs.Printing.word_line, proofs.LoopLaws.{pieces_at, fit_next, all_pieces, all_fit}}
 use Rattle.fm_asm.proofs.printing.push_words.Goals as goal
 
 pub loop-word-init : goal.loop-word-init

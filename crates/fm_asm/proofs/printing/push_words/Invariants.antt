@@ -1,6 +1,4 @@
-use Rattle.std.proofs.Common.{◌≡◌, ◌++◌, drop, take}
-use Rattle.std.specs.Prelude.{IsTrue}
-use Rattle.std.specs.List.{flat_map}
+use Rattle.std.{proofs.Common.{◌≡◌, ◌++◌, drop, take}, specs.Prelude.IsTrue, specs.List.flat_map}
 use Rattle.fm_image.specs.Spelling.{are_words}
 use Rattle.fm_asm.specs.Printing.{word_line}
 use Rattle.fm_asm.proofs.printing.push_words.Given as goal

@@ -1,8 +1,5 @@
-use Rattle.std.proofs.Common.{[], ap, refl, length, eqb, le-leb, List, ℕ}
-use Rattle.std.proofs.lemmas.Bool.{and_from}
-use Rattle.fm_image.specs.declared.slot.Slot.{Slot}
-use Rattle.fm_image.specs.Limits.{is_count, is_condition, is_slot, all_after, are_tables}
-use Rattle.fm_image.proofs.LimitLaws.{from_limits}
+use Rattle.std.{proofs.Common.{[], ap, refl, length, eqb, le-leb, List, ℕ}, proofs.lemmas.Bool.and_from}
+use Rattle.fm_image.{specs.declared.slot.Slot.Slot, specs.Limits.{is_count, is_condition, is_slot, all_after, are_tables}, proofs.LimitLaws.from_limits}
 use Rattle.fm_image.proofs.image.bare_image.Goals as goal
 
 pub invariant_of-result : goal.invariant_of-result

@@ -1,9 +1,5 @@
-use Rattle.std.proofs.Common.{◌≡◌, ℕ, List, [], ◌∷◌, ◌++◌, Ok, refl, sym, ap, subst, ◌∙◌}
-use Rattle.std.proofs.lemmas.Result.{err_from_is_err_and}
-use Rattle.fm_image.specs.Rules.{FailsUnless}
-use Rattle.fm_image.specs.Fields.{items_at}
-use Rattle.fm_image.specs.Reading.{new_name_at, conditions_at}
-use Rattle.fm_image.proofs.ItemLaws.{goes_on, ends, is_done}
+use Rattle.std.{proofs.Common.{◌≡◌, ℕ, List, [], ◌∷◌, ◌++◌, Ok, refl, sym, ap, subst, ◌∙◌}, proofs.lemmas.Result.err_from_is_err_and}
+use Rattle.fm_image.{specs.Rules.FailsUnless, specs.Fields.items_at, specs.Reading.{new_name_at, conditions_at}, proofs.ItemLaws.{goes_on, ends, is_done}}
 use Rattle.fm_image.proofs.reading.conditions.Goals as goal
 
 pub returns-in_err-next : goal.returns-in_err-next

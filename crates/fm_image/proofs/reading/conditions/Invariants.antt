@@ -1,6 +1,5 @@
 use Rattle.std.proofs.Common.{◌≡◌, ◌-◌, []}
-use Rattle.fm_image.specs.Fields.{items_at}
-use Rattle.fm_image.specs.Reading.{new_name_at}
+use Rattle.fm_image.{specs.Fields.items_at, specs.Reading.new_name_at}
 use Rattle.fm_image.proofs.reading.conditions.Given as goal
 
 -- what was read and what is still read are what all reads, and the list has the names of what was read

@@ -1,7 +1,5 @@
-use Rattle.std.proofs.Common.{◌≡◌, ℕ, Ok, subst, length, arith}
-use Rattle.std.proofs.lemmas.Grind.{common_steps}
-use Rattle.fm_image.specs.Reading.{conditions_at}
-use Rattle.fm_image.proofs.ImageLaws.{fields_hold}
+use Rattle.std.{proofs.Common.{◌≡◌, ℕ, Ok, subst, length, arith}, proofs.lemmas.Grind.common_steps}
+use Rattle.fm_image.{specs.Reading.conditions_at, proofs.ImageLaws.fields_hold}
 use Rattle.fm_image.proofs.reading.image.Goals as goal
 
 pub invariant_of-result : goal.invariant_of-result

@@ -1,9 +1,5 @@
-use Rattle.std.proofs.Common.{◌≡◌, [], refl, sym, ◌∙◌}
-use Rattle.std.proofs.lemmas.Result.{err_from_is_err_and}
-use Rattle.fm_image.specs.Fields.{items_at}
-use Rattle.fm_image.specs.Limits.{last_mark}
-use Rattle.fm_image.specs.Reading.{mark_at, marks_at}
-use Rattle.fm_image.proofs.ItemLaws.{goes_on, stops, is_done}
+use Rattle.std.{proofs.Common.{◌≡◌, [], refl, sym, ◌∙◌}, proofs.lemmas.Result.err_from_is_err_and}
+use Rattle.fm_image.{specs.Fields.items_at, specs.Limits.last_mark, specs.Reading.{mark_at, marks_at}, proofs.ItemLaws.{goes_on, stops, is_done}}
 use Rattle.fm_image.proofs.reading.marks.Goals as goal
 
 pub returns-in_err-next : goal.returns-in_err-next

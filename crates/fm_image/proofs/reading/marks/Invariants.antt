@@ -1,7 +1,5 @@
 use Rattle.std.proofs.Common.{◌≡◌, ◌-◌, []}
-use Rattle.fm_image.specs.Fields.{items_at}
-use Rattle.fm_image.specs.Limits.{last_mark}
-use Rattle.fm_image.specs.Reading.{mark_at}
+use Rattle.fm_image.{specs.Fields.items_at, specs.Limits.last_mark, specs.Reading.mark_at}
 use Rattle.fm_image.proofs.reading.marks.Given as goal
 
 -- what was read and what is still read are what all reads

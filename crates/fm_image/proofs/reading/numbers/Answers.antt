@@ -1,7 +1,5 @@
 use Rattle.std.proofs.lemmas.Result.{err_from_is_err_and}
-use Rattle.fm_image.specs.Fields.{number_at}
-use Rattle.fm_image.specs.Reading.{numbers_at}
-use Rattle.fm_image.proofs.ItemLaws.{goes_on, stops, is_done}
+use Rattle.fm_image.{specs.Fields.number_at, specs.Reading.numbers_at, proofs.ItemLaws.{goes_on, stops, is_done}}
 use Rattle.fm_image.proofs.reading.numbers.Goals as goal
 
 pub returns-in_err-next : goal.returns-in_err-next

@@ -1,6 +1,5 @@
 use Rattle.std.proofs.Common.{◌≡◌, ◌-◌, [], map}
-use Rattle.fm_image.specs.Fields.{items_at}
-use Rattle.fm_image.specs.Reading.{procedure_at}
+use Rattle.fm_image.{specs.Fields.items_at, specs.Reading.procedure_at}
 use Rattle.fm_image.proofs.reading.procedures.Given as goal
 
 -- what was read and what is still read are what all reads, and the list has the names of what was read

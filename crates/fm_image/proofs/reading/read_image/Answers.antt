@@ -1,6 +1,5 @@
 use Rattle.std.proofs.Common.{subst, arith}
-use Rattle.fm_image.specs.Rules.{GivesImageUnless}
-use Rattle.fm_image.proofs.ImageLaws.{is_found, tells, spelled_reads}
+use Rattle.fm_image.{specs.Rules.GivesImageUnless, proofs.ImageLaws.{is_found, tells, spelled_reads}}
 use Rattle.fm_image.proofs.reading.read_image.Goals as goal
 
 pub returns-clause-found : goal.returns-clause-found

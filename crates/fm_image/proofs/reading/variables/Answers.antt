@@ -1,9 +1,5 @@
-use Rattle.std.proofs.Common.{◌≡◌, ℕ, List, [], Ok, map, refl, sym, subst, ◌∙◌}
-use Rattle.std.proofs.lemmas.Result.{err_from_is_err_and}
-use Rattle.fm_image.specs.Rules.{FailsUnless}
-use Rattle.fm_image.specs.Fields.{items_at}
-use Rattle.fm_image.specs.Reading.{variable_at, variables_at}
-use Rattle.fm_image.proofs.ItemLaws.{goes_on, ends, is_done}
+use Rattle.std.{proofs.Common.{◌≡◌, ℕ, List, [], Ok, map, refl, sym, subst, ◌∙◌}, proofs.lemmas.Result.err_from_is_err_and}
+use Rattle.fm_image.{specs.Rules.FailsUnless, specs.Fields.items_at, specs.Reading.{variable_at, variables_at}, proofs.ItemLaws.{goes_on, ends, is_done}}
 use Rattle.fm_image.proofs.NameLaws.{named_more}
 use Rattle.fm_image.proofs.reading.variables.Goals as goal
 

@@ -1,7 +1,5 @@
-use Rattle.std.proofs.Common.{arith}
-use Rattle.std.proofs.lemmas.List.{nil_from_length}
-use Rattle.fm_loader.specs.Values.{all_found}
-use Rattle.fm_loader.proofs.FoundLaws.{found_next, found_stop, found_end}
+use Rattle.std.{proofs.Common.arith, proofs.lemmas.List.nil_from_length}
+use Rattle.fm_loader.{specs.Values.all_found, proofs.FoundLaws.{found_next, found_stop, found_end}}
 use Rattle.fm_loader.proofs.judging.all_found.Goals as goal
 
 pub loop-value-preserved : goal.loop-value-preserved

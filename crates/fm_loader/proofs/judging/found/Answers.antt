@@ -1,5 +1,4 @@
-use Rattle.std.proofs.Common.{take, refl, sym, ◌∙◌, arith}
-use Rattle.std.proofs.lemmas.Result.{err_from_is_err_and}
+use Rattle.std.{proofs.Common.{take, refl, sym, ◌∙◌, arith}, proofs.lemmas.Result.err_from_is_err_and}
 use Rattle.fm_loader.proofs.FoundLaws.{nothing_yet, within_found, is_repeated, no_such_slot, second_time, unfit, one_more, breaks_none, all_judged}
 use Rattle.fm_loader.proofs.judging.found.Goals as goal
 

@@ -1,5 +1,4 @@
-use Rattle.std.proofs.Common.{rules, sym, ◌∙◌, refl, length}
-use Rattle.std.proofs.lemmas.Option.{slice_get_read}
+use Rattle.std.{proofs.Common.{rules, sym, ◌∙◌, refl, length}, proofs.lemmas.Option.slice_get_read}
 use Rattle.fm_loader.proofs.NameLaws.{no_slot, slot_below, the_slot}
 use Rattle.fm_loader.proofs.judging.slot_named.Goals as goal
 

@@ -1,7 +1,6 @@
 use Rattle.std.proofs.lemmas.Result.{err_from_is_err_and}
 use Rattle.stack_text.specs.Views.TreeView.{nodes_of}
-use Rattle.fm_loader.specs.Values.{entries_of}
-use Rattle.fm_loader.proofs.TreeLaws.{entries_next, entries_stop, entries_end}
+use Rattle.fm_loader.{specs.Values.entries_of, proofs.TreeLaws.{entries_next, entries_stop, entries_end}}
 use Rattle.fm_loader.proofs.reading.entries.Goals as goal
 
 pub returns-in_err-entry_or_fault : goal.returns-in_err-entry_or_fault

@@ -1,7 +1,6 @@
 use Rattle.std.proofs.Common.{◌≡◌, drop}
-use Rattle.stack_text.specs.Views.TreeView.{nodes_of}
+use Rattle.stack_text.{specs.Views.TreeView.nodes_of, proofs.ResultLoops.with_front}
 use Rattle.fm_loader.specs.Values.{entries_of}
-use Rattle.stack_text.proofs.ResultLoops.{with_front}
 use Rattle.fm_loader.proofs.reading.entries.Given as goal
 
 -- what was read and what is still to come are all

@@ -1,6 +1,5 @@
 use Rattle.stack_text.specs.Views.TreeView.{nodes_of}
-use Rattle.fm_loader.specs.Parsed.{scalars_of}
-use Rattle.fm_loader.proofs.TreeLaws.{scalars_next, scalars_stop, scalars_end}
+use Rattle.fm_loader.{specs.Parsed.scalars_of, proofs.TreeLaws.{scalars_next, scalars_stop, scalars_end}}
 use Rattle.fm_loader.proofs.reading.scalars.Goals as goal
 
 pub returns-in-None : goal.returns-in-None

@@ -1,7 +1,6 @@
 use Rattle.std.proofs.Common.{◌≡◌, drop}
 use Rattle.stack_text.specs.Views.TreeView.{nodes_of}
-use Rattle.fm_loader.specs.Parsed.{scalars_of}
-use Rattle.fm_loader.proofs.TreeLaws.{behind_scalars}
+use Rattle.fm_loader.{specs.Parsed.scalars_of, proofs.TreeLaws.behind_scalars}
 use Rattle.fm_loader.proofs.reading.scalars.Given as goal
 
 -- what was read and what is still to come are all

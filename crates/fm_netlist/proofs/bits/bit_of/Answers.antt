@@ -1,5 +1,4 @@
-use Rattle.std.proofs.Common.{sym, arith}
-use Rattle.std.proofs.lemmas.Nat.Bits.{bit_at_above}
+use Rattle.std.{proofs.Common.{sym, arith}, proofs.lemmas.Nat.Bits.bit_at_above}
 use Rattle.fm_netlist.proofs.bits.bit_of.Goals as goal
 
 pub returns-else-i-lt32 : goal.returns-else-i-lt32

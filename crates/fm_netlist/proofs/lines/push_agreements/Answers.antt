@@ -1,7 +1,5 @@
 use Rattle.std.proofs.Common.{◌++◌, ◌∙◌, ap, arith}
-use Rattle.fm_netlist.specs.NetlistText.{below}
-use Rattle.fm_netlist.specs.Pieces.{agreeing_text}
-use Rattle.fm_netlist.proofs.BelowLaws.{below_next, below_none}
+use Rattle.fm_netlist.{specs.NetlistText.below, specs.Pieces.agreeing_text, proofs.BelowLaws.{below_next, below_none}}
 use Rattle.fm_netlist.proofs.lines.push_agreements.Goals as goal
 
 pub loop-i-init : goal.loop-i-init

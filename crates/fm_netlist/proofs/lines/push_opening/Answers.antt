@@ -1,7 +1,5 @@
 use Rattle.std.proofs.Common.{◌++◌, ◌∙◌, ap, arith}
-use Rattle.fm_netlist.specs.NetlistText.{below}
-use Rattle.fm_netlist.specs.Pieces.{opening_text}
-use Rattle.fm_netlist.proofs.BelowLaws.{below_next, below_none}
+use Rattle.fm_netlist.{specs.NetlistText.below, specs.Pieces.opening_text, proofs.BelowLaws.{below_next, below_none}}
 use Rattle.fm_netlist.proofs.lines.push_opening.Goals as goal
 
 pub loop-init : goal.loop-init

@@ -1,6 +1,5 @@
 use Rattle.std.proofs.Common.{◌≡◌, ◌≤◌, ◌++◌}
-use Rattle.fm_netlist.specs.NetlistText.{below}
-use Rattle.fm_netlist.specs.Pieces.{opening_text}
+use Rattle.fm_netlist.{specs.NetlistText.below, specs.Pieces.opening_text}
 use Rattle.fm_netlist.proofs.lines.push_opening.Given as goal
 
 -- the texts so far

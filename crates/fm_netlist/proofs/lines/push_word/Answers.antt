@@ -1,6 +1,5 @@
 use Rattle.std.proofs.Common.{◌++◌, ◌∙◌, ap, arith}
-use Rattle.fm_netlist.specs.NetlistText.{below, file_line}
-use Rattle.fm_netlist.proofs.BelowLaws.{below_next, below_none}
+use Rattle.fm_netlist.{specs.NetlistText.{below, file_line}, proofs.BelowLaws.{below_next, below_none}}
 use Rattle.fm_netlist.proofs.lines.push_word.Goals as goal
 
 pub loop-i-init : goal.loop-i-init

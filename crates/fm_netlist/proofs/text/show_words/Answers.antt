@@ -1,6 +1,5 @@
 use Rattle.std.proofs.Common.{◌++◌, ◌∙◌, ap, arith}
-use Rattle.fm_netlist.specs.NetlistText.{below, word_shown}
-use Rattle.fm_netlist.proofs.BelowLaws.{below_next, below_none}
+use Rattle.fm_netlist.{specs.NetlistText.{below, word_shown}, proofs.BelowLaws.{below_next, below_none}}
 use Rattle.fm_netlist.proofs.text.show_words.Goals as goal
 
 pub loop-r-init : goal.loop-r-init

@@ -1,5 +1,4 @@
-use Rattle.std.proofs.Common.{refl}
-use Rattle.std.specs.Fmt.{digits}
+use Rattle.std.{proofs.Common.refl, specs.Fmt.digits}
 use Rattle.fm_netlist.specs.NetlistText.{gate_text, tail_text}
 use Rattle.fm_netlist.proofs.text.tail.Goals as goal
 

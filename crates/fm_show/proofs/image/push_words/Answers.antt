@@ -1,7 +1,5 @@
 use Rattle.std.proofs.Common.{◌++◌, ◌+◌, refl, arith}
-use Rattle.fm_show.specs.Listing.{numbered_lines}
-use Rattle.fm_show.specs.ImageListing.{word_line}
-use Rattle.fm_show.proofs.LineLaws.{lines_next, lines_end}
+use Rattle.fm_show.{specs.Listing.numbered_lines, specs.ImageListing.word_line, proofs.LineLaws.{lines_next, lines_end}}
 use Rattle.fm_show.proofs.image.push_words.Goals as goal
 
 pub loop-place-preserved : goal.loop-place-preserved

@@ -1,6 +1,5 @@
 use Rattle.std.proofs.Common.{◌≡◌, ◌++◌, ◌+◌, drop}
-use Rattle.fm_show.specs.Listing.{numbered_lines}
-use Rattle.fm_show.specs.ImageListing.{word_line}
+use Rattle.fm_show.{specs.Listing.numbered_lines, specs.ImageListing.word_line}
 use Rattle.fm_show.proofs.image.push_words.Given as goal
 
 -- the lines so far and those of what is left are those of all

@@ -1,6 +1,5 @@
 use Rattle.std.proofs.Common.{◌++◌, ◌+◌, refl}
-use Rattle.fm_show.specs.Listing.{register_line, register_lines}
-use Rattle.fm_show.proofs.LineLaws.{lines_next, lines_end}
+use Rattle.fm_show.{specs.Listing.{register_line, register_lines}, proofs.LineLaws.{lines_next, lines_end}}
 use Rattle.fm_show.proofs.listing.push_registers.Goals as goal
 
 pub loop-r-preserved : goal.loop-r-preserved

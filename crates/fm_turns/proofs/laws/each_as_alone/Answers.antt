@@ -1,11 +1,6 @@
 use Rattle.fm_machine.proofs.RunLaws.{outcome_is}
-use Rattle.fm_turns.specs.Starting.{machine_of}
-use Rattle.fm_turns.proofs.WindowLaws.{step_wider}
-use Rattle.fm_turns.proofs.OutcomeLaws.{outcome_wider}
-use Rattle.fm_turns.proofs.TurningLaws.{over_is_over}
-use Rattle.fm_turns.proofs.AloneLaws.{alone_is_counted, alone_is_least, alone_is_whole}
-use Rattle.fm_turns.proofs.RoundsLaws.{rounds_as_alone}
-use Rattle.fm_turns.proofs.OwnLaws.{each_as_alone}
+use Rattle.fm_turns.{specs.Starting.machine_of, proofs.WindowLaws.step_wider, proofs.OutcomeLaws.outcome_wider, proofs.TurningLaws.over_is_over}
+use Rattle.fm_turns.{proofs.AloneLaws.{alone_is_counted, alone_is_least, alone_is_whole}, proofs.RoundsLaws.rounds_as_alone, proofs.OwnLaws.each_as_alone}
 use Rattle.fm_turns.proofs.laws.each_as_alone.Goals as goal
 
 pub returns-clause-steps : goal.returns-clause-steps

@@ -1,10 +1,8 @@
 use Rattle.std.proofs.Common.{◌≡◌, ◌∙◌, length, ap, arith}
 use Rattle.fm_machine.specs.State.{Fm}
-use Rattle.fm_image.specs.Image.{ImageOf}
-use Rattle.fm_image.proofs.LimitLaws.{sized}
+use Rattle.fm_image.{specs.Image.ImageOf, proofs.LimitLaws.sized}
 use Rattle.fm_loader.specs.Loaded.{loaded}
-use Rattle.fm_turns.specs.Starting.{NewTask, new_task, machine_of}
-use Rattle.fm_turns.proofs.LoadedLaws.{loaded_size, context_copied}
+use Rattle.fm_turns.{specs.Starting.{NewTask, new_task, machine_of}, proofs.LoadedLaws.{loaded_size, context_copied}}
 use Rattle.fm_turns.proofs.starting.load_task.Goals as goal
 
 pub copy_window-requires-clause-above : goal.copy_window-requires-clause-above

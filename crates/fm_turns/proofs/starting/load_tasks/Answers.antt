@@ -1,9 +1,8 @@
 use Rattle.std.proofs.Common.{◌≡◌, ◌≤◌, ◌∙◌, List, [], ◌∷◌, ◌++◌, ℕ, ap, sym, arith}
-use Rattle.fm_turns.specs.declared.context.TaskContext.{TaskContext}
+use Rattle.fm_turns.{specs.declared.context.TaskContext.TaskContext, specs.Starting.{NewTask, new_task, machine_of}, proofs.StartingLaws.next_holds}
+use Rattle.fm_turns.proofs.StartingLaws.{rest_hold, contexts_next, memory_next}
 use Rattle.fm_machine.specs.State.{Fm}
 use Rattle.fm_loader.specs.Loaded.{Fits, with_words}
-use Rattle.fm_turns.specs.Starting.{NewTask, new_task, machine_of}
-use Rattle.fm_turns.proofs.StartingLaws.{next_holds, rest_hold, contexts_next, memory_next}
 use Rattle.fm_turns.proofs.starting.load_tasks.Goals as goal
 
 pub load_task-requires-clause-fits : goal.load_task-requires-clause-fits

@@ -1,5 +1,4 @@
-use Rattle.std.proofs.Common.{◌≡◌, ◌≤◌, ◌++◌, map}
-use Rattle.std.specs.Prelude.{All}
+use Rattle.std.{proofs.Common.{◌≡◌, ◌≤◌, ◌++◌, map}, specs.Prelude.All}
 use Rattle.fm_turns.specs.Starting.{new_tasks, machine_of, context_of, AllFit, with_tasks}
 use Rattle.fm_turns.proofs.starting.load_tasks.Given as goal
 

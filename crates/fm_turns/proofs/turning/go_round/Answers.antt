@@ -1,6 +1,5 @@
 use Rattle.std.proofs.Common.{◌≡◌, ◌∙◌, ℕ, get_or, ap, arith}
-use Rattle.fm_turns.specs.declared.context.TaskContext.{TaskContext}
-use Rattle.fm_turns.specs.Turns.{AfterTurn, after_turn, AfterTurns, after_turns}
+use Rattle.fm_turns.{specs.declared.context.TaskContext.TaskContext, specs.Turns.{AfterTurn, after_turn, AfterTurns, after_turns}}
 use Rattle.fm_turns.proofs.TurningLaws.{left_within, SoFar, turns_next, turns_all}
 use Rattle.fm_turns.proofs.turning.go_round.Goals as goal
 

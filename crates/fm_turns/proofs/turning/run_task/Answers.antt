@@ -1,7 +1,6 @@
 use Rattle.std.proofs.Common.{◌≡◌, ◌∙◌, ap, rules}
 use Rattle.fm_machine.specs.State.{Fm}
-use Rattle.fm_turns.specs.Turns.{turn_length}
-use Rattle.fm_turns.proofs.OutcomeLaws.{outcome_kept}
+use Rattle.fm_turns.{specs.Turns.turn_length, proofs.OutcomeLaws.outcome_kept}
 use Rattle.fm_turns.proofs.turning.run_task.Goals as goal
 
 pub returns-clause-base : goal.returns-clause-base

@@ -1,5 +1,4 @@
-use Rattle.std.proofs.Common.{◌≡◌, drop, map}
-use Rattle.std.specs.List.{list_any}
+use Rattle.std.{proofs.Common.{◌≡◌, drop, map}, specs.List.list_any}
 use Rattle.fm_turns.specs.EqualTurns.{is_running}
 use Rattle.fm_turns.proofs.turns.has_running.Given as goal
 

@@ -1,5 +1,4 @@
-use Rattle.std.proofs.Common.{◌≡◌, ◌++◌, drop}
-use Rattle.std.specs.List.{flat_map}
+use Rattle.std.{proofs.Common.{◌≡◌, ◌++◌, drop}, specs.List.flat_map}
 use Rattle.fm_verilog.specs.VerilogText.{driving_text}
 use Rattle.fm_verilog.proofs.text.push_drivings.Given as goal
 

@@ -1,7 +1,5 @@
-use Rattle.std.proofs.Common.{◌++◌}
-use Rattle.std.proofs.lemmas.List.{get_or_default}
-use Rattle.fm_verilog.specs.VerilogText.{rows_text}
-use Rattle.fm_verilog.proofs.RowLaws.{rows_next, rows_end}
+use Rattle.std.{proofs.Common.◌++◌, proofs.lemmas.List.get_or_default}
+use Rattle.fm_verilog.{specs.VerilogText.rows_text, proofs.RowLaws.{rows_next, rows_end}}
 use Rattle.fm_verilog.proofs.text.push_rows.Goals as goal
 
 pub loop-number-preserved : goal.loop-number-preserved

@@ -1,8 +1,7 @@
 use Rattle.std.proofs.Common.{◌∙◌, sym}
 use Rattle.stack_text.proofs.BreachLaws.{none_least}
 use Rattle.gypsy_syntax.specs.Views.SourceView.{source_of}
-use Rattle.gypsy_check.specs.Rules.{violations}
-use Rattle.gypsy_check.proofs.FitsLaws.{source_fits}
+use Rattle.gypsy_check.{specs.Rules.violations, proofs.FitsLaws.source_fits}
 use Rattle.gypsy_check.proofs.accepted.check.Goals as goal
 
 pub invariant_of-result : goal.invariant_of-result

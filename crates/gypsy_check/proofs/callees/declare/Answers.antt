@@ -2,8 +2,7 @@ use Rattle.std.proofs.Common.{◌∙◌, ap, List, option_map, bytes_eq, ℕ, Bo
 use Rattle.stack_text.specs.Options.{first_or}
 use Rattle.name_tables.specs.Entries.{look_up}
 use Rattle.gypsy_syntax.specs.declared.proc.Proc.{Proc}
-use Rattle.gypsy_check.specs.Tables.{procedure_in}
-use Rattle.gypsy_check.proofs.CalleeLaws.{past_map}
+use Rattle.gypsy_check.{specs.Tables.procedure_in, proofs.CalleeLaws.past_map}
 use Rattle.gypsy_check.proofs.callees.declare.Goals as goal
 
 pub returns-clause-entered : goal.returns-clause-entered

@@ -1,11 +1,8 @@
-use Rattle.std.proofs.Common.{◌∙◌, ◌+◌, [], map, take, ap, List, is_some}
-use Rattle.std.proofs.lemmas.List.{take_all}
+use Rattle.std.{proofs.Common.{◌∙◌, ◌+◌, [], map, take, ap, List, is_some}, proofs.lemmas.List.take_all}
 use Rattle.stack_text.specs.Breaches.{lesser_of, least}
 use Rattle.gypsy_syntax.specs.declared.proc.Proc.{Proc}
-use Rattle.gypsy_check.specs.Declarations.{repeats}
-use Rattle.gypsy_check.specs.Tables.{procedure_in}
-use Rattle.gypsy_check.proofs.RepeatLaws.{noted_more, items_more}
-use Rattle.gypsy_check.proofs.CalleeLaws.{known_next, known_name}
+use Rattle.gypsy_check.{specs.Declarations.repeats, specs.Tables.procedure_in, proofs.RepeatLaws.{noted_more, items_more}, proofs.CalleeLaws.known_next}
+use Rattle.gypsy_check.proofs.CalleeLaws.{known_name}
 use Rattle.gypsy_check.proofs.callees.declare_all.Goals as goal
 
 pub loop-proc-preserved : goal.loop-proc-preserved

@@ -1,8 +1,7 @@
 use Rattle.std.proofs.Common.{[], map, take}
 use Rattle.stack_text.specs.Breaches.{Notes}
 use Rattle.gypsy_syntax.specs.declared.proc.Proc.{Proc}
-use Rattle.gypsy_check.specs.Declarations.{repeats}
-use Rattle.gypsy_check.specs.Tables.{KnowsProcs}
+use Rattle.gypsy_check.{specs.Declarations.repeats, specs.Tables.KnowsProcs}
 use Rattle.gypsy_check.proofs.callees.declare_all.Given as goal
 
 -- the procedures so far

@@ -1,9 +1,7 @@
-use Rattle.std.proofs.Common.{[]}
-use Rattle.std.specs.List.{flat_map}
+use Rattle.std.{proofs.Common.[], specs.List.flat_map}
 use Rattle.stack_text.proofs.BreachLaws.{notes_more}
 use Rattle.gypsy_syntax.specs.Views.SourceView.{proc_of}
-use Rattle.gypsy_check.specs.Declarations.{repeats}
-use Rattle.gypsy_check.specs.Rules.{undeclared}
+use Rattle.gypsy_check.{specs.Declarations.repeats, specs.Rules.undeclared}
 use Rattle.gypsy_check.proofs.calls.check_actual_names.Goals as goal
 
 pub returns : goal.returns

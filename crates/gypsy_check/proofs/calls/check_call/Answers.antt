@@ -1,8 +1,6 @@
-use Rattle.std.proofs.Common.{◌++◌}
-use Rattle.std.specs.List.{flat_map}
+use Rattle.std.{proofs.Common.◌++◌, specs.List.flat_map}
 use Rattle.stack_text.proofs.BreachLaws.{notes_more}
-use Rattle.gypsy_syntax.specs.Views.SourceView.{proc_of, source_of}
-use Rattle.gypsy_syntax.specs.Resolved.{procedure_named}
+use Rattle.gypsy_syntax.{specs.Views.SourceView.{proc_of, source_of}, specs.Resolved.procedure_named}
 use Rattle.gypsy_check.specs.Rules.{raised_breaches, callee_breaches, callee_name_breaches, actual_name_breaches}
 use Rattle.gypsy_check.proofs.calls.check_call.Goals as goal
 

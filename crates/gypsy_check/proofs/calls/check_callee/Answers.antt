@@ -1,10 +1,7 @@
 use Rattle.std.proofs.Common.{◌∙◌, ◌==◌, ap, length, List, not}
-use Rattle.stack_text.specs.declared.name.Named.{Named}
-use Rattle.stack_text.specs.Breaches.{when, Notes}
-use Rattle.stack_text.proofs.BreachLaws.{notes_more}
+use Rattle.stack_text.{specs.declared.name.Named.Named, specs.Breaches.{when, Notes}, proofs.BreachLaws.notes_more}
 use Rattle.gypsy_syntax.specs.Views.SourceView.{proc_of}
-use Rattle.gypsy_check.specs.Rules.{data_breaches}
-use Rattle.gypsy_check.proofs.NoteLaws.{noted}
+use Rattle.gypsy_check.{specs.Rules.data_breaches, proofs.NoteLaws.noted}
 use Rattle.gypsy_check.proofs.calls.check_callee.Goals as goal
 
 pub returns : goal.returns

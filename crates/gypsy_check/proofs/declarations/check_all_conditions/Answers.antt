@@ -1,8 +1,6 @@
-use Rattle.std.proofs.Common.{◌∙◌, ap, sym}
-use Rattle.std.specs.List.{flat_map}
+use Rattle.std.{proofs.Common.{◌∙◌, ap, sym}, specs.List.flat_map}
 use Rattle.stack_text.proofs.BreachLaws.{notes_more}
-use Rattle.gypsy_check.specs.Rules.{condition_breaches}
-use Rattle.gypsy_check.proofs.NoteLaws.{noted, flat_append}
+use Rattle.gypsy_check.{specs.Rules.condition_breaches, proofs.NoteLaws.{noted, flat_append}}
 use Rattle.gypsy_check.proofs.declarations.check_all_conditions.Goals as goal
 
 pub returns : goal.returns

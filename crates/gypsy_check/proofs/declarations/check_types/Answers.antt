@@ -1,11 +1,7 @@
-use Rattle.std.proofs.Common.{◌∙◌, ap, sym}
-use Rattle.std.specs.List.{flat_map}
+use Rattle.std.{proofs.Common.{◌∙◌, ap, sym}, specs.List.flat_map}
 use Rattle.stack_text.proofs.BreachLaws.{notes_more}
-use Rattle.gypsy_syntax.specs.declared.literal.Decl.{Decl}
-use Rattle.gypsy_syntax.specs.declared.literal.Local.{Local}
-use Rattle.gypsy_check.specs.Rules.{type_breaches}
-use Rattle.gypsy_check.proofs.NoteLaws.{noted}
-use Rattle.gypsy_check.proofs.DeclarationLaws.{types_flat}
+use Rattle.gypsy_syntax.{specs.declared.literal.Decl.Decl, specs.declared.literal.Local.Local}
+use Rattle.gypsy_check.{specs.Rules.type_breaches, proofs.NoteLaws.noted, proofs.DeclarationLaws.types_flat}
 use Rattle.gypsy_check.proofs.declarations.check_types.Goals as goal
 
 pub returns : goal.returns

@@ -1,10 +1,7 @@
-use Rattle.std.proofs.Common.{◌∙◌, ◌++◌, [], ap₂}
-use Rattle.std.specs.List.{flat_map}
+use Rattle.std.{proofs.Common.{◌∙◌, ◌++◌, [], ap₂}, specs.List.flat_map}
 use Rattle.stack_text.proofs.BreachLaws.{notes_more}
 use Rattle.gypsy_syntax.specs.Views.SourceView.{proc_of}
-use Rattle.gypsy_check.specs.Declarations.{conditions_of, repeats}
-use Rattle.gypsy_check.specs.Rules.{condition_breaches}
-use Rattle.gypsy_check.proofs.NoteLaws.{noted}
+use Rattle.gypsy_check.{specs.Declarations.{conditions_of, repeats}, specs.Rules.condition_breaches, proofs.NoteLaws.noted}
 use Rattle.gypsy_check.proofs.declarations.declared_conditions.Goals as goal
 
 pub returns-clause-noted : goal.returns-clause-noted

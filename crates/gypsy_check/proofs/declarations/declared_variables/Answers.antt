@@ -1,14 +1,9 @@
-use Rattle.std.proofs.Common.{◌∙◌, ◌++◌, [], map, ap, ap₂, sym}
-use Rattle.std.specs.List.{flat_map}
-use Rattle.stack_text.specs.Breaches.{Notes}
-use Rattle.stack_text.proofs.BreachLaws.{notes_more}
-use Rattle.gypsy_syntax.specs.declared.literal.Decl.{Decl}
-use Rattle.gypsy_syntax.specs.declared.literal.Local.{Local}
-use Rattle.gypsy_syntax.specs.Resolved.{variable_types}
-use Rattle.gypsy_syntax.specs.Views.SourceView.{local_of, proc_of}
-use Rattle.gypsy_check.specs.Declarations.{variables_of, repeats}
-use Rattle.gypsy_check.specs.Rules.{type_breaches, local_breaches}
-use Rattle.gypsy_check.proofs.NoteLaws.{noted, flat_over, local_names_over}
+use Rattle.std.{proofs.Common.{◌∙◌, ◌++◌, [], map, ap, ap₂, sym}, specs.List.flat_map}
+use Rattle.stack_text.{specs.Breaches.Notes, proofs.BreachLaws.notes_more}
+use Rattle.gypsy_syntax.{specs.declared.literal.Decl.Decl, specs.declared.literal.Local.Local, specs.Resolved.variable_types, specs.Views.SourceView.local_of}
+use Rattle.gypsy_syntax.specs.Views.SourceView.{proc_of}
+use Rattle.gypsy_check.{specs.Declarations.{variables_of, repeats}, specs.Rules.{type_breaches, local_breaches}, proofs.NoteLaws.{noted, flat_over}}
+use Rattle.gypsy_check.proofs.NoteLaws.{local_names_over}
 use Rattle.gypsy_check.proofs.declarations.declared_variables.Goals as goal
 
 pub returns-clause-noted : goal.returns-clause-noted

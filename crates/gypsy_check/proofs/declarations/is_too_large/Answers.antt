@@ -1,8 +1,6 @@
 use Rattle.std.proofs.Common.{◌∙◌, ◌+◌, map, min, ap}
-use Rattle.gypsy_syntax.specs.declared.literal.Decl.{Decl}
-use Rattle.gypsy_syntax.specs.declared.literal.Local.{Local}
-use Rattle.gypsy_check.specs.Types.{words_of_types}
-use Rattle.gypsy_check.proofs.DeclarationLaws.{is_over}
+use Rattle.gypsy_syntax.{specs.declared.literal.Decl.Decl, specs.declared.literal.Local.Local}
+use Rattle.gypsy_check.{specs.Types.words_of_types, proofs.DeclarationLaws.is_over}
 use Rattle.gypsy_check.proofs.declarations.is_too_large.Goals as goal
 
 pub returns : goal.returns

@@ -1,5 +1,4 @@
-use Rattle.std.proofs.Common.{◌∙◌, ap, sym}
-use Rattle.std.specs.List.{flat_map}
+use Rattle.std.{proofs.Common.{◌∙◌, ap, sym}, specs.List.flat_map}
 use Rattle.stack_text.proofs.BreachLaws.{notes_next}
 use Rattle.gypsy_check.proofs.NoteLaws.{noted, literal_breaks, list_each}
 use Rattle.gypsy_check.proofs.literals.+literals.Goals as goal

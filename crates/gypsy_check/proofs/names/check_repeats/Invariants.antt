@@ -1,7 +1,6 @@
 use Rattle.std.proofs.Common.{[], take}
 use Rattle.stack_text.specs.Breaches.{Notes}
-use Rattle.gypsy_check.specs.Declarations.{repeats}
-use Rattle.gypsy_check.specs.Tables.{KnowsNames}
+use Rattle.gypsy_check.{specs.Declarations.repeats, specs.Tables.KnowsNames}
 use Rattle.gypsy_check.proofs.names.check_repeats.Given as goal
 
 -- the names so far

@@ -1,13 +1,8 @@
-use Rattle.std.proofs.Common.{◌∙◌, ◌+◌, ◌++◌, [], map, take, ap, List}
-use Rattle.std.proofs.lemmas.List.{take_all}
-use Rattle.stack_text.specs.Breaches.{lesser_of, least}
-use Rattle.stack_text.specs.declared.name.Named.{Named}
-use Rattle.gypsy_syntax.specs.declared.literal.Decl.{Decl}
-use Rattle.gypsy_syntax.specs.declared.literal.Local.{Local}
-use Rattle.gypsy_check.specs.Declarations.{repeats}
+use Rattle.std.{proofs.Common.{◌∙◌, ◌+◌, ◌++◌, [], map, take, ap, List}, proofs.lemmas.List.take_all}
+use Rattle.stack_text.{specs.Breaches.{lesser_of, least}, specs.declared.name.Named.Named}
+use Rattle.gypsy_syntax.{specs.declared.literal.Decl.Decl, specs.declared.literal.Local.Local}
+use Rattle.gypsy_check.{specs.Declarations.repeats, proofs.RepeatLaws.{items_more, list_more}, proofs.VariableLaws.{types_next, repeats_next, names_of}}
 use Rattle.name_tables.specs.Entries.{look_up}
-use Rattle.gypsy_check.proofs.RepeatLaws.{items_more, list_more}
-use Rattle.gypsy_check.proofs.VariableLaws.{types_next, repeats_next, names_of}
 use Rattle.gypsy_check.proofs.names.variables_of.Goals as goal
 
 pub loop-formal-preserved : goal.loop-formal-preserved

@@ -1,9 +1,7 @@
 use Rattle.std.proofs.Common.{◌++◌, [], map, take}
 use Rattle.stack_text.specs.Breaches.{Notes}
-use Rattle.gypsy_syntax.specs.declared.literal.Decl.{Decl}
-use Rattle.gypsy_syntax.specs.declared.literal.Local.{Local}
-use Rattle.gypsy_check.specs.Declarations.{repeats}
-use Rattle.gypsy_check.specs.Tables.{KnowsTypes}
+use Rattle.gypsy_syntax.{specs.declared.literal.Decl.Decl, specs.declared.literal.Local.Local}
+use Rattle.gypsy_check.{specs.Declarations.repeats, specs.Tables.KnowsTypes}
 use Rattle.gypsy_check.proofs.names.variables_of.Given as goal
 
 -- the formals so far

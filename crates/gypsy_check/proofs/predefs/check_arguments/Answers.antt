@@ -1,6 +1,5 @@
 use Rattle.stack_text.proofs.BreachLaws.{notes_next}
-use Rattle.gypsy_syntax.specs.declared.statement.Arg.{Arg}
-use Rattle.gypsy_syntax.specs.Views.SourceView.{arg_of, proc_of}
+use Rattle.gypsy_syntax.{specs.declared.statement.Arg.Arg, specs.Views.SourceView.{arg_of, proc_of}}
 use Rattle.gypsy_check.specs.Rules.{argument_breaches}
 use Rattle.gypsy_check.proofs.predefs.check_arguments.Goals as goal
 

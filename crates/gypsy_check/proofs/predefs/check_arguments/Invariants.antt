@@ -1,8 +1,6 @@
-use Rattle.std.proofs.Common.{take}
-use Rattle.std.specs.List.{flat_map}
+use Rattle.std.{proofs.Common.take, specs.List.flat_map}
 use Rattle.stack_text.specs.Breaches.{Notes}
-use Rattle.gypsy_syntax.specs.declared.statement.Arg.{Arg}
-use Rattle.gypsy_syntax.specs.Views.SourceView.{arg_of, proc_of}
+use Rattle.gypsy_syntax.{specs.declared.statement.Arg.Arg, specs.Views.SourceView.{arg_of, proc_of}}
 use Rattle.gypsy_check.specs.Rules.{argument_breaches}
 use Rattle.gypsy_check.proofs.predefs.check_arguments.Given as goal
 

@@ -1,7 +1,6 @@
 use Rattle.std.proofs.Common.{◌∙◌, map, ap, sym}
 use Rattle.gypsy_syntax.specs.Views.SourceView.{arg_of, proc_of}
-use Rattle.gypsy_check.specs.Rules.{predef_breaches}
-use Rattle.gypsy_check.proofs.NoteLaws.{noted, right_number, wrong_number}
+use Rattle.gypsy_check.{specs.Rules.predef_breaches, proofs.NoteLaws.{noted, right_number, wrong_number}}
 use Rattle.gypsy_check.proofs.predefs.check_predef.Goals as goal
 
 pub returns-then-args-slots : goal.returns-then-args-slots

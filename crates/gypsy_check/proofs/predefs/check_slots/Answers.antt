@@ -1,13 +1,8 @@
-use Rattle.std.proofs.Common.{None, List, map, refl, ap, sym, ◌∙◌, arith}
-use Rattle.std.specs.List.{flat_map, list_any}
-use Rattle.std.proofs.lemmas.List.{take_all}
-use Rattle.stack_text.specs.Breaches.{lesser_of}
-use Rattle.stack_text.proofs.BreachLaws.{notes_more, notes_next, notes_none}
-use Rattle.gypsy_syntax.specs.declared.statement.Arg.{Arg}
-use Rattle.gypsy_syntax.specs.Views.SourceView.{arg_of, proc_of}
-use Rattle.gypsy_check.specs.Arguments.{is_undeclared}
-use Rattle.gypsy_check.specs.Rules.{argument_breaches, declared_breaches, slots_breaches}
-use Rattle.gypsy_check.proofs.NoteLaws.{noted, slots_step, slots_done, any_next, lacking, all_declared_here}
+use Rattle.std.{proofs.Common.{None, List, map, refl, ap, sym, ◌∙◌, arith}, specs.List.{flat_map, list_any}, proofs.lemmas.List.take_all}
+use Rattle.stack_text.{specs.Breaches.lesser_of, proofs.BreachLaws.{notes_more, notes_next, notes_none}}
+use Rattle.gypsy_syntax.{specs.declared.statement.Arg.Arg, specs.Views.SourceView.{arg_of, proc_of}}
+use Rattle.gypsy_check.{specs.Arguments.is_undeclared, specs.Rules.{argument_breaches, declared_breaches, slots_breaches}, proofs.NoteLaws.{noted, slots_step}}
+use Rattle.gypsy_check.proofs.NoteLaws.{slots_done, any_next, lacking, all_declared_here}
 use Rattle.gypsy_check.proofs.predefs.check_slots.Goals as goal
 
 pub loop-index-preserved : goal.loop-index-preserved

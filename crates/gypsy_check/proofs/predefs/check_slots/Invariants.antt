@@ -1,11 +1,7 @@
-use Rattle.std.proofs.Common.{◌≡◌, None, map, take, drop}
-use Rattle.std.specs.List.{flat_map, list_any}
+use Rattle.std.{proofs.Common.{◌≡◌, None, map, take, drop}, specs.List.{flat_map, list_any}}
 use Rattle.stack_text.specs.Breaches.{Notes}
-use Rattle.gypsy_syntax.specs.declared.statement.Arg.{Arg}
-use Rattle.gypsy_syntax.specs.Views.SourceView.{arg_of, proc_of}
-use Rattle.gypsy_check.specs.Arguments.{is_undeclared}
-use Rattle.gypsy_check.specs.Rules.{argument_breaches, slots_breaches}
-use Rattle.gypsy_check.proofs.NoteLaws.{noted}
+use Rattle.gypsy_syntax.{specs.declared.statement.Arg.Arg, specs.Views.SourceView.{arg_of, proc_of}}
+use Rattle.gypsy_check.{specs.Arguments.is_undeclared, specs.Rules.{argument_breaches, slots_breaches}, proofs.NoteLaws.noted}
 use Rattle.gypsy_check.proofs.predefs.check_slots.Given as goal
 
 -- those so far are noted; what is left of the slots; whether one of those so far isn't declared

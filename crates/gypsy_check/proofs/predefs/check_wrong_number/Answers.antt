@@ -1,9 +1,6 @@
-use Rattle.std.proofs.Common.{true}
-use Rattle.std.specs.List.{flat_map}
-use Rattle.stack_text.specs.Breaches.{when}
-use Rattle.stack_text.proofs.BreachLaws.{notes_more}
-use Rattle.gypsy_syntax.specs.declared.statement.Arg.{Arg}
-use Rattle.gypsy_syntax.specs.Views.SourceView.{arg_of, proc_of}
+use Rattle.std.{proofs.Common.true, specs.List.flat_map}
+use Rattle.stack_text.{specs.Breaches.when, proofs.BreachLaws.notes_more}
+use Rattle.gypsy_syntax.{specs.declared.statement.Arg.Arg, specs.Views.SourceView.{arg_of, proc_of}}
 use Rattle.gypsy_check.specs.Rules.{argument_breaches}
 use Rattle.gypsy_check.proofs.predefs.check_wrong_number.Goals as goal
 

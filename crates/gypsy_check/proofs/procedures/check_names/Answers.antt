@@ -1,6 +1,5 @@
 use Rattle.stack_text.proofs.BreachLaws.{notes_next}
-use Rattle.gypsy_syntax.specs.declared.proc.Proc.{Proc}
-use Rattle.gypsy_syntax.specs.Views.SourceView.{proc_of}
+use Rattle.gypsy_syntax.{specs.declared.proc.Proc.Proc, specs.Views.SourceView.proc_of}
 use Rattle.gypsy_check.specs.Rules.{name_breaches}
 use Rattle.gypsy_check.proofs.procedures.check_names.Goals as goal
 

@@ -1,9 +1,7 @@
 use Rattle.std.proofs.Common.{◌∙◌, ◌++◌, false, ap}
 use Rattle.stack_text.proofs.BreachLaws.{notes_more}
-use Rattle.gypsy_syntax.specs.declared.proc.Proc.{Proc}
-use Rattle.gypsy_syntax.specs.Views.SourceView.{proc_of, source_of}
-use Rattle.gypsy_check.specs.Rules.{statement_breaches, variable_breaches, condition_name_breaches, size_breaches}
-use Rattle.gypsy_check.proofs.NoteLaws.{noted}
+use Rattle.gypsy_syntax.{specs.declared.proc.Proc.Proc, specs.Views.SourceView.{proc_of, source_of}}
+use Rattle.gypsy_check.{specs.Rules.{statement_breaches, variable_breaches, condition_name_breaches, size_breaches}, proofs.NoteLaws.noted}
 use Rattle.gypsy_check.proofs.procedures.check_procedure.Goals as goal
 
 pub returns : goal.returns

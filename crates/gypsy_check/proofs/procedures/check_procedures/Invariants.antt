@@ -1,8 +1,6 @@
-use Rattle.std.proofs.Common.{take}
-use Rattle.std.specs.List.{flat_map}
+use Rattle.std.{proofs.Common.take, specs.List.flat_map}
 use Rattle.stack_text.specs.Breaches.{Notes}
-use Rattle.gypsy_syntax.specs.declared.proc.Proc.{Proc}
-use Rattle.gypsy_syntax.specs.Views.SourceView.{proc_of, source_of}
+use Rattle.gypsy_syntax.{specs.declared.proc.Proc.Proc, specs.Views.SourceView.{proc_of, source_of}}
 use Rattle.gypsy_check.specs.Rules.{procedure_breaches}
 use Rattle.gypsy_check.proofs.procedures.check_procedures.Given as goal
 

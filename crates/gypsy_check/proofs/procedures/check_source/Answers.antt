@@ -1,14 +1,8 @@
-use Rattle.std.proofs.Common.{◌≡◌, ◌∙◌, ◌++◌, [], map, ap, ap₂, sym}
-use Rattle.std.specs.List.{flat_map}
-use Rattle.stack_text.specs.Breaches.{Notes}
-use Rattle.stack_text.proofs.BreachLaws.{notes_more}
-use Rattle.gypsy_syntax.specs.declared.proc.Proc.{Proc}
-use Rattle.gypsy_syntax.specs.declared.proc.Source.{Source}
-use Rattle.gypsy_syntax.specs.Sources.{ProcOf}
-use Rattle.gypsy_syntax.specs.Views.SourceView.{proc_of, source_of}
-use Rattle.gypsy_check.specs.Declarations.{repeats}
-use Rattle.gypsy_check.specs.Rules.{procedure_breaches, name_breaches, main_breaches, violations}
-use Rattle.gypsy_check.proofs.NoteLaws.{noted, flat_over, names_over}
+use Rattle.std.{proofs.Common.{◌≡◌, ◌∙◌, ◌++◌, [], map, ap, ap₂, sym}, specs.List.flat_map}
+use Rattle.stack_text.{specs.Breaches.Notes, proofs.BreachLaws.notes_more}
+use Rattle.gypsy_syntax.{specs.declared.proc.Proc.Proc, specs.declared.proc.Source.Source, specs.Sources.ProcOf, specs.Views.SourceView.{proc_of, source_of}}
+use Rattle.gypsy_check.{specs.Declarations.repeats, specs.Rules.{procedure_breaches, name_breaches, main_breaches, violations}, proofs.NoteLaws.noted}
+use Rattle.gypsy_check.proofs.NoteLaws.{flat_over, names_over}
 use Rattle.gypsy_check.proofs.procedures.check_source.Goals as goal
 
 pub returns : goal.returns

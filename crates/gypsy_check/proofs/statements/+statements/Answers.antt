@@ -1,12 +1,7 @@
-use Rattle.std.proofs.Common.{◌∙◌, ◌++◌, ap, sym, List}
-use Rattle.std.specs.List.{flat_map}
-use Rattle.stack_text.specs.declared.breach.Breach.{Breach}
-use Rattle.stack_text.specs.Breaches.{Notes}
-use Rattle.stack_text.proofs.BreachLaws.{notes_next, notes_more}
-use Rattle.gypsy_syntax.specs.declared.statement.Stmt.{Stmt}
-use Rattle.gypsy_syntax.specs.Views.SourceView.{proc_of, source_of}
-use Rattle.gypsy_check.specs.Rules.{handlers_breaches, test_breaches}
-use Rattle.gypsy_check.proofs.NoteLaws.{noted, statement_breaks, seq_each}
+use Rattle.std.{proofs.Common.{◌∙◌, ◌++◌, ap, sym, List}, specs.List.flat_map}
+use Rattle.stack_text.{specs.declared.breach.Breach.Breach, specs.Breaches.Notes, proofs.BreachLaws.{notes_next, notes_more}}
+use Rattle.gypsy_syntax.{specs.declared.statement.Stmt.Stmt, specs.Views.SourceView.{proc_of, source_of}}
+use Rattle.gypsy_check.{specs.Rules.{handlers_breaches, test_breaches}, proofs.NoteLaws.{noted, statement_breaks, seq_each}}
 use Rattle.gypsy_check.proofs.statements.+statements.Goals as goal
 
 pub check_parts-loop-part-preserved : goal.check_parts-loop-part-preserved

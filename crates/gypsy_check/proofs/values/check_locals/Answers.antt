@@ -1,6 +1,5 @@
 use Rattle.stack_text.proofs.BreachLaws.{notes_next}
-use Rattle.gypsy_syntax.specs.declared.literal.Local.{Local}
-use Rattle.gypsy_syntax.specs.Views.SourceView.{local_of}
+use Rattle.gypsy_syntax.{specs.declared.literal.Local.Local, specs.Views.SourceView.local_of}
 use Rattle.gypsy_check.specs.Rules.{local_breaches}
 use Rattle.gypsy_check.proofs.values.check_locals.Goals as goal
 

@@ -1,8 +1,6 @@
-use Rattle.std.proofs.Common.{take}
-use Rattle.std.specs.List.{flat_map}
+use Rattle.std.{proofs.Common.take, specs.List.flat_map}
 use Rattle.stack_text.specs.Breaches.{Notes}
-use Rattle.gypsy_syntax.specs.declared.literal.Local.{Local}
-use Rattle.gypsy_syntax.specs.Views.SourceView.{local_of}
+use Rattle.gypsy_syntax.{specs.declared.literal.Local.Local, specs.Views.SourceView.local_of}
 use Rattle.gypsy_check.specs.Rules.{local_breaches}
 use Rattle.gypsy_check.proofs.values.check_locals.Given as goal
 

@@ -1,11 +1,6 @@
-use Rattle.std.proofs.Common.{◌≡◌, ◌∙◌, ◌&&◌, ap, ap₂, sym, length, List, Bool, pos, rules}
-use Rattle.std.specs.List.{list_all}
-use Rattle.std.specs.Ordering.{int_eq}
-use Rattle.gypsy_syntax.specs.declared.literal.Literal.{Literal}
-use Rattle.gypsy_syntax.specs.Resolved.{literal_kind}
-use Rattle.gypsy_syntax.specs.Views.SourceView.{literal_of}
-use Rattle.gypsy_check.specs.Types.{is_of_kind, suits}
-use Rattle.gypsy_check.proofs.DeclarationLaws.{list_suits}
+use Rattle.std.{proofs.Common.{◌≡◌, ◌∙◌, ◌&&◌, ap, ap₂, sym, length, List, Bool, pos, rules}, specs.List.list_all, specs.Ordering.int_eq}
+use Rattle.gypsy_syntax.{specs.declared.literal.Literal.Literal, specs.Resolved.literal_kind, specs.Views.SourceView.literal_of}
+use Rattle.gypsy_check.{specs.Types.{is_of_kind, suits}, proofs.DeclarationLaws.list_suits}
 use Rattle.gypsy_check.proofs.values.suits.Goals as goal
 
 pub returns-in-List : goal.returns-in-List

@@ -1,9 +1,6 @@
 use Rattle.std.proofs.Common.{◌∙◌, map, ap, arith}
-use Rattle.gypsy_syntax.specs.declared.literal.Decl.{Decl}
-use Rattle.gypsy_syntax.specs.Views.SourceView.{proc_of}
-use Rattle.gypsy_check.specs.Types.{same_type}
-use Rattle.gypsy_check.specs.Rules.{is_of_type, actuals_breaches}
-use Rattle.gypsy_check.proofs.NoteLaws.{noted, actuals_step, actuals_done}
+use Rattle.gypsy_syntax.{specs.declared.literal.Decl.Decl, specs.Views.SourceView.proc_of}
+use Rattle.gypsy_check.{specs.Types.same_type, specs.Rules.{is_of_type, actuals_breaches}, proofs.NoteLaws.{noted, actuals_step, actuals_done}}
 use Rattle.gypsy_check.proofs.variables.check_actuals.Goals as goal
 
 pub loop-index-preserved : goal.loop-index-preserved

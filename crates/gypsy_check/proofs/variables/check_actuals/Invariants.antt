@@ -1,8 +1,6 @@
 use Rattle.std.proofs.Common.{◌≡◌, map, drop}
-use Rattle.gypsy_syntax.specs.declared.literal.Decl.{Decl}
-use Rattle.gypsy_syntax.specs.Views.SourceView.{proc_of}
-use Rattle.gypsy_check.specs.Rules.{actuals_breaches}
-use Rattle.gypsy_check.proofs.NoteLaws.{noted, types_from}
+use Rattle.gypsy_syntax.{specs.declared.literal.Decl.Decl, specs.Views.SourceView.proc_of}
+use Rattle.gypsy_check.{specs.Rules.actuals_breaches, proofs.NoteLaws.{noted, types_from}}
 use Rattle.gypsy_check.proofs.variables.check_actuals.Given as goal
 
 abbrev pub invariant-loop-index : goal.invariant-loop-index

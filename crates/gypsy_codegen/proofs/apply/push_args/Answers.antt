@@ -1,12 +1,8 @@
 use Rattle.std.proofs.Common.{◌≡◌, ℕ, ◌++◌, [], ◌∷◌, List, map, refl, subst}
 use Rattle.stack_text.proofs.Loops.{drop-item}
-use Rattle.gypsy_syntax.specs.Programs.{Program, Arg, Var, Lit}
-use Rattle.gypsy_syntax.specs.ProgramFits.{Each}
-use Rattle.gypsy_space.specs.declared.program.Argument.{Argument}
-use Rattle.gypsy_space.specs.Nodes.{seen_arg, seen_program}
-use Rattle.gypsy_codegen.specs.Generated.{push_args}
-use Rattle.gypsy_codegen.specs.Internal.Views.{ArgHasWord, code_in}
-use Rattle.gypsy_codegen.specs.declared.context.Context.{Context}
+use Rattle.gypsy_syntax.{specs.Programs.{Program, Arg, Var, Lit}, specs.ProgramFits.Each}
+use Rattle.gypsy_space.{specs.declared.program.Argument.Argument, specs.Nodes.{seen_arg, seen_program}}
+use Rattle.gypsy_codegen.{specs.Generated.push_args, specs.Internal.Views.{ArgHasWord, code_in}, specs.declared.context.Context.Context}
 use Rattle.gypsy_codegen.proofs.WriteLaws.{more_next}
 use Rattle.gypsy_codegen.proofs.apply.push_args.Goals as goal
 

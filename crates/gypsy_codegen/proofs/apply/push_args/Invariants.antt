@@ -1,10 +1,7 @@
 use Rattle.std.proofs.Common.{◌≡◌, ◌++◌, map, drop}
 use Rattle.gypsy_syntax.specs.ProgramFits.{Each}
 use Rattle.gypsy_space.specs.Nodes.{seen_arg, seen_program}
-use Rattle.gypsy_codegen.specs.Generated.{push_args}
-use Rattle.gypsy_codegen.specs.Lines.{unmarked}
-use Rattle.gypsy_codegen.specs.Internal.Views.{ArgHasWord, names_of}
-use Rattle.gypsy_codegen.specs.Written.{written}
+use Rattle.gypsy_codegen.{specs.Generated.push_args, specs.Lines.unmarked, specs.Internal.Views.{ArgHasWord, names_of}, specs.Written.written}
 use Rattle.gypsy_codegen.proofs.apply.push_args.Given as goal
 
 abbrev pub invariant-loop-arg : goal.invariant-loop-arg

@@ -2,14 +2,10 @@ use Rattle.std.proofs.Common.{◌+◌, [], ◌∷◌, map, pos, None, Some}
 use Rattle.piton_syntax.specs.declared.argument.ArgText.TheVariants as arg
 use Rattle.piton_syntax.specs.declared.op.PitonOp.TheVariants as op
 use Rattle.gypsy_syntax.specs.Programs.{Routine, Space, proc_at}
-use Rattle.gypsy_space.specs.Needs.{local_words}
-use Rattle.gypsy_space.specs.Nodes.{seen_program, seen_cond}
+use Rattle.gypsy_space.{specs.Needs.local_words, specs.Nodes.{seen_program, seen_cond}}
 use Rattle.gypsy_predef.specs.Texts.{instruction, of_name, condition_area, number}
-use Rattle.gypsy_codegen.specs.WordsOf.{number_of}
-use Rattle.gypsy_codegen.specs.Lines.{label_to, marked_raises, raise_labels}
-use Rattle.gypsy_codegen.specs.Internal.Views.{env, names_of, raise_text}
-use Rattle.gypsy_codegen.specs.Written.{label_arg}
-use Rattle.gypsy_codegen.proofs.CodeLaws.{after_is}
+use Rattle.gypsy_codegen.{specs.WordsOf.number_of, specs.Lines.{label_to, marked_raises, raise_labels}, specs.Internal.Views.{env, names_of, raise_text}}
+use Rattle.gypsy_codegen.{specs.Written.label_arg, proofs.CodeLaws.after_is}
 use Rattle.gypsy_codegen.proofs.calls.after_call.Goals as goal
 
 pub returns : goal.returns

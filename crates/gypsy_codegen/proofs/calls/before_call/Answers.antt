@@ -1,10 +1,7 @@
 use Rattle.std.proofs.Common.{◌≤◌, subst, sym}
 use Rattle.gypsy_syntax.specs.Programs.{Proc}
-use Rattle.gypsy_space.specs.Needs.{local_words}
-use Rattle.gypsy_space.specs.Nodes.{seen_program, seen_proc}
-use Rattle.gypsy_codegen.specs.Internal.Views.{names_of}
-use Rattle.gypsy_codegen.proofs.CodeLaws.{before_is}
-use Rattle.gypsy_codegen.proofs.FineLaws.{locals_few}
+use Rattle.gypsy_space.{specs.Needs.local_words, specs.Nodes.{seen_program, seen_proc}}
+use Rattle.gypsy_codegen.{specs.Internal.Views.names_of, proofs.CodeLaws.before_is, proofs.FineLaws.locals_few}
 use Rattle.gypsy_codegen.proofs.calls.before_call.Goals as goal
 
 pub push_locals-requires : goal.push_locals-requires

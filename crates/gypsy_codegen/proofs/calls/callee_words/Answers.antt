@@ -1,7 +1,6 @@
 use Rattle.std.proofs.Common.{◌≤◌, ap, subst, sym, ◌∙◌}
 use Rattle.gypsy_syntax.specs.Programs.{Proc}
-use Rattle.gypsy_space.specs.Needs.{local_words}
-use Rattle.gypsy_space.specs.Nodes.{seen_program}
+use Rattle.gypsy_space.{specs.Needs.local_words, specs.Nodes.seen_program}
 use Rattle.gypsy_codegen.proofs.FineLaws.{locals_few}
 use Rattle.gypsy_codegen.proofs.calls.callee_words.Goals as goal
 

@@ -1,7 +1,5 @@
-use Rattle.gypsy_space.specs.Needs.{call_need}
-use Rattle.gypsy_space.specs.Nodes.{seen_program}
-use Rattle.gypsy_codegen.specs.Internal.Views.{names_of}
-use Rattle.gypsy_codegen.proofs.CodeLaws.{guard_is}
+use Rattle.gypsy_space.{specs.Needs.call_need, specs.Nodes.seen_program}
+use Rattle.gypsy_codegen.{specs.Internal.Views.names_of, proofs.CodeLaws.guard_is}
 use Rattle.gypsy_codegen.proofs.calls.guard_call.Goals as goal
 
 pub returns : goal.returns

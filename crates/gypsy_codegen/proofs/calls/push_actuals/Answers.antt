@@ -1,12 +1,9 @@
-use Rattle.std.proofs.Common.{◌≡◌, ℕ, [], ◌∷◌, List, get_or, refl, subst}
-use Rattle.std.proofs.lemmas.List.{get_or_default}
+use Rattle.std.{proofs.Common.{◌≡◌, ℕ, [], ◌∷◌, List, get_or, refl, subst}, proofs.lemmas.List.get_or_default}
 use Rattle.stack_text.proofs.Loops.{drop-item}
 use Rattle.piton_check.specs.Instruction as i
 use Rattle.gypsy_syntax.specs.ProgramFits.{Each}
 use Rattle.gypsy_space.specs.Nodes.{seen_program}
-use Rattle.gypsy_codegen.specs.Generated.{offset, push_actuals}
-use Rattle.gypsy_codegen.specs.Internal.Views.{HasWord, code_in}
-use Rattle.gypsy_codegen.proofs.WriteLaws.{more_next}
+use Rattle.gypsy_codegen.{specs.Generated.{offset, push_actuals}, specs.Internal.Views.{HasWord, code_in}, proofs.WriteLaws.more_next}
 use Rattle.gypsy_codegen.proofs.calls.push_actuals.Goals as goal
 
 pub loop-actual-preserved : goal.loop-actual-preserved

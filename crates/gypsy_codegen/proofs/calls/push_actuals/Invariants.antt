@@ -1,10 +1,7 @@
 use Rattle.std.proofs.Common.{◌≡◌, ◌++◌, map, drop}
 use Rattle.gypsy_syntax.specs.ProgramFits.{Each}
 use Rattle.gypsy_space.specs.Nodes.{seen_program}
-use Rattle.gypsy_codegen.specs.Generated.{push_actuals}
-use Rattle.gypsy_codegen.specs.Lines.{unmarked}
-use Rattle.gypsy_codegen.specs.Internal.Views.{HasWord, names_of}
-use Rattle.gypsy_codegen.specs.Written.{written}
+use Rattle.gypsy_codegen.{specs.Generated.push_actuals, specs.Lines.unmarked, specs.Internal.Views.{HasWord, names_of}, specs.Written.written}
 use Rattle.gypsy_codegen.proofs.calls.push_actuals.Given as goal
 
 abbrev pub invariant-loop-actual : goal.invariant-loop-actual

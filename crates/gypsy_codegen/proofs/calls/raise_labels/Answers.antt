@@ -1,10 +1,6 @@
 use Rattle.std.proofs.Common.{◌≡◌, ℕ, ◌+◌, [], ◌∷◌, List, map, ap, arith}
-use Rattle.gypsy_space.specs.Nodes.{seen_cond}
-use Rattle.gypsy_space.specs.declared.program.Condition.{Condition}
-use Rattle.gypsy_space.specs.declared.program.Condition.TheVariants.{Leave}
-use Rattle.gypsy_codegen.specs.Lines.{raise_labels}
-use Rattle.gypsy_codegen.specs.Written.{label_arg}
-use Rattle.gypsy_codegen.proofs.WriteLaws.{numbered_next}
+use Rattle.gypsy_space.{specs.Nodes.seen_cond, specs.declared.program.Condition.Condition, specs.declared.program.Condition.TheVariants.Leave}
+use Rattle.gypsy_codegen.{specs.Lines.raise_labels, specs.Written.label_arg, proofs.WriteLaws.numbered_next}
 use Rattle.gypsy_codegen.proofs.calls.raise_labels.Goals as goal
 
 pub loop-number-preserved : goal.loop-number-preserved

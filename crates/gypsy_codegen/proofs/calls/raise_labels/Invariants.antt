@@ -1,7 +1,6 @@
 use Rattle.std.proofs.Common.{◌≡◌, ◌++◌, ◌+◌, map, drop}
 use Rattle.gypsy_space.specs.Nodes.{seen_cond}
-use Rattle.gypsy_codegen.specs.Lines.{raise_labels}
-use Rattle.gypsy_codegen.specs.Written.{label_arg}
+use Rattle.gypsy_codegen.{specs.Lines.raise_labels, specs.Written.label_arg}
 use Rattle.gypsy_codegen.proofs.calls.raise_labels.Given as goal
 
 abbrev pub invariant-loop-number : goal.invariant-loop-number

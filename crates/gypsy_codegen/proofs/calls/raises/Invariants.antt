@@ -1,8 +1,6 @@
 use Rattle.std.proofs.Common.{◌≡◌, ◌++◌, ◌+◌, map, drop}
 use Rattle.gypsy_space.specs.Nodes.{seen_cond, seen_program}
-use Rattle.gypsy_codegen.specs.Lines.{marked_raises}
-use Rattle.gypsy_codegen.specs.Internal.Views.{env, names_of}
-use Rattle.gypsy_codegen.specs.Written.{written}
+use Rattle.gypsy_codegen.{specs.Lines.marked_raises, specs.Internal.Views.{env, names_of}, specs.Written.written}
 use Rattle.gypsy_codegen.proofs.calls.raises.Given as goal
 
 abbrev pub invariant-loop-number : goal.invariant-loop-number

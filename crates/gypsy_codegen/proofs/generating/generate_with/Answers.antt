@@ -1,16 +1,10 @@
 use Rattle.std.proofs.Common.{◌≡◌, ◌≤◌, ◌^◌, ◌∙◌, sym, ap, subst}
 use Rattle.piton_syntax.specs.PitonReading.{KeepsForm}
 use Rattle.piton_check.specs.Violations.{violations}
-use Rattle.gypsy_syntax.specs.declared.proc.Source.{Source}
-use Rattle.gypsy_syntax.specs.Programs.{Program}
-use Rattle.gypsy_syntax.specs.Resolved.{program_of}
-use Rattle.gypsy_syntax.specs.Views.SourceView.{source_of}
-use Rattle.gypsy_space.specs.Needs.{stack_sizes}
-use Rattle.gypsy_space.specs.Nodes.{seen_program}
-use Rattle.gypsy_codegen.specs.Acceptable.{total_words}
-use Rattle.gypsy_codegen.specs.Generation.{size_fault}
-use Rattle.gypsy_codegen.specs.Text.{generated}
-use Rattle.gypsy_codegen.proofs.AnswerLaws.{are_few, are_modest, none_of, limits_fit, limit_fails, generation_is, implements, takes_code_words}
+use Rattle.gypsy_syntax.{specs.declared.proc.Source.Source, specs.Programs.Program, specs.Resolved.program_of, specs.Views.SourceView.source_of}
+use Rattle.gypsy_space.{specs.Needs.stack_sizes, specs.Nodes.seen_program}
+use Rattle.gypsy_codegen.{specs.Acceptable.total_words, specs.Generation.size_fault, specs.Text.generated, proofs.AnswerLaws.{are_few, are_modest, none_of}}
+use Rattle.gypsy_codegen.proofs.AnswerLaws.{limits_fit, limit_fails, generation_is, implements, takes_code_words}
 use Rattle.gypsy_codegen.proofs.generating.generate_with.Goals as goal
 
 pub size_fault-requires-clause-few : goal.size_fault-requires-clause-few

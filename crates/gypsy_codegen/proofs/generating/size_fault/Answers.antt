@@ -1,8 +1,6 @@
 use Rattle.std.proofs.Common.{◌≡◌, ◌∙◌, true, rules, arith}
-use Rattle.gypsy_space.specs.Needs.{stack_sizes}
-use Rattle.gypsy_space.specs.Nodes.{seen_program}
-use Rattle.gypsy_codegen.specs.Generation.{are_sizes}
-use Rattle.gypsy_codegen.proofs.AnswerLaws.{together_is, words_fault, no_fault}
+use Rattle.gypsy_space.{specs.Needs.stack_sizes, specs.Nodes.seen_program}
+use Rattle.gypsy_codegen.{specs.Generation.are_sizes, proofs.AnswerLaws.{together_is, words_fault, no_fault}}
 use Rattle.gypsy_codegen.proofs.generating.size_fault.Goals as goal
 
 pub returns-then-count-gt-MOST_WORDS : goal.returns-then-count-gt-MOST_WORDS

@@ -1,6 +1,4 @@
-use Rattle.gypsy_codegen.proofs.ExampleLaws.{examples_end}
-use Rattle.gypsy_codegen.proofs.TextExampleLaws.{texts_are}
-use Rattle.gypsy_codegen.proofs.MarkExampleLaws.{marks_are}
+use Rattle.gypsy_codegen.{proofs.ExampleLaws.examples_end, proofs.TextExampleLaws.texts_are, proofs.MarkExampleLaws.marks_are}
 use Rattle.gypsy_codegen.proofs.laws.examples_compute.Goals as goal
 
 pub returns-clause-runs : goal.returns-clause-runs

@@ -1,5 +1,4 @@
-use Rattle.gypsy_codegen.proofs.MarkLaws.{each_moment_is_marked}
-use Rattle.gypsy_codegen.proofs.MarkOrderLaws.{marks_ascend, marks_are_places}
+use Rattle.gypsy_codegen.{proofs.MarkLaws.each_moment_is_marked, proofs.MarkOrderLaws.{marks_ascend, marks_are_places}}
 use Rattle.gypsy_codegen.proofs.laws.moments_are_marked.Goals as goal
 
 pub returns-clause-among : goal.returns-clause-among

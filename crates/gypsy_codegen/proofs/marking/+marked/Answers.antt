@@ -1,7 +1,5 @@
 use Rattle.std.proofs.Common.{rules, ◌≡◌, ap, sym, ◌∙◌}
-use Rattle.gypsy_space.specs.Nodes.{seen_statement, seen_statements}
-use Rattle.gypsy_space.specs.declared.program.Node.{the_lemmas}
-use Rattle.gypsy_space.proofs.NodeLaws.{seen_statement-seq}
+use Rattle.gypsy_space.{specs.Nodes.{seen_statement, seen_statements}, specs.declared.program.Node.the_lemmas, proofs.NodeLaws.seen_statement-seq}
 use Rattle.gypsy_codegen.proofs.marking.+marked.Goals as goal
 
 pub statement-parts-requires : goal.statement-parts-requires

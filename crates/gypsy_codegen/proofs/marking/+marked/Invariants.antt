@@ -1,9 +1,6 @@
 use Rattle.std.proofs.Common.{◌≡◌, ◌++◌, ◌+◌, drop}
 use Rattle.gypsy_space.specs.Nodes.{seen_statements}
-use Rattle.gypsy_codegen.specs.Generated.{size}
-use Rattle.gypsy_codegen.specs.Internal.Listing.{marked_program}
-use Rattle.gypsy_codegen.specs.Marks.{statement_marks}
-use Rattle.gypsy_codegen.specs.Internal.Views.{NamesAreThere}
+use Rattle.gypsy_codegen.{specs.Generated.size, specs.Internal.Listing.marked_program, specs.Marks.statement_marks, specs.Internal.Views.NamesAreThere}
 use Rattle.gypsy_codegen.proofs.marking.+marked.Given as goal
 
 -- what is listed, and the parts that are still to come, are all

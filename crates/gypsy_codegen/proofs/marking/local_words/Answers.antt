@@ -1,7 +1,6 @@
 use Rattle.std.proofs.Common.{ap, ◌∙◌}
 use Rattle.gypsy_space.specs.declared.need.Need.{Need}
-use Rattle.gypsy_codegen.specs.Internal.Listing.{marked_program}
-use Rattle.gypsy_codegen.proofs.MarkingLaws.{callee_words}
+use Rattle.gypsy_codegen.{specs.Internal.Listing.marked_program, proofs.MarkingLaws.callee_words}
 use Rattle.gypsy_codegen.proofs.marking.local_words.Goals as goal
 
 pub returns : goal.returns

@@ -1,14 +1,8 @@
-use Rattle.std.proofs.Common.{◌≡◌, ◌<◌, ◌≤◌, ◌^◌, length, sym, ap, ◌∙◌, subst, arith}
-use Rattle.std.proofs.lemmas.List.{length-map}
-use Rattle.gypsy_syntax.proofs.FitsLaws.{keeps_fits}
-use Rattle.gypsy_syntax.specs.Programs.{Program}
-use Rattle.gypsy_syntax.specs.ProgramFits.{ProgramFits}
-use Rattle.gypsy_syntax.specs.Resolved.{procedure_of, program_of}
+use Rattle.std.{proofs.Common.{◌≡◌, ◌<◌, ◌≤◌, ◌^◌, length, sym, ap, ◌∙◌, subst, arith}, proofs.lemmas.List.length-map}
+use Rattle.gypsy_syntax.{proofs.FitsLaws.keeps_fits, specs.Programs.Program, specs.ProgramFits.ProgramFits, specs.Resolved.{procedure_of, program_of}}
 use Rattle.gypsy_syntax.specs.Views.SourceView.{source_of}
 use Rattle.gypsy_space.specs.Nodes.{seen_proc, seen_program}
-use Rattle.gypsy_codegen.specs.Acceptable.{total_words}
-use Rattle.gypsy_codegen.specs.Marks.{marks_of}
-use Rattle.gypsy_codegen.proofs.MarkingLaws.{marks_next, marks_end, names_of_body, body_small}
+use Rattle.gypsy_codegen.{specs.Acceptable.total_words, specs.Marks.marks_of, proofs.MarkingLaws.{marks_next, marks_end, names_of_body, body_small}}
 use Rattle.gypsy_codegen.proofs.marking.marks_with.Goals as goal
 
 pub overflow_cast-marking : goal.overflow_cast-marking

@@ -1,7 +1,6 @@
 use Rattle.std.proofs.Common.{◌≡◌, ◌++◌, ◌-◌, flat_map, length}
 use Rattle.gypsy_space.specs.Nodes.{seen_program}
-use Rattle.gypsy_codegen.specs.Generated.{count_from}
-use Rattle.gypsy_codegen.specs.Marks.{marks_of, procedure_marks}
+use Rattle.gypsy_codegen.{specs.Generated.count_from, specs.Marks.{marks_of, procedure_marks}}
 use Rattle.gypsy_codegen.proofs.marking.marks_with.Given as goal
 
 -- what is listed, and the marks of the procedures that are still to come, are all

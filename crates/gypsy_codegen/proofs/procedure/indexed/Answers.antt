@@ -1,17 +1,11 @@
 use Rattle.std.proofs.Common.{◌≡◌, ℕ, ◌+◌, ◌<◌, ◌++◌, [], ◌∷◌, List, map, length, drop, get_or, ap, ap₂, sym, ◌∙◌, append_assoc, arith, rules}
 use Rattle.std.proofs.lemmas.List.{get_or_default}
-use Rattle.stack_text.proofs.Loops.{drop-item}
-use Rattle.stack_text.specs.Values.{item_count}
-use Rattle.stack_text.specs.declared.name.Named.{Named}
-use Rattle.stack_text.specs.declared.shape.Shape.{Shape}
+use Rattle.stack_text.{proofs.Loops.drop-item, specs.Values.item_count, specs.declared.name.Named.Named, specs.declared.shape.Shape.Shape}
 use Rattle.stack_text.specs.Grammar.Printed.{unplaced}
 use Rattle.piton_syntax.specs.declared.word_text.WordText.{WordText}
 use Rattle.piton_words.specs.declared.word.Word.TheVariants.{Nat}
 use Rattle.gypsy_syntax.specs.Programs.{words_of}
-use Rattle.gypsy_codegen.specs.Text.{temporaries_of}
-use Rattle.gypsy_codegen.specs.Internal.Views.{nameless}
-use Rattle.gypsy_codegen.specs.WordsOf.{starts}
-use Rattle.gypsy_codegen.specs.Written.{written_word}
+use Rattle.gypsy_codegen.{specs.Text.temporaries_of, specs.Internal.Views.nameless, specs.WordsOf.starts, specs.Written.written_word}
 use Rattle.gypsy_codegen.proofs.procedure.indexed.Goals as goal
 
 next_one : (names : List (List ℕ)) (shapes : List Shape) (k at size : ℕ) (d : Shape) → k < length names → k < length shapes

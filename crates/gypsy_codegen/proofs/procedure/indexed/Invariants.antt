@@ -1,9 +1,7 @@
 use Rattle.std.proofs.Common.{◌≡◌, ◌++◌, ◌+◌, map, drop}
 use Rattle.piton_words.specs.declared.word.Word.TheVariants.{Nat}
 use Rattle.gypsy_syntax.specs.Programs.{words_of}
-use Rattle.gypsy_codegen.specs.Text.{temporaries_of}
-use Rattle.gypsy_codegen.specs.Internal.Views.{nameless}
-use Rattle.gypsy_codegen.specs.WordsOf.{starts}
+use Rattle.gypsy_codegen.{specs.Text.temporaries_of, specs.Internal.Views.nameless, specs.WordsOf.starts}
 use Rattle.gypsy_codegen.proofs.procedure.indexed.Given as goal
 
 abbrev pub invariant-loop-number : goal.invariant-loop-number

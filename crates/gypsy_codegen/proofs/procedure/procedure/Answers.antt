@@ -1,7 +1,5 @@
-use Rattle.std.proofs.Common.{refl, ap, ◌∙◌}
-use Rattle.std.specs.Prelude.{◌==◌}
-use Rattle.gypsy_syntax.specs.Programs.{shapes_of}
-use Rattle.gypsy_syntax.specs.Views.SourceView.{proc_of}
+use Rattle.std.{proofs.Common.{refl, ap, ◌∙◌}, specs.Prelude.◌==◌}
+use Rattle.gypsy_syntax.{specs.Programs.shapes_of, specs.Views.SourceView.proc_of}
 use Rattle.gypsy_space.specs.Nodes.{seen_program}
 use Rattle.gypsy_codegen.proofs.CodeLaws.{procedure_is}
 use Rattle.gypsy_codegen.proofs.procedure.procedure.Goals as goal

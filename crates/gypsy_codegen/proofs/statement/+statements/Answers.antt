@@ -4,15 +4,10 @@ use Rattle.piton_syntax.specs.declared.test_kind.TestFamily.TheVariants as famil
 use Rattle.piton_syntax.specs.declared.test_kind.TestKind.TheVariants as test
 use Rattle.piton_check.specs.Instruction as i
 use Rattle.gypsy_syntax.specs.Programs.{If, Begin}
-use Rattle.gypsy_codegen.specs.Generated.{InLoop, InBegin, offset}
-use Rattle.gypsy_codegen.specs.WordsOf.{number_of_way}
-use Rattle.gypsy_codegen.proofs.CodeLaws.{both_are}
-use Rattle.gypsy_space.specs.Nodes.{seen_cond, seen_program, seen_statement, seen_statements}
-use Rattle.gypsy_space.specs.declared.program.Node.{the_lemmas}
+use Rattle.gypsy_codegen.{specs.Generated.{InLoop, InBegin, offset}, specs.WordsOf.number_of_way, proofs.CodeLaws.both_are, specs.Lines.{labels, lines}}
+use Rattle.gypsy_codegen.{specs.Internal.Views.{env, names_of}, specs.Written.{Line, Plain, Marked}}
+use Rattle.gypsy_space.{specs.Nodes.{seen_cond, seen_program, seen_statement, seen_statements}, specs.declared.program.Node.the_lemmas}
 use Rattle.gypsy_space.proofs.NodeLaws.{seen_statement-seq}
-use Rattle.gypsy_codegen.specs.Lines.{labels, lines}
-use Rattle.gypsy_codegen.specs.Internal.Views.{env, names_of}
-use Rattle.gypsy_codegen.specs.Written.{Line, Plain, Marked}
 use Rattle.gypsy_codegen.proofs.statement.+statements.Goals as goal
 
 pub statement-parts-requires : goal.statement-parts-requires

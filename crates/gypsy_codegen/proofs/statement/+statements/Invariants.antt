@@ -1,8 +1,6 @@
 use Rattle.std.proofs.Common.{◌≡◌, ◌++◌, ◌+◌, map, drop}
 use Rattle.gypsy_space.specs.Nodes.{seen_program, seen_statements}
-use Rattle.gypsy_codegen.specs.Lines.{labels, lines}
-use Rattle.gypsy_codegen.specs.Internal.Views.{env, names_of, NamesAreThere}
-use Rattle.gypsy_codegen.specs.Written.{written}
+use Rattle.gypsy_codegen.{specs.Lines.{labels, lines}, specs.Internal.Views.{env, names_of, NamesAreThere}, specs.Written.written}
 use Rattle.gypsy_codegen.proofs.statement.+statements.Given as goal
 
 -- what is written, and the parts that are still to come, are all

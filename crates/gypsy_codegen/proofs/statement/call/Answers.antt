@@ -1,11 +1,7 @@
 use Rattle.std.proofs.Common.{◌+◌, ◌++◌, List, map}
 use Rattle.gypsy_syntax.specs.Programs.{proc_at}
-use Rattle.gypsy_space.specs.Needs.{local_words, call_need}
-use Rattle.gypsy_space.specs.Nodes.{seen_cond, seen_program}
-use Rattle.gypsy_codegen.specs.Guard.{guard_code}
-use Rattle.gypsy_codegen.specs.Lines.{unmarked, before_code, after_lines}
-use Rattle.gypsy_codegen.specs.Internal.Views.{env, names_of}
-use Rattle.gypsy_codegen.specs.Written.{Line}
+use Rattle.gypsy_space.{specs.Needs.{local_words, call_need}, specs.Nodes.{seen_cond, seen_program}}
+use Rattle.gypsy_codegen.{specs.Guard.guard_code, specs.Lines.{unmarked, before_code, after_lines}, specs.Internal.Views.{env, names_of}, specs.Written.Line}
 use Rattle.gypsy_codegen.proofs.CodeLaws.{both_are}
 use Rattle.gypsy_codegen.proofs.statement.call.Goals as goal
 

@@ -1,7 +1,6 @@
 use Rattle.std.proofs.Common.{map}
 use Rattle.gypsy_space.specs.Nodes.{seen_proc}
-use Rattle.gypsy_codegen.specs.WordsOf.{zero_value}
-use Rattle.gypsy_codegen.proofs.WritableLaws.{opening_is}
+use Rattle.gypsy_codegen.{specs.WordsOf.zero_value, proofs.WritableLaws.opening_is}
 use Rattle.gypsy_codegen.proofs.system.opening.Goals as goal
 
 pub returns : goal.returns

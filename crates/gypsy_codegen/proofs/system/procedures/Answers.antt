@@ -2,8 +2,7 @@ use Rattle.std.proofs.Common.{◌≡◌, ◌++◌, [], ◌∷◌, ap, ◌∙◌}
 use Rattle.piton_syntax.specs.Systems.{ProgramOf}
 use Rattle.gypsy_syntax.specs.Views.SourceView.{proc_of}
 use Rattle.gypsy_space.specs.Nodes.{seen_program}
-use Rattle.gypsy_codegen.specs.Text.{procedure_with}
-use Rattle.gypsy_codegen.proofs.WritableLaws.{writable_next, procedures_next}
+use Rattle.gypsy_codegen.{specs.Text.procedure_with, proofs.WritableLaws.{writable_next, procedures_next}}
 use Rattle.gypsy_codegen.proofs.system.procedures.Goals as goal
 
 pub loop-number-preserved : goal.loop-number-preserved

@@ -1,8 +1,7 @@
 use Rattle.std.proofs.Common.{◌≡◌, ◌++◌, map, drop}
 use Rattle.gypsy_syntax.specs.Views.SourceView.{proc_of}
 use Rattle.gypsy_space.specs.Nodes.{seen_program}
-use Rattle.gypsy_codegen.specs.Text.{procedures_with}
-use Rattle.gypsy_codegen.specs.Internal.Views.{AreWritable}
+use Rattle.gypsy_codegen.{specs.Text.procedures_with, specs.Internal.Views.AreWritable}
 use Rattle.gypsy_codegen.proofs.system.procedures.Given as goal
 
 abbrev pub invariant-loop-number : goal.invariant-loop-number

@@ -1,12 +1,7 @@
 use Rattle.std.proofs.Common.{◌≡◌, arith, subst, sym, [], ◌∷◌}
-use Rattle.gypsy_syntax.specs.Programs.{Program}
-use Rattle.gypsy_space.specs.Needs.{stack_sizes}
-use Rattle.gypsy_space.specs.Nodes.{seen_program, seen_proc}
-use Rattle.gypsy_syntax.specs.Views.SourceView.{source_of}
-use Rattle.gypsy_syntax.proofs.FitsLaws.{keeps_fits}
-use Rattle.gypsy_codegen.specs.Text.{program_texts}
-use Rattle.gypsy_codegen.specs.Internal.Views.{AreWritable, area_text}
-use Rattle.gypsy_codegen.proofs.WritableLaws.{all_writable, system_is}
+use Rattle.gypsy_syntax.{specs.Programs.Program, specs.Views.SourceView.source_of, proofs.FitsLaws.keeps_fits}
+use Rattle.gypsy_space.{specs.Needs.stack_sizes, specs.Nodes.{seen_program, seen_proc}}
+use Rattle.gypsy_codegen.{specs.Text.program_texts, specs.Internal.Views.{AreWritable, area_text}, proofs.WritableLaws.{all_writable, system_is}}
 use Rattle.gypsy_codegen.proofs.system.system.Goals as goal
 
 pub programs-requires-clause-few : goal.programs-requires-clause-few

@@ -1,10 +1,6 @@
-use Rattle.std.proofs.Common.{◌≡◌, ◌++◌, [], ◌∷◌, List, get_or, map, refl, rules}
-use Rattle.std.specs.Prelude.{ℤ, pos}
-use Rattle.std.proofs.lemmas.List.{get_or_default}
+use Rattle.std.{proofs.Common.{◌≡◌, ◌++◌, [], ◌∷◌, List, get_or, map, refl, rules}, specs.Prelude.{ℤ, pos}, proofs.lemmas.List.get_or_default}
 use Rattle.gypsy_predef.specs.Runs.{word_of_item}
-use Rattle.gypsy_codegen.specs.Internal.Views.{nameless}
-use Rattle.gypsy_codegen.specs.Written.{written_word}
-use Rattle.gypsy_codegen.proofs.WriteLaws.{more_next}
+use Rattle.gypsy_codegen.{specs.Internal.Views.nameless, specs.Written.written_word, proofs.WriteLaws.more_next}
 use Rattle.gypsy_codegen.proofs.words.item_words.Goals as goal
 
 pub loop-item-preserved : goal.loop-item-preserved

@@ -1,7 +1,6 @@
 use Rattle.std.proofs.Common.{◌≡◌, ◌++◌, map, drop}
 use Rattle.gypsy_predef.specs.Runs.{word_of_item}
-use Rattle.gypsy_codegen.specs.Internal.Views.{nameless}
-use Rattle.gypsy_codegen.specs.Written.{written_word}
+use Rattle.gypsy_codegen.{specs.Internal.Views.nameless, specs.Written.written_word}
 use Rattle.gypsy_codegen.proofs.words.item_words.Given as goal
 
 abbrev pub invariant-loop-item : goal.invariant-loop-item

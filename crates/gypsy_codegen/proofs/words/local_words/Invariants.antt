@@ -1,7 +1,5 @@
 use Rattle.std.proofs.Common.{◌≡◌, ◌++◌, map, drop}
-use Rattle.gypsy_codegen.specs.Internal.Views.{nameless}
-use Rattle.gypsy_codegen.specs.WordsOf.{words_of_values}
-use Rattle.gypsy_codegen.specs.Written.{written_word}
+use Rattle.gypsy_codegen.{specs.Internal.Views.nameless, specs.WordsOf.words_of_values, specs.Written.written_word}
 use Rattle.gypsy_codegen.proofs.words.local_words.Given as goal
 
 abbrev pub invariant-loop-value : goal.invariant-loop-value

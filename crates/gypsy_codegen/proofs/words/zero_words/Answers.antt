@@ -1,9 +1,6 @@
-use Rattle.std.proofs.Common.{◌≡◌, ◌++◌, [], ◌∷◌, List, map, refl, rules}
-use Rattle.std.specs.Prelude.{ℤ, pos}
+use Rattle.std.{proofs.Common.{◌≡◌, ◌++◌, [], ◌∷◌, List, map, refl, rules}, specs.Prelude.{ℤ, pos}}
 use Rattle.gypsy_predef.specs.Runs.{word_of_item}
-use Rattle.gypsy_codegen.specs.Internal.Views.{nameless}
-use Rattle.gypsy_codegen.specs.Written.{written_word}
-use Rattle.gypsy_codegen.proofs.WriteLaws.{copy_next}
+use Rattle.gypsy_codegen.{specs.Internal.Views.nameless, specs.Written.written_word, proofs.WriteLaws.copy_next}
 use Rattle.gypsy_codegen.proofs.words.zero_words.Goals as goal
 
 pub loop-made-preserved : goal.loop-made-preserved

@@ -1,8 +1,6 @@
-use Rattle.std.proofs.Common.{◌≡◌, ◌++◌, ◌-◌, map, replicate}
-use Rattle.std.specs.Prelude.{pos}
+use Rattle.std.{proofs.Common.{◌≡◌, ◌++◌, ◌-◌, map, replicate}, specs.Prelude.pos}
 use Rattle.gypsy_predef.specs.Runs.{word_of_item}
-use Rattle.gypsy_codegen.specs.Internal.Views.{nameless}
-use Rattle.gypsy_codegen.specs.Written.{written_word}
+use Rattle.gypsy_codegen.{specs.Internal.Views.nameless, specs.Written.written_word}
 use Rattle.gypsy_codegen.proofs.words.zero_words.Given as goal
 
 abbrev pub invariant-loop-made : goal.invariant-loop-made

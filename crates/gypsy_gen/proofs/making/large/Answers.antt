@@ -1,13 +1,8 @@
-use Rattle.std.proofs.Common.{◌≡◌, ◌≤◌, ◌^◌, sym, subst, ap, ◌∙◌, arith}
-use Rattle.std.specs.Prelude.{codes}
-use Rattle.stack_text.specs.Grammar.Printed.{unplaced}
-use Rattle.stack_text.specs.Trees.{node_count}
+use Rattle.std.{proofs.Common.{◌≡◌, ◌≤◌, ◌^◌, sym, subst, ap, ◌∙◌, arith}, specs.Prelude.codes}
+use Rattle.stack_text.{specs.Grammar.Printed.unplaced, specs.Trees.node_count}
 use Rattle.gypsy_check.specs.Rules.{violations}
-use Rattle.gypsy_syntax.specs.GypsyReading.{KeepsForm}
-use Rattle.gypsy_syntax.specs.Printed.{tree_of}
-use Rattle.gypsy_gen.specs.Large.{large_of}
-use Rattle.gypsy_gen.proofs.FormLaws.{large_fits, large_small}
-use Rattle.gypsy_gen.proofs.RuleLaws.{large_clean}
+use Rattle.gypsy_syntax.{specs.GypsyReading.KeepsForm, specs.Printed.tree_of}
+use Rattle.gypsy_gen.{specs.Large.large_of, proofs.FormLaws.{large_fits, large_small}, proofs.RuleLaws.large_clean}
 use Rattle.gypsy_gen.proofs.making.large.Goals as goal
 
 pub returns-clause-form : goal.returns-clause-form

@@ -4,11 +4,8 @@ use Rattle.gypsy_space.specs.Nodes.{seen_arg}
 use Rattle.gypsy_space.specs.declared.event.CostEvent.TheVariants as event
 use Rattle.gypsy_space.specs.declared.event.Outcome.TheVariants as outcome
 use Rattle.gypsy_semantics.specs.Calls.{target_of}
-use Rattle.gypsy_meaning.specs.Views.Work.{work_of}
-use Rattle.gypsy_meaning.specs.Internal.PredefinedEffects.{effect_of, applied_effect}
-use Rattle.gypsy_meaning.specs.Internal.PredefinedSteps.{call_item}
-use Rattle.gypsy_meaning.specs.declared.turn.Advance.{Advance}
-use Rattle.gypsy_meaning.proofs.ApplyLaws.{writes_law, fails_law}
+use Rattle.gypsy_meaning.{specs.Views.Work.work_of, specs.Internal.PredefinedEffects.{effect_of, applied_effect}, specs.Internal.PredefinedSteps.call_item}
+use Rattle.gypsy_meaning.{specs.declared.turn.Advance.Advance, proofs.ApplyLaws.{writes_law, fails_law}}
 use Rattle.gypsy_meaning.proofs.applying.application.Goals as goal
 
 pub returns-in_ok-settle_below-in-Normal-clause-done : goal.returns-in_ok-settle_below-in-Normal-clause-done

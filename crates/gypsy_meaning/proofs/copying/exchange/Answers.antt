@@ -1,6 +1,4 @@
-use Rattle.std.proofs.Common.{map, slice_set, ap, ◌∙◌}
-use Rattle.std.proofs.lemmas.List.{map-set}
-use Rattle.std.proofs.Math.Seq.{map-set_same}
+use Rattle.std.{proofs.Common.{map, slice_set, ap, ◌∙◌}, proofs.lemmas.List.map-set, proofs.Math.Seq.map-set_same}
 use Rattle.gypsy_meaning.proofs.CopyLaws.{read_value}
 use Rattle.gypsy_meaning.proofs.copying.exchange.Goals as goal
 

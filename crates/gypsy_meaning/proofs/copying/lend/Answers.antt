@@ -1,5 +1,4 @@
-use Rattle.std.proofs.Common.{◌≤◌, List, length, map, sym, ◌∙◌, arith}
-use Rattle.std.proofs.lemmas.List.{length-map}
+use Rattle.std.{proofs.Common.{◌≤◌, List, length, map, sym, ◌∙◌, arith}, proofs.lemmas.List.length-map}
 use Rattle.stack_text.specs.Values.{ValueOf}
 use Rattle.gypsy_semantics.proofs.LendingLaws.{all_taken, taken_all}
 use Rattle.gypsy_meaning.proofs.copying.lend.Goals as goal

@@ -1,6 +1,5 @@
 use Rattle.std.proofs.Common.{◌≡◌, ◌++◌, map, take, drop}
-use Rattle.gypsy_semantics.specs.Calls.{copied_out}
-use Rattle.gypsy_semantics.proofs.LendingLaws.{taken}
+use Rattle.gypsy_semantics.{specs.Calls.copied_out, proofs.LendingLaws.taken}
 use Rattle.gypsy_meaning.proofs.copying.lend.Given as goal
 
 abbrev pub invariant-loop-place : goal.invariant-loop-place

@@ -1,6 +1,5 @@
 use Rattle.std.proofs.Common.{ap, sym, ◌∙◌}
-use Rattle.gypsy_space.specs.Nodes.{seen_statement}
-use Rattle.gypsy_space.proofs.NodeLaws.{seen_statement-seq}
+use Rattle.gypsy_space.{specs.Nodes.seen_statement, proofs.NodeLaws.seen_statement-seq}
 use Rattle.gypsy_semantics.specs.Machine.{statement_place}
 use Rattle.gypsy_meaning.proofs.ShownLaws.{parts_place}
 use Rattle.gypsy_meaning.proofs.showing.statement_place.Goals as goal

@@ -1,8 +1,7 @@
 use Rattle.std.proofs.Common.{◌≡◌, ◌∷◌, ◌-◌, List, ap, sym, ◌∙◌, drop, length, take, rules}
 use Rattle.gypsy_space.specs.Nodes.{seen_program, seen_statements}
 use Rattle.gypsy_semantics.specs.Machine.{At, Do, Item, place_of}
-use Rattle.gypsy_meaning.specs.Views.Work.{item_of, work_of}
-use Rattle.gypsy_meaning.proofs.ShownLaws.{parts_place}
+use Rattle.gypsy_meaning.{specs.Views.Work.{item_of, work_of}, proofs.ShownLaws.parts_place}
 use Rattle.gypsy_meaning.proofs.showing.work_place.Goals as goal
 
 pub returns-in-Some-Parts : goal.returns-in-Some-Parts

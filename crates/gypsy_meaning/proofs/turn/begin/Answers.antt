@@ -1,13 +1,9 @@
-use Rattle.std.proofs.Common.{◌≡◌, ◌∷◌, List, length, map, take, refl, ap, sym, ◌∙◌}
-use Rattle.std.proofs.Math.Seq.{take-length}
+use Rattle.std.{proofs.Common.{◌≡◌, ◌∷◌, List, length, map, take, refl, ap, sym, ◌∙◌}, proofs.Math.Seq.take-length}
 use Rattle.stack_text.specs.Values.{ValueOf}
 use Rattle.gypsy_syntax.specs.Programs.{Stmt, Loop, If}
-use Rattle.gypsy_space.specs.Nodes.{seen_statement}
-use Rattle.gypsy_space.proofs.NodeLaws.{seen_statement-seq}
+use Rattle.gypsy_space.{specs.Nodes.seen_statement, proofs.NodeLaws.seen_statement-seq}
 use Rattle.gypsy_semantics.specs.Machine.{Do, settle}
-use Rattle.gypsy_meaning.specs.Views.Work.{left_by, work_of, work_on}
-use Rattle.gypsy_meaning.specs.declared.work.Item.{Item as Kept}
-use Rattle.gypsy_meaning.proofs.TurnLaws.{goes_from, parts_from}
+use Rattle.gypsy_meaning.{specs.Views.Work.{left_by, work_of, work_on}, specs.declared.work.Item.Item as Kept, proofs.TurnLaws.{goes_from, parts_from}}
 use Rattle.gypsy_meaning.proofs.turn.begin.Goals as goal
 
 pub returns-in_ok-enter_loop-in-Loop : goal.returns-in_ok-enter_loop-in-Loop

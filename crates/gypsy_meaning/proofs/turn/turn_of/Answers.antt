@@ -1,12 +1,9 @@
-use Rattle.std.proofs.Common.{◌≡◌, ◌∷◌, List, length, map, take, drop, refl, ap, ◌∙◌, rules}
-use Rattle.std.proofs.Math.Seq.{take-length}
+use Rattle.std.{proofs.Common.{◌≡◌, ◌∷◌, List, length, map, take, drop, refl, ap, ◌∙◌, rules}, proofs.Math.Seq.take-length}
 use Rattle.stack_text.specs.Values.{ValueOf}
 use Rattle.gypsy_syntax.specs.Programs.{Stmt, Loop}
 use Rattle.gypsy_space.specs.Nodes.{seen_statement, seen_statements}
 use Rattle.gypsy_semantics.specs.Machine.{Item, Back, Do, settle}
-use Rattle.gypsy_meaning.specs.Views.Work.{item_of, left_by, work_of, work_on}
-use Rattle.gypsy_meaning.specs.declared.work.Item.{Item as Kept}
-use Rattle.gypsy_meaning.proofs.TurnLaws.{goes_from, parts_from}
+use Rattle.gypsy_meaning.{specs.Views.Work.{item_of, left_by, work_of, work_on}, specs.declared.work.Item.Item as Kept, proofs.TurnLaws.{goes_from, parts_from}}
 use Rattle.gypsy_meaning.proofs.turn.turn_of.Goals as goal
 
 pub returns-in_ok-settled-in-Parts : goal.returns-in_ok-settled-in-Parts

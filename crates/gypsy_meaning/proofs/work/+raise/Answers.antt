@@ -1,13 +1,9 @@
-use Rattle.std.proofs.Common.{◌≡◌, ◌∷◌, ◌-◌, ◌<◌, List, suc, length, get_or, take, map, true, false, ap, sym, ◌∙◌, rules, arith}
+use Rattle.std.{proofs.Common.{◌≡◌, ◌∷◌, ◌-◌, ◌<◌, List, suc, length, get_or, take, map, true, false, ap, sym, ◌∙◌, rules, arith}, specs.Global.Vec}
 use Rattle.stack_heap.proofs.UnlessLaws.{if_ok_unless_weaker}
-use Rattle.std.specs.Global.{Vec}
-use Rattle.gypsy_space.specs.declared.program.Condition.{Condition}
-use Rattle.gypsy_semantics.specs.Calls.{has_cond}
-use Rattle.gypsy_semantics.specs.Machine.{Item, Back, Guard, JoinOne, open_on}
-use Rattle.gypsy_space.specs.Nodes.{seen_cond, seen_statement}
-use Rattle.gypsy_meaning.specs.Views.Work.{item_of, work_of, work_on}
-use Rattle.gypsy_meaning.specs.declared.work.Item.{Item as Kept}
-use Rattle.gypsy_meaning.proofs.WorkLaws.{top_of, back_caught, back_passed, guard_caught, guard_passed, passed_over}
+use Rattle.gypsy_space.{specs.declared.program.Condition.Condition, specs.Nodes.{seen_cond, seen_statement}}
+use Rattle.gypsy_semantics.{specs.Calls.has_cond, specs.Machine.{Item, Back, Guard, JoinOne, open_on}}
+use Rattle.gypsy_meaning.{specs.Views.Work.{item_of, work_of, work_on}, specs.declared.work.Item.Item as Kept, proofs.WorkLaws.{top_of, back_caught}}
+use Rattle.gypsy_meaning.proofs.WorkLaws.{back_passed, guard_caught, guard_passed, passed_over}
 use Rattle.gypsy_meaning.proofs.work.+raise.Goals as goal
 
 pub returns-in_ok-settled-in-Back : goal.returns-in_ok-settled-in-Back

@@ -1,9 +1,8 @@
 use Rattle.std.proofs.Common.{◌≡◌, ◌∷◌, ◌-◌, ◌<◌, suc, length, get_or, take, drop, ap, ◌∙◌, rules, arith}
 use Rattle.gypsy_semantics.specs.Machine.{Item, Do, settle}
 use Rattle.gypsy_space.specs.Nodes.{seen_statement, seen_statements}
-use Rattle.gypsy_meaning.specs.Views.Work.{item_of, work_of}
-use Rattle.gypsy_meaning.specs.declared.work.Item.{Item as Kept}
-use Rattle.gypsy_meaning.proofs.WorkLaws.{top_of, settled_opened, settled_empty, settled_solid}
+use Rattle.gypsy_meaning.{specs.Views.Work.{item_of, work_of}, specs.declared.work.Item.Item as Kept, proofs.WorkLaws.{top_of, settled_opened, settled_empty}}
+use Rattle.gypsy_meaning.proofs.WorkLaws.{settled_solid}
 use Rattle.gypsy_meaning.proofs.work.+settled.Goals as goal
 
 pub returns-then-branch : goal.returns-then-branch

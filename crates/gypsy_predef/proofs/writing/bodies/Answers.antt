@@ -1,6 +1,5 @@
 use Rattle.std.proofs.Common.{map, ap, ◌∙◌}
-use Rattle.gypsy_predef.specs.Texts.{body_text}
-use Rattle.gypsy_predef.proofs.ResolvingLaws.{do_calls, do_rows}
+use Rattle.gypsy_predef.{specs.Texts.body_text, proofs.ResolvingLaws.{do_calls, do_rows}}
 use Rattle.gypsy_predef.proofs.writing.bodies.Goals as goal
 
 pub returns-clause-rows : goal.returns-clause-rows

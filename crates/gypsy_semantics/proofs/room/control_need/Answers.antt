@@ -1,6 +1,5 @@
 use Rattle.std.proofs.Common.{◌+◌, ap, ◌∙◌}
-use Rattle.gypsy_space.specs.Nodes.{seen_program}
-use Rattle.gypsy_space.specs.declared.need.Need.{Need}
+use Rattle.gypsy_space.{specs.Nodes.seen_program, specs.declared.need.Need.Need}
 use Rattle.gypsy_semantics.proofs.NeedLaws.{control_is}
 use Rattle.gypsy_semantics.proofs.room.control_need.Goals as goal
 

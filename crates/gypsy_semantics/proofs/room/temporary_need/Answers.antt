@@ -1,8 +1,6 @@
 use Rattle.std.proofs.Common.{◌≡◌, ◌+◌, ◌≤◌, ap, ◌∙◌, arith}
 use Rattle.gypsy_syntax.specs.Programs.{proc_at, words_of}
-use Rattle.gypsy_space.specs.Nodes.{seen_program}
-use Rattle.gypsy_space.specs.Events.{IsSmall}
-use Rattle.gypsy_space.specs.declared.need.Need.{Need}
+use Rattle.gypsy_space.{specs.Nodes.seen_program, specs.Events.IsSmall, specs.declared.need.Need.Need}
 use Rattle.gypsy_semantics.proofs.NeedLaws.{formals_small, temporary_is}
 use Rattle.gypsy_semantics.proofs.room.temporary_need.Goals as goal
 

@@ -1,9 +1,6 @@
-use Rattle.std.proofs.Common.{List, ap, sym, ◌∙◌}
-use Rattle.std.proofs.lemmas.Simd.{map-map}
+use Rattle.std.{proofs.Common.{List, ap, sym, ◌∙◌}, proofs.lemmas.Simd.map-map}
 use Rattle.stack_text.specs.Names.{place_among}
-use Rattle.gypsy_syntax.specs.declared.proc.Proc.{Proc}
-use Rattle.gypsy_syntax.specs.Sources.{ProcOf}
-use Rattle.gypsy_syntax.specs.Views.SourceView.{proc_of}
+use Rattle.gypsy_syntax.{specs.declared.proc.Proc.Proc, specs.Sources.ProcOf, specs.Views.SourceView.proc_of}
 use Rattle.gypsy_space.specs.Callees.{names_of}
 use Rattle.gypsy_space.proofs.callees.callees_of.Goals as goal
 

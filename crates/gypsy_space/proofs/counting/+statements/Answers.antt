@@ -1,8 +1,5 @@
-use Rattle.std.proofs.Common.{◌≡◌, ap, sym, ◌∙◌, vec_len, arith}
-use Rattle.std.proofs.lemmas.List.{drop_all}
-use Rattle.gypsy_space.specs.Nodes.{seen_program, seen_statement, seen_statements}
-use Rattle.gypsy_space.proofs.NodeLaws.{seen_statement-seq}
-use Rattle.gypsy_space.proofs.CappedLaws.{no_more}
+use Rattle.std.{proofs.Common.{◌≡◌, ap, sym, ◌∙◌, vec_len, arith}, proofs.lemmas.List.drop_all}
+use Rattle.gypsy_space.{specs.Nodes.{seen_program, seen_statement, seen_statements}, proofs.NodeLaws.seen_statement-seq, proofs.CappedLaws.no_more}
 use Rattle.gypsy_space.proofs.counting.+statements.Goals as goal
 
 pub statement_need-returns-in-Seq : goal.statement_need-returns-in-Seq

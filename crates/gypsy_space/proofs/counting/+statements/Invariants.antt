@@ -1,6 +1,5 @@
 use Rattle.std.proofs.Common.{drop}
-use Rattle.gypsy_space.specs.Nodes.{seen_program, seen_statements}
-use Rattle.gypsy_space.specs.StatementNeeds.{HasMore}
+use Rattle.gypsy_space.{specs.Nodes.{seen_program, seen_statements}, specs.StatementNeeds.HasMore}
 use Rattle.gypsy_space.proofs.counting.+statements.Given as goal
 
 -- the parts so far, and those that are still to come, need what all of them need

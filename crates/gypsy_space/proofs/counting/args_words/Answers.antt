@@ -1,8 +1,5 @@
-use Rattle.std.proofs.Common.{map, arith}
-use Rattle.std.proofs.lemmas.List.{drop_all}
-use Rattle.gypsy_space.specs.Needs.{args_words}
-use Rattle.gypsy_space.specs.Nodes.{seen_arg}
-use Rattle.gypsy_space.proofs.CappedLaws.{no_more_words}
+use Rattle.std.{proofs.Common.{map, arith}, proofs.lemmas.List.drop_all}
+use Rattle.gypsy_space.{specs.Needs.args_words, specs.Nodes.seen_arg, proofs.CappedLaws.no_more_words}
 use Rattle.gypsy_space.proofs.counting.args_words.Goals as goal
 
 pub returns : goal.returns

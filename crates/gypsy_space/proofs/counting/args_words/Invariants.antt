@@ -1,7 +1,5 @@
 use Rattle.std.proofs.Common.{drop, map}
-use Rattle.gypsy_space.specs.Needs.{args_words}
-use Rattle.gypsy_space.specs.Nodes.{seen_arg}
-use Rattle.gypsy_space.specs.StatementNeeds.{HasMoreWords}
+use Rattle.gypsy_space.{specs.Needs.args_words, specs.Nodes.seen_arg, specs.StatementNeeds.HasMoreWords}
 use Rattle.gypsy_space.proofs.counting.args_words.Given as goal
 
 abbrev pub invariant-loop-arg : goal.invariant-loop-arg

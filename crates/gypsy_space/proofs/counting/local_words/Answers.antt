@@ -1,5 +1,4 @@
-use Rattle.std.proofs.Common.{map, arith}
-use Rattle.std.proofs.lemmas.List.{drop_all}
+use Rattle.std.{proofs.Common.{map, arith}, proofs.lemmas.List.drop_all}
 use Rattle.gypsy_syntax.specs.Programs.{words_of}
 use Rattle.gypsy_space.proofs.CappedLaws.{no_more_words}
 use Rattle.gypsy_space.proofs.counting.local_words.Goals as goal

@@ -1,8 +1,5 @@
 use Rattle.std.proofs.Common.{◌≡◌, ◌+◌, List, [], ◌∷◌, ◌++◌, sym, subst, rules}
-use Rattle.gypsy_space.specs.Nodes.{seen_program}
-use Rattle.gypsy_space.specs.StatementNeeds.{AreFirst}
-use Rattle.gypsy_space.specs.declared.need.Need.{Need}
-use Rattle.gypsy_space.proofs.FirstLaws.{first_none, first_pushed}
+use Rattle.gypsy_space.{specs.Nodes.seen_program, specs.StatementNeeds.AreFirst, specs.declared.need.Need.Need, proofs.FirstLaws.{first_none, first_pushed}}
 use Rattle.gypsy_space.proofs.counting.needs_of.Goals as goal
 
 pub loop-index-init : goal.loop-index-init

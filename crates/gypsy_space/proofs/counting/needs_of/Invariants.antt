@@ -1,5 +1,4 @@
-use Rattle.gypsy_space.specs.Nodes.{seen_program}
-use Rattle.gypsy_space.specs.StatementNeeds.{AreFirst}
+use Rattle.gypsy_space.{specs.Nodes.seen_program, specs.StatementNeeds.AreFirst}
 use Rattle.gypsy_space.proofs.counting.needs_of.Given as goal
 
 abbrev pub invariant-loop-index : goal.invariant-loop-index

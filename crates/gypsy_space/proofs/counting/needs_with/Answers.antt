@@ -1,8 +1,6 @@
 use Rattle.std.proofs.Common.{ap}
-use Rattle.gypsy_syntax.specs.Programs.{Program}
-use Rattle.gypsy_syntax.specs.Views.SourceView.{source_of}
-use Rattle.gypsy_space.specs.Nodes.{seen_proc, seen_program}
-use Rattle.gypsy_space.proofs.SmallLaws.{counted_needs, few_procedures}
+use Rattle.gypsy_syntax.{specs.Programs.Program, specs.Views.SourceView.source_of}
+use Rattle.gypsy_space.{specs.Nodes.{seen_proc, seen_program}, proofs.SmallLaws.{counted_needs, few_procedures}}
 use Rattle.gypsy_space.proofs.counting.needs_with.Goals as goal
 
 pub needs_of-requires : goal.needs_of-requires

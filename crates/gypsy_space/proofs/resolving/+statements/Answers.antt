@@ -1,20 +1,10 @@
-use Rattle.std.proofs.Common.{◌≡◌, ◌+◌, List, [], ◌∷◌, ◌++◌, drop, map, sym, ap, subst, ◌∙◌, arith, rules}
-use Rattle.std.specs.declared.alloc.Global.{Global}
-use Rattle.std.specs.declared.rc.Rc.{Rc}
-use Rattle.std.proofs.lemmas.List.Elements.{All-same}
-use Rattle.gypsy_syntax.specs.declared.statement.Arg.{Arg}
-use Rattle.gypsy_syntax.specs.declared.statement.Stmt.{Stmt as Text, the_lemmas}
-use Rattle.gypsy_syntax.specs.Resolved.{statement_of, statement_of_all}
-use Rattle.gypsy_syntax.specs.Sources.{StmtOf, predef, seq}
-use Rattle.gypsy_syntax.specs.Views.SourceView.{arg_of, parts_of_list, proc_of, source_of, stmt_of}
-use Rattle.gypsy_syntax.proofs.ViewLaws.{stmt_of-seq}
-use Rattle.gypsy_space.specs.declared.program.Node.{Node}
-use Rattle.gypsy_space.specs.Nodes.{seen_statements}
-use Rattle.gypsy_space.specs.CallSites.{sequenced}
-use Rattle.gypsy_space.specs.Resolvable.{ConstantFits, ConstantsFit}
-use Rattle.gypsy_space.proofs.AcceptedLaws.{each_before, parts_fit}
-use Rattle.gypsy_space.proofs.NodeLaws.{seen_statement-seq}
-use Rattle.gypsy_space.proofs.ResolveLaws.{all_parts, next_part}
+use Rattle.std.{proofs.Common.{◌≡◌, ◌+◌, List, [], ◌∷◌, ◌++◌, drop, map, sym, ap, subst, ◌∙◌, arith, rules}, specs.declared.alloc.Global.Global}
+use Rattle.std.{specs.declared.rc.Rc.Rc, proofs.lemmas.List.Elements.All-same}
+use Rattle.gypsy_syntax.{specs.declared.statement.Arg.Arg, specs.declared.statement.Stmt.{Stmt as Text, the_lemmas}, specs.Resolved.statement_of}
+use Rattle.gypsy_syntax.{specs.Resolved.statement_of_all, specs.Sources.{StmtOf, predef, seq}, specs.Views.SourceView.{arg_of, parts_of_list, proc_of}}
+use Rattle.gypsy_syntax.{specs.Views.SourceView.{source_of, stmt_of}, proofs.ViewLaws.stmt_of-seq}
+use Rattle.gypsy_space.{specs.declared.program.Node.Node, specs.Nodes.seen_statements, specs.CallSites.sequenced, specs.Resolvable.{ConstantFits, ConstantsFit}}
+use Rattle.gypsy_space.{proofs.AcceptedLaws.{each_before, parts_fit}, proofs.NodeLaws.seen_statement-seq, proofs.ResolveLaws.{all_parts, next_part}}
 use Rattle.gypsy_space.proofs.resolving.+statements.Goals as goal
 
 pub statement-statements-requires : goal.statement-statements-requires

@@ -1,6 +1,5 @@
 use Rattle.std.proofs.Common.{◌≡◌, drop}
-use Rattle.gypsy_syntax.specs.Resolved.{statement_of_all}
-use Rattle.gypsy_syntax.specs.Views.SourceView.{parts_of_list, proc_of, source_of}
+use Rattle.gypsy_syntax.{specs.Resolved.statement_of_all, specs.Views.SourceView.{parts_of_list, proc_of, source_of}}
 use Rattle.gypsy_space.specs.CallSites.{sequenced}
 use Rattle.gypsy_space.proofs.resolving.+statements.Given as goal
 

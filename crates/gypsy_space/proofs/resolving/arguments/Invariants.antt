@@ -1,6 +1,5 @@
 use Rattle.std.proofs.Common.{◌≡◌, ◌++◌, map, drop}
-use Rattle.gypsy_syntax.specs.Resolved.{argument_of}
-use Rattle.gypsy_syntax.specs.Views.SourceView.{arg_of, proc_of}
+use Rattle.gypsy_syntax.{specs.Resolved.argument_of, specs.Views.SourceView.{arg_of, proc_of}}
 use Rattle.gypsy_space.specs.Nodes.{seen_arg}
 use Rattle.gypsy_space.proofs.resolving.arguments.Given as goal
 

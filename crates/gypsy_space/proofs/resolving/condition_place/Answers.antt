@@ -1,5 +1,4 @@
-use Rattle.std.proofs.Common.{◌≡◌, ◌+◌, length, Some, None, bytes_eq, refl, sym, ap, ◌∙◌, arith}
-use Rattle.std.specs.List.{position}
+use Rattle.std.{proofs.Common.{◌≡◌, ◌+◌, length, Some, None, bytes_eq, refl, sym, ap, ◌∙◌, arith}, specs.List.position}
 use Rattle.stack_text.specs.declared.name.Named.{Named}
 use Rattle.gypsy_space.proofs.PositionLaws.{condition_position}
 use Rattle.gypsy_space.proofs.resolving.condition_place.Goals as goal

@@ -1,6 +1,5 @@
 use Rattle.std.proofs.Common.{◌≡◌, ◌++◌, map, drop}
-use Rattle.gypsy_syntax.specs.Resolved.{cond_of}
-use Rattle.gypsy_syntax.specs.Views.SourceView.{proc_of}
+use Rattle.gypsy_syntax.{specs.Resolved.cond_of, specs.Views.SourceView.proc_of}
 use Rattle.gypsy_space.specs.Nodes.{seen_cond}
 use Rattle.gypsy_space.proofs.resolving.conditions.Given as goal
 

@@ -1,12 +1,7 @@
-use Rattle.std.proofs.Common.{◌≡◌, true, ap, subst, ◌∙◌}
-use Rattle.std.specs.List.{list_all}
-use Rattle.std.proofs.lemmas.List.Elements.{All-same}
+use Rattle.std.{proofs.Common.{◌≡◌, true, ap, subst, ◌∙◌}, specs.List.list_all, proofs.lemmas.List.Elements.All-same}
 use Rattle.stack_text.specs.declared.shape.Kind.TheVariants.{Integer}
-use Rattle.gypsy_syntax.specs.Ranges.{is_in_range}
-use Rattle.gypsy_syntax.specs.Resolved.{items_of_all, value_items}
-use Rattle.gypsy_syntax.specs.Sources.{LiteralOf, array}
-use Rattle.gypsy_syntax.specs.Views.SourceView.{items_of_list, literal_of}
-use Rattle.gypsy_syntax.proofs.ViewLaws.{literal_of-list}
+use Rattle.gypsy_syntax.{specs.Ranges.is_in_range, specs.Resolved.{items_of_all, value_items}, specs.Sources.{LiteralOf, array}}
+use Rattle.gypsy_syntax.{specs.Views.SourceView.{items_of_list, literal_of}, proofs.ViewLaws.literal_of-list}
 use Rattle.gypsy_space.proofs.AcceptedLaws.{InRange, items_in}
 use Rattle.gypsy_space.proofs.resolving.items.Goals as goal
 

@@ -1,6 +1,5 @@
 use Rattle.std.proofs.Common.{◌≡◌, ◌++◌, map, drop}
-use Rattle.gypsy_syntax.specs.Resolved.{local_value}
-use Rattle.gypsy_syntax.specs.Views.SourceView.{local_of}
+use Rattle.gypsy_syntax.{specs.Resolved.local_value, specs.Views.SourceView.local_of}
 use Rattle.gypsy_space.proofs.resolving.locals.Given as goal
 
 abbrev pub invariant-loop-local : goal.invariant-loop-local

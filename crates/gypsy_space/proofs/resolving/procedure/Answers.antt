@@ -1,8 +1,6 @@
 use Rattle.std.proofs.lemmas.List.Elements.{All-same}
-use Rattle.gypsy_syntax.specs.declared.literal.Local.{Local}
-use Rattle.gypsy_syntax.specs.Views.SourceView.{local_of}
-use Rattle.gypsy_space.specs.Resolvable.{LocalFits}
-use Rattle.gypsy_space.proofs.AcceptedLaws.{each_before}
+use Rattle.gypsy_syntax.{specs.declared.literal.Local.Local, specs.Views.SourceView.local_of}
+use Rattle.gypsy_space.{specs.Resolvable.LocalFits, proofs.AcceptedLaws.each_before}
 use Rattle.gypsy_space.proofs.resolving.procedure.Goals as goal
 
 pub locals-requires : goal.locals-requires

@@ -1,6 +1,5 @@
 use Rattle.std.proofs.Common.{◌≡◌, ◌++◌, map, drop}
-use Rattle.gypsy_syntax.specs.Resolved.{procedure_of}
-use Rattle.gypsy_syntax.specs.Views.SourceView.{proc_of, source_of}
+use Rattle.gypsy_syntax.{specs.Resolved.procedure_of, specs.Views.SourceView.{proc_of, source_of}}
 use Rattle.gypsy_space.specs.Nodes.{declared_names, seen_proc, seen_proc_names}
 use Rattle.gypsy_space.proofs.resolving.procedures.Given as goal
 

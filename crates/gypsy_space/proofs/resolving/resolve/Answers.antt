@@ -1,9 +1,7 @@
 use Rattle.std.proofs.Common.{sym, subst, ◌∙◌}
-use Rattle.gypsy_syntax.specs.declared.proc.Source.{Source}
-use Rattle.gypsy_syntax.specs.Views.SourceView.{proc_of, source_of}
+use Rattle.gypsy_syntax.{specs.declared.proc.Source.Source, specs.Views.SourceView.{proc_of, source_of}}
 use Rattle.gypsy_check.specs.Accepted.{IsAccepted}
-use Rattle.gypsy_space.specs.Resolvable.{IsResolvable}
-use Rattle.gypsy_space.proofs.AcceptedLaws.{each_before, source_form, source_resolvable}
+use Rattle.gypsy_space.{specs.Resolvable.IsResolvable, proofs.AcceptedLaws.{each_before, source_form, source_resolvable}}
 use Rattle.gypsy_space.proofs.resolving.resolve.Goals as goal
 
 pub callees_of-requires : goal.callees_of-requires

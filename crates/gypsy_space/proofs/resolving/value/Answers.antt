@@ -1,7 +1,6 @@
 use Rattle.std.proofs.Common.{◌≡◌, ℤ, List, true, true≢false, sym, subst}
 use Rattle.stack_text.specs.Values.{ValueOf, is_value}
-use Rattle.gypsy_syntax.specs.Resolved.{value_items}
-use Rattle.gypsy_syntax.specs.Views.SourceView.{literal_of}
+use Rattle.gypsy_syntax.{specs.Resolved.value_items, specs.Views.SourceView.literal_of}
 use Rattle.gypsy_space.proofs.AcceptedLaws.{all_wider, value_is}
 use Rattle.gypsy_space.proofs.resolving.value.Goals as goal
 

@@ -1,5 +1,4 @@
-use Rattle.std.proofs.Common.{◌≡◌, ◌+◌, length, Some, None, bytes_eq, refl, sym, ap, ◌∙◌, arith}
-use Rattle.std.specs.List.{position}
+use Rattle.std.{proofs.Common.{◌≡◌, ◌+◌, length, Some, None, bytes_eq, refl, sym, ap, ◌∙◌, arith}, specs.List.position}
 use Rattle.gypsy_syntax.specs.declared.literal.Local.{Local}
 use Rattle.gypsy_space.proofs.PositionLaws.{variable_position}
 use Rattle.gypsy_space.proofs.resolving.variable_place.Goals as goal

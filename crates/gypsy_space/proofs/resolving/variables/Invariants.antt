@@ -1,6 +1,5 @@
 use Rattle.std.proofs.Common.{◌≡◌, ◌++◌, map, drop}
-use Rattle.gypsy_syntax.specs.Resolved.{variable_of}
-use Rattle.gypsy_syntax.specs.Views.SourceView.{proc_of}
+use Rattle.gypsy_syntax.{specs.Resolved.variable_of, specs.Views.SourceView.proc_of}
 use Rattle.gypsy_space.proofs.resolving.variables.Given as goal
 
 abbrev pub invariant-loop-name : goal.invariant-loop-name

@@ -1,6 +1,4 @@
-use Rattle.gypsy_syntax.proofs.FitsLaws.{keeps_fits}
-use Rattle.gypsy_syntax.proofs.MadeLaws.{fits_keeps}
-use Rattle.gypsy_syntax.proofs.SizeLaws.{text_over}
+use Rattle.gypsy_syntax.{proofs.FitsLaws.keeps_fits, proofs.MadeLaws.fits_keeps, proofs.SizeLaws.text_over}
 use Rattle.gypsy_syntax.proofs.laws.plain_form.Goals as goal
 
 pub returns-clause-fits : goal.returns-clause-fits

@@ -1,5 +1,4 @@
-use Rattle.gypsy_syntax.specs.Views.SourceView.{proc_of}
-use Rattle.gypsy_syntax.proofs.PrintingLaws.{printed_proc}
+use Rattle.gypsy_syntax.{specs.Views.SourceView.proc_of, proofs.PrintingLaws.printed_proc}
 use Rattle.gypsy_syntax.proofs.printing.print_procedure.Goals as goal
 
 pub returns : goal.returns

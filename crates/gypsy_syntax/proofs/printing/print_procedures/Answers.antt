@@ -1,8 +1,5 @@
-use Rattle.std.proofs.Common.{◌++◌, ◌∷◌, map}
-use Rattle.std.specs.List.{flat_map}
-use Rattle.gypsy_syntax.specs.Printed.{proc_text}
-use Rattle.gypsy_syntax.specs.Views.SourceView.{proc_of}
-use Rattle.gypsy_syntax.proofs.PrintingLaws.{procs_next}
+use Rattle.std.{proofs.Common.{◌++◌, ◌∷◌, map}, specs.List.flat_map}
+use Rattle.gypsy_syntax.{specs.Printed.proc_text, specs.Views.SourceView.proc_of, proofs.PrintingLaws.procs_next}
 use Rattle.gypsy_syntax.proofs.printing.print_procedures.Goals as goal
 
 pub loop-proc-preserved : goal.loop-proc-preserved

@@ -1,11 +1,6 @@
-use Rattle.std.proofs.Common.{refl}
-use Rattle.std.proofs.lemmas.Result.{err_from_is_err_and}
-use Rattle.stack_text.specs.Views.TreeView.{node_of}
-use Rattle.gypsy_syntax.specs.Views.SourceView.{source_of}
-use Rattle.stack_text.proofs.ReaderLaws.{TellsFaults, text_at_fault, tree_at_fault}
-use Rattle.gypsy_syntax.specs.GypsyReading.{fault_of, gypsy_reader}
-use Rattle.gypsy_syntax.proofs.KeepsLaws.{read_keeps}
-use Rattle.gypsy_syntax.proofs.RiseLaws.{source_up}
+use Rattle.std.{proofs.Common.refl, proofs.lemmas.Result.err_from_is_err_and}
+use Rattle.stack_text.{specs.Views.TreeView.node_of, proofs.ReaderLaws.{TellsFaults, text_at_fault, tree_at_fault}}
+use Rattle.gypsy_syntax.{specs.Views.SourceView.source_of, specs.GypsyReading.{fault_of, gypsy_reader}, proofs.KeepsLaws.read_keeps, proofs.RiseLaws.source_up}
 use Rattle.gypsy_syntax.proofs.reading.read_gypsy.Goals as goal
 
 tells : TellsFaults gypsy_reader fault_of

@@ -1,7 +1,5 @@
-use Rattle.std.proofs.Common.{sym}
-use Rattle.std.proofs.lemmas.Option.{slice_get-get_or}
-use Rattle.level_debuggers.specs.PitonLevels.{local_names}
-use Rattle.level_debuggers.proofs.LocalLaws.{next_local, no_name, no_word}
+use Rattle.std.{proofs.Common.sym, proofs.lemmas.Option.slice_get-get_or}
+use Rattle.level_debuggers.{specs.PitonLevels.local_names, proofs.LocalLaws.{next_local, no_name, no_word}}
 use Rattle.level_debuggers.proofs.piton_listing.push_locals.Goals as goal
 
 pub loop-place-preserved : goal.loop-place-preserved

@@ -1,5 +1,4 @@
-use Rattle.std.proofs.Common.{◌≡◌, ◌++◌, drop}
-use Rattle.std.specs.List.{flat_map}
+use Rattle.std.{proofs.Common.{◌≡◌, ◌++◌, drop}, specs.List.flat_map}
 use Rattle.level_debuggers.specs.PitonReadings.{area_words}
 use Rattle.level_debuggers.proofs.piton_reading.area_words.Given as goal
 

@@ -1,10 +1,7 @@
 use Rattle.std.proofs.Common.{◌≡◌, ◌∙◌, ◌-◌, ◌+◌, ◌++◌, ◌∷◌, [], ℕ, List, map, sym, ap, append_assoc, arith, rules}
-use Rattle.stack_text.specs.declared.shape.Kind.{Kind}
-use Rattle.stack_text.specs.Values.{item_count}
-use Rattle.display_maps.specs.declared.shown.Shown.{Shown}
-use Rattle.display_maps.specs.Reading.{item_of}
-use Rattle.level_debuggers.specs.PitonReadings.{element_at, elements_down}
-use Rattle.level_debuggers.proofs.ElementLaws.{elements_next}
+use Rattle.stack_text.{specs.declared.shape.Kind.Kind, specs.Values.item_count}
+use Rattle.display_maps.{specs.declared.shown.Shown.Shown, specs.Reading.item_of}
+use Rattle.level_debuggers.{specs.PitonReadings.{element_at, elements_down}, proofs.ElementLaws.elements_next}
 use Rattle.level_debuggers.proofs.piton_reading.items_of.Goals as goal
 
 pub loop-preserved : goal.loop-preserved

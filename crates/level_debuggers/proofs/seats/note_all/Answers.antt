@@ -1,7 +1,5 @@
-use Rattle.std.proofs.Common.{map, arith}
-use Rattle.std.proofs.lemmas.List.{length-map}
-use Rattle.level_debuggers.specs.Tallies.{noted}
-use Rattle.level_debuggers.proofs.NotedLaws.{changed_more, changed_all}
+use Rattle.std.{proofs.Common.{map, arith}, proofs.lemmas.List.length-map}
+use Rattle.level_debuggers.{specs.Tallies.noted, proofs.NotedLaws.{changed_more, changed_all}}
 use Rattle.level_debuggers.proofs.seats.note_all.Goals as goal
 
 pub loop-watch-preserved : goal.loop-watch-preserved

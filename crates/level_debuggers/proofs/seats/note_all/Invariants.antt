@@ -1,6 +1,5 @@
 use Rattle.std.proofs.Common.{◌≡◌, map}
-use Rattle.level_debuggers.specs.Tallies.{noted}
-use Rattle.level_debuggers.proofs.NotedLaws.{changed}
+use Rattle.level_debuggers.{specs.Tallies.noted, proofs.NotedLaws.changed}
 use Rattle.level_debuggers.proofs.seats.note_all.Given as goal
 
 abbrev pub invariant-loop-watch : goal.invariant-loop-watch

@@ -1,5 +1,4 @@
-use Rattle.std.proofs.Common.{◌≡◌, map, drop}
-use Rattle.std.specs.List.{position_from}
+use Rattle.std.{proofs.Common.{◌≡◌, map, drop}, specs.List.position_from}
 use Rattle.level_debuggers.specs.Taken.{is_same}
 use Rattle.level_debuggers.proofs.seats.place_of.Given as goal
 

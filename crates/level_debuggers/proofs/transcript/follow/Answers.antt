@@ -1,7 +1,5 @@
-use Rattle.std.proofs.Common.{arith, sym, ◌∙◌}
-use Rattle.std.proofs.lemmas.Result.{err_from_is_err_and}
-use Rattle.level_debuggers.specs.Views.Sessions.{session_of}
-use Rattle.level_debuggers.proofs.FollowLaws.{last_line, left_here, next_left, next_line, no_line}
+use Rattle.std.{proofs.Common.{arith, sym, ◌∙◌}, proofs.lemmas.Result.err_from_is_err_and}
+use Rattle.level_debuggers.{specs.Views.Sessions.session_of, proofs.FollowLaws.{last_line, left_here, next_left, next_line, no_line}}
 use Rattle.level_debuggers.proofs.transcript.follow.Goals as goal
 
 pub returns-in-Some-clause-followed : goal.returns-in-Some-clause-followed

@@ -1,7 +1,5 @@
 use Rattle.std.proofs.Common.{◌≡◌, drop}
-use Rattle.level_debuggers.specs.Views.Sessions.{IsSession, session_of}
-use Rattle.level_debuggers.specs.Walks.{SessionOf}
-use Rattle.level_debuggers.specs.Transcripts.{IsLeftIn, followed}
+use Rattle.level_debuggers.{specs.Views.Sessions.{IsSession, session_of}, specs.Walks.SessionOf, specs.Transcripts.{IsLeftIn, followed}}
 use Rattle.level_debuggers.proofs.transcript.follow.Given as goal
 
 abbrev pub invariant-loop-line : goal.invariant-loop-line

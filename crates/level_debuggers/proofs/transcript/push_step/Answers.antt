@@ -1,8 +1,5 @@
-use Rattle.std.proofs.Common.{Result, Ok, Err, ap, subst}
-use Rattle.std.specs.Prelude.{OnErr}
-use Rattle.level_debuggers.specs.Views.Sessions.{session_of}
-use Rattle.level_debuggers.specs.Walks.{HasMadeSome, SessionOf, Stepped}
-use Rattle.level_debuggers.proofs.WalkLaws.{stepped_some}
+use Rattle.std.{proofs.Common.{Result, Ok, Err, ap, subst}, specs.Prelude.OnErr}
+use Rattle.level_debuggers.{specs.Views.Sessions.session_of, specs.Walks.{HasMadeSome, SessionOf, Stepped}, proofs.WalkLaws.stepped_some}
 use Rattle.level_debuggers.proofs.transcript.push_step.Goals as goal
 
 -- what holds at each end holds on an error

@@ -1,9 +1,5 @@
-use Rattle.std.proofs.Common.{Result, Ok, Err, ap, subst}
-use Rattle.std.specs.Prelude.{OnErr}
-use Rattle.level_debuggers.specs.Views.Sessions.{session_of}
-use Rattle.level_debuggers.specs.Arrivals.{Arrived}
-use Rattle.level_debuggers.specs.Walks.{HasMadeSome, SessionOf}
-use Rattle.level_debuggers.proofs.ArrivalLaws.{arrived_some}
+use Rattle.std.{proofs.Common.{Result, Ok, Err, ap, subst}, specs.Prelude.OnErr}
+use Rattle.level_debuggers.{specs.Views.Sessions.session_of, specs.Arrivals.Arrived, specs.Walks.{HasMadeSome, SessionOf}, proofs.ArrivalLaws.arrived_some}
 use Rattle.level_debuggers.proofs.transcript.push_until.Goals as goal
 
 -- what holds at each end holds on an error

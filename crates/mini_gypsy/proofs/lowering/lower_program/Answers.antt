@@ -1,14 +1,9 @@
 use Rattle.std.proofs.Common.{◌≡◌, ◌≤◌, ◌^◌, [], sym, subst, ap, ◌∙◌, arith}
-use Rattle.stack_text.specs.Breaches.{least}
-use Rattle.stack_text.specs.Trees.{node_count}
-use Rattle.gypsy_syntax.specs.GypsyReading.{KeepsForm}
-use Rattle.gypsy_syntax.specs.Printed.{tree_of}
-use Rattle.gypsy_syntax.specs.Views.SourceView.{source_of}
+use Rattle.stack_text.{specs.Breaches.least, specs.Trees.node_count}
+use Rattle.gypsy_syntax.{specs.GypsyReading.KeepsForm, specs.Printed.tree_of, specs.Views.SourceView.source_of}
 use Rattle.gypsy_check.specs.Rules.{violations}
-use Rattle.mini_gypsy.specs.Lowered.{lowered}
+use Rattle.mini_gypsy.{specs.Lowered.lowered, proofs.FormLaws.{lowered_fits, lowered_small}, proofs.RuleLaws.lowered_clean}
 use Rattle.mini_syntax.specs.ProgramView.{block_in}
-use Rattle.mini_gypsy.proofs.FormLaws.{lowered_fits, lowered_small}
-use Rattle.mini_gypsy.proofs.RuleLaws.{lowered_clean}
 use Rattle.mini_gypsy.proofs.lowering.lower_program.Goals as goal
 
 pub check-requires : goal.check-requires

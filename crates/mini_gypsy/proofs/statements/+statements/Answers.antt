@@ -1,14 +1,9 @@
 use Rattle.std.proofs.Common.{rules, ◌≡◌, ◌++◌, List, map, ap, sym, subst, ◌∙◌}
-use Rattle.gypsy_syntax.specs.Sources.{StmtOf}
-use Rattle.gypsy_syntax.specs.Views.SourceView.{stmt_of}
-use Rattle.mini_syntax.specs.declared.program.Statement.{Statement, the_lemmas}
-use Rattle.mini_syntax.specs.Language.{Stmt, While, If}
-use Rattle.mini_gypsy.specs.Lowered.{statement_parts}
-use Rattle.mini_syntax.specs.ProgramView.{block_in, exp_of, statement_in}
-use Rattle.mini_syntax.specs.Sorted.{AreFine}
-use Rattle.mini_gypsy.proofs.ListLaws.{fine_next, statements_done, statements_more}
-use Rattle.mini_gypsy.proofs.PartLaws.{block_is, if_is, while_is}
-use Rattle.mini_syntax.proofs.ViewLaws.{statement_in-if, statement_in-while}
+use Rattle.gypsy_syntax.{specs.Sources.StmtOf, specs.Views.SourceView.stmt_of}
+use Rattle.mini_syntax.{specs.declared.program.Statement.{Statement, the_lemmas}, specs.Language.{Stmt, While, If}, specs.ProgramView.{block_in, exp_of}}
+use Rattle.mini_syntax.{specs.ProgramView.statement_in, specs.Sorted.AreFine, proofs.ViewLaws.{statement_in-if, statement_in-while}}
+use Rattle.mini_gypsy.{specs.Lowered.statement_parts, proofs.ListLaws.{fine_next, statements_done, statements_more}, proofs.PartLaws.{block_is, if_is}}
+use Rattle.mini_gypsy.proofs.PartLaws.{while_is}
 use Rattle.mini_gypsy.proofs.statements.+statements.Goals as goal
 
 pub append_statement-append_statements-requires : goal.append_statement-append_statements-requires

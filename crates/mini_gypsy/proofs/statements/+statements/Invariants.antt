@@ -1,8 +1,7 @@
 use Rattle.std.proofs.Common.{◌≡◌, ◌++◌, drop, map}
 use Rattle.gypsy_syntax.specs.Views.SourceView.{stmt_of}
 use Rattle.mini_gypsy.specs.Lowered.{statement_parts}
-use Rattle.mini_syntax.specs.ProgramView.{block_in}
-use Rattle.mini_syntax.specs.Sorted.{AreFine}
+use Rattle.mini_syntax.{specs.ProgramView.block_in, specs.Sorted.AreFine}
 use Rattle.mini_gypsy.proofs.statements.+statements.Given as goal
 
 -- what was lowered, and what is still to come, is all

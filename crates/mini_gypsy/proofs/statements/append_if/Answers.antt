@@ -1,8 +1,7 @@
 use Rattle.std.proofs.Common.{map}
 use Rattle.gypsy_syntax.specs.Views.SourceView.{stmt_of}
-use Rattle.mini_gypsy.specs.Lowered.{choice_parts, value_parts}
+use Rattle.mini_gypsy.{specs.Lowered.{choice_parts, value_parts}, proofs.PartLaws.if_pushed}
 use Rattle.mini_syntax.specs.ProgramView.{exp_of}
-use Rattle.mini_gypsy.proofs.PartLaws.{if_pushed}
 use Rattle.mini_gypsy.proofs.statements.append_if.Goals as goal
 
 pub returns : goal.returns

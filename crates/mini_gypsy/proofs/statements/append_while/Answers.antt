@@ -1,9 +1,7 @@
 use Rattle.std.proofs.Common.{map, ap, ◌∙◌, ◌++◌, List}
-use Rattle.gypsy_syntax.specs.declared.statement.Stmt.{Stmt as Made}
-use Rattle.gypsy_syntax.specs.Views.SourceView.{stmt_of}
-use Rattle.mini_gypsy.specs.Lowered.{value_parts}
+use Rattle.gypsy_syntax.{specs.declared.statement.Stmt.Stmt as Made, specs.Views.SourceView.stmt_of}
+use Rattle.mini_gypsy.{specs.Lowered.value_parts, proofs.PartLaws.while_pushed}
 use Rattle.mini_syntax.specs.ProgramView.{exp_of}
-use Rattle.mini_gypsy.proofs.PartLaws.{while_pushed}
 use Rattle.mini_gypsy.proofs.statements.append_while.Goals as goal
 
 pub returns : goal.returns

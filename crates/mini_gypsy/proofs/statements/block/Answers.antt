@@ -1,7 +1,6 @@
 use Rattle.std.proofs.Common.{map, refl}
-use Rattle.mini_gypsy.specs.Lowered.{statement_parts}
+use Rattle.mini_gypsy.{specs.Lowered.statement_parts, proofs.PartLaws.block_is}
 use Rattle.mini_syntax.specs.ProgramView.{block_in}
-use Rattle.mini_gypsy.proofs.PartLaws.{block_is}
 use Rattle.mini_gypsy.proofs.statements.block.Goals as goal
 
 pub returns : goal.returns

@@ -1,11 +1,7 @@
 use Rattle.std.proofs.Common.{◌≡◌, ◌+◌, ◌++◌, suc, max, ap, ◌∙◌, map, arith}
 use Rattle.gypsy_syntax.specs.Views.SourceView.{stmt_of}
-use Rattle.mini_gypsy.specs.Lowered.{value_parts}
-use Rattle.mini_syntax.specs.ProgramView.{exp_of}
-use Rattle.mini_syntax.specs.Sorted.{depth}
-use Rattle.mini_syntax.specs.Operands.{sort_of}
-use Rattle.mini_gypsy.proofs.PartLaws.{before_pushed, between_pushed, leaf_pushed}
-use Rattle.mini_gypsy.proofs.ResolveLaws.{depth_some}
+use Rattle.mini_gypsy.{specs.Lowered.value_parts, proofs.PartLaws.{before_pushed, between_pushed, leaf_pushed}, proofs.ResolveLaws.depth_some}
+use Rattle.mini_syntax.{specs.ProgramView.exp_of, specs.Sorted.depth, specs.Operands.sort_of}
 use Rattle.mini_gypsy.proofs.values.+append_value.Goals as goal
 
 pub before-requires : goal.before-requires

@@ -1,20 +1,14 @@
 use Rattle.std.proofs.Common.{[], ◌∷◌, List, Some, refl, sym, ap, ◌∙◌, arith}
-use Rattle.mini_syntax.specs.declared.expected.Expected.{Expected}
+use Rattle.mini_syntax.{specs.declared.expected.Expected.Expected, specs.Expected.{a_block, expression}, specs.Internal.Lexemes.{left_of, next_kind}}
+use Rattle.mini_syntax.{specs.Internal.Lexemes.token_seen, specs.Internal.Phrases.statement_kind, specs.Tokens.mark_at, proofs.AwaitLaws.begins_with_if}
+use Rattle.mini_syntax.{proofs.AwaitLaws.{begins_with_while, no_statement}, proofs.LevelLaws.read_shrinks, proofs.ReadingLaws.{all_read, block_read}}
+use Rattle.mini_syntax.proofs.ReadingLaws.{block_shrinks, form_shrinks, if_read, none_yet, one_less, one_more, shrinks, so_far_shrinks, while_read}
+use Rattle.mini_syntax.proofs.StepLaws.{after_kind, block_first, block_passed, else_is, else_passed, expression_first, expression_passed, first_awaited}
+use Rattle.mini_syntax.{proofs.StepLaws.{form_passed, forms_passed, kind_next, mark_passed, token_left}, proofs.ViewLaws.{statement_in-if, statement_in-while}}
 use Rattle.mini_syntax.specs.declared.expected.Expected.TheVariants as wants
 use Rattle.mini_syntax.specs.declared.lexer.TokenKind.TheVariants as kind
 use Rattle.mini_syntax.specs.declared.mark.Mark.TheVariants as mark
 use Rattle.mini_syntax.specs.declared.word.Word.TheVariants as word
-use Rattle.mini_syntax.specs.Expected.{a_block, expression}
-use Rattle.mini_syntax.specs.Internal.Lexemes.{left_of, next_kind, token_seen}
-use Rattle.mini_syntax.specs.Internal.Phrases.{statement_kind}
-use Rattle.mini_syntax.specs.Tokens.{mark_at}
-use Rattle.mini_syntax.proofs.AwaitLaws.{begins_with_if, begins_with_while, no_statement}
-use Rattle.mini_syntax.proofs.LevelLaws.{read_shrinks}
-use Rattle.mini_syntax.proofs.ReadingLaws.{all_read, block_read, block_shrinks, form_shrinks, if_read, none_yet, one_less, one_more, shrinks, so_far_shrinks}
-use Rattle.mini_syntax.proofs.ReadingLaws.{while_read}
-use Rattle.mini_syntax.proofs.StepLaws.{after_kind, block_first, block_passed, else_is, else_passed, expression_first, expression_passed, first_awaited}
-use Rattle.mini_syntax.proofs.StepLaws.{form_passed, forms_passed, kind_next, mark_passed, token_left}
-use Rattle.mini_syntax.proofs.ViewLaws.{statement_in-if, statement_in-while}
 use Rattle.mini_syntax.proofs.blocks.+blocks.Goals as goal
 
 abbrev more : List Expected

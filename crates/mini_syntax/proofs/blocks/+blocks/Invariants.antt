@@ -1,8 +1,6 @@
 use Rattle.std.proofs.Common.{◌+◌, ◌*◌, [], ◌∷◌, length}
 use Rattle.mini_syntax.specs.declared.expected.Expected.TheVariants as wants
-use Rattle.mini_syntax.specs.Internal.Lexemes.{left_of}
-use Rattle.mini_syntax.specs.Internal.Phrases.{Awaits}
-use Rattle.mini_syntax.proofs.ReadingLaws.{SoFar}
+use Rattle.mini_syntax.{specs.Internal.Lexemes.left_of, specs.Internal.Phrases.Awaits, proofs.ReadingLaws.SoFar}
 use Rattle.mini_syntax.proofs.blocks.+blocks.Given as goal
 
 -- statements ask for one with as many tokens left, which asks for one of its kind, and that for blocks with one less

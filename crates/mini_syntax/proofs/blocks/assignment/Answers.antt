@@ -1,14 +1,11 @@
 use Rattle.std.proofs.Common.{Bool, [], ◌∷◌, List, refl, ap, ◌∙◌}
 use Rattle.stack_text.specs.Breaches.{least, lesser_of, when}
-use Rattle.mini_syntax.specs.declared.expected.Expected.{Expected}
+use Rattle.mini_syntax.{specs.declared.expected.Expected.Expected, specs.Expected.expression, specs.Internal.Lexemes.{left_of, next_kind}}
+use Rattle.mini_syntax.{proofs.AwaitLaws.begins_with_name, proofs.ReadingLaws.{assignment_read, none_told}, proofs.StepLaws.{after_kind, expression_first}}
+use Rattle.mini_syntax.proofs.StepLaws.{expression_passed, first_awaited, kind_next, mark_passed}
 use Rattle.mini_syntax.specs.declared.expected.Expected.TheVariants as wants
 use Rattle.mini_syntax.specs.declared.lexer.TokenKind.TheVariants as kind
 use Rattle.mini_syntax.specs.declared.mark.Mark.TheVariants as mark
-use Rattle.mini_syntax.specs.Expected.{expression}
-use Rattle.mini_syntax.specs.Internal.Lexemes.{left_of, next_kind}
-use Rattle.mini_syntax.proofs.AwaitLaws.{begins_with_name}
-use Rattle.mini_syntax.proofs.ReadingLaws.{assignment_read, none_told}
-use Rattle.mini_syntax.proofs.StepLaws.{after_kind, expression_first, expression_passed, first_awaited, kind_next, mark_passed}
 use Rattle.mini_syntax.proofs.blocks.assignment.Goals as goal
 
 -- `;` and more statements, after the value

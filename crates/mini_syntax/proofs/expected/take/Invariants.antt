@@ -1,5 +1,4 @@
-use Rattle.std.proofs.Common.{◌≡◌, length}
-use Rattle.std.specs.Prelude.{reverse}
+use Rattle.std.{proofs.Common.{◌≡◌, length}, specs.Prelude.reverse}
 use Rattle.mini_syntax.specs.Expected.{takes}
 use Rattle.mini_syntax.proofs.expected.take.Given as goal
 

@@ -1,18 +1,15 @@
 use Rattle.std.proofs.Common.{ℕ, [], ◌∷◌, refl, ap, subst, ◌∙◌, arith}
 use Rattle.stack_heap.proofs.UnlessLaws.{if_ok_unless_weaker}
-use Rattle.mini_syntax.specs.Internal.Combined.{IsPrefix}
+use Rattle.mini_syntax.{specs.Internal.Combined.IsPrefix, specs.Expected.expression, specs.Internal.Lexemes.{left_of, token_seen}, specs.Internal.Phrases.Reads}
+use Rattle.mini_syntax.{specs.Internal.Phrases.infix_within, proofs.AwaitLaws.{opens_bracket, opens_name, opens_number, opens_prefix, opens_truth}}
+use Rattle.mini_syntax.{proofs.AwaitLaws.{prefix_goes_on, prefix_kind}, proofs.LevelLaws.{begun, done, expression_operand, first_operand, going_shrinks, grown}}
+use Rattle.mini_syntax.{proofs.LevelLaws.{read_shrinks, right_awaited}, proofs.ReadingLaws.{leaf, one_less}, proofs.StepLaws.{after_kind, expression_first}}
+use Rattle.mini_syntax.proofs.StepLaws.{expression_passed, group_read, operand_is, prefix_read}
 use Rattle.mini_syntax.specs.declared.expected.Expected.TheVariants as wants
 use Rattle.mini_syntax.specs.declared.lexer.TokenKind.TheVariants as kind
 use Rattle.mini_syntax.specs.declared.mark.Mark.TheVariants as mark
 use Rattle.mini_syntax.specs.declared.word.Word.TheVariants as word
-use Rattle.mini_syntax.specs.Expected.{expression}
 use Rattle.mini_syntax.specs.Grammar as grammar
-use Rattle.mini_syntax.specs.Internal.Lexemes.{left_of, token_seen}
-use Rattle.mini_syntax.specs.Internal.Phrases.{Reads, infix_within}
-use Rattle.mini_syntax.proofs.AwaitLaws.{opens_bracket, opens_name, opens_number, opens_prefix, opens_truth, prefix_goes_on, prefix_kind}
-use Rattle.mini_syntax.proofs.LevelLaws.{begun, done, expression_operand, first_operand, going_shrinks, grown, read_shrinks, right_awaited}
-use Rattle.mini_syntax.proofs.ReadingLaws.{leaf, one_less}
-use Rattle.mini_syntax.proofs.StepLaws.{after_kind, expression_first, expression_passed, group_read, operand_is, prefix_read}
 use Rattle.mini_syntax.proofs.expressions.+expressions.Goals as goal
 
 -- ---- factors

@@ -1,6 +1,5 @@
 use Rattle.std.proofs.Common.{◌+◌, ◌*◌, length}
-use Rattle.mini_syntax.specs.Internal.Lexemes.{left_of}
-use Rattle.mini_syntax.proofs.LevelLaws.{Going}
+use Rattle.mini_syntax.{specs.Internal.Lexemes.left_of, proofs.LevelLaws.Going}
 use Rattle.mini_syntax.proofs.expressions.+expressions.Given as goal
 
 -- an expression asks for its operands with as many tokens left, or fewer, and a factor for an expression with one less

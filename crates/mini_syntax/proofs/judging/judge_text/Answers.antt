@@ -1,8 +1,6 @@
-use Rattle.std.proofs.Common.{◌+◌, ◌<◌, inl, inr, sym, ap, ◌∙◌, List, arith}
-use Rattle.std.specs.Prelude.{reverse}
-use Rattle.mini_syntax.specs.declared.expected.Expected.{Expected}
-use Rattle.mini_syntax.specs.Expected.{is_over}
-use Rattle.mini_syntax.proofs.JudgeLaws.{below_further, breaks_first, ends_early, goes_further, has_program}
+use Rattle.std.{proofs.Common.{◌+◌, ◌<◌, inl, inr, sym, ap, ◌∙◌, List, arith}, specs.Prelude.reverse}
+use Rattle.mini_syntax.{specs.declared.expected.Expected.Expected, specs.Expected.is_over, proofs.JudgeLaws.{below_further, breaks_first, ends_early}}
+use Rattle.mini_syntax.proofs.JudgeLaws.{goes_further, has_program}
 use Rattle.mini_syntax.proofs.judging.judge_text.Goals as goal
 
 pub returns-in-Some-2-clause-fault : goal.returns-in-Some-2-clause-fault

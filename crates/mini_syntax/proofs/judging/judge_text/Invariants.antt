@@ -1,6 +1,5 @@
 use Rattle.std.proofs.Common.{◌+◌, ◌-◌, ◌≤◌, length}
-use Rattle.mini_syntax.specs.Internal.Judging.{IsBelow}
-use Rattle.mini_syntax.proofs.JudgeLaws.{Stands}
+use Rattle.mini_syntax.{specs.Internal.Judging.IsBelow, proofs.JudgeLaws.Stands}
 use Rattle.mini_syntax.proofs.judging.judge_text.Given as goal
 
 abbrev pub invariant-loop-found : goal.invariant-loop-found

@@ -1,5 +1,4 @@
-use Rattle.mini_syntax.proofs.ExpectedLaws.{end_of, not_taken, over_end, program_taken}
-use Rattle.mini_syntax.proofs.GoesOnLaws.{goes_on, is_whole}
+use Rattle.mini_syntax.{proofs.ExpectedLaws.{end_of, not_taken, over_end, program_taken}, proofs.GoesOnLaws.{goes_on, is_whole}}
 use Rattle.mini_syntax.proofs.laws.expected_decides.Goals as goal
 
 pub returns : goal.returns

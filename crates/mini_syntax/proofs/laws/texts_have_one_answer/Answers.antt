@@ -1,5 +1,4 @@
-use Rattle.mini_syntax.proofs.OneAnswerLaws.{either_way, one_fault}
-use Rattle.mini_syntax.proofs.OneProgramLaws.{program_is}
+use Rattle.mini_syntax.{proofs.OneAnswerLaws.{either_way, one_fault}, proofs.OneProgramLaws.program_is}
 use Rattle.mini_syntax.proofs.laws.texts_have_one_answer.Goals as goal
 
 pub returns : goal.returns

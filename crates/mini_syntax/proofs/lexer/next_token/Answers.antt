@@ -1,6 +1,5 @@
 use Rattle.std.proofs.Common.{◌∙◌, sym, arith}
-use Rattle.mini_syntax.proofs.LexerLaws.{blank, later_token, tokens_past}
-use Rattle.mini_syntax.specs.Tokens.{between}
+use Rattle.mini_syntax.{proofs.LexerLaws.{blank, later_token, tokens_past}, specs.Tokens.between}
 use Rattle.mini_syntax.proofs.lexer.next_token.Goals as goal
 
 pub returns-then-not-is_blank-clause-some : goal.returns-then-not-is_blank-clause-some

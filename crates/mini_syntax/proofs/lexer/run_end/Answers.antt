@@ -1,6 +1,5 @@
 use Rattle.std.proofs.Common.{◌∙◌, sym, arith}
-use Rattle.mini_syntax.proofs.LexerLaws.{mode_goes_on, mode_over, run_ends, run_goes_on, run_over, run_past, tokens_past}
-use Rattle.mini_syntax.specs.Tokens.{between}
+use Rattle.mini_syntax.{proofs.LexerLaws.{mode_goes_on, mode_over, run_ends, run_goes_on, run_over, run_past, tokens_past}, specs.Tokens.between}
 use Rattle.mini_syntax.specs.Internal.TokenSpans.{run_mode, run_test}
 use Rattle.mini_syntax.proofs.lexer.run_end.Goals as goal
 

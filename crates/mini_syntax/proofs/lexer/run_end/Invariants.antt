@@ -1,7 +1,5 @@
-use Rattle.std.proofs.Common.{◌≡◌, ◌≤◌, ◌-◌, ◌++◌, length, drop}
-use Rattle.std.specs.List.{slice_range}
-use Rattle.mini_syntax.specs.Tokens.{tokens, longest_run}
-use Rattle.mini_syntax.specs.Internal.TokenSpans.{run_mode, run_test}
+use Rattle.std.{proofs.Common.{◌≡◌, ◌≤◌, ◌-◌, ◌++◌, length, drop}, specs.List.slice_range}
+use Rattle.mini_syntax.{specs.Tokens.{tokens, longest_run}, specs.Internal.TokenSpans.{run_mode, run_test}}
 use Rattle.mini_syntax.proofs.lexer.run_end.Given as goal
 
 abbrev pub invariant-loop-at : goal.invariant-loop-at

@@ -1,16 +1,12 @@
-use Rattle.std.proofs.Common.{◌≡◌, ◌==◌, ℕ, Bool, [], ◌∷◌, ◌++◌, List, length, Some, is_some, refl, sym, ap, ◌∙◌, arith}
-use Rattle.std.proofs.lemmas.Result.{on_ok_weaker}
+use Rattle.std.{proofs.Common.{◌≡◌, ◌==◌, ℕ, Bool, [], ◌∷◌, ◌++◌, List, length, Some, is_some, refl, sym, ap, ◌∙◌, arith}, proofs.lemmas.Result.on_ok_weaker}
 use Rattle.stack_text.specs.Breaches.{least, lesser_of, when}
-use Rattle.mini_syntax.specs.declared.expected.Expected.{Expected}
+use Rattle.mini_syntax.{specs.declared.expected.Expected.Expected, specs.Grammar.Decl, specs.Internal.Lexemes.{left_of, next_kind, token_seen}}
+use Rattle.mini_syntax.{proofs.AwaitLaws.sort_is, proofs.StepLaws.{after_kind, decl_noted, decl_tokens_read, first_awaited, kind_next, name_is, proper_name}}
+use Rattle.mini_syntax.{proofs.StepLaws.{proper_rest, token_left}, proofs.VariableLaws.name_made}
 use Rattle.mini_syntax.specs.declared.expected.Expected.TheVariants as wants
 use Rattle.mini_syntax.specs.declared.lexer.TokenKind.TheVariants as kind
 use Rattle.mini_syntax.specs.declared.mark.Mark.TheVariants as mark
 use Rattle.mini_syntax.specs.declared.word.Word.TheVariants as word
-use Rattle.mini_syntax.specs.Grammar.{Decl}
-use Rattle.mini_syntax.specs.Internal.Lexemes.{left_of, next_kind, token_seen}
-use Rattle.mini_syntax.proofs.AwaitLaws.{sort_is}
-use Rattle.mini_syntax.proofs.StepLaws.{after_kind, decl_noted, decl_tokens_read, first_awaited, kind_next, name_is, proper_name, proper_rest, token_left}
-use Rattle.mini_syntax.proofs.VariableLaws.{name_made}
 use Rattle.mini_syntax.proofs.reading.declaration.Goals as goal
 
 abbrev more : List Expected

@@ -1,15 +1,8 @@
-use Rattle.std.proofs.Common.{◌≡◌, [], ◌∷◌, ◌++◌, List, length, sym, ap, ◌∙◌, arith}
-use Rattle.std.proofs.lemmas.List.{length-append}
+use Rattle.std.{proofs.Common.{◌≡◌, [], ◌∷◌, ◌++◌, List, length, sym, ap, ◌∙◌, arith}, proofs.lemmas.List.length-append}
 use Rattle.name_tables.specs.Entries.{Entries, look_up}
-use Rattle.mini_syntax.specs.Breaches.{declared_by, variable_named}
-use Rattle.mini_syntax.specs.declared.program.Declared.{Declared}
-use Rattle.mini_syntax.specs.declared.scope.Variable.{Variable}
-use Rattle.mini_syntax.specs.Grammar.{decl_tokens}
-use Rattle.mini_syntax.specs.Internal.Lexemes.{left_of}
-use Rattle.mini_syntax.specs.Internal.Phrases.{sort_declared}
-use Rattle.mini_syntax.proofs.AwaitLaws.{no_declaration}
-use Rattle.mini_syntax.proofs.ReadingLaws.{all_declared, decl_shrinks, none_declared, one_declared}
-use Rattle.mini_syntax.proofs.StepLaws.{decl_passed, proper_rest}
+use Rattle.mini_syntax.{specs.Breaches.{declared_by, variable_named}, specs.declared.program.Declared.Declared, specs.declared.scope.Variable.Variable}
+use Rattle.mini_syntax.{specs.Grammar.decl_tokens, specs.Internal.Lexemes.left_of, specs.Internal.Phrases.sort_declared, proofs.AwaitLaws.no_declaration}
+use Rattle.mini_syntax.{proofs.ReadingLaws.{all_declared, decl_shrinks, none_declared, one_declared}, proofs.StepLaws.{decl_passed, proper_rest}}
 use Rattle.mini_syntax.proofs.reading.declarations.Goals as goal
 
 pub loop-sort-init : goal.loop-sort-init

@@ -1,9 +1,6 @@
 use Rattle.std.proofs.Common.{◌≡◌, ◌+◌, ◌≤◌, true, [], ◌∷◌, length}
 use Rattle.mini_syntax.specs.declared.expected.Expected.TheVariants as wants
-use Rattle.mini_syntax.specs.Internal.Declaring.{are_proper}
-use Rattle.mini_syntax.specs.Internal.Lexemes.{left_of}
-use Rattle.mini_syntax.specs.Internal.Phrases.{Awaits}
-use Rattle.mini_syntax.specs.Internal.Scopes.{IsScope}
+use Rattle.mini_syntax.{specs.Internal.Declaring.are_proper, specs.Internal.Lexemes.left_of, specs.Internal.Phrases.Awaits, specs.Internal.Scopes.IsScope}
 use Rattle.mini_syntax.proofs.ReadingLaws.{DeclaredSoFar}
 use Rattle.mini_syntax.proofs.reading.declarations.Given as goal
 

@@ -1,8 +1,5 @@
-use Rattle.std.proofs.Common.{Global, Vec, map, ap, ◌∙◌}
-use Rattle.std.proofs.lemmas.Result.{err_from_is_err_and}
-use Rattle.mini_syntax.specs.declared.lexeme.Lexeme.{Lexeme}
-use Rattle.mini_syntax.specs.declared.program.InfixProgram.{InfixProgram}
-use Rattle.mini_syntax.specs.Internal.Lexemes.{token_seen}
+use Rattle.std.{proofs.Common.{Global, Vec, map, ap, ◌∙◌}, proofs.lemmas.Result.err_from_is_err_and}
+use Rattle.mini_syntax.{specs.declared.lexeme.Lexeme.Lexeme, specs.declared.program.InfixProgram.InfixProgram, specs.Internal.Lexemes.token_seen}
 use Rattle.mini_syntax.proofs.ProgramLaws.{lexemes_few, refuses_text, text_faulty, text_read, tokens_proper}
 use Rattle.mini_syntax.proofs.reading.read_mini.Goals as goal
 

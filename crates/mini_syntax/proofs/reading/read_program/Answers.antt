@@ -1,9 +1,7 @@
 use Rattle.std.proofs.Common.{[], ◌∷◌, map}
 use Rattle.mini_syntax.specs.declared.expected.Expected.TheVariants as wants
-use Rattle.mini_syntax.specs.Internal.Lexemes.{left_of, token_seen}
-use Rattle.mini_syntax.proofs.AwaitLaws.{nothing_left}
-use Rattle.mini_syntax.proofs.ProgramLaws.{whole_read}
-use Rattle.mini_syntax.proofs.StepLaws.{all_passed, decls_passed, program_completes}
+use Rattle.mini_syntax.{specs.Internal.Lexemes.{left_of, token_seen}, proofs.AwaitLaws.nothing_left, proofs.ProgramLaws.whole_read, proofs.StepLaws.all_passed}
+use Rattle.mini_syntax.proofs.StepLaws.{decls_passed, program_completes}
 use Rattle.mini_syntax.proofs.reading.read_program.Goals as goal
 
 pub declarations-requires-clause-awaits : goal.declarations-requires-clause-awaits

@@ -1,5 +1,4 @@
-use Rattle.std.proofs.Common.{List, ℕ, sym, ap, ◌∙◌, arith}
-use Rattle.std.specs.Str.{bytes_eq}
+use Rattle.std.{proofs.Common.{List, ℕ, sym, ap, ◌∙◌, arith}, specs.Str.bytes_eq}
 use Rattle.name_tables.specs.Entries.{look_up}
 use Rattle.stack_text.specs.Options.{first_or}
 use Rattle.mini_syntax.proofs.ScopeLaws.{knows_more}

@@ -1,7 +1,5 @@
-use Rattle.piton_check.specs.Resolved.{resolved_argument}
-use Rattle.piton_check.specs.Violations.{argument_breaches}
+use Rattle.piton_check.{specs.Resolved.resolved_argument, specs.Violations.argument_breaches, proofs.ListLaws.mapped_next}
 use Rattle.stack_text.proofs.BreachLaws.{notes_next}
-use Rattle.piton_check.proofs.ListLaws.{mapped_next}
 use Rattle.piton_check.proofs.argument.arguments.Goals as goal
 
 pub loop-text-preserved : goal.loop-text-preserved

@@ -1,8 +1,6 @@
-use Rattle.std.proofs.Common.{◌≡◌, map, take}
-use Rattle.std.specs.List.{flat_map}
+use Rattle.std.{proofs.Common.{◌≡◌, map, take}, specs.List.flat_map}
 use Rattle.stack_text.specs.Breaches.{Notes}
-use Rattle.piton_check.specs.Resolved.{resolved_argument}
-use Rattle.piton_check.specs.Violations.{argument_breaches}
+use Rattle.piton_check.{specs.Resolved.resolved_argument, specs.Violations.argument_breaches}
 use Rattle.piton_check.proofs.argument.arguments.Given as goal
 
 -- the arguments so far

@@ -1,7 +1,5 @@
-use Rattle.piton_check.specs.Resolved.{resolved_instruction}
-use Rattle.piton_check.specs.Violations.{instruction_breaches}
+use Rattle.piton_check.{specs.Resolved.resolved_instruction, specs.Violations.instruction_breaches, proofs.ListLaws.mapped_next}
 use Rattle.stack_text.proofs.BreachLaws.{notes_next}
-use Rattle.piton_check.proofs.ListLaws.{mapped_next}
 use Rattle.piton_check.proofs.argument.instructions.Goals as goal
 
 pub loop-text-preserved : goal.loop-text-preserved

@@ -1,8 +1,6 @@
-use Rattle.std.proofs.Common.{◌≡◌, map, take}
-use Rattle.std.specs.List.{flat_map}
+use Rattle.std.{proofs.Common.{◌≡◌, map, take}, specs.List.flat_map}
 use Rattle.stack_text.specs.Breaches.{Notes}
-use Rattle.piton_check.specs.Resolved.{resolved_instruction}
-use Rattle.piton_check.specs.Violations.{instruction_breaches}
+use Rattle.piton_check.{specs.Resolved.resolved_instruction, specs.Violations.instruction_breaches}
 use Rattle.piton_check.proofs.argument.instructions.Given as goal
 
 -- the instructions so far

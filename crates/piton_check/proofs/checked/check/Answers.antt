@@ -1,9 +1,7 @@
 use Rattle.std.proofs.Common.{sym, ◌∙◌}
 use Rattle.piton_syntax.proofs.FitsLaws.{keeps_fits}
-use Rattle.piton_check.specs.Violations.{violations}
+use Rattle.piton_check.{specs.Violations.violations, proofs.SmallLaws.fits_small, proofs.CheckedLaws.checked_from}
 use Rattle.stack_text.proofs.BreachLaws.{none_least}
-use Rattle.piton_check.proofs.SmallLaws.{fits_small}
-use Rattle.piton_check.proofs.CheckedLaws.{checked_from}
 use Rattle.piton_check.proofs.checked.check.Goals as goal
 
 pub resolve-requires : goal.resolve-requires

@@ -1,7 +1,6 @@
 use Rattle.std.proofs.Common.{◌≡◌, [], Some, arith}
-use Rattle.piton_check.specs.Declarations.{Declaration, declaration}
+use Rattle.piton_check.{specs.Declarations.{Declaration, declaration}, proofs.TableLaws.{known_next, noted_next}}
 use Rattle.name_tables.specs.Entries.{look_up}
-use Rattle.piton_check.proofs.TableLaws.{known_next, noted_next}
 use Rattle.piton_check.proofs.names.declare_each.Goals as goal
 
 pub loop-index-preserved : goal.loop-index-preserved

@@ -1,7 +1,6 @@
 use Rattle.std.proofs.Common.{[], map, take}
 use Rattle.stack_text.specs.Breaches.{Notes}
-use Rattle.piton_check.specs.Declarations.{declaration, repeats}
-use Rattle.piton_check.specs.Tables.{Knows}
+use Rattle.piton_check.{specs.Declarations.{declaration, repeats}, specs.Tables.Knows}
 use Rattle.piton_check.proofs.names.declare_each.Given as goal
 
 -- the items so far

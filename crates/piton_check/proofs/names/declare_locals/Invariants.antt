@@ -1,7 +1,6 @@
 use Rattle.std.proofs.Common.{[], ◌++◌, map, take}
 use Rattle.stack_text.specs.Breaches.{Notes}
-use Rattle.piton_check.specs.Declarations.{formal_name, temporary_name, repeats}
-use Rattle.piton_check.specs.Tables.{Knows}
+use Rattle.piton_check.{specs.Declarations.{formal_name, temporary_name, repeats}, specs.Tables.Knows}
 use Rattle.piton_check.proofs.names.declare_locals.Given as goal
 
 -- the temporaries so far, after the formals

@@ -1,5 +1,4 @@
-use Rattle.std.proofs.Common.{◌≡◌, ◌++◌, ◌∷◌, drop}
-use Rattle.std.specs.List.{flat_map}
+use Rattle.std.{proofs.Common.{◌≡◌, ◌++◌, ◌∷◌, drop}, specs.List.flat_map}
 use Rattle.piton_check.specs.NamedWords.{word_text}
 use Rattle.piton_check.proofs.naming.words_line.Given as goal
 

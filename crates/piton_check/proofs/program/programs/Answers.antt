@@ -1,9 +1,6 @@
-use Rattle.std.proofs.Common.{refl, length}
-use Rattle.std.proofs.lemmas.Option.{slice_get_read}
-use Rattle.piton_check.specs.Resolved.{resolved_program}
-use Rattle.piton_check.specs.Violations.{program_breaches}
+use Rattle.std.{proofs.Common.{refl, length}, proofs.lemmas.Option.slice_get_read}
+use Rattle.piton_check.{specs.Resolved.resolved_program, specs.Violations.program_breaches, proofs.ListLaws.mapped_next}
 use Rattle.stack_text.proofs.BreachLaws.{notes_next}
-use Rattle.piton_check.proofs.ListLaws.{mapped_next}
 use Rattle.piton_check.proofs.program.programs.Goals as goal
 
 pub program-requires-clause-small : goal.program-requires-clause-small

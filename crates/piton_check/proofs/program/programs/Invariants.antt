@@ -1,8 +1,6 @@
-use Rattle.std.proofs.Common.{◌≡◌, map, take}
-use Rattle.std.specs.List.{flat_map}
+use Rattle.std.{proofs.Common.{◌≡◌, map, take}, specs.List.flat_map}
 use Rattle.stack_text.specs.Breaches.{Notes}
-use Rattle.piton_check.specs.Resolved.{resolved_program}
-use Rattle.piton_check.specs.Violations.{program_breaches}
+use Rattle.piton_check.{specs.Resolved.resolved_program, specs.Violations.program_breaches}
 use Rattle.piton_check.proofs.program.programs.Given as goal
 
 -- the programs so far

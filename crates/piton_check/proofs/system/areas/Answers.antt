@@ -1,10 +1,6 @@
-use Rattle.std.proofs.Common.{ap, map, ◌∙◌}
-use Rattle.std.specs.List.{flat_map}
-use Rattle.stack_text.specs.Breaches.{lesser_of, least}
-use Rattle.piton_check.specs.Resolved.{resolved_word, resolved_area}
-use Rattle.piton_check.specs.Violations.{word_breaches, area_breaches}
-use Rattle.stack_text.proofs.BreachLaws.{notes_next}
-use Rattle.piton_check.proofs.ListLaws.{seen_next}
+use Rattle.std.{proofs.Common.{ap, map, ◌∙◌}, specs.List.flat_map}
+use Rattle.stack_text.{specs.Breaches.{lesser_of, least}, proofs.BreachLaws.notes_next}
+use Rattle.piton_check.{specs.Resolved.{resolved_word, resolved_area}, specs.Violations.{word_breaches, area_breaches}, proofs.ListLaws.seen_next}
 use Rattle.piton_check.proofs.system.areas.Goals as goal
 
 pub loop-text-preserved : goal.loop-text-preserved

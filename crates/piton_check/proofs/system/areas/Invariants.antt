@@ -1,8 +1,6 @@
-use Rattle.std.proofs.Common.{◌≡◌, map, take}
-use Rattle.std.specs.List.{flat_map}
+use Rattle.std.{proofs.Common.{◌≡◌, map, take}, specs.List.flat_map}
 use Rattle.stack_text.specs.Breaches.{Notes}
-use Rattle.piton_check.specs.Resolved.{resolved_area}
-use Rattle.piton_check.specs.Violations.{area_breaches}
+use Rattle.piton_check.{specs.Resolved.resolved_area, specs.Violations.area_breaches}
 use Rattle.piton_check.proofs.system.areas.Given as goal
 
 -- the areas so far

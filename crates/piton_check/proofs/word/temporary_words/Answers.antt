@@ -1,7 +1,5 @@
-use Rattle.piton_check.specs.Resolved.{resolved_temporary}
-use Rattle.piton_check.specs.Violations.{temporary_breaches}
+use Rattle.piton_check.{specs.Resolved.resolved_temporary, specs.Violations.temporary_breaches, proofs.ListLaws.mapped_next}
 use Rattle.stack_text.proofs.BreachLaws.{notes_next}
-use Rattle.piton_check.proofs.ListLaws.{mapped_next}
 use Rattle.piton_check.proofs.word.temporary_words.Goals as goal
 
 pub loop-temporary-preserved : goal.loop-temporary-preserved

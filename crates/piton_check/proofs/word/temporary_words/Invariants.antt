@@ -1,8 +1,6 @@
-use Rattle.std.proofs.Common.{◌≡◌, map, take}
-use Rattle.std.specs.List.{flat_map}
+use Rattle.std.{proofs.Common.{◌≡◌, map, take}, specs.List.flat_map}
 use Rattle.stack_text.specs.Breaches.{Notes}
-use Rattle.piton_check.specs.Resolved.{resolved_temporary}
-use Rattle.piton_check.specs.Violations.{temporary_breaches}
+use Rattle.piton_check.{specs.Resolved.resolved_temporary, specs.Violations.temporary_breaches}
 use Rattle.piton_check.proofs.word.temporary_words.Given as goal
 
 -- the words so far

@@ -1,7 +1,5 @@
-use Rattle.piton_check.specs.Resolved.{resolved_word}
-use Rattle.piton_check.specs.Violations.{word_breaches}
+use Rattle.piton_check.{specs.Resolved.resolved_word, specs.Violations.word_breaches, proofs.ListLaws.mapped_next}
 use Rattle.stack_text.proofs.BreachLaws.{notes_next}
-use Rattle.piton_check.proofs.ListLaws.{mapped_next}
 use Rattle.piton_check.proofs.word.words.Goals as goal
 
 pub loop-text-preserved : goal.loop-text-preserved

@@ -1,5 +1,4 @@
-use Rattle.piton_semantics.specs.Fits.{system_in}
-use Rattle.piton_semantics.proofs.StepLaws.{each_step_simulated}
+use Rattle.piton_semantics.{specs.Fits.system_in, proofs.StepLaws.each_step_simulated}
 use Rattle.piton_code_arith.proofs.emission.append.Goals as goal
 
 pub returns-in_ok-push_operation-in-Some-word_operation-clause-steps :

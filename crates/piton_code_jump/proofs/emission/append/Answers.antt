@@ -1,15 +1,8 @@
-use Rattle.std.proofs.Common.{◌≡◌, ◌++◌, ◌∙◌, Some, ap, sym}
-use Rattle.std.specs.Prelude.{option_map}
-use Rattle.piton_check.specs.Instruction.{instruction_view, system_view}
-use Rattle.piton_check.specs.Resolved.{ResolvedOf}
-use Rattle.piton_semantics.specs.declared.group.Group.TheVariants.{Jump}
-use Rattle.piton_semantics.specs.Fits.{system_in}
-use Rattle.piton_semantics.specs.Groups.{resolved_at, only_of}
-use Rattle.piton_semantics.specs.PitonInstr.{decoded_view}
-use Rattle.piton_semantics.specs.State.{variables_of}
-use Rattle.piton_semantics.specs.Templates.{pieces_of}
-use Rattle.piton_semantics.proofs.GroupLaws.{instruction_here, pieces_here}
-use Rattle.piton_semantics.proofs.StepLaws.{each_step_simulated}
+use Rattle.std.{proofs.Common.{◌≡◌, ◌++◌, ◌∙◌, Some, ap, sym}, specs.Prelude.option_map}
+use Rattle.piton_check.{specs.Instruction.{instruction_view, system_view}, specs.Resolved.ResolvedOf}
+use Rattle.piton_semantics.{specs.declared.group.Group.TheVariants.Jump, specs.Fits.system_in, specs.Groups.{resolved_at, only_of}}
+use Rattle.piton_semantics.{specs.PitonInstr.decoded_view, specs.State.variables_of, specs.Templates.pieces_of, proofs.GroupLaws.instruction_here}
+use Rattle.piton_semantics.{proofs.GroupLaws.pieces_here, proofs.StepLaws.each_step_simulated}
 use Rattle.piton_code_jump.proofs.CountLaws.{next_fits}
 use Rattle.piton_code_jump.proofs.emission.append.Goals as goal
 

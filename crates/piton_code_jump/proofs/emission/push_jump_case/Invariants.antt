@@ -1,6 +1,5 @@
 use Rattle.std.proofs.Common.{◌≡◌, ◌++◌, map, take}
-use Rattle.piton_check.specs.Instruction.{place_of}
-use Rattle.piton_check.specs.declared.piece.Piece.TheVariants.{Place}
+use Rattle.piton_check.{specs.Instruction.place_of, specs.declared.piece.Piece.TheVariants.Place}
 use Rattle.piton_semantics.specs.Templates.{jump_case_pieces}
 use Rattle.piton_code_jump.proofs.emission.push_jump_case.Given as goal
 

@@ -1,14 +1,7 @@
-use Rattle.std.proofs.Common.{◌≡◌, ◌++◌, ◌∙◌, Some, ap, sym}
-use Rattle.std.specs.Prelude.{option_map}
-use Rattle.std.proofs.lemmas.Result.{err_from_is_err_and}
+use Rattle.std.{proofs.Common.{◌≡◌, ◌++◌, ◌∙◌, Some, ap, sym}, specs.Prelude.option_map, proofs.lemmas.Result.err_from_is_err_and}
 use Rattle.piton_check.specs.Sound.{local_count}
-use Rattle.piton_semantics.specs.declared.group.Group.TheVariants.{Move}
-use Rattle.piton_semantics.specs.Fits.{system_in}
-use Rattle.piton_semantics.specs.Groups.{resolved_at}
-use Rattle.piton_semantics.specs.PitonInstr.{decoded_view}
-use Rattle.piton_semantics.specs.State.{program_of}
-use Rattle.piton_semantics.proofs.GroupLaws.{instruction_here, pieces_here}
-use Rattle.piton_semantics.proofs.StepLaws.{each_step_simulated}
+use Rattle.piton_semantics.{specs.declared.group.Group.TheVariants.Move, specs.Fits.system_in, specs.Groups.resolved_at, specs.PitonInstr.decoded_view}
+use Rattle.piton_semantics.{specs.State.program_of, proofs.GroupLaws.{instruction_here, pieces_here}, proofs.StepLaws.each_step_simulated}
 use Rattle.piton_code_move.proofs.CountLaws.{few_at}
 use Rattle.piton_code_move.proofs.emission.append.Goals as goal
 

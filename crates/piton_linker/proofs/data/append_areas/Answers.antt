@@ -1,13 +1,7 @@
 use Rattle.std.proofs.Common.{◌++◌, map, take, ap, sym, ◌∙◌, subst, append_assoc}
 use Rattle.piton_check.specs.Instruction.{system_view}
-use Rattle.piton_semantics.specs.Fits.{Each, IsWordOf}
-use Rattle.piton_semantics.specs.StateView.{words_in}
-use Rattle.piton_semantics.proofs.EachLaws.{each_get}
-use Rattle.piton_semantics.specs.Addresses.{numbers}
-use Rattle.piton_semantics.specs.Placed.{addresses_of}
-use Rattle.piton_linker.specs.Tables.{areas_words}
-use Rattle.piton_linker.proofs.BoundLaws.{seen_at}
-use Rattle.piton_linker.proofs.DataLaws.{areas_more}
+use Rattle.piton_semantics.{specs.Fits.{Each, IsWordOf}, specs.StateView.words_in, proofs.EachLaws.each_get, specs.Addresses.numbers, specs.Placed.addresses_of}
+use Rattle.piton_linker.{specs.Tables.areas_words, proofs.BoundLaws.seen_at, proofs.DataLaws.areas_more}
 use Rattle.piton_linker.proofs.data.append_areas.Goals as goal
 
 pub append_words-requires-clause-there : goal.append_words-requires-clause-there

@@ -1,7 +1,6 @@
 use Rattle.std.proofs.Common.{◌≡◌, ◌++◌, take}
 use Rattle.piton_check.specs.Instruction.{system_view}
-use Rattle.piton_semantics.specs.Addresses.{numbers}
-use Rattle.piton_semantics.specs.Placed.{addresses_of}
+use Rattle.piton_semantics.{specs.Addresses.numbers, specs.Placed.addresses_of}
 use Rattle.piton_linker.proofs.data.append_words.Given as goal
 
 -- the numbers so far

@@ -1,10 +1,7 @@
 use Rattle.std.proofs.Common.{◌∙◌, ap, sym, subst}
-use Rattle.piton_semantics.specs.Placed.{addresses_of}
+use Rattle.piton_semantics.{specs.Placed.addresses_of, specs.Templates.word_of, proofs.PieceLaws.word_is}
 use Rattle.piton_check.specs.Instruction.{system_view}
-use Rattle.piton_semantics.specs.Templates.{word_of}
-use Rattle.piton_semantics.proofs.PieceLaws.{word_is}
-use Rattle.piton_linker.specs.Tables.{PieceExists}
-use Rattle.piton_linker.proofs.NameLaws.{word_named}
+use Rattle.piton_linker.{specs.Tables.PieceExists, proofs.NameLaws.word_named}
 use Rattle.piton_linker.proofs.data.number.Goals as goal
 
 pub word-requires-clause-named : goal.word-requires-clause-named

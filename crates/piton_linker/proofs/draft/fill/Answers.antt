@@ -1,12 +1,7 @@
 use Rattle.std.proofs.Common.{◌≡◌, ◌+◌, length, take, set, get_or, ap, sym, ◌∙◌, arith}
-use Rattle.piton_check.specs.declared.piece.Piece.TheVariants.{Code}
-use Rattle.piton_check.specs.Resolved.{ResolvedOf}
-use Rattle.piton_check.specs.Instruction.{system_view}
-use Rattle.piton_semantics.specs.Placed.{addresses_of}
-use Rattle.piton_semantics.specs.Templates.{word_of}
-use Rattle.piton_linker.specs.declared.draft.FixUp.{FixUp}
-use Rattle.piton_linker.specs.Drafts.{filled}
-use Rattle.piton_linker.proofs.DraftLaws.{length-filled, filled_next, fixup_at}
+use Rattle.piton_check.{specs.declared.piece.Piece.TheVariants.Code, specs.Resolved.ResolvedOf, specs.Instruction.system_view}
+use Rattle.piton_semantics.{specs.Placed.addresses_of, specs.Templates.word_of}
+use Rattle.piton_linker.{specs.declared.draft.FixUp.FixUp, specs.Drafts.filled, proofs.DraftLaws.{length-filled, filled_next, fixup_at}}
 use Rattle.piton_linker.proofs.draft.fill.Goals as goal
 
 pub index_mut-requires : goal.index_mut-requires

@@ -1,13 +1,8 @@
 use Rattle.std.proofs.Common.{◌≡◌, length, ap, sym, ◌∙◌, arith}
-use Rattle.piton_check.specs.Instruction.{system_view}
-use Rattle.piton_check.specs.Resolved.{ResolvedOf}
-use Rattle.piton_semantics.specs.Fits.{system_in}
-use Rattle.piton_linker.specs.Tables.{TableOf, table_of}
-use Rattle.piton_semantics.specs.Placed.{addresses_of, programs_size}
-use Rattle.piton_semantics.proofs.SizeLaws.{length-programs_words}
-use Rattle.piton_linker.proofs.DraftLaws.{length-drafted}
-use Rattle.piton_linker.proofs.PlaceLaws.{rows_are}
-use Rattle.piton_linker.proofs.ProcessorLaws.{checked_runs, checked_end}
+use Rattle.piton_check.{specs.Instruction.system_view, specs.Resolved.ResolvedOf}
+use Rattle.piton_semantics.{specs.Fits.system_in, specs.Placed.{addresses_of, programs_size}, proofs.SizeLaws.length-programs_words}
+use Rattle.piton_linker.{specs.Tables.{TableOf, table_of}, proofs.DraftLaws.length-drafted, proofs.PlaceLaws.rows_are, proofs.ProcessorLaws.checked_runs}
+use Rattle.piton_linker.proofs.ProcessorLaws.{checked_end}
 use Rattle.piton_linker.proofs.linking.link_small.Goals as goal
 
 pub complete-code-requires-clause-room : goal.complete-code-requires-clause-room

@@ -1,10 +1,6 @@
 use Rattle.std.proofs.Common.{◌≡◌, ◌++◌, ◌∷◌, [], ap, ◌∙◌, append_assoc}
-use Rattle.piton_check.specs.Resolved.{ResolvedOf}
-use Rattle.piton_check.specs.Instruction.{system_view}
-use Rattle.piton_semantics.specs.Fits.{system_in}
-use Rattle.piton_semantics.specs.State.{program_of}
-use Rattle.piton_semantics.specs.Addresses.{numbers}
-use Rattle.piton_semantics.specs.Placed.{addresses_of}
+use Rattle.piton_check.{specs.Resolved.ResolvedOf, specs.Instruction.system_view}
+use Rattle.piton_semantics.{specs.Fits.system_in, specs.State.program_of, specs.Addresses.numbers, specs.Placed.addresses_of}
 use Rattle.piton_linker.proofs.memory.append_frame.Goals as goal
 
 pub returns : goal.returns

@@ -1,8 +1,6 @@
 use Rattle.std.proofs.Common.{◌≡◌, ◌++◌, reverse, ap, ◌∙◌}
-use Rattle.piton_check.specs.Resolved.{ResolvedOf}
-use Rattle.piton_check.specs.Instruction.{system_view}
-use Rattle.piton_semantics.specs.Addresses.{numbers}
-use Rattle.piton_semantics.specs.Placed.{addresses_of}
+use Rattle.piton_check.{specs.Resolved.ResolvedOf, specs.Instruction.system_view}
+use Rattle.piton_semantics.{specs.Addresses.numbers, specs.Placed.addresses_of}
 use Rattle.piton_linker.proofs.memory.append_stack.Goals as goal
 
 pub returns : goal.returns

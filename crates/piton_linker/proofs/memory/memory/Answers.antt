@@ -1,12 +1,8 @@
-use Rattle.std.proofs.Common.{◌≡◌, ◌-◌, ◌++◌, ◌∷◌, [], ℕ, reverse, ap, ◌∙◌, arith}
-use Rattle.std.specs.Prelude.{replicate}
+use Rattle.std.{proofs.Common.{◌≡◌, ◌-◌, ◌++◌, ◌∷◌, [], ℕ, reverse, ap, ◌∙◌, arith}, specs.Prelude.replicate}
 use Rattle.fm_code.specs.InstructionWords.{halt_word}
-use Rattle.piton_semantics.specs.Fits.{system_in}
-use Rattle.piton_semantics.specs.Addresses.{numbers}
-use Rattle.piton_semantics.specs.Placed.{first_frame, first_frame_at, first_top, ctrl_start, temp_start, addresses_of}
-use Rattle.piton_semantics.specs.Templates.{programs_words}
-use Rattle.piton_linker.specs.Tables.{areas_words}
-use Rattle.piton_linker.proofs.DataLaws.{assembled}
+use Rattle.piton_semantics.{specs.Fits.system_in, specs.Addresses.numbers, specs.Placed.{first_frame, first_frame_at, first_top, ctrl_start, temp_start}}
+use Rattle.piton_semantics.{specs.Placed.addresses_of, specs.Templates.programs_words}
+use Rattle.piton_linker.{specs.Tables.areas_words, proofs.DataLaws.assembled}
 use Rattle.piton_linker.proofs.memory.memory.Goals as goal
 
 pub returns : goal.returns

@@ -1,6 +1,5 @@
 use Rattle.std.proofs.Common.{take, ap, ◌∙◌}
-use Rattle.piton_linker.proofs.TrimLaws.{zero_next, word_next}
-use Rattle.piton_linker.proofs.memory.used.Goals.{then-word-ne0, else-word-ne0}
+use Rattle.piton_linker.{proofs.TrimLaws.{zero_next, word_next}, proofs.memory.used.Goals.{then-word-ne0, else-word-ne0}}
 use Rattle.piton_linker.proofs.memory.used.Goals as goal
 
 pub loop-at-preserved : goal.loop-at-preserved

@@ -1,5 +1,4 @@
-use Rattle.std.proofs.Common.{ap, arith}
-use Rattle.std.proofs.lemmas.List.Sums.{sum_by_more, sum_by_more_le}
+use Rattle.std.{proofs.Common.{ap, arith}, proofs.lemmas.List.Sums.{sum_by_more, sum_by_more_le}}
 use Rattle.piton_linker.proofs.sizes.total.Goals as goal
 
 pub size-sum-requires : goal.size-sum-requires

@@ -1,5 +1,4 @@
-use Rattle.std.proofs.Common.{◌≡◌, take}
-use Rattle.std.specs.Prelude.{sum_by}
+use Rattle.std.{proofs.Common.{◌≡◌, take}, specs.Prelude.sum_by}
 use Rattle.piton_linker.proofs.sizes.total.Given as goal
 
 -- the words so far

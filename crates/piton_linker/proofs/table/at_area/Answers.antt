@@ -1,5 +1,4 @@
-use Rattle.std.proofs.Common.{◌≡◌, ◌+◌, ap, ◌∙◌, arith}
-use Rattle.std.specs.Prelude.{unwrap_or}
+use Rattle.std.{proofs.Common.{◌≡◌, ◌+◌, ap, ◌∙◌, arith}, specs.Prelude.unwrap_or}
 use Rattle.piton_check.specs.Instruction.{system_view}
 use Rattle.piton_semantics.specs.Placed.{address_of_area}
 use Rattle.piton_linker.proofs.LookupLaws.{area_word, area_fits}

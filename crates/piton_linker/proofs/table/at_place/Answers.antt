@@ -1,5 +1,4 @@
-use Rattle.std.proofs.Common.{ap, ◌∙◌}
-use Rattle.std.specs.Prelude.{unwrap_or}
+use Rattle.std.{proofs.Common.{ap, ◌∙◌}, specs.Prelude.unwrap_or}
 use Rattle.piton_check.specs.Instruction.{system_view}
 use Rattle.piton_linker.proofs.LookupLaws.{place_word}
 use Rattle.piton_linker.proofs.table.at_place.Goals as goal

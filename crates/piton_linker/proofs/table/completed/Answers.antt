@@ -1,12 +1,8 @@
 use Rattle.std.proofs.Common.{◌≡◌, List, length, map, ap, ◌∙◌, arith}
 use Rattle.piton_words.specs.declared.word.Word.{Word}
-use Rattle.piton_check.specs.Instruction.{system_view}
-use Rattle.piton_check.specs.Resolved.{ResolvedOf}
-use Rattle.piton_semantics.specs.Placed.{areas_size, areas_start}
-use Rattle.piton_semantics.specs.StateView.{words_in}
-use Rattle.piton_linker.specs.declared.placement.Layout.{Layout}
-use Rattle.piton_linker.specs.Tables.{starts}
-use Rattle.piton_linker.proofs.BoundLaws.{areas_seen, areas_sizes}
+use Rattle.piton_check.{specs.Instruction.system_view, specs.Resolved.ResolvedOf}
+use Rattle.piton_semantics.{specs.Placed.{areas_size, areas_start}, specs.StateView.words_in}
+use Rattle.piton_linker.{specs.declared.placement.Layout.Layout, specs.Tables.starts, proofs.BoundLaws.{areas_seen, areas_sizes}}
 use Rattle.piton_linker.proofs.table.completed.Goals as goal
 
 pub starts-requires : goal.starts-requires

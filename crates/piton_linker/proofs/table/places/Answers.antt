@@ -1,12 +1,8 @@
-use Rattle.std.proofs.Common.{◌≡◌, ◌+◌, ◌≤◌, ◌++◌, ◌∷◌, [], length, map, take, ap, sym, ◌∙◌, arith}
-use Rattle.std.proofs.lemmas.List.{length-map, map_push}
+use Rattle.std.{proofs.Common.{◌≡◌, ◌+◌, ◌≤◌, ◌++◌, ◌∷◌, [], length, map, take, ap, sym, ◌∙◌, arith}, proofs.lemmas.List.{length-map, map_push}}
 use Rattle.std.proofs.lemmas.Simd.{map-map}
-use Rattle.piton_check.specs.Instruction.{program_view, instruction_view}
-use Rattle.piton_check.specs.Resolved.{ResolvedInstrOf, ResolvedProgramOf}
+use Rattle.piton_check.{specs.Instruction.{program_view, instruction_view}, specs.Resolved.{ResolvedInstrOf, ResolvedProgramOf}}
 use Rattle.piton_semantics.specs.Placed.{programs_size, prelude_size, instruction_size, instructions_size}
-use Rattle.piton_linker.specs.Tables.{place_rows, starts}
-use Rattle.piton_linker.proofs.BoundLaws.{instructions_seen, program_at}
-use Rattle.piton_linker.proofs.LookupLaws.{rows_more, whole_rows}
+use Rattle.piton_linker.{specs.Tables.{place_rows, starts}, proofs.BoundLaws.{instructions_seen, program_at}, proofs.LookupLaws.{rows_more, whole_rows}}
 use Rattle.piton_linker.proofs.table.places.Goals as goal
 
 pub prelude_size-requires : goal.prelude_size-requires

@@ -1,8 +1,6 @@
-use Rattle.std.proofs.Common.{◌≤◌, ◌++◌, ◌∷◌, [], length, map, take, ap, sym, ◌∙◌, arith}
-use Rattle.std.proofs.lemmas.List.{length-map}
-use Rattle.std.proofs.lemmas.List.Sums.{sum_by_more, sum_by_more_le, sum_by-take-le}
-use Rattle.piton_linker.specs.Tables.{starts}
-use Rattle.piton_linker.proofs.LookupLaws.{starts_more, whole}
+use Rattle.std.{proofs.Common.{◌≤◌, ◌++◌, ◌∷◌, [], length, map, take, ap, sym, ◌∙◌, arith}, proofs.lemmas.List.length-map, proofs.lemmas.List.Sums.sum_by_more}
+use Rattle.std.proofs.lemmas.List.Sums.{sum_by_more_le, sum_by-take-le}
+use Rattle.piton_linker.{specs.Tables.starts, proofs.LookupLaws.{starts_more, whole}}
 use Rattle.piton_linker.proofs.table.starts.Goals as goal
 
 pub overflow_cast-at : goal.overflow_cast-at

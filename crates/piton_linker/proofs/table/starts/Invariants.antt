@@ -1,5 +1,4 @@
-use Rattle.std.proofs.Common.{◌≡◌, ◌+◌, map, take}
-use Rattle.std.specs.Prelude.{sum_by}
+use Rattle.std.{proofs.Common.{◌≡◌, ◌+◌, map, take}, specs.Prelude.sum_by}
 use Rattle.piton_linker.specs.Tables.{starts}
 use Rattle.piton_linker.proofs.table.starts.Given as goal
 

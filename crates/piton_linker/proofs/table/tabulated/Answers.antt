@@ -1,10 +1,7 @@
-use Rattle.std.proofs.Common.{◌≡◌, map, sym, ap, ◌∙◌, arith}
-use Rattle.std.proofs.lemmas.Simd.{map-map}
-use Rattle.piton_check.specs.Instruction.{program_view, system_view}
-use Rattle.piton_check.specs.Resolved.{ResolvedOf, ResolvedProgramOf}
+use Rattle.std.{proofs.Common.{◌≡◌, map, sym, ap, ◌∙◌, arith}, proofs.lemmas.Simd.map-map}
+use Rattle.piton_check.{specs.Instruction.{program_view, system_view}, specs.Resolved.{ResolvedOf, ResolvedProgramOf}}
 use Rattle.piton_semantics.specs.Placed.{program_size, programs_size}
-use Rattle.piton_linker.specs.Tables.{starts}
-use Rattle.piton_linker.proofs.BoundLaws.{programs_seen}
+use Rattle.piton_linker.{specs.Tables.starts, proofs.BoundLaws.programs_seen}
 use Rattle.piton_linker.proofs.table.tabulated.Goals as goal
 
 pub starts-requires : goal.starts-requires

@@ -1,13 +1,7 @@
 use Rattle.std.proofs.Common.{◌≡◌, ◌+◌, ◌++◌, length, ap, sym, ◌∙◌, subst, arith}
-use Rattle.piton_check.specs.Resolved.{ResolvedOf}
-use Rattle.piton_check.specs.Instruction.{system_view}
-use Rattle.piton_semantics.specs.Fits.{Each, system_in}
-use Rattle.piton_semantics.specs.Placed.{address_of_place, addresses_of}
-use Rattle.piton_semantics.specs.Templates.{pieces_at}
-use Rattle.piton_linker.proofs.EmissionLaws.{place_known}
-use Rattle.piton_semantics.specs.Templates.{words_of}
-use Rattle.piton_linker.specs.Tables.{PieceExists}
-use Rattle.piton_linker.specs.Drafts.{drafted, IsDraft, IsRow}
+use Rattle.piton_check.{specs.Resolved.ResolvedOf, specs.Instruction.system_view}
+use Rattle.piton_semantics.{specs.Fits.{Each, system_in}, specs.Placed.{address_of_place, addresses_of}, specs.Templates.{pieces_at, words_of}}
+use Rattle.piton_linker.{proofs.EmissionLaws.place_known, specs.Tables.PieceExists, specs.Drafts.{drafted, IsDraft, IsRow}}
 use Rattle.piton_linker.proofs.words.append_place.Goals as goal
 
 pub append-requires-clause-draft : goal.append-requires-clause-draft

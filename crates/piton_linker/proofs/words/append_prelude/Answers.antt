@@ -1,14 +1,8 @@
 use Rattle.std.proofs.Common.{◌≡◌, ◌+◌, ◌++◌, length, ap, sym, ◌∙◌, subst, arith}
-use Rattle.piton_check.specs.Resolved.{ResolvedOf}
-use Rattle.piton_check.specs.Instruction.{system_view}
-use Rattle.piton_semantics.specs.Fits.{Each, system_in}
-use Rattle.piton_semantics.specs.State.{program_of}
-use Rattle.piton_semantics.specs.Placed.{entry_of, addresses_of}
-use Rattle.piton_semantics.specs.Templates.{prelude_pieces}
-use Rattle.piton_linker.proofs.EmissionLaws.{prelude_known}
+use Rattle.piton_check.{specs.Resolved.ResolvedOf, specs.Instruction.system_view}
+use Rattle.piton_semantics.{specs.Fits.{Each, system_in}, specs.State.program_of, specs.Placed.{entry_of, addresses_of}, specs.Templates.prelude_pieces}
 use Rattle.piton_semantics.specs.Templates.{words_of}
-use Rattle.piton_linker.specs.Tables.{PieceExists}
-use Rattle.piton_linker.specs.Drafts.{drafted, IsDraft}
+use Rattle.piton_linker.{proofs.EmissionLaws.prelude_known, specs.Tables.PieceExists, specs.Drafts.{drafted, IsDraft}}
 use Rattle.piton_linker.proofs.words.append_prelude.Goals as goal
 
 pub append-requires-clause-draft : goal.append-requires-clause-draft

@@ -1,16 +1,9 @@
-use Rattle.std.proofs.Common.{◌≡◌, ◌+◌, ◌≤◌, ◌++◌, ◌∷◌, [], length, map, take, ap, sym, ◌∙◌, arith, append_assoc}
-use Rattle.std.proofs.lemmas.List.{length-map}
-use Rattle.piton_check.specs.Resolved.{ResolvedOf}
-use Rattle.piton_check.specs.Sound.{local_count}
-use Rattle.piton_semantics.specs.Fits.{system_in, IsPlace}
-use Rattle.piton_semantics.specs.State.{program_of}
-use Rattle.piton_semantics.specs.Placed.{entry_of, address_of_place, addresses_of, instruction_size, prelude_size}
-use Rattle.piton_semantics.specs.Templates.{prelude_words, instructions_words}
-use Rattle.piton_linker.specs.Tables.{row_at, words_at}
-use Rattle.piton_linker.specs.Drafts.{drafted}
-use Rattle.piton_linker.proofs.DraftLaws.{length-drafted, is_row}
-use Rattle.piton_linker.proofs.LookupLaws.{instructions_more, whole}
-use Rattle.piton_linker.proofs.EmissionLaws.{places_next, place_here, place_known}
+use Rattle.std.{proofs.Common.{◌≡◌, ◌+◌, ◌≤◌, ◌++◌, ◌∷◌, [], length, map, take, ap, sym, ◌∙◌, arith, append_assoc}, proofs.lemmas.List.length-map}
+use Rattle.piton_check.{specs.Resolved.ResolvedOf, specs.Sound.local_count}
+use Rattle.piton_semantics.{specs.Fits.{system_in, IsPlace}, specs.State.program_of, specs.Placed.{entry_of, address_of_place, addresses_of, instruction_size}}
+use Rattle.piton_semantics.{specs.Placed.prelude_size, specs.Templates.{prelude_words, instructions_words}}
+use Rattle.piton_linker.{specs.Tables.{row_at, words_at}, specs.Drafts.drafted, proofs.DraftLaws.{length-drafted, is_row}, proofs.LookupLaws.instructions_more}
+use Rattle.piton_linker.{proofs.LookupLaws.whole, proofs.EmissionLaws.{places_next, place_here, place_known}}
 use Rattle.piton_linker.proofs.words.append_program.Goals as goal
 
 pub next-requires : goal.next-requires

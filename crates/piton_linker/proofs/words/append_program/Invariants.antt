@@ -1,11 +1,8 @@
 use Rattle.std.proofs.Common.{◌≡◌, ◌++◌, take}
 use Rattle.piton_check.specs.Sound.{local_count}
-use Rattle.piton_semantics.specs.Fits.{system_in}
-use Rattle.piton_semantics.specs.State.{program_of}
-use Rattle.piton_semantics.specs.Placed.{entry_of, addresses_of}
-use Rattle.piton_semantics.specs.Templates.{prelude_words, instructions_words}
-use Rattle.piton_linker.specs.Tables.{row_at}
-use Rattle.piton_linker.specs.Drafts.{drafted, IsDraft}
+use Rattle.piton_semantics.{specs.Fits.system_in, specs.State.program_of, specs.Placed.{entry_of, addresses_of}, specs.Templates.prelude_words}
+use Rattle.piton_semantics.specs.Templates.{instructions_words}
+use Rattle.piton_linker.{specs.Tables.row_at, specs.Drafts.{drafted, IsDraft}}
 use Rattle.piton_linker.proofs.words.append_program.Given as goal
 
 -- the words so far, once all addresses are known, and the addresses of the places so far

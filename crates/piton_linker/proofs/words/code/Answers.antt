@@ -1,16 +1,10 @@
-use Rattle.std.proofs.Common.{◌≡◌, ◌+◌, ◌<◌, ◌≤◌, ◌++◌, ◌∷◌, [], length, map, take, ap, sym, ◌∙◌, arith}
-use Rattle.std.proofs.lemmas.List.{length-map, map_push}
+use Rattle.std.{proofs.Common.{◌≡◌, ◌+◌, ◌<◌, ◌≤◌, ◌++◌, ◌∷◌, [], length, map, take, ap, sym, ◌∙◌, arith}, proofs.lemmas.List.{length-map, map_push}}
 use Rattle.std.proofs.lemmas.Option.{slice_get-get_or}
 use Rattle.piton_check.specs.Resolved.{ResolvedOf}
-use Rattle.piton_semantics.specs.Fits.{system_in}
-use Rattle.piton_semantics.specs.State.{no_program, program_of}
-use Rattle.piton_semantics.specs.Placed.{entry_of, addresses_of, program_size}
+use Rattle.piton_semantics.{specs.Fits.system_in, specs.State.{no_program, program_of}, specs.Placed.{entry_of, addresses_of, program_size}}
 use Rattle.piton_semantics.specs.Templates.{program_words, programs_words}
-use Rattle.piton_linker.specs.Tables.{starts, place_rows}
-use Rattle.piton_linker.proofs.BoundLaws.{programs_within}
-use Rattle.piton_linker.proofs.DraftLaws.{length-drafted}
-use Rattle.piton_linker.proofs.LookupLaws.{programs_more, rows_more, whole, whole_rows}
-use Rattle.piton_linker.proofs.EmissionLaws.{programs_next, program_here, take_whole}
+use Rattle.piton_linker.{specs.Tables.{starts, place_rows}, proofs.BoundLaws.programs_within, proofs.DraftLaws.length-drafted, proofs.LookupLaws.programs_more}
+use Rattle.piton_linker.{proofs.LookupLaws.{rows_more, whole, whole_rows}, proofs.EmissionLaws.{programs_next, program_here, take_whole}}
 use Rattle.piton_linker.proofs.words.code.Goals as goal
 
 pub next-requires : goal.next-requires

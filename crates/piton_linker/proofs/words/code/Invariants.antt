@@ -1,9 +1,6 @@
 use Rattle.std.proofs.Common.{◌≡◌, map, take}
-use Rattle.piton_semantics.specs.Fits.{system_in}
-use Rattle.piton_semantics.specs.Placed.{addresses_of, program_size}
-use Rattle.piton_semantics.specs.Templates.{programs_words}
-use Rattle.piton_linker.specs.Tables.{starts, place_rows}
-use Rattle.piton_linker.specs.Drafts.{drafted, IsDraft}
+use Rattle.piton_semantics.{specs.Fits.system_in, specs.Placed.{addresses_of, program_size}, specs.Templates.programs_words}
+use Rattle.piton_linker.{specs.Tables.{starts, place_rows}, specs.Drafts.{drafted, IsDraft}}
 use Rattle.piton_linker.proofs.words.code.Given as goal
 
 -- the words so far, once all addresses are known, and the addresses so far

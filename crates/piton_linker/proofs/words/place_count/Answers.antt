@@ -1,6 +1,4 @@
-use Rattle.std.proofs.Common.{◌≡◌, ◌≤◌, length, arith}
-use Rattle.std.specs.Prelude.{◌^◌}
-use Rattle.std.proofs.lemmas.Grind.{common_steps}
+use Rattle.std.{proofs.Common.{◌≡◌, ◌≤◌, length, arith}, specs.Prelude.◌^◌, proofs.lemmas.Grind.common_steps}
 use Rattle.piton_check.specs.Instruction.{system_view}
 use Rattle.piton_semantics.specs.State.{program_of}
 use Rattle.piton_linker.proofs.EmissionLaws.{places_few}

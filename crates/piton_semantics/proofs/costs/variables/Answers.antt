@@ -1,5 +1,4 @@
-use Rattle.std.proofs.Common.{rules, ◌≡◌, ◌+◌, ◌≤◌, arith}
-use Rattle.std.proofs.lemmas.Grind.{common_steps}
+use Rattle.std.{proofs.Common.{rules, ◌≡◌, ◌+◌, ◌≤◌, arith}, proofs.lemmas.Grind.common_steps}
 use Rattle.piton_check.specs.Instruction.{system_view}
 use Rattle.piton_semantics.specs.State.{variables_of}
 use Rattle.piton_semantics.proofs.costs.variables.Goals as goal

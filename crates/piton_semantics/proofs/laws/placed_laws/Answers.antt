@@ -1,8 +1,5 @@
-use Rattle.piton_semantics.proofs.SoundLaws.{known}
-use Rattle.piton_semantics.proofs.SizeLaws.{length-template, code_ends, length-placed}
-use Rattle.piton_semantics.proofs.AddressLaws.{same_words}
-use Rattle.piton_semantics.proofs.OpeningLaws.{opening_stands}
-use Rattle.piton_semantics.proofs.StepLaws.{each_step_simulated}
+use Rattle.piton_semantics.{proofs.SoundLaws.known, proofs.SizeLaws.{length-template, code_ends, length-placed}, proofs.AddressLaws.same_words}
+use Rattle.piton_semantics.{proofs.OpeningLaws.opening_stands, proofs.StepLaws.each_step_simulated}
 use Rattle.piton_semantics.proofs.laws.placed_laws.Goals as goal
 
 pub returns-clause-templates : goal.returns-clause-templates

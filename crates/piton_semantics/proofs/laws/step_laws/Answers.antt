@@ -1,6 +1,4 @@
-use Rattle.piton_semantics.proofs.SoundLaws.{known}
-use Rattle.piton_semantics.proofs.KeepLaws.{step_kept}
-use Rattle.piton_semantics.proofs.RunLaws.{steps_run, steps_cost, along, halts, fails}
+use Rattle.piton_semantics.{proofs.SoundLaws.known, proofs.KeepLaws.step_kept, proofs.RunLaws.{steps_run, steps_cost, along, halts, fails}}
 use Rattle.piton_semantics.proofs.laws.step_laws.Goals as goal
 
 pub returns-clause-kept : goal.returns-clause-kept

@@ -1,6 +1,4 @@
-use Rattle.piton_syntax.proofs.FitsLaws.{keeps_fits}
-use Rattle.piton_syntax.proofs.MadeLaws.{fits_keeps}
-use Rattle.piton_syntax.proofs.SizeLaws.{text_over}
+use Rattle.piton_syntax.{proofs.FitsLaws.keeps_fits, proofs.MadeLaws.fits_keeps, proofs.SizeLaws.text_over}
 use Rattle.piton_syntax.proofs.laws.plain_form.Goals as goal
 
 pub returns-clause-fits : goal.returns-clause-fits

@@ -1,5 +1,4 @@
-use Rattle.std.proofs.Common.{[], ◌∷◌, ◌++◌, append_assoc}
-use Rattle.std.specs.List.{flat_map}
+use Rattle.std.{proofs.Common.{[], ◌∷◌, ◌++◌, append_assoc}, specs.List.flat_map}
 use Rattle.stack_text.proofs.Loops.{pieces_next}
 use Rattle.piton_syntax.specs.Printed.{program_text}
 use Rattle.piton_syntax.proofs.printing.print_programs.Goals as goal

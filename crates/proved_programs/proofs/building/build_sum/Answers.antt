@@ -1,9 +1,6 @@
-use Rattle.std.proofs.Common.{ℕ, ◌≤◌, ◌^◌, List, length, sym, subst}
-use Rattle.std.proofs.lemmas.Result.{IfOk-weaker}
+use Rattle.std.{proofs.Common.{ℕ, ◌≤◌, ◌^◌, List, length, sym, subst}, proofs.lemmas.Result.IfOk-weaker}
 use Rattle.stack_build.specs.Build.{BuildsText}
-use Rattle.proved_programs.specs.Sum.{SumsUp}
-use Rattle.proved_programs.proofs.SumLaws.{sum_built}
-use Rattle.proved_programs.proofs.TextLaws.{sum_short}
+use Rattle.proved_programs.{specs.Sum.SumsUp, proofs.SumLaws.sum_built, proofs.TextLaws.sum_short}
 use Rattle.proved_programs.proofs.building.build_sum.Goals as goal
 
 pub build-requires-clause-text : goal.build-requires-clause-text

@@ -1,11 +1,8 @@
 use Rattle.std.proofs.Common.{◌≡◌, ap, sym, ◌∙◌}
-use Rattle.gypsy_syntax.specs.Resolved.{program_of}
-use Rattle.gypsy_syntax.specs.Views.SourceView.{source_of}
+use Rattle.gypsy_syntax.{specs.Resolved.program_of, specs.Views.SourceView.source_of}
 use Rattle.gypsy_space.specs.Needs.{main_used, stack_sizes}
-use Rattle.space_cert.specs.Accepting.{covers, source_calls}
-use Rattle.space_cert.proofs.CertifyLaws.{body_calls}
-use Rattle.space_cert.proofs.AcceptLaws.{covers_true, covers_is, is_covered_by, source_calls_are}
-use Rattle.space_cert.proofs.NeverLaws.{never}
+use Rattle.space_cert.{specs.Accepting.{covers, source_calls}, proofs.CertifyLaws.body_calls, proofs.AcceptLaws.{covers_true, covers_is, is_covered_by}}
+use Rattle.space_cert.{proofs.AcceptLaws.source_calls_are, proofs.NeverLaws.never}
 use Rattle.space_cert.proofs.accepting.accepts.Goals as goal
 
 pub returns-clause-covers : goal.returns-clause-covers

@@ -1,12 +1,7 @@
-use Rattle.std.proofs.Common.{◌≡◌, ◌==◌, length, get_or, map, None, true, ap, sym, ◌∙◌}
-use Rattle.std.specs.Option.{option_map}
-use Rattle.gypsy_syntax.specs.Resolved.{program_of}
-use Rattle.gypsy_syntax.specs.Views.SourceView.{proc_of, source_of}
-use Rattle.gypsy_syntax.specs.Sources.{ProcOf}
+use Rattle.std.{proofs.Common.{◌≡◌, ◌==◌, length, get_or, map, None, true, ap, sym, ◌∙◌}, specs.Option.option_map}
+use Rattle.gypsy_syntax.{specs.Resolved.program_of, specs.Views.SourceView.{proc_of, source_of}, specs.Sources.ProcOf}
 use Rattle.gypsy_space.specs.Needs.{main_used}
-use Rattle.space_cert.specs.Covers.{as_words, bound_at}
-use Rattle.space_cert.specs.Accepting.{covers_from, covers_main, source_callees, source_calls}
-use Rattle.space_cert.proofs.AcceptLaws.{third_is}
+use Rattle.space_cert.{specs.Covers.{as_words, bound_at}, specs.Accepting.{covers_from, covers_main, source_callees, source_calls}, proofs.AcceptLaws.third_is}
 use Rattle.space_cert.proofs.accepting.covers.Goals as goal
 
 pub returns : goal.returns

@@ -1,7 +1,6 @@
 use Rattle.std.proofs.Common.{◌≡◌, nat_eq, length, arith}
 use Rattle.gypsy_syntax.specs.Views.SourceView.{source_of}
-use Rattle.space_cert.specs.Accepting.{source_calls}
-use Rattle.space_cert.proofs.AcceptLaws.{calls_many, procs_many}
+use Rattle.space_cert.{specs.Accepting.source_calls, proofs.AcceptLaws.{calls_many, procs_many}}
 use Rattle.space_cert.proofs.accepting.has_each.Goals as goal
 
 pub returns : goal.returns

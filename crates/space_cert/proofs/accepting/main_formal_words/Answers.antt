@@ -1,8 +1,5 @@
-use Rattle.std.proofs.Common.{◌≡◌, ◌≤◌, map, Some, slice_get, length, refl, ap, sym, ◌∙◌, subst}
-use Rattle.std.proofs.lemmas.Option.{slice_get_read}
-use Rattle.gypsy_syntax.specs.Programs.{proc_at, words_of}
-use Rattle.gypsy_syntax.specs.Resolved.{program_of, shape_of}
-use Rattle.gypsy_syntax.specs.Views.SourceView.{source_of}
+use Rattle.std.{proofs.Common.{◌≡◌, ◌≤◌, map, Some, slice_get, length, refl, ap, sym, ◌∙◌, subst}, proofs.lemmas.Option.slice_get_read}
+use Rattle.gypsy_syntax.{specs.Programs.{proc_at, words_of}, specs.Resolved.{program_of, shape_of}, specs.Views.SourceView.source_of}
 use Rattle.gypsy_syntax.specs.declared.literal.Decl.{Decl}
 use Rattle.space_cert.proofs.AcceptLaws.{formals_at, formals_small}
 use Rattle.space_cert.proofs.accepting.main_formal_words.Goals as goal

@@ -1,7 +1,4 @@
-use Rattle.std.proofs.Common.{◌≡◌, ap, ◌∙◌, rules}
-use Rattle.std.specs.List.{position}
-use Rattle.std.specs.Option.{unwrap_or}
-use Rattle.std.specs.Str.{bytes_eq}
+use Rattle.std.{proofs.Common.{◌≡◌, ap, ◌∙◌, rules}, specs.List.position, specs.Option.unwrap_or, specs.Str.bytes_eq}
 use Rattle.gypsy_syntax.specs.declared.proc.Proc.{Proc}
 use Rattle.space_cert.proofs.NameLaws.{place_same}
 use Rattle.space_cert.proofs.accepting.position_of.Goals as goal

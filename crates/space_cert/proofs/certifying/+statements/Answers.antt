@@ -1,6 +1,5 @@
 use Rattle.std.proofs.Common.{◌≡◌, ap, sym, ◌∙◌}
-use Rattle.gypsy_space.specs.Nodes.{seen_statement, seen_statements}
-use Rattle.gypsy_space.proofs.NodeLaws.{seen_statement-seq}
+use Rattle.gypsy_space.{specs.Nodes.{seen_statement, seen_statements}, proofs.NodeLaws.seen_statement-seq}
 use Rattle.space_cert.proofs.certifying.+statements.Goals as goal
 
 pub append_callees-returns-in-Seq : goal.append_callees-returns-in-Seq

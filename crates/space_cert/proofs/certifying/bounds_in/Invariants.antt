@@ -1,6 +1,5 @@
 use Rattle.std.proofs.Common.{◌≡◌, reverse, take}
-use Rattle.space_cert.specs.Order.{bounds_by_needs}
-use Rattle.space_cert.specs.Internal.SearchView.{seen_calls}
+use Rattle.space_cert.{specs.Order.bounds_by_needs, specs.Internal.SearchView.seen_calls}
 use Rattle.space_cert.proofs.certifying.bounds_in.Given as goal
 
 abbrev pub invariant-loop-procedure : goal.invariant-loop-procedure

@@ -1,11 +1,7 @@
-use Rattle.std.proofs.Common.{length, ap, arith, subst}
-use Rattle.std.proofs.lemmas.List.{length-map}
-use Rattle.std.specs.Result.{MatchResult}
-use Rattle.gypsy_syntax.specs.Resolved.{procedure_of, program_of}
-use Rattle.gypsy_syntax.specs.Views.SourceView.{source_of}
+use Rattle.std.{proofs.Common.{length, ap, arith, subst}, proofs.lemmas.List.length-map, specs.Result.MatchResult}
+use Rattle.gypsy_syntax.{specs.Resolved.{procedure_of, program_of}, specs.Views.SourceView.source_of}
 use Rattle.gypsy_space.specs.Nodes.{seen_proc}
-use Rattle.space_cert.specs.declared.certificate.Certificate.{Certificate}
-use Rattle.space_cert.specs.Least.{AreLeastBounds, IsCertFaultUnless}
+use Rattle.space_cert.{specs.declared.certificate.Certificate.Certificate, specs.Least.{AreLeastBounds, IsCertFaultUnless}}
 use Rattle.space_cert.proofs.CertifiedLaws.{certified_gives, fault_there}
 use Rattle.space_cert.proofs.certifying.certify.Goals as goal
 

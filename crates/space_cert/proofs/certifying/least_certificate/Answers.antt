@@ -1,13 +1,8 @@
-use Rattle.std.proofs.Common.{◌≡◌, ◌<◌, ◌≤◌, length, reverse, take, None, sym, ◌∙◌, subst, arith, rules}
-use Rattle.std.proofs.lemmas.List.{length-map}
-use Rattle.std.specs.List.{All}
+use Rattle.std.{proofs.Common.{◌≡◌, ◌<◌, ◌≤◌, length, reverse, take, None, sym, ◌∙◌, subst, arith, rules}, proofs.lemmas.List.length-map, specs.List.All}
 use Rattle.gypsy_space.specs.Nodes.{seen_proc, seen_program}
-use Rattle.space_cert.specs.Least.{AreLeastBounds}
-use Rattle.space_cert.specs.Order.{AreBounds, bounds_by_needs}
-use Rattle.space_cert.specs.Internal.SearchState.{IsFound}
-use Rattle.space_cert.specs.Internal.SearchView.{AreCalls, seen_calls}
-use Rattle.space_cert.proofs.BoundedLaws.{all_bounds}
-use Rattle.space_cert.proofs.CertifyLaws.{calls_there, order_below, prefix_bounds, all_small, is_least, is_first}
+use Rattle.space_cert.{specs.Least.AreLeastBounds, specs.Order.{AreBounds, bounds_by_needs}, specs.Internal.SearchState.IsFound}
+use Rattle.space_cert.{specs.Internal.SearchView.{AreCalls, seen_calls}, proofs.BoundedLaws.all_bounds, proofs.CertifyLaws.{calls_there, order_below}}
+use Rattle.space_cert.proofs.CertifyLaws.{prefix_bounds, all_small, is_least, is_first}
 use Rattle.space_cert.proofs.certifying.least_certificate.Goals as goal
 
 pub call_order-requires-clause-calls : goal.call_order-requires-clause-calls

@@ -1,6 +1,5 @@
 use Rattle.std.proofs.Common.{subst}
-use Rattle.space_cert.proofs.NeverLaws.{never}
-use Rattle.space_cert.proofs.StepLaws.{MoveCovered, start_covered, step_covered, call_on_top}
+use Rattle.space_cert.{proofs.NeverLaws.never, proofs.StepLaws.{MoveCovered, start_covered, step_covered, call_on_top}}
 use Rattle.space_cert.proofs.laws.certificates_hold.Goals as goal
 
 pub returns-clause-start : goal.returns-clause-start

@@ -1,5 +1,4 @@
-use Rattle.space_cert.proofs.AcceptLaws.{covered_is}
-use Rattle.space_cert.proofs.CertifiedLaws.{certified_is}
+use Rattle.space_cert.{proofs.AcceptLaws.covered_is, proofs.CertifiedLaws.certified_is}
 use Rattle.space_cert.proofs.laws.computed_as_defined.Goals as goal
 
 pub returns-clause-certified : goal.returns-clause-certified

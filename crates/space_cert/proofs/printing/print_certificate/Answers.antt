@@ -1,11 +1,7 @@
-use Rattle.std.proofs.Common.{◌≡◌, ◌≤◌, ◌^◌, ◌++◌, length, ap, sym, ◌∙◌, subst}
-use Rattle.std.proofs.lemmas.List.{length-map}
-use Rattle.gypsy_syntax.specs.Resolved.{procedure_names}
-use Rattle.gypsy_syntax.specs.Views.SourceView.{proc_of, source_of}
-use Rattle.gypsy_syntax.specs.Sources.{ProcOf}
+use Rattle.std.{proofs.Common.{◌≡◌, ◌≤◌, ◌^◌, ◌++◌, length, ap, sym, ◌∙◌, subst}, proofs.lemmas.List.length-map}
+use Rattle.gypsy_syntax.{specs.Resolved.procedure_names, specs.Views.SourceView.{proc_of, source_of}, specs.Sources.ProcOf}
 use Rattle.gypsy_space.specs.Callees.{names_of}
-use Rattle.space_cert.specs.CertText.{bounds_in, certificate_text}
-use Rattle.space_cert.proofs.NameLaws.{names_same, own_names, are_names, few_names}
+use Rattle.space_cert.{specs.CertText.{bounds_in, certificate_text}, proofs.NameLaws.{names_same, own_names, are_names, few_names}}
 use Rattle.space_cert.proofs.ReadAgainLaws.{printed_reads, printed_short}
 use Rattle.space_cert.proofs.printing.print_certificate.Goals as goal
 

@@ -1,11 +1,7 @@
 use Rattle.std.proofs.Common.{◌≡◌, ◌++◌, None, Some, List, get_or, ap, sym, ◌∙◌, arith}
-use Rattle.stack_text.specs.Trees.{Node}
-use Rattle.stack_text.specs.TreeText.{items_text}
-use Rattle.stack_text.specs.Views.TreeView.{nodes}
-use Rattle.stack_text.specs.Grammar.Printed.{items_after}
+use Rattle.stack_text.{specs.Trees.Node, specs.TreeText.items_text, specs.Views.TreeView.nodes, specs.Grammar.Printed.items_after}
 use Rattle.gypsy_space.specs.Callees.{names_of}
-use Rattle.space_cert.specs.CertText.{entry_trees}
-use Rattle.space_cert.proofs.PrintedLaws.{left_out, printed_next, printed_end}
+use Rattle.space_cert.{specs.CertText.entry_trees, proofs.PrintedLaws.{left_out, printed_next, printed_end}}
 use Rattle.space_cert.proofs.printing.print_entries.Goals as goal
 
 pub loop-index-preserved-in_default : goal.loop-index-preserved-in_default

@@ -1,10 +1,7 @@
 use Rattle.std.proofs.Common.{◌≡◌, ◌++◌, ◌≤◌}
-use Rattle.stack_text.specs.TreeText.{items_text}
-use Rattle.stack_text.specs.Views.TreeView.{nodes}
-use Rattle.stack_text.specs.Grammar.Printed.{items_after}
+use Rattle.stack_text.{specs.TreeText.items_text, specs.Views.TreeView.nodes, specs.Grammar.Printed.items_after}
 use Rattle.gypsy_space.specs.Callees.{names_of}
-use Rattle.space_cert.specs.CertText.{entry_trees}
-use Rattle.space_cert.proofs.PrintedLaws.{entries_left}
+use Rattle.space_cert.{specs.CertText.entry_trees, proofs.PrintedLaws.entries_left}
 use Rattle.space_cert.proofs.printing.print_entries.Given as goal
 
 -- what is printed, and the entries that are left, are all

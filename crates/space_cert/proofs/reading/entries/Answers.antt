@@ -1,12 +1,8 @@
-use Rattle.std.proofs.Common.{◌≡◌, length, replicate, None, Ok, ap, ◌∙◌, subst, rules}
-use Rattle.std.proofs.lemmas.List.{length-set, length-replicate}
+use Rattle.std.{proofs.Common.{◌≡◌, length, replicate, None, Ok, ap, ◌∙◌, subst, rules}, proofs.lemmas.List.{length-set, length-replicate}}
 use Rattle.std.proofs.lemmas.Result.{err_from_is_err_and}
-use Rattle.stack_text.specs.Gives.{FailsUnless}
-use Rattle.stack_text.specs.Views.TreeView.{node_of, nodes_of}
-use Rattle.space_cert.specs.Bounded.{are_bounds}
-use Rattle.space_cert.specs.Covers.{no_bounds}
-use Rattle.space_cert.specs.CertText.{entry_at, fault_of, with_entries}
-use Rattle.space_cert.proofs.TextLaws.{entry_next, entry_stops, entries_end, none_within, set_within}
+use Rattle.stack_text.{specs.Gives.FailsUnless, specs.Views.TreeView.{node_of, nodes_of}}
+use Rattle.space_cert.{specs.Bounded.are_bounds, specs.Covers.no_bounds, specs.CertText.{entry_at, fault_of, with_entries}, proofs.TextLaws.entry_next}
+use Rattle.space_cert.proofs.TextLaws.{entry_stops, entries_end, none_within, set_within}
 use Rattle.space_cert.proofs.reading.entries.Goals as goal
 
 pub loop-tree-init : goal.loop-tree-init

@@ -1,8 +1,6 @@
 use Rattle.std.proofs.Common.{◌≡◌, drop, length, true}
 use Rattle.stack_text.specs.Views.TreeView.{nodes_of}
-use Rattle.space_cert.specs.Bounded.{are_bounds}
-use Rattle.space_cert.specs.Covers.{no_bounds}
-use Rattle.space_cert.specs.CertText.{with_entries}
+use Rattle.space_cert.{specs.Bounded.are_bounds, specs.Covers.no_bounds, specs.CertText.with_entries}
 use Rattle.space_cert.proofs.reading.entries.Given as goal
 
 abbrev pub invariant-loop-tree : goal.invariant-loop-tree

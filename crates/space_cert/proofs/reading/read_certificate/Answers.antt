@@ -1,14 +1,8 @@
-use Rattle.std.proofs.Common.{◌≡◌, length, ap, sym, ◌∙◌, subst}
-use Rattle.std.proofs.lemmas.List.{length-map}
-use Rattle.std.proofs.lemmas.Result.{IfOk-weaker}
-use Rattle.std.specs.List.{IsDistinct}
+use Rattle.std.{proofs.Common.{◌≡◌, length, ap, sym, ◌∙◌, subst}, proofs.lemmas.List.length-map, proofs.lemmas.Result.IfOk-weaker, specs.List.IsDistinct}
 use Rattle.std.specs.Str.{bytes_eq}
-use Rattle.gypsy_syntax.specs.Resolved.{procedure_names}
-use Rattle.gypsy_syntax.specs.Views.SourceView.{source_of}
-use Rattle.gypsy_syntax.specs.Sources.{ProcOf}
+use Rattle.gypsy_syntax.{specs.Resolved.procedure_names, specs.Views.SourceView.source_of, specs.Sources.ProcOf}
 use Rattle.gypsy_space.specs.Callees.{names_of}
-use Rattle.space_cert.specs.CertText.{GivesCertificateTextUnless, bounds_in}
-use Rattle.space_cert.proofs.NameLaws.{names_same, own_names}
+use Rattle.space_cert.{specs.CertText.{GivesCertificateTextUnless, bounds_in}, proofs.NameLaws.{names_same, own_names}}
 use Rattle.space_cert.proofs.reading.read_certificate.Goals as goal
 
 pub names-requires : goal.names-requires

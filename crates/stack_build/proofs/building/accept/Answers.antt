@@ -1,7 +1,5 @@
-use Rattle.std.proofs.Common.{◌≡◌, ◌∙◌, ap, sym, Ok}
-use Rattle.std.proofs.lemmas.Result.{err_from_is_err_and}
-use Rattle.gypsy_syntax.specs.declared.proc.Source.{Source}
-use Rattle.gypsy_syntax.specs.Views.SourceView.{source_of}
+use Rattle.std.{proofs.Common.{◌≡◌, ◌∙◌, ap, sym, Ok}, proofs.lemmas.Result.err_from_is_err_and}
+use Rattle.gypsy_syntax.{specs.declared.proc.Source.Source, specs.Views.SourceView.source_of}
 use Rattle.stack_build.proofs.BuildLaws.{reading_fails, checking_fails, accepted_found}
 use Rattle.stack_build.proofs.building.accept.Goals as goal
 

@@ -1,11 +1,9 @@
-use Rattle.std.proofs.Common.{subst}
-use Rattle.std.proofs.lemmas.Result.{err_from_is_err_and}
+use Rattle.std.{proofs.Common.subst, proofs.lemmas.Result.err_from_is_err_and}
 use Rattle.piton_check.specs.PitonChecking.{IsChecked}
 use Rattle.piton_semantics.specs.Fits.{system_in}
 use Rattle.gypsy_space.specs.Needs.{stack_sizes}
 use Rattle.gypsy_syntax.specs.Views.SourceView.{source_of}
-use Rattle.stack_build.proofs.BuildLaws.{generating_fails, linking_fails, built_is}
-use Rattle.stack_build.proofs.BuildsLaws.{made_builds}
+use Rattle.stack_build.{proofs.BuildLaws.{generating_fails, linking_fails, built_is}, proofs.BuildsLaws.made_builds}
 use Rattle.stack_build.proofs.building.build_program.Goals as goal
 
 pub returns-in_err-piton-clause-value : goal.returns-in_err-piton-clause-value

@@ -1,9 +1,6 @@
-use Rattle.std.proofs.Common.{subst, sym, ◌∙◌, Result, Ok, Err}
-use Rattle.std.proofs.lemmas.Result.{err_from_is_err_and}
+use Rattle.std.{proofs.Common.{subst, sym, ◌∙◌, Result, Ok, Err}, proofs.lemmas.Result.err_from_is_err_and}
 use Rattle.gypsy_syntax.specs.Views.SourceView.{source_of}
-use Rattle.stack_build.specs.declared.fault.BuildFault.{BuildFault}
-use Rattle.stack_build.specs.Build.{GivesBuiltUnless, BuiltOf}
-use Rattle.stack_build.proofs.BuildLaws.{text_fails, text_builds}
+use Rattle.stack_build.{specs.declared.fault.BuildFault.BuildFault, specs.Build.{GivesBuiltUnless, BuiltOf}, proofs.BuildLaws.{text_fails, text_builds}}
 use Rattle.stack_build.proofs.ShortLaws.{text_builds_if}
 use Rattle.stack_build.proofs.building.build_with_origins.Goals as goal
 

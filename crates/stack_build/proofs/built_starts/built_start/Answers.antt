@@ -1,10 +1,8 @@
-use Rattle.std.proofs.Common.{rules, ◌≡◌, subst}
-use Rattle.std.proofs.lemmas.Result.{err_from_is_err_and}
+use Rattle.std.{proofs.Common.{rules, ◌≡◌, subst}, proofs.lemmas.Result.err_from_is_err_and}
 use Rattle.fm_loader.proofs.ImageLaws.{own_names}
 use Rattle.gypsy_space.specs.Needs.{stack_sizes}
 use Rattle.gypsy_syntax.specs.Views.SourceView.{source_of}
-use Rattle.stack_build.specs.Starts.{CanRun}
-use Rattle.stack_build.proofs.StartLaws.{can_run, values_failed}
+use Rattle.stack_build.{specs.Starts.CanRun, proofs.StartLaws.{can_run, values_failed}}
 use Rattle.stack_build.proofs.built_starts.built_start.Goals as goal
 
 pub read_values-requires-clause-names : goal.read_values-requires-clause-names

@@ -1,11 +1,7 @@
 use Rattle.std.proofs.Common.{◌≡◌, ◌∙◌, sym, ap, subst, List}
 use Rattle.fm_loader.specs.Values.{HaveOwnNames}
-use Rattle.gypsy_syntax.specs.declared.literal.Decl.{Decl}
-use Rattle.gypsy_syntax.specs.declared.proc.Source.{Source}
-use Rattle.gypsy_syntax.specs.Views.SourceView.{source_of}
-use Rattle.stack_build.specs.Formals.{shown_formals}
-use Rattle.stack_build.specs.Image.{slots_from, formal_slots}
-use Rattle.stack_build.specs.Internal.Showing.{HaveShortArrays}
+use Rattle.gypsy_syntax.{specs.declared.literal.Decl.Decl, specs.declared.proc.Source.Source, specs.Views.SourceView.source_of}
+use Rattle.stack_build.{specs.Formals.shown_formals, specs.Image.{slots_from, formal_slots}, specs.Internal.Showing.HaveShortArrays}
 use Rattle.stack_build.proofs.TakesLaws.{formals_short, formals_own_names, fits_from}
 use Rattle.stack_build.proofs.formals.read_formals.Goals as goal
 

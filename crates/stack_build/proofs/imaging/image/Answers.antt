@@ -1,21 +1,12 @@
 use Rattle.std.proofs.Common.{◌≡◌, ◌≤◌, ◌^◌, ◌-◌, ◌∙◌, ap, subst, sym, true, ℕ, List, ◌∷◌, arith}
 use Rattle.fm_image.specs.Limits.{are_tables}
 use Rattle.display_maps.specs.Reading.{space_name}
-use Rattle.piton_check.specs.Instruction.{SystemView}
-use Rattle.piton_check.specs.Sound.{IsSound}
-use Rattle.piton_semantics.specs.Fits.{system_in}
-use Rattle.piton_semantics.specs.Placed.{placed}
-use Rattle.gypsy_syntax.specs.declared.literal.Decl.{Decl}
-use Rattle.gypsy_syntax.specs.declared.proc.Source.{Source}
-use Rattle.gypsy_syntax.specs.Sources.{SourceOf}
-use Rattle.gypsy_syntax.specs.Views.SourceView.{source_of}
-use Rattle.stack_build.specs.Formals.{shown_formals, shown_conditions}
-use Rattle.stack_build.specs.Image.{slots_from, source_tables}
-use Rattle.stack_build.specs.Internal.Showing.{HaveShortArrays}
-use Rattle.stack_build.proofs.ImageLimits.{placed_window, generated_shows}
-use Rattle.stack_build.proofs.PartsLaws.{areas_below, end_below, parts_are, parts_fit}
-use Rattle.stack_build.proofs.TableLaws.{tables_fit}
-use Rattle.stack_build.proofs.TakesLaws.{formals_short}
+use Rattle.piton_check.{specs.Instruction.SystemView, specs.Sound.IsSound}
+use Rattle.piton_semantics.{specs.Fits.system_in, specs.Placed.placed}
+use Rattle.gypsy_syntax.{specs.declared.literal.Decl.Decl, specs.declared.proc.Source.Source, specs.Sources.SourceOf, specs.Views.SourceView.source_of}
+use Rattle.stack_build.{specs.Formals.{shown_formals, shown_conditions}, specs.Image.{slots_from, source_tables}, specs.Internal.Showing.HaveShortArrays}
+use Rattle.stack_build.{proofs.ImageLimits.{placed_window, generated_shows}, proofs.PartsLaws.{areas_below, end_below, parts_are, parts_fit}}
+use Rattle.stack_build.{proofs.TableLaws.tables_fit, proofs.TakesLaws.formals_short}
 use Rattle.stack_build.proofs.imaging.image.Goals as goal
 
 pub overflow_cast-result : goal.overflow_cast-result

@@ -1,8 +1,5 @@
-use Rattle.std.proofs.Common.{Bor, ◌≡◌, ◌∙◌, Option, Some, None, List, bytes_eq, refl, ap}
-use Rattle.std.specs.Prelude.{option_map}
-use Rattle.std.specs.List.{find}
-use Rattle.gypsy_syntax.specs.declared.proc.Proc.{Proc}
-use Rattle.gypsy_syntax.specs.Views.SourceView.{proc_of}
+use Rattle.std.{proofs.Common.{Bor, ◌≡◌, ◌∙◌, Option, Some, None, List, bytes_eq, refl, ap}, specs.Prelude.option_map, specs.List.find}
+use Rattle.gypsy_syntax.{specs.declared.proc.Proc.Proc, specs.Views.SourceView.proc_of}
 use Rattle.stack_build.proofs.ShownLaws.{main_found}
 use Rattle.stack_build.proofs.shown.main_of.Goals as goal
 

@@ -1,13 +1,9 @@
-use Rattle.std.proofs.Common.{◌≡◌, ◌<◌, ◌++◌, ◌∷◌, ◌∙◌, [], List, Some, None, length, map, get_or, sym, ap, arith}
-use Rattle.std.specs.Prelude.{slice_get}
+use Rattle.std.{proofs.Common.{◌≡◌, ◌<◌, ◌++◌, ◌∷◌, ◌∙◌, [], List, Some, None, length, map, get_or, sym, ap, arith}, specs.Prelude.slice_get}
 use Rattle.std.proofs.lemmas.List.{get_or-map, length-map}
 use Rattle.fm_image.specs.Procedure.{ProcedureOf}
-use Rattle.gypsy_syntax.specs.Sources.{ProcOf}
-use Rattle.gypsy_syntax.specs.Views.SourceView.{proc_of}
-use Rattle.gypsy_space.specs.declared.program.Procedure.{Procedure}
-use Rattle.gypsy_space.specs.Nodes.{seen_program}
-use Rattle.stack_build.specs.Image.{procedure_info}
-use Rattle.stack_build.proofs.ListingLaws.{procedure_is, procedure_next, names_at, not_missing, few_at, few_found}
+use Rattle.gypsy_syntax.{specs.Sources.ProcOf, specs.Views.SourceView.proc_of}
+use Rattle.gypsy_space.{specs.declared.program.Procedure.Procedure, specs.Nodes.seen_program}
+use Rattle.stack_build.{specs.Image.procedure_info, proofs.ListingLaws.{procedure_is, procedure_next, names_at, not_missing, few_at, few_found}}
 use Rattle.stack_build.proofs.tables.procedures.Goals as goal
 
 pub procedure-requires : goal.procedure-requires

@@ -1,6 +1,5 @@
 use Rattle.std.proofs.Common.{arith}
-use Rattle.stack_build.specs.Internal.Listing.{offset_in}
-use Rattle.stack_build.proofs.ListingLaws.{one_more, info_next}
+use Rattle.stack_build.{specs.Internal.Listing.offset_in, proofs.ListingLaws.{one_more, info_next}}
 use Rattle.stack_build.proofs.tables.push_formals.Goals as goal
 
 pub loop-formal-preserved : goal.loop-formal-preserved

@@ -1,6 +1,5 @@
 use Rattle.std.proofs.Common.{arith}
-use Rattle.stack_build.specs.Internal.Listing.{offset_in}
-use Rattle.stack_build.proofs.ListingLaws.{one_more, info_next}
+use Rattle.stack_build.{specs.Internal.Listing.offset_in, proofs.ListingLaws.{one_more, info_next}}
 use Rattle.stack_build.proofs.tables.push_locals.Goals as goal
 
 pub loop-local-preserved : goal.loop-local-preserved

@@ -1,13 +1,8 @@
-use Rattle.std.proofs.Common.{◌≡◌, ◌∙◌, List, true, map, sym, ap, subst, rules}
-use Rattle.std.specs.List.{list_all}
+use Rattle.std.{proofs.Common.{◌≡◌, ◌∙◌, List, true, map, sym, ap, subst, rules}, specs.List.list_all}
 use Rattle.fm_image.specs.Limits.{is_place}
-use Rattle.gypsy_syntax.specs.declared.proc.Proc.{Proc}
-use Rattle.gypsy_syntax.specs.declared.proc.Source.{Source}
-use Rattle.gypsy_syntax.specs.Views.SourceView.{proc_of, source_of}
+use Rattle.gypsy_syntax.{specs.declared.proc.Proc.Proc, specs.declared.proc.Source.Source, specs.Views.SourceView.{proc_of, source_of}}
 use Rattle.gypsy_codegen.specs.declared.marking.MarkAt.{MarkAt}
-use Rattle.stack_build.specs.Image.{procedure_infos}
-use Rattle.stack_build.specs.Internal.Listing.{Declares}
-use Rattle.stack_build.proofs.ListingLaws.{declares, tables_are}
+use Rattle.stack_build.{specs.Image.procedure_infos, specs.Internal.Listing.Declares, proofs.ListingLaws.{declares, tables_are}}
 use Rattle.stack_build.proofs.tables.tables.Goals as goal
 
 pub procedures-requires : goal.procedures-requires

@@ -1,6 +1,4 @@
-use Rattle.std.proofs.Common.{◌≡◌, ◌++◌, [], ◌∷◌, List, get_or, map, refl, rules}
-use Rattle.std.specs.Prelude.{ℤ, pos}
-use Rattle.std.proofs.lemmas.List.{get_or_default}
+use Rattle.std.{proofs.Common.{◌≡◌, ◌++◌, [], ◌∷◌, List, get_or, map, refl, rules}, specs.Prelude.{ℤ, pos}, proofs.lemmas.List.get_or_default}
 use Rattle.gypsy_predef.specs.Runs.{word_of_item}
 use Rattle.gypsy_codegen.proofs.WriteLaws.{more_next}
 use Rattle.stack_build.proofs.value_words.push_items.Goals as goal

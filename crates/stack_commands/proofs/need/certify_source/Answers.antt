@@ -1,7 +1,5 @@
-use Rattle.std.proofs.Common.{◌∙◌, subst}
-use Rattle.std.proofs.lemmas.List.{length-map}
-use Rattle.gypsy_syntax.specs.Resolved.{procedure_of, program_of}
-use Rattle.gypsy_syntax.specs.Views.SourceView.{source_of}
+use Rattle.std.{proofs.Common.{◌∙◌, subst}, proofs.lemmas.List.length-map}
+use Rattle.gypsy_syntax.{specs.Resolved.{procedure_of, program_of}, specs.Views.SourceView.source_of}
 use Rattle.space_cert.specs.Least.{IsThere}
 use Rattle.stack_commands.proofs.need.certify_source.Goals as goal
 

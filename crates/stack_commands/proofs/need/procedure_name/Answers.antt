@@ -1,8 +1,5 @@
-use Rattle.std.proofs.Common.{rules, ◌≡◌, ◌<◌, List, length, sym, subst, arith}
-use Rattle.std.proofs.lemmas.List.{length-map}
-use Rattle.gypsy_syntax.specs.declared.proc.Proc.{Proc}
-use Rattle.gypsy_syntax.specs.Resolved.{procedure_of}
-use Rattle.gypsy_syntax.specs.Views.SourceView.{proc_of, source_of}
+use Rattle.std.{proofs.Common.{rules, ◌≡◌, ◌<◌, List, length, sym, subst, arith}, proofs.lemmas.List.length-map}
+use Rattle.gypsy_syntax.{specs.declared.proc.Proc.Proc, specs.Resolved.procedure_of, specs.Views.SourceView.{proc_of, source_of}}
 use Rattle.stack_commands.proofs.need.procedure_name.Goals as goal
 
 pub procedure_at-requires : goal.procedure_at-requires

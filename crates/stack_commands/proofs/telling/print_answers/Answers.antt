@@ -1,5 +1,4 @@
-use Rattle.std.proofs.Common.{rules, arith}
-use Rattle.std.proofs.lemmas.Result.{err_from_is_err_and}
+use Rattle.std.{proofs.Common.{rules, arith}, proofs.lemmas.Result.err_from_is_err_and}
 use Rattle.level_debuggers.proofs.ScriptLaws.{text_stays}
 use Rattle.stack_commands.proofs.TranscriptLaws.{all_said, ended, next, partly_printed, stopped}
 use Rattle.stack_commands.proofs.telling.print_answers.Goals as goal

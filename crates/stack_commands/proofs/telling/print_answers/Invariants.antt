@@ -1,7 +1,5 @@
-use Rattle.std.proofs.Common.{◌≤◌, drop}
-use Rattle.std.specs.Prelude.{[]}
-use Rattle.level_debuggers.specs.Views.Sessions.{IsSession, session_of}
-use Rattle.level_debuggers.specs.Transcripts.{followed}
+use Rattle.std.{proofs.Common.{◌≤◌, drop}, specs.Prelude.[]}
+use Rattle.level_debuggers.{specs.Views.Sessions.{IsSession, session_of}, specs.Transcripts.followed}
 use Rattle.stack_commands.proofs.TranscriptLaws.{SoFar}
 use Rattle.stack_commands.proofs.telling.print_answers.Given as goal
 

@@ -1,5 +1,4 @@
-use Rattle.std.proofs.Common.{arith}
-use Rattle.std.proofs.lemmas.Result.{err_from_is_err_and}
+use Rattle.std.{proofs.Common.arith, proofs.lemmas.Result.err_from_is_err_and}
 use Rattle.command_line.proofs.GatherLaws.{rose_from}
 use Rattle.stack_commands.proofs.TranscriptLaws.{reply_begins, reply_cut, reply_ends, reply_printed, reply_took}
 use Rattle.stack_commands.proofs.telling.print_reply.Goals as goal

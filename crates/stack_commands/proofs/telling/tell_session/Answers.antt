@@ -1,8 +1,6 @@
-use Rattle.std.proofs.Common.{◌≡◌, refl}
-use Rattle.std.specs.Prelude.{IfOk, OnErr, OnOk}
+use Rattle.std.{proofs.Common.{◌≡◌, refl}, specs.Prelude.{IfOk, OnErr, OnOk}}
 use Rattle.stack_shelf.specs.Shelf.{appended, PrefixAppended}
-use Rattle.command_line.specs.Devices.{lines_of, took_each}
-use Rattle.command_line.proofs.PrintLaws.{nothing_printed}
+use Rattle.command_line.{specs.Devices.{lines_of, took_each}, proofs.PrintLaws.nothing_printed}
 use Rattle.command_replies.specs.Replies.{reply_text, status_of}
 use Rattle.stack_commands.proofs.TranscriptLaws.{replies_as}
 use Rattle.stack_commands.proofs.telling.tell_session.Goals as goal

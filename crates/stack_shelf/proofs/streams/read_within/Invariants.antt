@@ -1,5 +1,4 @@
-use Rattle.std.proofs.Common.{◌≤◌, length}
-use Rattle.std.specs.Io.KnownBytes.{Consumes}
+use Rattle.std.{proofs.Common.{◌≤◌, length}, specs.Io.KnownBytes.Consumes}
 use Rattle.stack_shelf.proofs.streams.read_within.Given as goal
 
 -- what was read is within the limit, and is what the reader has given

@@ -1,8 +1,5 @@
 use Rattle.std.proofs.Common.{◌≡◌, ℕ, ◌-◌, length, take, drop, List, ◌++◌, Option, sym, ap, ◌∙◌, subst, append_assoc, take-append-drop}
-use Rattle.std.proofs.Math.Seq.{take-append_seam}
-use Rattle.std.proofs.lemmas.List.{take_rest}
-use Rattle.std.proofs.KnownBytes.{Appends-trans, Appends-kept}
-use Rattle.std.specs.Io.KnownBytes.{Appends}
+use Rattle.std.{proofs.Math.Seq.take-append_seam, proofs.lemmas.List.take_rest, proofs.KnownBytes.{Appends-trans, Appends-kept}, specs.Io.KnownBytes.Appends}
 use Rattle.stack_shelf.proofs.streams.write_whole.Goals.{in-Ok, in-Err}
 use Rattle.stack_shelf.proofs.streams.write_whole.Goals as goal
 

@@ -1,5 +1,4 @@
-use Rattle.std.proofs.Common.{◌≡◌, ℕ, List, ◌++◌}
-use Rattle.std.specs.Io.KnownBytes.{Appends}
+use Rattle.std.{proofs.Common.{◌≡◌, ℕ, List, ◌++◌}, specs.Io.KnownBytes.Appends}
 use Rattle.stack_shelf.proofs.streams.write_whole.Given as goal
 
 -- the bytes before the rest were appended

@@ -1,5 +1,4 @@
-use Rattle.stack_text.proofs.FaultLaws.{tree_iff_no_fault}
-use Rattle.stack_text.proofs.TreeLaws.{one_tree}
+use Rattle.stack_text.{proofs.FaultLaws.tree_iff_no_fault, proofs.TreeLaws.one_tree}
 use Rattle.stack_text.proofs.laws.tree_or_fault.Goals as goal
 
 pub returns-clause-some : goal.returns-clause-some

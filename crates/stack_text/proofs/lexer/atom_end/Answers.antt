@@ -1,6 +1,6 @@
 use Rattle.std.proofs.Common.{◌∙◌, sym, arith}
-use Rattle.stack_text.proofs.TokenLaws.{atom_goes_on, run_goes_on, atom_over_at, run_over_at, tokens_past, run_past, run_ends}
-use Rattle.stack_text.specs.Tokens.{in_atom, between}
+use Rattle.stack_text.{proofs.TokenLaws.{atom_goes_on, run_goes_on, atom_over_at, run_over_at, tokens_past, run_past, run_ends}, specs.Tokens.in_atom}
+use Rattle.stack_text.specs.Tokens.{between}
 use Rattle.stack_text.proofs.lexer.atom_end.Goals as goal
 
 pub returns-in_default : goal.returns-in_default

@@ -1,5 +1,4 @@
-use Rattle.std.proofs.Common.{◌≡◌, ◌≤◌, ◌-◌, ◌++◌, length, drop}
-use Rattle.std.specs.List.{slice_range}
+use Rattle.std.{proofs.Common.{◌≡◌, ◌≤◌, ◌-◌, ◌++◌, length, drop}, specs.List.slice_range}
 use Rattle.stack_text.specs.Tokens.{tokens, atom_run, in_atom}
 use Rattle.stack_text.proofs.lexer.atom_end.Given as goal
 

@@ -1,6 +1,5 @@
 use Rattle.std.proofs.Common.{◌∙◌, arith}
-use Rattle.stack_text.proofs.TokenLaws.{blank, comment_begins, one_byte_token, atom_token, atom_is_long, tokens_past}
-use Rattle.stack_text.specs.Tokens.{between}
+use Rattle.stack_text.{proofs.TokenLaws.{blank, comment_begins, one_byte_token, atom_token, atom_is_long, tokens_past}, specs.Tokens.between}
 use Rattle.stack_text.specs.declared.class.Class.TheVariants.{Opening, Closing, Invalid}
 use Rattle.stack_text.proofs.lexer.next_token.Goals as goal
 

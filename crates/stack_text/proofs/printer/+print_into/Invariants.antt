@@ -1,6 +1,5 @@
 use Rattle.std.proofs.Common.{◌≡◌, ◌++◌, ◌∷◌, take}
-use Rattle.stack_text.specs.TreeText.{items_text}
-use Rattle.stack_text.specs.Views.TreeView.{owned_nodes}
+use Rattle.stack_text.{specs.TreeText.items_text, specs.Views.TreeView.owned_nodes}
 use Rattle.stack_text.proofs.printer.+print_into.Given as goal
 
 abbrev pub invariant-loop-index : goal.invariant-loop-index

@@ -1,5 +1,4 @@
-use Rattle.stack_text.specs.Views.TreeView.{owned_node}
-use Rattle.stack_text.proofs.PrintLaws.{tree_text_reads}
+use Rattle.stack_text.{specs.Views.TreeView.owned_node, proofs.PrintLaws.tree_text_reads}
 use Rattle.stack_text.proofs.printer.print_tree.Goals as goal
 
 pub returns-clause-again : goal.returns-clause-again

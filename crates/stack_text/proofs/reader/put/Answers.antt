@@ -1,9 +1,5 @@
-use Rattle.std.proofs.Common.{rules, ◌<◌, ◌-◌, arith, refl, length}
-use Rattle.std.proofs.lemmas.Result.{err_from_is_err_and}
-use Rattle.stack_text.specs.Internal.OpenLists.{opened}
-use Rattle.stack_text.proofs.HeapLaws.{refuses_less, few_items}
-use Rattle.std.specs.Prelude.{vec_len}
-use Rattle.stack_text.proofs.OpenListLaws.{puts_in_place}
+use Rattle.std.{proofs.Common.{rules, ◌<◌, ◌-◌, arith, refl, length}, proofs.lemmas.Result.err_from_is_err_and, specs.Prelude.vec_len}
+use Rattle.stack_text.{specs.Internal.OpenLists.opened, proofs.HeapLaws.{refuses_less, few_items}, proofs.OpenListLaws.puts_in_place}
 use Rattle.stack_text.proofs.reader.put.Goals as goal
 
 pub returns-in_ok-push-in-Some-clause-value : goal.returns-in_ok-push-in-Some-clause-value

@@ -1,12 +1,7 @@
-use Rattle.std.proofs.Common.{◌∙◌, ap, List, map, ◌++◌, drop, length}
-use Rattle.stack_text.proofs.HeapLaws.{refuses_less, few_opened}
-use Rattle.std.proofs.lemmas.Result.{err_from_is_err_and}
-use Rattle.stack_text.specs.Tokens.{Token, tokens, between}
-use Rattle.stack_text.specs.Trees.{as_kept}
-use Rattle.stack_text.specs.TextFaults.{first_fault}
-use Rattle.stack_text.specs.Internal.OpenLists.{opened, context}
-use Rattle.stack_text.specs.Internal.TokenSpans.{token_in}
-use Rattle.stack_text.proofs.OpenListLaws.{text_ends, text_finishes, kept_goes_on, unfinished}
+use Rattle.std.{proofs.Common.{◌∙◌, ap, List, map, ◌++◌, drop, length}, proofs.lemmas.Result.err_from_is_err_and}
+use Rattle.stack_text.{proofs.HeapLaws.{refuses_less, few_opened}, specs.Tokens.{Token, tokens, between}, specs.Trees.as_kept, specs.TextFaults.first_fault}
+use Rattle.stack_text.{specs.Internal.OpenLists.{opened, context}, specs.Internal.TokenSpans.token_in, proofs.OpenListLaws.{text_ends, text_finishes}}
+use Rattle.stack_text.proofs.OpenListLaws.{kept_goes_on, unfinished}
 use Rattle.stack_text.proofs.reader.read.Goals as goal
 
 pub returns-in_err-tree-clause-value : goal.returns-in_err-tree-clause-value

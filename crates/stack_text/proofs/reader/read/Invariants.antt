@@ -1,8 +1,6 @@
 use Rattle.std.proofs.Common.{◌≡◌, ◌≤◌, ◌-◌, ◌++◌, map, length, drop}
-use Rattle.stack_text.specs.Tokens.{tokens, between}
-use Rattle.stack_text.specs.Trees.{as_kept}
-use Rattle.stack_text.specs.TextFaults.{first_fault, text_fault}
-use Rattle.stack_text.specs.Internal.OpenLists.{opened, context}
+use Rattle.stack_text.{specs.Tokens.{tokens, between}, specs.Trees.as_kept, specs.TextFaults.{first_fault, text_fault}, specs.Internal.OpenLists.opened}
+use Rattle.stack_text.specs.Internal.OpenLists.{context}
 use Rattle.stack_text.proofs.reader.read.Given as goal
 
 abbrev pub invariant-loop-found : goal.invariant-loop-found

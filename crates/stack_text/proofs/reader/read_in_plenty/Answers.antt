@@ -1,7 +1,6 @@
 use Rattle.std.proofs.Common.{length}
 use Rattle.stack_heap.specs.Heaps.{RefusesWithin, room_after}
-use Rattle.stack_text.specs.Views.TreeView.{node_of}
-use Rattle.stack_text.proofs.TreeInLaws.{reads_exactly}
+use Rattle.stack_text.{specs.Views.TreeView.node_of, proofs.TreeInLaws.reads_exactly}
 use Rattle.stack_text.proofs.reader.read_in_plenty.Goals as goal
 
 pub returns : goal.returns

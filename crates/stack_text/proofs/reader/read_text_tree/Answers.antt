@@ -1,9 +1,5 @@
-use Rattle.stack_text.proofs.TreeLaws.{is_kept}
-use Rattle.stack_text.proofs.TreeInLaws.{gives_tree}
-use Rattle.stack_text.proofs.ReadLaws.{text_is_well_formed, text_is_in_order}
-use Rattle.stack_text.specs.Trees.{IsWellFormed}
-use Rattle.stack_text.specs.PlaceOrder.{IsInOrder}
-use Rattle.stack_text.specs.Views.TreeView.{node_of}
+use Rattle.stack_text.{proofs.TreeLaws.is_kept, proofs.TreeInLaws.gives_tree, proofs.ReadLaws.{text_is_well_formed, text_is_in_order}, specs.Trees.IsWellFormed}
+use Rattle.stack_text.{specs.PlaceOrder.IsInOrder, specs.Views.TreeView.node_of}
 use Rattle.stack_text.proofs.reader.read_text_tree.Goals as goal
 
 pub returns-clause-value : goal.returns-clause-value

@@ -1,9 +1,5 @@
-use Rattle.stack_text.proofs.TreeLaws.{is_found, is_only, is_kept, reports_fault}
-use Rattle.stack_text.proofs.TreeInLaws.{gives_tree}
-use Rattle.stack_text.proofs.ReadLaws.{text_is_well_formed, text_is_in_order}
-use Rattle.stack_text.specs.Trees.{IsWellFormed}
-use Rattle.stack_text.specs.PlaceOrder.{IsInOrder}
-use Rattle.stack_text.specs.Views.TreeView.{owned_node}
+use Rattle.stack_text.{proofs.TreeLaws.{is_found, is_only, is_kept, reports_fault}, proofs.TreeInLaws.gives_tree, proofs.ReadLaws.text_is_well_formed}
+use Rattle.stack_text.{proofs.ReadLaws.text_is_in_order, specs.Trees.IsWellFormed, specs.PlaceOrder.IsInOrder, specs.Views.TreeView.owned_node}
 use Rattle.stack_text.proofs.reader.read_tree.Goals as goal
 
 pub returns-clause-found : goal.returns-clause-found

@@ -1,8 +1,6 @@
-use Rattle.std.proofs.Common.{arith, refl, length}
-use Rattle.std.proofs.lemmas.Result.{err_from_is_err_and}
-use Rattle.stack_text.specs.Internal.OpenLists.{opened}
-use Rattle.stack_text.proofs.HeapLaws.{refuses_less, few_open, refused_before}
-use Rattle.stack_text.proofs.OpenListLaws.{steps_atom, steps_close, steps_open, steps_deep}
+use Rattle.std.{proofs.Common.{arith, refl, length}, proofs.lemmas.Result.err_from_is_err_and}
+use Rattle.stack_text.{specs.Internal.OpenLists.opened, proofs.HeapLaws.{refuses_less, few_open, refused_before}, proofs.OpenListLaws.{steps_atom, steps_close}}
+use Rattle.stack_text.proofs.OpenListLaws.{steps_open, steps_deep}
 use Rattle.stack_text.proofs.reader.step.Goals as goal
 
 pub returns-in-Some-clause-value : goal.returns-in-Some-clause-value

@@ -1,7 +1,5 @@
-use Rattle.std.proofs.Common.{rules, ◌≡◌, ◌⊎◌, Some, ℕ, List}
-use Rattle.std.proofs.lemmas.Result.{err_from_is_err_and}
-use Rattle.command_line.specs.declared.role.Role.{Role}
-use Rattle.command_line.specs.CommandFiles.{output_of}
+use Rattle.std.{proofs.Common.{rules, ◌≡◌, ◌⊎◌, Some, ℕ, List}, proofs.lemmas.Result.err_from_is_err_and}
+use Rattle.command_line.{specs.declared.role.Role.Role, specs.CommandFiles.output_of}
 use Rattle.cli_stack.proofs.PerformLaws.{gather_reason, fault_reason, save_leaves}
 use Rattle.cli_stack.proofs.driver.perform.perform.Goals as goal
 

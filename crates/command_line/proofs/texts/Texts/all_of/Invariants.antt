@@ -1,5 +1,4 @@
-use Rattle.std.proofs.Common.{◌≡◌, ◌≤◌, ◌++◌, map, length, drop}
-use Rattle.std.specs.Prelude.{◌^◌, All}
+use Rattle.std.{proofs.Common.{◌≡◌, ◌≤◌, ◌++◌, map, length, drop}, specs.Prelude.{◌^◌, All}}
 use Rattle.command_line.specs.Gathered.{texts_of}
 use Rattle.command_line.proofs.texts.Texts.all_of.Given as goal
 

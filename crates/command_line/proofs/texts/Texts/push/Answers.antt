@@ -1,8 +1,6 @@
-use Rattle.std.proofs.Common.{◌≡◌, ◌≤◌, ◌++◌, ◌∷◌, [], ℕ, List, Bool, true, false, cond, length, sym, subst}
-use Rattle.std.specs.Prelude.{All, is_ok}
+use Rattle.std.{proofs.Common.{◌≡◌, ◌≤◌, ◌++◌, ◌∷◌, [], ℕ, List, Bool, true, false, cond, length, sym, subst}, specs.Prelude.{All, is_ok}}
 use Rattle.std.proofs.lemmas.List.Elements.{All-push}
-use Rattle.command_line.specs.declared.role.Role.{Role}
-use Rattle.command_line.specs.Roles.{limit_of}
+use Rattle.command_line.{specs.declared.role.Role.Role, specs.Roles.limit_of}
 use Rattle.command_line.proofs.texts.Texts.push.Goals as goal
 
 abbrev IsWithin : Role × List ℕ → Type 0

@@ -1,7 +1,5 @@
-use Rattle.std.proofs.Common.{sym, ◌∙◌}
-use Rattle.std.proofs.lemmas.Result.{err_from_is_err_and}
-use Rattle.command_line.specs.CommandWords.{spelled, tasks_within}
-use Rattle.command_line.proofs.TaskWordLaws.{task_fails, last_task, next_task, none_left}
+use Rattle.std.{proofs.Common.{sym, ◌∙◌}, proofs.lemmas.Result.err_from_is_err_and}
+use Rattle.command_line.{specs.CommandWords.{spelled, tasks_within}, proofs.TaskWordLaws.{task_fails, last_task, next_task, none_left}}
 use Rattle.command_line.proofs.words.reader.tasks_within.Goals as goal
 
 pub returns-in_err-read : goal.returns-in_err-read

@@ -1,6 +1,5 @@
 use Rattle.std.proofs.Common.{◌≡◌, ◌-◌}
-use Rattle.command_line.specs.CommandWords.{spelled, tasks_within}
-use Rattle.command_line.proofs.TaskWordLaws.{with_tasks}
+use Rattle.command_line.{specs.CommandWords.{spelled, tasks_within}, proofs.TaskWordLaws.with_tasks}
 use Rattle.command_line.proofs.words.reader.tasks_within.Given as goal
 
 -- the tasks so far, and those of the words that are left, are all

@@ -1,6 +1,5 @@
 use Rattle.std.proofs.Common.{rules, ◌≡◌, ◌∙◌, sym, ap, map, find, bytes_eq, option_map, ℕ, List, Vec, Global, Option, Some, None, Bor}
-use Rattle.display_maps.specs.declared.shown.Shown.{Shown}
-use Rattle.display_maps.proofs.ItemLaws.{items_found}
+use Rattle.display_maps.{specs.declared.shown.Shown.Shown, proofs.ItemLaws.items_found}
 use Rattle.display_maps.proofs.reading.Reading.items_of.Goals as goal
 
 pub returns-in-Some : goal.returns-in-Some

@@ -1,9 +1,7 @@
-use Rattle.std.proofs.Common.{◌≡◌, ◌∙◌, List, ap}
-use Rattle.std.proofs.lemmas.Result.{err_from_is_err_and}
+use Rattle.std.{proofs.Common.{◌≡◌, ◌∙◌, List, ap}, proofs.lemmas.Result.err_from_is_err_and}
 use Rattle.fm_machine.specs.State.{Fm, zeroed}
-use Rattle.fm_turns.specs.Starting.{NewTask, new_task, new_tasks, first_base}
-use Rattle.fm_turns.proofs.StartingLaws.{images_begin, starts_above, loaded_all, started_all, starts_as_parts, contexts_begin_within, size_known, base_known}
-use Rattle.fm_turns.proofs.StartingLaws.{window_known, not_started}
+use Rattle.fm_turns.{specs.Starting.{NewTask, new_task, new_tasks, first_base}, proofs.StartingLaws.{images_begin, starts_above, loaded_all, started_all}}
+use Rattle.fm_turns.proofs.StartingLaws.{starts_as_parts, contexts_begin_within, size_known, base_known, window_known, not_started}
 use Rattle.fm_turns.proofs.turns.Turns.new.Goals as goal
 
 pub returns-in_err-size-clause-turns : goal.returns-in_err-size-clause-turns

@@ -1,11 +1,7 @@
-use Rattle.std.proofs.Common.{◌≡◌, ◌∙◌, Some, ap}
-use Rattle.std.specs.Prelude.{slice_get}
+use Rattle.std.{proofs.Common.{◌≡◌, ◌∙◌, Some, ap}, specs.Prelude.slice_get}
 use Rattle.fm_machine.specs.State.{Fm, zeroed}
 use Rattle.display_maps.specs.Reading.{reading}
-use Rattle.fm_turns.specs.declared.context.TaskContext.{TaskContext}
-use Rattle.fm_turns.specs.Windows.{words_in}
-use Rattle.fm_turns.specs.Turns.{TurnsOf}
-use Rattle.fm_turns.specs.Readings.{readings_of}
+use Rattle.fm_turns.{specs.declared.context.TaskContext.TaskContext, specs.Windows.words_in, specs.Turns.TurnsOf, specs.Readings.readings_of}
 use Rattle.fm_turns.proofs.ReadingLaws.{part_at, read_at, unless_weaker}
 use Rattle.fm_turns.proofs.turns.Turns.read.Goals as goal
 

@@ -1,8 +1,5 @@
-use Rattle.std.proofs.Common.{◌≡◌, ◌++◌, ◌∙◌, List, length, take, drop, map, sym, ap, subst, arith}
-use Rattle.std.specs.Prelude.{All}
-use Rattle.fm_turns.specs.declared.context.TaskContext.{TaskContext}
-use Rattle.fm_turns.specs.declared.round.Round.{Round}
-use Rattle.fm_turns.specs.Turns.{TurnsOf, IsPart, AreWithin, images_of}
+use Rattle.std.{proofs.Common.{◌≡◌, ◌++◌, ◌∙◌, List, length, take, drop, map, sym, ap, subst, arith}, specs.Prelude.All}
+use Rattle.fm_turns.{specs.declared.context.TaskContext.TaskContext, specs.declared.round.Round.Round, specs.Turns.{TurnsOf, IsPart, AreWithin, images_of}}
 use Rattle.fm_turns.proofs.TurningLaws.{parts_kept, written_back, images-after_turns, turns_within}
 use Rattle.fm_turns.proofs.turns.Turns.round.Goals as goal
 

@@ -1,8 +1,6 @@
 use Rattle.std.proofs.Common.{◌∙◌, ap, sym, List, option_map, ℕ, Bor, Option}
-use Rattle.gypsy_syntax.specs.declared.proc.Proc.{Proc}
-use Rattle.gypsy_syntax.specs.Views.SourceView.{proc_of}
-use Rattle.gypsy_check.specs.Tables.{procedure_in}
-use Rattle.gypsy_check.proofs.LookupLaws.{procedure_is, option_map_twice}
+use Rattle.gypsy_syntax.{specs.declared.proc.Proc.Proc, specs.Views.SourceView.proc_of}
+use Rattle.gypsy_check.{specs.Tables.procedure_in, proofs.LookupLaws.{procedure_is, option_map_twice}}
 use Rattle.gypsy_check.proofs.callees.Callees.named.Goals as goal
 
 pub returns : goal.returns

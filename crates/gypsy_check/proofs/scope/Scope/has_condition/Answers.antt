@@ -1,9 +1,7 @@
 use Rattle.std.proofs.Common.{◌∙◌, ap, List, ℕ}
 use Rattle.stack_text.specs.Names.{is_among}
-use Rattle.gypsy_syntax.specs.declared.proc.Proc.{Proc}
-use Rattle.gypsy_syntax.specs.Views.SourceView.{proc_of}
-use Rattle.gypsy_check.specs.Declarations.{is_condition}
-use Rattle.gypsy_check.proofs.VariableLaws.{condition_known}
+use Rattle.gypsy_syntax.{specs.declared.proc.Proc.Proc, specs.Views.SourceView.proc_of}
+use Rattle.gypsy_check.{specs.Declarations.is_condition, proofs.VariableLaws.condition_known}
 use Rattle.gypsy_check.proofs.scope.Scope.has_condition.Goals as goal
 
 pub returns : goal.returns

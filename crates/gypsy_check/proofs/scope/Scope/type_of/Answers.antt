@@ -1,9 +1,7 @@
 use Rattle.std.proofs.Common.{◌∙◌, ap, List, ℕ}
-use Rattle.gypsy_syntax.specs.declared.proc.Proc.{Proc}
-use Rattle.gypsy_syntax.specs.Views.SourceView.{proc_of}
-use Rattle.gypsy_check.specs.Declarations.{type_of}
+use Rattle.gypsy_syntax.{specs.declared.proc.Proc.Proc, specs.Views.SourceView.proc_of}
+use Rattle.gypsy_check.{specs.Declarations.type_of, proofs.VariableLaws.type_known}
 use Rattle.name_tables.specs.Entries.{look_up}
-use Rattle.gypsy_check.proofs.VariableLaws.{type_known}
 use Rattle.gypsy_check.proofs.scope.Scope.type_of.Goals as goal
 
 pub returns : goal.returns

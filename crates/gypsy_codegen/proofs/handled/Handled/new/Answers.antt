@@ -1,11 +1,8 @@
-use Rattle.std.proofs.Common.{◌≡◌, ℕ, ◌+◌, ◌<◌, List, map, length, drop, get_or, refl, ap, sym, ◌∙◌, true, false, arith}
-use Rattle.std.proofs.lemmas.Bool.Decides.{nat_tests}
-use Rattle.std.specs.Prelude.{Bool, ◌==◌, if◌then◌else◌}
-use Rattle.std.proofs.lemmas.List.{get_or_default}
+use Rattle.std.{proofs.Common.{◌≡◌, ℕ, ◌+◌, ◌<◌, List, map, length, drop, get_or, refl, ap, sym, ◌∙◌, true, false, arith}, proofs.lemmas.Bool.Decides.nat_tests}
+use Rattle.std.{specs.Prelude.{Bool, ◌==◌, if◌then◌else◌}, proofs.lemmas.List.get_or_default}
 use Rattle.stack_text.proofs.Loops.{drop-item}
 use Rattle.gypsy_syntax.specs.Programs.{ConditionOf, Leave, Routine, Space, Declared}
-use Rattle.gypsy_space.specs.Nodes.{seen_cond}
-use Rattle.gypsy_space.specs.declared.program.Condition.{Condition}
+use Rattle.gypsy_space.{specs.Nodes.seen_cond, specs.declared.program.Condition.Condition}
 use Rattle.gypsy_space.specs.declared.program.Condition.TheVariants as condition
 use Rattle.gypsy_semantics.specs.Calls.{has_cond, same_cond}
 use Rattle.gypsy_codegen.specs.WordsOf.{number_of}

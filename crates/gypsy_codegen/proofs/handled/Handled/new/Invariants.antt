@@ -1,5 +1,4 @@
-use Rattle.std.proofs.Common.{◌≡◌, map, drop, get_or, true, false}
-use Rattle.std.specs.Prelude.{if◌then◌else◌}
+use Rattle.std.{proofs.Common.{◌≡◌, map, drop, get_or, true, false}, specs.Prelude.if◌then◌else◌}
 use Rattle.gypsy_syntax.specs.Programs.{ConditionOf}
 use Rattle.gypsy_space.specs.Nodes.{seen_cond}
 use Rattle.gypsy_semantics.specs.Calls.{has_cond}

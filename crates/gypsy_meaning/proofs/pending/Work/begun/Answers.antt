@@ -1,9 +1,7 @@
 use Rattle.std.proofs.Common.{◌≡◌, List, [], ap, refl, sym}
 use Rattle.gypsy_space.specs.Nodes.{seen_statement}
 use Rattle.gypsy_semantics.specs.Machine.{Item}
-use Rattle.gypsy_meaning.specs.Views.Work.{work_on}
-use Rattle.gypsy_meaning.specs.declared.work.Item.{Item as Kept}
-use Rattle.gypsy_meaning.proofs.OpenLaws.{put_opens}
+use Rattle.gypsy_meaning.{specs.Views.Work.work_on, specs.declared.work.Item.Item as Kept, proofs.OpenLaws.put_opens}
 use Rattle.gypsy_meaning.proofs.pending.Work.begun.Goals as goal
 
 pub returns : goal.returns

@@ -1,7 +1,5 @@
 use Rattle.std.proofs.Common.{◌≡◌, ◌-◌, ℕ, List, length, take, ap, ◌∙◌}
-use Rattle.gypsy_meaning.specs.Views.Work.{work_of}
-use Rattle.gypsy_meaning.specs.declared.work.Item.{Item as Kept}
-use Rattle.gypsy_meaning.proofs.OpenLaws.{popped}
+use Rattle.gypsy_meaning.{specs.Views.Work.work_of, specs.declared.work.Item.Item as Kept, proofs.OpenLaws.popped}
 use Rattle.gypsy_meaning.proofs.pending.Work.pop.Goals as goal
 
 pub returns : goal.returns

@@ -1,10 +1,7 @@
-use Rattle.std.proofs.Common.{◌≡◌, List, ap, sym, ◌∙◌}
-use Rattle.std.proofs.Math.Seq.{take-length}
+use Rattle.std.{proofs.Common.{◌≡◌, List, ap, sym, ◌∙◌}, proofs.Math.Seq.take-length}
 use Rattle.gypsy_space.specs.Nodes.{seen_cond}
 use Rattle.gypsy_semantics.specs.Machine.{Item, At, raise}
-use Rattle.gypsy_meaning.specs.Views.Work.{caught_spend, left_by, work_of}
-use Rattle.gypsy_meaning.specs.declared.work.Item.{Item as Kept}
-use Rattle.gypsy_meaning.proofs.OpenLaws.{moved}
+use Rattle.gypsy_meaning.{specs.Views.Work.{caught_spend, left_by, work_of}, specs.declared.work.Item.Item as Kept, proofs.OpenLaws.moved}
 use Rattle.gypsy_meaning.proofs.pending.Work.raise.Goals as goal
 
 pub returns-clause-done : goal.returns-clause-done

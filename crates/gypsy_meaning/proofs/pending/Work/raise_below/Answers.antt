@@ -1,9 +1,7 @@
 use Rattle.std.proofs.Common.{◌≡◌, ℕ, List, take, ap, sym, ◌∙◌}
 use Rattle.gypsy_space.specs.Nodes.{seen_cond}
 use Rattle.gypsy_semantics.specs.Machine.{Item, At, raise}
-use Rattle.gypsy_meaning.specs.Views.Work.{caught_spend, left_by, work_of}
-use Rattle.gypsy_meaning.specs.declared.work.Item.{Item as Kept}
-use Rattle.gypsy_meaning.proofs.OpenLaws.{moved, popped}
+use Rattle.gypsy_meaning.{specs.Views.Work.{caught_spend, left_by, work_of}, specs.declared.work.Item.Item as Kept, proofs.OpenLaws.{moved, popped}}
 use Rattle.gypsy_meaning.proofs.pending.Work.raise_below.Goals as goal
 
 pub returns-clause-done : goal.returns-clause-done

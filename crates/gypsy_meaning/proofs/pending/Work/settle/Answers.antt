@@ -1,9 +1,6 @@
-use Rattle.std.proofs.Common.{List, ap, sym, ◌∙◌}
-use Rattle.std.proofs.Math.Seq.{take-length}
+use Rattle.std.{proofs.Common.{List, ap, sym, ◌∙◌}, proofs.Math.Seq.take-length}
 use Rattle.gypsy_semantics.specs.Machine.{settle}
-use Rattle.gypsy_meaning.specs.Views.Work.{left_by, work_of}
-use Rattle.gypsy_meaning.specs.declared.work.Item.{Item as Kept}
-use Rattle.gypsy_meaning.proofs.OpenLaws.{moved}
+use Rattle.gypsy_meaning.{specs.Views.Work.{left_by, work_of}, specs.declared.work.Item.Item as Kept, proofs.OpenLaws.moved}
 use Rattle.gypsy_meaning.proofs.pending.Work.settle.Goals as goal
 
 pub returns-clause-done : goal.returns-clause-done

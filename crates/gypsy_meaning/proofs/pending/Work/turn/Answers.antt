@@ -1,9 +1,7 @@
 use Rattle.std.proofs.Common.{◌≡◌, List, map, ap, sym, ◌∙◌}
 use Rattle.stack_text.specs.Values.{ValueOf}
-use Rattle.gypsy_meaning.specs.Views.Work.{left_by, work_of}
-use Rattle.gypsy_meaning.specs.declared.work.Item.{Item as Kept}
-use Rattle.gypsy_meaning.proofs.OpenLaws.{moved}
-use Rattle.gypsy_meaning.proofs.TurnLaws.{goes_moved, opens_moved}
+use Rattle.gypsy_meaning.{specs.Views.Work.{left_by, work_of}, specs.declared.work.Item.Item as Kept, proofs.OpenLaws.moved, proofs.TurnLaws.goes_moved}
+use Rattle.gypsy_meaning.proofs.TurnLaws.{opens_moved}
 use Rattle.gypsy_meaning.proofs.pending.Work.turn.Goals as goal
 
 pub returns-in_ok-change-in-Opens-clause-done : goal.returns-in_ok-change-in-Opens-clause-done

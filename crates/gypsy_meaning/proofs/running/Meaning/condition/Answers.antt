@@ -1,9 +1,6 @@
 use Rattle.std.proofs.Common.{List, Some, slice_get, ap, sym, ◌∙◌}
-use Rattle.gypsy_space.specs.Nodes.{seen_cond}
-use Rattle.gypsy_space.specs.declared.program.Condition.{Condition}
-use Rattle.gypsy_meaning.specs.Views.Named.{conditions_of, current_or}
-use Rattle.gypsy_meaning.specs.declared.names.Names.{Names}
-use Rattle.gypsy_meaning.proofs.ShownLaws.{condition_shown}
+use Rattle.gypsy_space.{specs.Nodes.seen_cond, specs.declared.program.Condition.Condition}
+use Rattle.gypsy_meaning.{specs.Views.Named.{conditions_of, current_or}, specs.declared.names.Names.Names, proofs.ShownLaws.condition_shown}
 use Rattle.gypsy_meaning.proofs.running.Meaning.condition.Goals as goal
 
 pub returns-in-Some-Declared : goal.returns-in-Some-Declared

@@ -1,8 +1,6 @@
 use Rattle.std.proofs.Common.{◌≡◌, ℕ, ◌+◌, ◌^◌, ◌<◌, length, Option, sym, subst, ap, ◌∙◌, arith}
-use Rattle.gypsy_meaning.specs.Views.Running.{seen, stage_by}
+use Rattle.gypsy_meaning.{specs.Views.Running.{seen, stage_by}, specs.declared.running.Ending.Ending, proofs.ShownLaws.depth_shown}
 use Rattle.gypsy_semantics.specs.Views.RunView.{depth_at}
-use Rattle.gypsy_meaning.specs.declared.running.Ending.{Ending}
-use Rattle.gypsy_meaning.proofs.ShownLaws.{depth_shown}
 use Rattle.gypsy_meaning.proofs.running.Meaning.depth.Goals as goal
 
 pub returns-in-None : goal.returns-in-None

@@ -1,8 +1,5 @@
 use Rattle.std.proofs.Common.{ℕ, sym, subst}
-use Rattle.gypsy_meaning.specs.Views.Held.{Moves}
-use Rattle.gypsy_meaning.specs.Views.Running.{paid}
-use Rattle.gypsy_meaning.specs.declared.running.Meaning.{Meaning}
-use Rattle.gypsy_meaning.proofs.ReturningLaws.{end_moves}
+use Rattle.gypsy_meaning.{specs.Views.Held.Moves, specs.Views.Running.paid, specs.declared.running.Meaning.Meaning, proofs.ReturningLaws.end_moves}
 use Rattle.gypsy_meaning.proofs.running.Meaning.end_call.Goals as goal
 
 pub returns-clause-done : goal.returns-clause-done

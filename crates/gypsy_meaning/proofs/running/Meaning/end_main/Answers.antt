@@ -1,7 +1,6 @@
 use Rattle.std.proofs.Common.{ℕ, subst}
-use Rattle.gypsy_meaning.specs.Internal.Finishing.{IsFinished}
+use Rattle.gypsy_meaning.{specs.Internal.Finishing.IsFinished, proofs.FinishingLaws.end_finishes}
 use Rattle.gypsy_meaning.specs.declared.running.Ending.TheVariants as ending
-use Rattle.gypsy_meaning.proofs.FinishingLaws.{end_finishes}
 use Rattle.gypsy_meaning.proofs.running.Meaning.end_main.Goals as goal
 
 pub returns : goal.returns

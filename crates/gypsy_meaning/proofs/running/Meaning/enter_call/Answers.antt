@@ -1,13 +1,8 @@
-use Rattle.std.proofs.Common.{◌≡◌, ℕ, ◌<◌, ◌+◌, List, [], length, map, drop, sym, ap, ap₂, ◌∙◌, arith}
-use Rattle.std.proofs.lemmas.List.{length-map}
+use Rattle.std.{proofs.Common.{◌≡◌, ℕ, ◌<◌, ◌+◌, List, [], length, map, drop, sym, ap, ap₂, ◌∙◌, arith}, proofs.lemmas.List.length-map}
 use Rattle.gypsy_syntax.specs.Programs.{body_of, proc_at}
-use Rattle.gypsy_space.specs.Nodes.{seen_proc, seen_program}
-use Rattle.gypsy_space.specs.declared.program.CallSite.{CallSite}
+use Rattle.gypsy_space.{specs.Nodes.{seen_proc, seen_program}, specs.declared.program.CallSite.CallSite}
 use Rattle.gypsy_semantics.specs.Machine.{open_on}
-use Rattle.gypsy_meaning.specs.Views.Named.{variables_of}
-use Rattle.gypsy_meaning.specs.Views.Running.{paid}
-use Rattle.gypsy_meaning.specs.Views.Work.{work_of}
-use Rattle.gypsy_meaning.specs.declared.names.Names.{Names}
+use Rattle.gypsy_meaning.{specs.Views.Named.variables_of, specs.Views.Running.paid, specs.Views.Work.work_of, specs.declared.names.Names.Names}
 use Rattle.gypsy_meaning.proofs.CallingLaws.{after_call, enters}
 use Rattle.gypsy_meaning.proofs.running.Meaning.enter_call.Goals as goal
 

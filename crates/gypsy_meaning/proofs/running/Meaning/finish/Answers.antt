@@ -1,7 +1,5 @@
 use Rattle.std.proofs.Common.{sym, subst}
-use Rattle.gypsy_meaning.specs.Internal.Finishing.{IsFinished}
-use Rattle.gypsy_meaning.specs.declared.running.Meaning.{Meaning}
-use Rattle.gypsy_meaning.proofs.FinishingLaws.{finished}
+use Rattle.gypsy_meaning.{specs.Internal.Finishing.IsFinished, specs.declared.running.Meaning.Meaning, proofs.FinishingLaws.finished}
 use Rattle.gypsy_meaning.proofs.running.Meaning.finish.Goals as goal
 
 pub returns : goal.returns

@@ -1,16 +1,9 @@
 use Rattle.std.proofs.Common.{◌≡◌, ℕ, List, map, sym, subst, ap, ◌∙◌}
 use Rattle.gypsy_syntax.specs.Programs.{ConditionOf}
-use Rattle.gypsy_space.specs.Nodes.{seen_cond, seen_program}
-use Rattle.gypsy_space.specs.declared.program.CallSite.{CallSite}
-use Rattle.gypsy_space.specs.declared.program.Condition.{Condition}
-use Rattle.gypsy_semantics.specs.Calls.{matching}
-use Rattle.gypsy_semantics.specs.Machine.{raise}
-use Rattle.gypsy_meaning.specs.Views.Held.{Moves}
-use Rattle.gypsy_meaning.specs.Internal.Returning.{out_price}
-use Rattle.gypsy_meaning.specs.Views.Running.{paid}
-use Rattle.gypsy_meaning.specs.Views.Work.{work_of}
-use Rattle.gypsy_meaning.specs.declared.running.Meaning.{Meaning}
-use Rattle.gypsy_meaning.proofs.ReturningLaws.{leave_moves}
+use Rattle.gypsy_space.{specs.Nodes.{seen_cond, seen_program}, specs.declared.program.CallSite.CallSite, specs.declared.program.Condition.Condition}
+use Rattle.gypsy_semantics.{specs.Calls.matching, specs.Machine.raise}
+use Rattle.gypsy_meaning.{specs.Views.Held.Moves, specs.Internal.Returning.out_price, specs.Views.Running.paid, specs.Views.Work.work_of}
+use Rattle.gypsy_meaning.{specs.declared.running.Meaning.Meaning, proofs.ReturningLaws.leave_moves}
 use Rattle.gypsy_meaning.proofs.running.Meaning.leave_call.Goals as goal
 
 pub returns-in-Ok-clause-done : goal.returns-in-Ok-clause-done

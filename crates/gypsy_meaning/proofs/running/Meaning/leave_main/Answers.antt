@@ -1,7 +1,6 @@
 use Rattle.std.proofs.Common.{ℕ, subst, ap, ◌∙◌}
-use Rattle.gypsy_meaning.specs.Internal.Finishing.{IsFinished, end_price}
+use Rattle.gypsy_meaning.{specs.Internal.Finishing.{IsFinished, end_price}, proofs.FinishingLaws.leave_finishes}
 use Rattle.gypsy_meaning.specs.declared.running.Ending.TheVariants as ending
-use Rattle.gypsy_meaning.proofs.FinishingLaws.{leave_finishes}
 use Rattle.gypsy_meaning.proofs.running.Meaning.leave_main.Goals as goal
 
 pub returns : goal.returns

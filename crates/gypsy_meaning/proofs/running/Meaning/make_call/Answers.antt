@@ -1,12 +1,7 @@
-use Rattle.std.proofs.Common.{◌≡◌, ℕ, ◌<◌, length, sym, ap, ◌∙◌, arith}
-use Rattle.std.proofs.lemmas.List.{length-map}
-use Rattle.gypsy_space.specs.Needs.{stack_sizes}
-use Rattle.gypsy_space.specs.Nodes.{seen_proc, seen_program}
-use Rattle.gypsy_space.specs.Events.{lack_by, need_at}
-use Rattle.gypsy_space.specs.declared.need.Lack.TheVariants.{Temporary, Control}
-use Rattle.gypsy_space.specs.declared.program.CallSite.{CallSite}
-use Rattle.gypsy_meaning.specs.Views.Running.{sizes_of}
-use Rattle.gypsy_meaning.proofs.CallingLaws.{lacks_temporary, lacks_control}
+use Rattle.std.{proofs.Common.{◌≡◌, ℕ, ◌<◌, length, sym, ap, ◌∙◌, arith}, proofs.lemmas.List.length-map}
+use Rattle.gypsy_space.{specs.Needs.stack_sizes, specs.Nodes.{seen_proc, seen_program}, specs.Events.{lack_by, need_at}}
+use Rattle.gypsy_space.{specs.declared.need.Lack.TheVariants.{Temporary, Control}, specs.declared.program.CallSite.CallSite}
+use Rattle.gypsy_meaning.{specs.Views.Running.sizes_of, proofs.CallingLaws.{lacks_temporary, lacks_control}}
 use Rattle.gypsy_meaning.proofs.running.Meaning.make_call.Goals as goal
 
 pub raise_space-requires-clause-turn : goal.raise_space-requires-clause-turn

@@ -1,11 +1,9 @@
 use Rattle.std.proofs.Common.{◌≡◌, ℕ, suc, ◌+◌, ◌-◌, ◌<◌, ◌≤◌, true, false, sym, ap, ◌∙◌, refl, arith}
 use Rattle.gypsy_meaning.specs.Views.Running.{seen}
-use Rattle.gypsy_semantics.specs.Views.RunView.{Ran, Seen, after, left_of, meaning_run}
-use Rattle.gypsy_semantics.specs.declared.answers.MeanRun.{MeanRun}
+use Rattle.gypsy_semantics.{specs.Views.RunView.{Ran, Seen, after, left_of, meaning_run}, specs.declared.answers.MeanRun.MeanRun, proofs.RunLaws.end_over}
+use Rattle.gypsy_semantics.{proofs.RunLaws.{run_done, run_left}, proofs.SeenLaws.after_last}
 use Rattle.gypsy_semantics.specs.declared.answers.MeanRun.TheVariants as ran
 use Rattle.gypsy_semantics.specs.declared.answers.Moved.TheVariants as moved
-use Rattle.gypsy_semantics.proofs.RunLaws.{end_over, run_done, run_left}
-use Rattle.gypsy_semantics.proofs.SeenLaws.{after_last}
 use Rattle.gypsy_meaning.proofs.running.Meaning.make_steps.Goals as goal
 
 pub loop-made-init : goal.loop-made-init

@@ -1,7 +1,6 @@
 use Rattle.std.proofs.Common.{◌≡◌, ◌-◌}
 use Rattle.gypsy_syntax.specs.Views.SourceView.{source_of}
-use Rattle.gypsy_meaning.specs.Views.Belongs.{BelongsTo}
-use Rattle.gypsy_meaning.specs.Views.Running.{seen}
+use Rattle.gypsy_meaning.{specs.Views.Belongs.BelongsTo, specs.Views.Running.seen}
 use Rattle.gypsy_semantics.specs.Views.RunView.{after, meaning_run}
 use Rattle.gypsy_meaning.proofs.running.Meaning.make_steps.Given as goal
 

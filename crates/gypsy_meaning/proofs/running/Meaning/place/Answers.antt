@@ -1,9 +1,7 @@
 use Rattle.std.proofs.Common.{Option, map, ap, sym, ◌∙◌}
-use Rattle.gypsy_space.specs.Costs.{start_tally}
-use Rattle.gypsy_space.specs.Nodes.{seen_program}
-use Rattle.gypsy_meaning.specs.Views.Running.{frames_in, seen, stage_by}
+use Rattle.gypsy_space.{specs.Costs.start_tally, specs.Nodes.seen_program}
+use Rattle.gypsy_meaning.{specs.Views.Running.{frames_in, seen, stage_by}, specs.declared.running.Ending.Ending}
 use Rattle.gypsy_semantics.specs.Views.RunView.{place_at}
-use Rattle.gypsy_meaning.specs.declared.running.Ending.{Ending}
 use Rattle.gypsy_meaning.proofs.running.Meaning.place.Goals as goal
 
 pub returns-in-None : goal.returns-in-None

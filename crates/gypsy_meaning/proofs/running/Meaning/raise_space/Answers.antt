@@ -1,11 +1,8 @@
 use Rattle.std.proofs.Common.{map, sym, subst, ap, ◌∙◌}
 use Rattle.gypsy_space.specs.Costs.{start_tally, pay}
-use Rattle.gypsy_meaning.specs.Views.Held.{Moves}
-use Rattle.gypsy_semantics.specs.Machine.{Next}
-use Rattle.gypsy_meaning.specs.Views.Running.{frames_in}
-use Rattle.gypsy_meaning.specs.declared.running.Meaning.{Meaning}
-use Rattle.gypsy_meaning.specs.declared.turn.Advance.{Advance}
+use Rattle.gypsy_meaning.{specs.Views.Held.Moves, specs.Views.Running.frames_in, specs.declared.running.Meaning.Meaning, specs.declared.turn.Advance.Advance}
 use Rattle.gypsy_meaning.proofs.RunningLaws.{step_moves}
+use Rattle.gypsy_semantics.specs.Machine.{Next}
 use Rattle.gypsy_meaning.proofs.running.Meaning.raise_space.Goals as goal
 
 pub returns-clause-done : goal.returns-clause-done

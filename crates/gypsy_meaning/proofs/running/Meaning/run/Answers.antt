@@ -1,8 +1,6 @@
 use Rattle.gypsy_syntax.specs.Views.SourceView.{source_of}
-use Rattle.gypsy_meaning.specs.Views.Running.{seen}
-use Rattle.gypsy_semantics.proofs.ReachLaws.{completes}
-use Rattle.gypsy_semantics.proofs.RunLaws.{answer_agrees}
-use Rattle.gypsy_meaning.proofs.StepLaws.{seen_reached}
+use Rattle.gypsy_meaning.{specs.Views.Running.seen, proofs.StepLaws.seen_reached}
+use Rattle.gypsy_semantics.{proofs.ReachLaws.completes, proofs.RunLaws.answer_agrees}
 use Rattle.gypsy_meaning.proofs.running.Meaning.run.Goals as goal
 
 pub returns-clause-agrees : goal.returns-clause-agrees

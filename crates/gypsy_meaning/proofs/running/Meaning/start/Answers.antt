@@ -1,24 +1,12 @@
 use Rattle.std.proofs.Common.{◌≡◌, ◌+◌, ◌<◌, List, length, map, refl, sym, subst, ap, ◌∙◌, arith, None}
-use Rattle.stack_text.specs.declared.name.Name.{Name}
-use Rattle.stack_text.specs.declared.value.Value.{Value}
-use Rattle.stack_text.specs.Values.{ValueOf}
-use Rattle.gypsy_syntax.specs.Programs.{proc_at, words_of}
-use Rattle.gypsy_syntax.specs.Resolved.{program_of}
-use Rattle.gypsy_syntax.specs.Views.SourceView.{source_of}
-use Rattle.gypsy_syntax.specs.ValuesFit.{VarsFit}
-use Rattle.gypsy_space.specs.Nodes.{seen_program}
-use Rattle.gypsy_space.specs.Needs.{stack_sizes}
-use Rattle.gypsy_semantics.specs.Calls.{main_start}
-use Rattle.gypsy_meaning.specs.Views.Belongs.{BelongsTo}
-use Rattle.gypsy_meaning.specs.Views.Running.{seen}
-use Rattle.gypsy_meaning.specs.Views.Named.{proc_names, seen_names, variables_of}
-use Rattle.gypsy_semantics.specs.Views.RunView.{opening}
-use Rattle.gypsy_meaning.specs.declared.names.Names.{Names}
-use Rattle.gypsy_meaning.specs.declared.running.Meaning.{Meaning}
-use Rattle.gypsy_meaning.proofs.StartLaws.{belongs, main_sized, main_there, main_words, opens}
-use Rattle.gypsy_meaning.proofs.running.Meaning.start.Given.{Over}
+use Rattle.stack_text.{specs.declared.name.Name.Name, specs.declared.value.Value.Value, specs.Values.ValueOf}
+use Rattle.gypsy_syntax.{specs.Programs.{proc_at, words_of}, specs.Resolved.program_of, specs.Views.SourceView.source_of, specs.ValuesFit.VarsFit}
+use Rattle.gypsy_space.{specs.Nodes.seen_program, specs.Needs.stack_sizes}
+use Rattle.gypsy_semantics.{specs.Calls.main_start, specs.Views.RunView.opening}
+use Rattle.gypsy_meaning.{specs.Views.Belongs.BelongsTo, specs.Views.Running.seen, specs.Views.Named.{proc_names, seen_names, variables_of}}
+use Rattle.gypsy_meaning.{specs.declared.names.Names.Names, specs.declared.running.Meaning.Meaning, proofs.StartLaws.{belongs, main_sized, main_there}}
+use Rattle.gypsy_meaning.{proofs.StartLaws.{main_words, opens}, proofs.running.Meaning.start.Given.Over, proofs.running.Meaning.start.Goals.After-new-2}
 use Rattle.gypsy_meaning.proofs.running.Meaning.start.Goals as goal
-use Rattle.gypsy_meaning.proofs.running.Meaning.start.Goals.{After-new-2}
 
 pub main_activation-requires-clause-there : goal.main_activation-requires-clause-there
 main_activation-requires-clause-there g c =

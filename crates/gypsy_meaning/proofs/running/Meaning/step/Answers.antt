@@ -1,7 +1,7 @@
 use Rattle.std.proofs.Common.{◌≡◌, sym, ◌∙◌}
 use Rattle.gypsy_syntax.specs.Views.SourceView.{source_of}
-use Rattle.gypsy_meaning.specs.Views.Running.{seen}
-use Rattle.gypsy_meaning.proofs.StepLaws.{any_err, does_belongs, does_step, not_over, over_stays, ready, unchanged_belongs, unchanged_seen}
+use Rattle.gypsy_meaning.{specs.Views.Running.seen, proofs.StepLaws.{any_err, does_belongs, does_step, not_over, over_stays, ready, unchanged_belongs}}
+use Rattle.gypsy_meaning.proofs.StepLaws.{unchanged_seen}
 use Rattle.gypsy_meaning.proofs.running.Meaning.step.Goals as goal
 
 pub returns-then-ended-clause-answer : goal.returns-then-ended-clause-answer

@@ -1,14 +1,8 @@
 use Rattle.std.proofs.Common.{ℕ, List, map, refl, sym, subst}
-use Rattle.stack_text.specs.Values.{ValueOf}
-use Rattle.stack_text.specs.declared.name.Name.{Name}
-use Rattle.stack_text.specs.declared.value.Value.{Value}
+use Rattle.stack_text.{specs.Values.ValueOf, specs.declared.name.Name.Name, specs.declared.value.Value.Value}
 use Rattle.gypsy_semantics.specs.Machine.{Item}
-use Rattle.gypsy_meaning.specs.Views.Held.{Moves}
-use Rattle.gypsy_meaning.specs.Views.Work.{work_of}
-use Rattle.gypsy_meaning.specs.Internal.Turns.{IsTurn}
-use Rattle.gypsy_meaning.specs.declared.running.Meaning.{Meaning}
-use Rattle.gypsy_meaning.proofs.RunningLaws.{advance_moves, open_moves}
-use Rattle.gypsy_meaning.proofs.TurnLaws.{goes_moved, opens_moved}
+use Rattle.gypsy_meaning.{specs.Views.Held.Moves, specs.Views.Work.work_of, specs.Internal.Turns.IsTurn, specs.declared.running.Meaning.Meaning}
+use Rattle.gypsy_meaning.{proofs.RunningLaws.{advance_moves, open_moves}, proofs.TurnLaws.{goes_moved, opens_moved}}
 use Rattle.gypsy_meaning.proofs.running.Meaning.step_within.Goals as goal
 
 pub returns-in-Opens-clause-done : goal.returns-in-Opens-clause-done

@@ -1,6 +1,5 @@
 use Rattle.std.proofs.Common.{true≢false, sym, ap, ◌∙◌}
-use Rattle.gypsy_syntax.specs.Resolved.{program_of}
-use Rattle.gypsy_syntax.specs.Views.SourceView.{source_of}
+use Rattle.gypsy_syntax.{specs.Resolved.program_of, specs.Views.SourceView.source_of}
 use Rattle.gypsy_space.specs.Needs.{stack_sizes}
 use Rattle.gypsy_semantics.specs.Views.Fitting.{can_start}
 use Rattle.gypsy_meaning.proofs.FittingLaws.{is_start, start_is}

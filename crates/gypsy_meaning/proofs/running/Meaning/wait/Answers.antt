@@ -1,13 +1,9 @@
-use Rattle.std.proofs.Common.{◌≡◌, ℕ, List, [], ◌∷◌, ◌++◌, length, map, drop, refl, ap, ◌∙◌}
-use Rattle.stack_text.specs.declared.name.Name.{Name}
-use Rattle.stack_text.specs.declared.value.Value.{Value}
-use Rattle.std.specs.Global.{Vec}
+use Rattle.std.{proofs.Common.{◌≡◌, ℕ, List, [], ◌∷◌, ◌++◌, length, map, drop, refl, ap, ◌∙◌}, specs.Global.Vec}
+use Rattle.stack_text.{specs.declared.name.Name.Name, specs.declared.value.Value.Value}
 use Rattle.gypsy_syntax.specs.Effects.{value_at}
 use Rattle.gypsy_space.specs.declared.program.CallSite.{CallSite}
 use Rattle.gypsy_semantics.specs.Calls.{copied_out}
-use Rattle.gypsy_meaning.specs.Internal.Entering.{call_top}
-use Rattle.gypsy_meaning.specs.Views.Work.{work_of}
-use Rattle.gypsy_meaning.specs.declared.running.Frame.{Frame}
+use Rattle.gypsy_meaning.{specs.Internal.Entering.call_top, specs.Views.Work.work_of, specs.declared.running.Frame.Frame}
 use Rattle.gypsy_meaning.proofs.running.Meaning.wait.Goals as goal
 
 pub returns-clause-done : goal.returns-clause-done

@@ -1,8 +1,6 @@
 use Rattle.std.proofs.Common.{◌≡◌, ◌++◌, drop}
-use Rattle.stack_text.specs.TreeText.{items_text}
-use Rattle.stack_text.specs.Grammar.Printed.{items_after}
-use Rattle.gypsy_syntax.specs.Printed.{literal_trees}
-use Rattle.gypsy_syntax.specs.Views.SourceView.{items_of_list}
+use Rattle.stack_text.{specs.TreeText.items_text, specs.Grammar.Printed.items_after}
+use Rattle.gypsy_syntax.{specs.Printed.literal_trees, specs.Views.SourceView.items_of_list}
 use Rattle.gypsy_syntax.proofs.printing.literals.+literals.Given as goal
 
 abbrev pub invariant-print_values-loop-index : goal.invariant-print_values-loop-index

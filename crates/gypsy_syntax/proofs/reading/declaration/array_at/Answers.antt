@@ -1,6 +1,5 @@
 use Rattle.std.proofs.Common.{◌≡◌, [], Err, refl}
-use Rattle.stack_text.specs.Trees.{list}
-use Rattle.stack_text.proofs.TreeListLaws.{not_three}
+use Rattle.stack_text.{specs.Trees.list, proofs.TreeListLaws.not_three}
 use Rattle.gypsy_syntax.specs.Grammar.{type_in}
 use Rattle.gypsy_syntax.proofs.reading.declaration.array_at.Goals as goal
 

@@ -1,6 +1,5 @@
 use Rattle.std.proofs.Common.{◌≡◌, [], Err, refl}
-use Rattle.stack_text.specs.Trees.{list}
-use Rattle.stack_text.proofs.TreeListLaws.{not_two, two_parts}
+use Rattle.stack_text.{specs.Trees.list, proofs.TreeListLaws.{not_two, two_parts}}
 use Rattle.gypsy_syntax.specs.Grammar.{decl_in}
 use Rattle.gypsy_syntax.proofs.reading.declaration.decl_at.Goals as goal
 

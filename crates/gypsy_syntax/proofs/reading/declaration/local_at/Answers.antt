@@ -1,6 +1,5 @@
 use Rattle.std.proofs.Common.{◌≡◌, [], Err, refl}
-use Rattle.stack_text.specs.Trees.{list}
-use Rattle.stack_text.proofs.TreeListLaws.{not_three, three_parts}
+use Rattle.stack_text.{specs.Trees.list, proofs.TreeListLaws.{not_three, three_parts}}
 use Rattle.gypsy_syntax.specs.Grammar.{local_in}
 use Rattle.gypsy_syntax.proofs.reading.declaration.local_at.Goals as goal
 

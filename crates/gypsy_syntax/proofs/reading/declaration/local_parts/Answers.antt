@@ -1,9 +1,6 @@
 use Rattle.std.proofs.lemmas.Result.{err_from_is_err_and}
-use Rattle.stack_text.specs.Views.TreeView.{node_of}
-use Rattle.stack_text.specs.declared.grammar.fault.FormFault.TheVariants.{Form}
-use Rattle.stack_text.proofs.PartLaws.{first_of_2, first_of_3}
-use Rattle.gypsy_syntax.specs.Grammar.{literal_in, named_in, type_in}
-use Rattle.gypsy_syntax.specs.Made.{new_local}
+use Rattle.stack_text.{specs.Views.TreeView.node_of, specs.declared.grammar.fault.FormFault.TheVariants.Form, proofs.PartLaws.{first_of_2, first_of_3}}
+use Rattle.gypsy_syntax.{specs.Grammar.{literal_in, named_in, type_in}, specs.Made.new_local}
 use Rattle.gypsy_syntax.proofs.reading.declaration.local_parts.Goals as goal
 
 pub returns-in_err-name : goal.returns-in_err-name

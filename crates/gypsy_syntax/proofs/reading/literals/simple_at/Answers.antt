@@ -1,5 +1,4 @@
-use Rattle.std.proofs.Common.{refl, rules, sym, ◌∙◌}
-use Rattle.std.proofs.lemmas.Result.{err_from_is_err_and}
+use Rattle.std.{proofs.Common.{refl, rules, sym, ◌∙◌}, proofs.lemmas.Result.err_from_is_err_and}
 use Rattle.stack_text.proofs.TreeListLaws.{rest_is_drop}
 use Rattle.gypsy_syntax.proofs.reading.literals.simple_at.Goals as goal
 

@@ -1,11 +1,6 @@
-use Rattle.std.proofs.Common.{map}
-use Rattle.std.proofs.lemmas.Result.{err_from_is_err_and}
-use Rattle.stack_text.specs.Views.TreeView.{node_of}
-use Rattle.stack_text.specs.Grammar.Parts.{list_or}
-use Rattle.stack_text.proofs.PartLaws.{first_of_2, first_of_3, first_of_4, first_of_5, first_of_6}
-use Rattle.gypsy_syntax.specs.Grammar.{decl_in, local_in, named_in, names_in, statement_in}
-use Rattle.gypsy_syntax.specs.Made.{new_proc}
-use Rattle.gypsy_syntax.specs.Views.SourceView.{local_of}
+use Rattle.std.{proofs.Common.map, proofs.lemmas.Result.err_from_is_err_and}
+use Rattle.stack_text.{specs.Views.TreeView.node_of, specs.Grammar.Parts.list_or, proofs.PartLaws.{first_of_2, first_of_3, first_of_4, first_of_5, first_of_6}}
+use Rattle.gypsy_syntax.{specs.Grammar.{decl_in, local_in, named_in, names_in, statement_in}, specs.Made.new_proc, specs.Views.SourceView.local_of}
 use Rattle.gypsy_syntax.proofs.reading.procedure.procedure_parts.Goals as goal
 
 pub returns-in_err-name : goal.returns-in_err-name

@@ -1,9 +1,6 @@
 use Rattle.std.proofs.lemmas.Result.{err_from_is_err_and}
-use Rattle.stack_text.specs.Views.TreeView.{node_of, nodes_of}
-use Rattle.stack_text.specs.Grammar.Judged.{each_of}
-use Rattle.stack_text.proofs.PartLaws.{first_of_2}
-use Rattle.gypsy_syntax.specs.Grammar.{named_in, procedure_in}
-use Rattle.gypsy_syntax.specs.Made.{new_source}
+use Rattle.stack_text.{specs.Views.TreeView.{node_of, nodes_of}, specs.Grammar.Judged.each_of, proofs.PartLaws.first_of_2}
+use Rattle.gypsy_syntax.{specs.Grammar.{named_in, procedure_in}, specs.Made.new_source}
 use Rattle.gypsy_syntax.proofs.reading.procedure.source_parts.Goals as goal
 
 pub returns-in_err-main : goal.returns-in_err-main

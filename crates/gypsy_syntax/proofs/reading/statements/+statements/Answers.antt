@@ -1,17 +1,10 @@
-use Rattle.std.proofs.Common.{◌≡◌, [], Err, Some, None, length, map, refl, sym, ◌∙◌, arith}
-use Rattle.std.proofs.lemmas.Bool.{eqb-false, eqb-true}
-use Rattle.std.proofs.lemmas.List.{map_push}
-use Rattle.std.proofs.lemmas.Result.{err_from_is_err_and}
-use Rattle.stack_text.specs.Views.TreeView.{node_of, nodes_of}
-use Rattle.stack_text.proofs.PartLaws.{first_of_2, first_of_3, first_of_value, part_fails, part_read, parts_end}
-use Rattle.stack_text.proofs.TreeListLaws.{no_parts, not_one, not_three, one_part, three_parts}
+use Rattle.std.{proofs.Common.{◌≡◌, [], Err, Some, None, length, map, refl, sym, ◌∙◌, arith}, proofs.lemmas.Bool.{eqb-false, eqb-true}}
+use Rattle.std.{proofs.lemmas.List.map_push, proofs.lemmas.Result.err_from_is_err_and}
+use Rattle.stack_text.{specs.Views.TreeView.{node_of, nodes_of}, proofs.PartLaws.{first_of_2, first_of_3, first_of_value, part_fails, part_read, parts_end}}
+use Rattle.stack_text.{proofs.TreeListLaws.{no_parts, not_one, not_three, one_part, three_parts}, proofs.TreeViewLaws.node_of-list}
 use Rattle.gypsy_syntax.specs.declared.keyword.Keyword.TheVariants as word
-use Rattle.gypsy_syntax.specs.Grammar.{form_in, named_in, names_in, statement_in}
-use Rattle.gypsy_syntax.specs.Sources.{loop}
-use Rattle.stack_text.proofs.TreeViewLaws.{node_of-list}
-use Rattle.gypsy_syntax.specs.Made.{new_begin, new_branch}
-use Rattle.gypsy_syntax.specs.Views.SourceView.{stmt_of}
-use Rattle.gypsy_syntax.proofs.GrammarLaws.{fault_in_parts, some_parts, statement_by_parts, statements_each}
+use Rattle.gypsy_syntax.{specs.Grammar.{form_in, named_in, names_in, statement_in}, specs.Sources.loop, specs.Made.{new_begin, new_branch}}
+use Rattle.gypsy_syntax.{specs.Views.SourceView.stmt_of, proofs.GrammarLaws.{fault_in_parts, some_parts, statement_by_parts, statements_each}}
 use Rattle.gypsy_syntax.proofs.reading.statements.+statements.Goals as goal
 
 pub statements-returns-in_err-part : goal.statements-returns-in_err-part

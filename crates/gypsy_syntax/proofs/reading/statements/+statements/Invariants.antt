@@ -1,9 +1,6 @@
 use Rattle.std.proofs.Common.{◌≡◌, drop, map}
-use Rattle.stack_text.specs.Views.TreeView.{nodes_of}
-use Rattle.stack_text.specs.Grammar.Judged.{each_of}
-use Rattle.stack_text.proofs.ResultLoops.{with_front}
-use Rattle.gypsy_syntax.specs.Grammar.{statement_in}
-use Rattle.gypsy_syntax.specs.Views.SourceView.{stmt_of}
+use Rattle.stack_text.{specs.Views.TreeView.nodes_of, specs.Grammar.Judged.each_of, proofs.ResultLoops.with_front}
+use Rattle.gypsy_syntax.{specs.Grammar.statement_in, specs.Views.SourceView.stmt_of}
 use Rattle.gypsy_syntax.proofs.reading.statements.+statements.Given as goal
 
 -- the statements so far, and those that are still to come, are those of all trees

@@ -1,10 +1,6 @@
-use Rattle.std.proofs.Common.{refl}
-use Rattle.std.proofs.lemmas.Result.{err_from_is_err_and}
-use Rattle.stack_text.specs.Trees.{place_of}
-use Rattle.stack_text.specs.Views.TreeView.{node_of}
-use Rattle.stack_text.proofs.PartLaws.{first_of_2, first_of_3, first_of_value}
-use Rattle.gypsy_syntax.specs.Grammar.{named_in, names_in}
-use Rattle.gypsy_syntax.specs.Made.{new_call}
+use Rattle.std.{proofs.Common.refl, proofs.lemmas.Result.err_from_is_err_and}
+use Rattle.stack_text.{specs.Trees.place_of, specs.Views.TreeView.node_of, proofs.PartLaws.{first_of_2, first_of_3, first_of_value}}
+use Rattle.gypsy_syntax.{specs.Grammar.{named_in, names_in}, specs.Made.new_call}
 use Rattle.gypsy_syntax.proofs.reading.statements.call_parts.Goals as goal
 
 pub returns-in_err-callee : goal.returns-in_err-callee

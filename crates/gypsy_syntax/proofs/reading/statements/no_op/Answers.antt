@@ -1,5 +1,4 @@
-use Rattle.std.proofs.Common.{◌≡◌, [], Err, Some, length, refl, sym, ◌∙◌}
-use Rattle.std.proofs.lemmas.Bool.{eqb-false}
+use Rattle.std.{proofs.Common.{◌≡◌, [], Err, Some, length, refl, sym, ◌∙◌}, proofs.lemmas.Bool.eqb-false}
 use Rattle.stack_text.proofs.TreeListLaws.{not_none}
 use Rattle.gypsy_syntax.specs.declared.keyword.Keyword.TheVariants as word
 use Rattle.gypsy_syntax.specs.Grammar.{form_in}

@@ -1,11 +1,7 @@
-use Rattle.std.proofs.Common.{◌≡◌, [], Err, Some, refl}
-use Rattle.std.proofs.lemmas.Result.{err_from_is_err_and}
-use Rattle.stack_text.specs.Views.TreeView.{node_of}
-use Rattle.stack_text.proofs.PartLaws.{first_of_value}
-use Rattle.stack_text.proofs.TreeListLaws.{not_one, one_part}
+use Rattle.std.{proofs.Common.{◌≡◌, [], Err, Some, refl}, proofs.lemmas.Result.err_from_is_err_and}
+use Rattle.stack_text.{specs.Views.TreeView.node_of, proofs.PartLaws.first_of_value, proofs.TreeListLaws.{not_one, one_part}}
 use Rattle.gypsy_syntax.specs.declared.keyword.Keyword.TheVariants as word
-use Rattle.gypsy_syntax.specs.Grammar.{form_in, named_in}
-use Rattle.gypsy_syntax.specs.Sources.{signal}
+use Rattle.gypsy_syntax.{specs.Grammar.{form_in, named_in}, specs.Sources.signal}
 use Rattle.gypsy_syntax.proofs.reading.statements.signal.Goals as goal
 
 pub returns-then-parts-ne1 : goal.returns-then-parts-ne1

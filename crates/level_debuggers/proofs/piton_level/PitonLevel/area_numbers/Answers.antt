@@ -1,12 +1,8 @@
 use Rattle.std.proofs.Common.{◌≡◌, ◌∙◌, List, subst, rules}
 use Rattle.stack_heap.specs.Heaps.{IfOkUnless}
 use Rattle.piton_words.specs.declared.word.Word.{Word}
-use Rattle.piton_semantics.specs.Addresses.{numbers}
-use Rattle.piton_semantics.specs.Fits.{system_in}
-use Rattle.piton_semantics.specs.Placed.{addresses_of}
-use Rattle.piton_semantics.specs.StateView.{IsSeen}
-use Rattle.level_debuggers.specs.PitonReadings.{area_words}
-use Rattle.level_debuggers.proofs.AreaLaws.{known_words}
+use Rattle.piton_semantics.{specs.Addresses.numbers, specs.Fits.system_in, specs.Placed.addresses_of, specs.StateView.IsSeen}
+use Rattle.level_debuggers.{specs.PitonReadings.area_words, proofs.AreaLaws.known_words}
 use Rattle.level_debuggers.proofs.piton_level.PitonLevel.area_numbers.Goals as goal
 
 pub numbers-requires : goal.numbers-requires

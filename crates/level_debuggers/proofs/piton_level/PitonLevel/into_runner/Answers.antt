@@ -1,8 +1,6 @@
 use Rattle.std.proofs.Common.{◌≡◌, ◌≤◌, ◌^◌, sym, subst}
 use Rattle.piton_check.specs.PitonChecking.{CheckedOf}
-use Rattle.piton_semantics.specs.Fits.{system_in}
-use Rattle.piton_semantics.specs.Placed.{placed}
-use Rattle.piton_semantics.specs.StateView.{IsSeen}
+use Rattle.piton_semantics.{specs.Fits.system_in, specs.Placed.placed, specs.StateView.IsSeen}
 use Rattle.level_debuggers.proofs.piton_level.PitonLevel.into_runner.Goals as goal
 
 pub returns-clause-is : goal.returns-clause-is

@@ -1,7 +1,6 @@
 use Rattle.std.proofs.Common.{sym, subst}
 use Rattle.piton_check.specs.PitonChecking.{CheckedOf}
-use Rattle.piton_semantics.specs.Fits.{system_in}
-use Rattle.piton_semantics.specs.StateView.{IsSeen}
+use Rattle.piton_semantics.{specs.Fits.system_in, specs.StateView.IsSeen}
 use Rattle.level_debuggers.proofs.piton_level.PitonLevel.new.Goals as goal
 
 pub new-requires : goal.new-requires

@@ -1,8 +1,6 @@
-use Rattle.std.proofs.Common.{arith}
-use Rattle.std.proofs.lemmas.Result.{err_from_is_err_and}
-use Rattle.level_debuggers.specs.Views.Belonging.{level_seen}
-use Rattle.level_debuggers.specs.Views.Sessions.{session_of}
-use Rattle.level_debuggers.proofs.WalkLaws.{made_none, step_made, step_over, step_refused, step_failed}
+use Rattle.std.{proofs.Common.arith, proofs.lemmas.Result.err_from_is_err_and}
+use Rattle.level_debuggers.{specs.Views.Belonging.level_seen, specs.Views.Sessions.session_of, proofs.WalkLaws.{made_none, step_made, step_over, step_refused}}
+use Rattle.level_debuggers.proofs.WalkLaws.{step_failed}
 use Rattle.level_debuggers.proofs.session.Session.step.Goals as goal
 
 pub loop-made-init : goal.loop-made-init

@@ -1,5 +1,4 @@
-use Rattle.level_debuggers.specs.Views.Sessions.{IsSession, session_of}
-use Rattle.level_debuggers.proofs.WalkLaws.{Made}
+use Rattle.level_debuggers.{specs.Views.Sessions.{IsSession, session_of}, proofs.WalkLaws.Made}
 use Rattle.level_debuggers.proofs.session.Session.step.Given as goal
 
 abbrev pub invariant-loop-made : goal.invariant-loop-made

@@ -1,10 +1,7 @@
-use Rattle.std.proofs.Common.{◌≡◌, ℕ, true, false, arith, ap, sym, ◌∙◌}
+use Rattle.std.{proofs.Common.{◌≡◌, ℕ, true, false, arith, ap, sym, ◌∙◌}, proofs.lemmas.Result.err_from_is_err_and}
 use Rattle.level_debuggers.specs.declared.arrival.Arrival.TheVariants as arrival
-use Rattle.std.proofs.lemmas.Result.{err_from_is_err_and}
-use Rattle.level_debuggers.specs.Views.Belonging.{level_seen}
-use Rattle.level_debuggers.specs.Views.Sessions.{session_of}
-use Rattle.level_debuggers.proofs.ArrivalLaws.{arrives, never_there, passed, until_over, until_refused}
-use Rattle.level_debuggers.proofs.WalkLaws.{made_none, step_made, step_failed}
+use Rattle.level_debuggers.{specs.Views.Belonging.level_seen, specs.Views.Sessions.session_of, proofs.ArrivalLaws.{arrives, never_there, passed, until_over}}
+use Rattle.level_debuggers.{proofs.ArrivalLaws.until_refused, proofs.WalkLaws.{made_none, step_made, step_failed}}
 use Rattle.level_debuggers.proofs.session.Session.until.Goals as goal
 
 pub loop-made-init : goal.loop-made-init

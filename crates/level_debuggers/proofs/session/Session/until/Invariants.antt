@@ -1,8 +1,5 @@
 use Rattle.std.proofs.Common.{◌≡◌, ◌<◌, ℕ, false}
-use Rattle.level_debuggers.specs.Levels.{stands_at}
-use Rattle.level_debuggers.specs.Walks.{walk}
-use Rattle.level_debuggers.specs.Views.Belonging.{level_seen}
-use Rattle.level_debuggers.specs.Views.Sessions.{IsSession, session_of}
+use Rattle.level_debuggers.{specs.Levels.stands_at, specs.Walks.walk, specs.Views.Belonging.level_seen, specs.Views.Sessions.{IsSession, session_of}}
 use Rattle.level_debuggers.proofs.WalkLaws.{Made}
 use Rattle.level_debuggers.proofs.session.Session.until.Given as goal
 

@@ -1,6 +1,5 @@
 use Rattle.std.proofs.Common.{true, false, sym}
-use Rattle.name_tables.specs.Entries.{look_up}
-use Rattle.name_tables.proofs.EntryLaws.{known_is, entered, stays}
+use Rattle.name_tables.{specs.Entries.look_up, proofs.EntryLaws.{known_is, entered, stays}}
 use Rattle.name_tables.proofs.name_table.NameTable.enter.Goals as goal
 
 pub returns-then-contains_key-clause-known : goal.returns-then-contains_key-clause-known

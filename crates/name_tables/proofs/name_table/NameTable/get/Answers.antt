@@ -1,6 +1,5 @@
 use Rattle.std.proofs.Common.{ap, ◌∙◌}
-use Rattle.name_tables.specs.Entries.{look_up}
-use Rattle.name_tables.proofs.EntryLaws.{found_borrowed}
+use Rattle.name_tables.{specs.Entries.look_up, proofs.EntryLaws.found_borrowed}
 use Rattle.name_tables.proofs.name_table.NameTable.get.Goals as goal
 
 pub returns : goal.returns

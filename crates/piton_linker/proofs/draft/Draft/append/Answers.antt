@@ -1,13 +1,8 @@
 use Rattle.std.proofs.Common.{◌≡◌, ◌+◌, ◌++◌, ◌∷◌, [], length, take, get_or, refl, ap, sym, ◌∙◌, arith, length-append, append_assoc}
 use Rattle.std.proofs.lemmas.List.{length-take-le}
-use Rattle.piton_check.specs.declared.piece.Piece.TheVariants.{Code}
-use Rattle.piton_check.specs.Instruction.{system_view}
-use Rattle.piton_semantics.specs.Placed.{addresses_of}
-use Rattle.piton_semantics.specs.Templates.{word_of, words_of}
-use Rattle.piton_semantics.proofs.SizeLaws.{length-words_of}
-use Rattle.piton_linker.specs.Drafts.{drafted}
-use Rattle.piton_linker.proofs.NameLaws.{words_more_by}
-use Rattle.piton_linker.proofs.DraftLaws.{length-drafted}
+use Rattle.piton_check.{specs.declared.piece.Piece.TheVariants.Code, specs.Instruction.system_view}
+use Rattle.piton_semantics.{specs.Placed.addresses_of, specs.Templates.{word_of, words_of}, proofs.SizeLaws.length-words_of}
+use Rattle.piton_linker.{specs.Drafts.drafted, proofs.NameLaws.words_more_by, proofs.DraftLaws.length-drafted}
 use Rattle.piton_linker.proofs.draft.Draft.append.Goals as goal
 
 pub push-requires-clause-room : goal.push-requires-clause-room

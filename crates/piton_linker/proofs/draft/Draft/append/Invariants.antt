@@ -1,7 +1,6 @@
 use Rattle.std.proofs.Common.{◌≡◌, ◌+◌, ◌++◌, length, take}
 use Rattle.piton_check.specs.Instruction.{system_view}
-use Rattle.piton_semantics.specs.Placed.{addresses_of}
-use Rattle.piton_semantics.specs.Templates.{words_of}
+use Rattle.piton_semantics.{specs.Placed.addresses_of, specs.Templates.words_of}
 use Rattle.piton_linker.specs.Drafts.{drafted, IsDraft}
 use Rattle.piton_linker.proofs.draft.Draft.append.Given as goal
 

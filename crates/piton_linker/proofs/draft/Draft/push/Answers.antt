@@ -1,9 +1,6 @@
 use Rattle.std.proofs.Common.{◌≡◌, ◌+◌, ◌++◌, ◌∷◌, [], length, ap, sym, ◌∙◌, arith}
-use Rattle.piton_check.specs.Resolved.{ResolvedOf}
-use Rattle.piton_check.specs.Instruction.{system_view}
-use Rattle.piton_linker.specs.declared.draft.FixUp.{FixUp}
-use Rattle.piton_linker.specs.Drafts.{DraftOf}
-use Rattle.piton_linker.proofs.DraftLaws.{more_known, more_open, still_draft}
+use Rattle.piton_check.{specs.Resolved.ResolvedOf, specs.Instruction.system_view}
+use Rattle.piton_linker.{specs.declared.draft.FixUp.FixUp, specs.Drafts.DraftOf, proofs.DraftLaws.{more_known, more_open, still_draft}}
 use Rattle.piton_linker.proofs.draft.Draft.push.Goals as goal
 
 pub returns-in_ok-push-in-Some-clause-words : goal.returns-in_ok-push-in-Some-clause-words

@@ -1,5 +1,4 @@
-use Rattle.std.proofs.Common.{◌≡◌, ◌∙◌, ◌<◌, ap, sym, length, map, arith, rules, get_or, []}
-use Rattle.std.specs.Prelude.{◌^◌}
+use Rattle.std.{proofs.Common.{◌≡◌, ◌∙◌, ◌<◌, ap, sym, length, map, arith, rules, get_or, []}, specs.Prelude.◌^◌}
 use Rattle.piton_semantics.specs.StateView.{words_in}
 use Rattle.piton_machine.proofs.AreaLaws.{area_at, copied_more, sized_more}
 use Rattle.piton_machine.proofs.areas.Areas.new.Goals as goal

@@ -1,6 +1,5 @@
 use Rattle.std.proofs.Common.{◌∙◌, ◌<◌, ap, sym, length, map, arith}
-use Rattle.piton_semantics.specs.StateView.{words_in}
-use Rattle.piton_semantics.proofs.KeepLaws.{area_lengths}
+use Rattle.piton_semantics.{specs.StateView.words_in, proofs.KeepLaws.area_lengths}
 use Rattle.piton_machine.proofs.AreaLaws.{set_area}
 use Rattle.piton_machine.proofs.areas.Areas.set_word.Goals as goal
 

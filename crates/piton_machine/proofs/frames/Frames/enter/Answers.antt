@@ -1,13 +1,10 @@
-use Rattle.std.proofs.Common.{ap, ◌∙◌, ◌≡◌, ◌+◌, ◌≤◌, List, [], ◌∷◌, ◌++◌, length, reverse, arith, length-append}
-use Rattle.std.specs.Prelude.{◌*◌, if◌then◌else◌}
+use Rattle.std.{proofs.Common.{ap, ◌∙◌, ◌≡◌, ◌+◌, ◌≤◌, List, [], ◌∷◌, ◌++◌, length, reverse, arith, length-append}, specs.Prelude.{◌*◌, if◌then◌else◌}}
 use Rattle.std.proofs.lemmas.List.{length-reverse}
 use Rattle.stack_text.proofs.SharedLaws.{reverse_snoc}
-use Rattle.piton_machine.specs.declared.frames.Link.{Link}
-use Rattle.piton_semantics.specs.State.{Frame, ctrl_used}
-use Rattle.piton_machine.specs.Stacked.{FramesIn, AreLinks}
-use Rattle.piton_machine.proofs.FrameLaws.{frames_used, entered_frames, entered_links}
-use Rattle.piton_machine.proofs.frames.Frames.enter.Goals as goal
+use Rattle.piton_machine.{specs.declared.frames.Link.Link, specs.Stacked.{FramesIn, AreLinks}, proofs.FrameLaws.{frames_used, entered_frames, entered_links}}
 use Rattle.piton_machine.proofs.frames.Frames.enter.Goals.{After-extend_from_slice-temporaries}
+use Rattle.piton_semantics.specs.State.{Frame, ctrl_used}
+use Rattle.piton_machine.proofs.frames.Frames.enter.Goals as goal
 
 -- the link of the frame
 abbrev link_of : After-extend_from_slice-temporaries → Link

@@ -1,7 +1,5 @@
-use Rattle.std.proofs.Common.{ap, ◌∙◌, length, reverse, sym}
-use Rattle.std.proofs.lemmas.List.{length-reverse}
-use Rattle.piton_machine.specs.Stacked.{FramesIn}
-use Rattle.piton_machine.proofs.FrameLaws.{frames_count}
+use Rattle.std.{proofs.Common.{ap, ◌∙◌, length, reverse, sym}, proofs.lemmas.List.length-reverse}
+use Rattle.piton_machine.{specs.Stacked.FramesIn, proofs.FrameLaws.frames_count}
 use Rattle.piton_machine.proofs.frames.Frames.len.Goals as goal
 
 pub returns-clause-len : goal.returns-clause-len

@@ -1,8 +1,6 @@
-use Rattle.std.proofs.Common.{ap, ◌∙◌, ◌≡◌, ◌<◌, List, reverse, arith}
-use Rattle.std.specs.Prelude.{slice_get, Some}
+use Rattle.std.{proofs.Common.{ap, ◌∙◌, ◌≡◌, ◌<◌, List, reverse, arith}, specs.Prelude.{slice_get, Some}}
 use Rattle.piton_semantics.specs.State.{Frame}
-use Rattle.piton_machine.specs.Stacked.{FramesIn}
-use Rattle.piton_machine.proofs.FrameLaws.{last_link, set_newest}
+use Rattle.piton_machine.{specs.Stacked.FramesIn, proofs.FrameLaws.{last_link, set_newest}}
 use Rattle.piton_machine.proofs.frames.Frames.set_local.Goals as goal
 
 pub returns-then-at-len : goal.returns-then-at-len

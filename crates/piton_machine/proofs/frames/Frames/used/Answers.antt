@@ -1,8 +1,6 @@
-use Rattle.std.proofs.Common.{ap, reverse, arith}
-use Rattle.std.proofs.lemmas.List.{length-reverse}
+use Rattle.std.{proofs.Common.{ap, reverse, arith}, proofs.lemmas.List.length-reverse}
 use Rattle.piton_semantics.specs.State.{ctrl_used}
-use Rattle.piton_machine.specs.Stacked.{FramesIn}
-use Rattle.piton_machine.proofs.FrameLaws.{frames_used}
+use Rattle.piton_machine.{specs.Stacked.FramesIn, proofs.FrameLaws.frames_used}
 use Rattle.piton_machine.proofs.frames.Frames.used.Goals as goal
 
 pub returns-clause-used : goal.returns-clause-used

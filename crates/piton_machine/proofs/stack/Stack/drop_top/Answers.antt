@@ -1,8 +1,6 @@
-use Rattle.std.proofs.Common.{ap, ◌∙◌, ◌≡◌, List, length, reverse, take, arith, ◌≤◌, ◌-◌}
-use Rattle.std.proofs.lemmas.List.{length-reverse}
+use Rattle.std.{proofs.Common.{ap, ◌∙◌, ◌≡◌, List, length, reverse, take, arith, ◌≤◌, ◌-◌}, proofs.lemmas.List.length-reverse}
 use Rattle.piton_words.specs.declared.word.Word.{Word}
-use Rattle.piton_machine.specs.Stacked.{Stacked}
-use Rattle.piton_machine.proofs.ReverseLaws.{reverse_take}
+use Rattle.piton_machine.{specs.Stacked.Stacked, proofs.ReverseLaws.reverse_take}
 use Rattle.piton_machine.proofs.stack.Stack.drop_top.Goals as goal
 
 pub returns : goal.returns

@@ -1,7 +1,6 @@
-use Rattle.std.proofs.Common.{ap, ◌∙◌, ◌≡◌, ◌≤◌, ◌-◌, ◌+◌, length, reverse, take, drop, arith, sym}
-use Rattle.std.proofs.lemmas.List.{length-reverse, length-take-le, drop-take}
-use Rattle.piton_machine.specs.Stacked.{Stacked}
-use Rattle.piton_machine.proofs.ReverseLaws.{reverse_take, reverse_last}
+use Rattle.std.{proofs.Common.{ap, ◌∙◌, ◌≡◌, ◌≤◌, ◌-◌, ◌+◌, length, reverse, take, drop, arith, sym}, proofs.lemmas.List.{length-reverse, length-take-le}}
+use Rattle.std.proofs.lemmas.List.{drop-take}
+use Rattle.piton_machine.{specs.Stacked.Stacked, proofs.ReverseLaws.{reverse_take, reverse_last}}
 use Rattle.piton_machine.proofs.stack.Stack.formals.Goals as goal
 
 pub returns : goal.returns

@@ -1,9 +1,6 @@
-use Rattle.std.proofs.Common.{ap, ◌∙◌, ◌≡◌, List, length, reverse, arith, ◌<◌, ◌-◌}
-use Rattle.std.specs.Prelude.{slice_set}
-use Rattle.std.proofs.lemmas.List.{length-reverse}
+use Rattle.std.{proofs.Common.{ap, ◌∙◌, ◌≡◌, List, length, reverse, arith, ◌<◌, ◌-◌}, specs.Prelude.slice_set, proofs.lemmas.List.length-reverse}
 use Rattle.piton_words.specs.declared.word.Word.{Word}
-use Rattle.piton_machine.specs.Stacked.{Stacked}
-use Rattle.piton_machine.proofs.ReverseLaws.{reverse_set}
+use Rattle.piton_machine.{specs.Stacked.Stacked, proofs.ReverseLaws.reverse_set}
 use Rattle.piton_machine.proofs.stack.Stack.set.Goals as goal
 
 pub returns : goal.returns

@@ -1,9 +1,7 @@
-use Rattle.std.proofs.Common.{ap, ◌∙◌, ◌≡◌, ◌<◌, ◌-◌, ◌+◌, List, length, reverse, take, arith}
-use Rattle.std.proofs.lemmas.List.{length-reverse, length-take-le}
+use Rattle.std.{proofs.Common.{ap, ◌∙◌, ◌≡◌, ◌<◌, ◌-◌, ◌+◌, List, length, reverse, take, arith}, proofs.lemmas.List.{length-reverse, length-take-le}}
 use Rattle.piton_words.specs.declared.word.Word.{Word}
 use Rattle.piton_semantics.specs.State.{with_element}
-use Rattle.piton_machine.specs.Stacked.{Stacked}
-use Rattle.piton_machine.proofs.ReverseLaws.{reverse_take, reverse_put}
+use Rattle.piton_machine.{specs.Stacked.Stacked, proofs.ReverseLaws.{reverse_take, reverse_put}}
 use Rattle.piton_machine.proofs.stack.Stack.set_element.Goals as goal
 
 pub returns : goal.returns

@@ -1,8 +1,6 @@
 use Rattle.std.proofs.Common.{◌∙◌, ◌≡◌, ◌≤◌, ◌-◌, ◌+◌, length, drop, arith, sym, length-drop}
-use Rattle.piton_semantics.specs.InstructionRows.{results_on}
-use Rattle.piton_semantics.specs.Views.{words_taken}
-use Rattle.piton_semantics.proofs.ViewLaws.{lifted_is}
-use Rattle.piton_semantics.proofs.ResultLaws.{words_pushed, results_count, pushes_no_more, pushes_one_more}
+use Rattle.piton_semantics.{specs.InstructionRows.results_on, specs.Views.words_taken, proofs.ViewLaws.lifted_is, proofs.ResultLaws.words_pushed}
+use Rattle.piton_semantics.proofs.ResultLaws.{results_count, pushes_no_more, pushes_one_more}
 use Rattle.piton_machine.proofs.state.State.apply.Goals as goal
 use Rattle.piton_machine.proofs.state.State.apply.Goals.{else-does_grow-via-then-does_grow+else-len-room, else-does_grow-via-else-does_grow}
 

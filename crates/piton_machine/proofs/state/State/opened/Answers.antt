@@ -1,8 +1,6 @@
-use Rattle.std.proofs.Common.{subst, sym, arith}
-use Rattle.std.proofs.lemmas.Grind.{common_steps}
+use Rattle.std.{proofs.Common.{subst, sym, arith}, proofs.lemmas.Grind.common_steps}
 use Rattle.piton_check.specs.Instruction.{system_view}
-use Rattle.piton_semantics.specs.StateView.{IsSeen, opening}
-use Rattle.piton_semantics.proofs.SeenLaws.{opening_seen}
+use Rattle.piton_semantics.{specs.StateView.{IsSeen, opening}, proofs.SeenLaws.opening_seen}
 use Rattle.piton_machine.proofs.state.State.opened.Goals as goal
 
 pub returns-clause-fits : goal.returns-clause-fits

@@ -1,8 +1,7 @@
 use Rattle.std.proofs.Common.{◌≡◌, ◌∙◌, ◌-◌, ◌+◌, suc, ap, sym, arith, length}
 use Rattle.piton_check.specs.Instruction.{system_view}
-use Rattle.piton_semantics.specs.declared.stepped.PitonRun.{PitonRun}
-use Rattle.piton_semantics.specs.StateView.{Seen, Ran, state_run}
-use Rattle.piton_semantics.proofs.SeenLaws.{ran_next, ran_halted, ran_error, ran_none, end_halted, end_spent}
+use Rattle.piton_semantics.{specs.declared.stepped.PitonRun.PitonRun, specs.StateView.{Seen, Ran, state_run}, proofs.SeenLaws.{ran_next, ran_halted, ran_error}}
+use Rattle.piton_semantics.proofs.SeenLaws.{ran_none, end_halted, end_spent}
 use Rattle.piton_machine.proofs.state.State.ran.Goals as goal
 use Rattle.piton_machine.proofs.state.State.ran.Goals.{then-len-eq0, else-len-eq0}
 

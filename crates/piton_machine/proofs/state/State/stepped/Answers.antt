@@ -1,11 +1,6 @@
-use Rattle.std.proofs.Common.{◌≡◌, ◌∙◌, ap, sym, subst, Ok, Some}
-use Rattle.std.specs.Prelude.{option_map}
-use Rattle.piton_semantics.specs.Fits.{IsState}
+use Rattle.std.{proofs.Common.{◌≡◌, ◌∙◌, ap, sym, subst, Ok, Some}, specs.Prelude.option_map}
+use Rattle.piton_semantics.{specs.Fits.IsState, specs.InstructionRows.row_of, specs.StateView.Seen, specs.State.instruction_at, proofs.KeepLaws.row_kept}
 use Rattle.piton_check.specs.Instruction.{system_view, instruction_view}
-use Rattle.piton_semantics.specs.InstructionRows.{row_of}
-use Rattle.piton_semantics.specs.StateView.{Seen}
-use Rattle.piton_semantics.specs.State.{instruction_at}
-use Rattle.piton_semantics.proofs.KeepLaws.{row_kept}
 use Rattle.piton_machine.proofs.state.State.stepped.Goals as goal
 
 pub returns-clause-fits : goal.returns-clause-fits

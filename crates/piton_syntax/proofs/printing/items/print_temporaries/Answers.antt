@@ -1,8 +1,6 @@
 use Rattle.std.proofs.Common.{◌++◌, map}
-use Rattle.stack_text.specs.TreeText.{items_text}
-use Rattle.stack_text.specs.Views.TreeView.{nodes}
-use Rattle.piton_syntax.specs.Printed.{temporary_tree}
-use Rattle.piton_syntax.proofs.ItemLaws.{items_next}
+use Rattle.stack_text.{specs.TreeText.items_text, specs.Views.TreeView.nodes}
+use Rattle.piton_syntax.{specs.Printed.temporary_tree, proofs.ItemLaws.items_next}
 use Rattle.piton_syntax.proofs.printing.items.print_temporaries.Goals as goal
 
 pub loop-index-preserved : goal.loop-index-preserved

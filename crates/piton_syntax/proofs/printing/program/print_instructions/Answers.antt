@@ -1,7 +1,5 @@
-use Rattle.std.proofs.Common.{[], ◌∷◌, ◌++◌, append_assoc}
-use Rattle.std.specs.List.{flat_map}
-use Rattle.stack_text.specs.TreeText.{tree_text}
-use Rattle.stack_text.proofs.Loops.{pieces_next}
+use Rattle.std.{proofs.Common.{[], ◌∷◌, ◌++◌, append_assoc}, specs.List.flat_map}
+use Rattle.stack_text.{specs.TreeText.tree_text, proofs.Loops.pieces_next}
 use Rattle.piton_syntax.specs.Printed.{instruction_tree}
 use Rattle.piton_syntax.proofs.printing.program.print_instructions.Goals as goal
 

@@ -1,9 +1,6 @@
-use Rattle.std.proofs.Common.{◌≡◌, drop}
-use Rattle.std.specs.Prelude.{IsTrue}
-use Rattle.stack_text.specs.Views.TreeView.{nodes_of}
+use Rattle.std.{proofs.Common.{◌≡◌, drop}, specs.Prelude.IsTrue}
+use Rattle.stack_text.{specs.Views.TreeView.nodes_of, specs.Grammar.Judged.each_of, proofs.ResultLoops.with_front}
 use Rattle.piton_syntax.specs.Grammar.{are_of_kind, argument_of}
-use Rattle.stack_text.specs.Grammar.Judged.{each_of}
-use Rattle.stack_text.proofs.ResultLoops.{with_front}
 use Rattle.piton_syntax.proofs.reading.argument.each_argument.Given as goal
 
 -- the arguments so far, and those that are left, are those of all trees

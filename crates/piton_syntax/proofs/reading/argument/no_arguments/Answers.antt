@@ -1,5 +1,4 @@
-use Rattle.std.proofs.Common.{◌≡◌, [], Err, length, refl, sym, ◌∙◌}
-use Rattle.std.proofs.lemmas.Bool.{eqb-false}
+use Rattle.std.{proofs.Common.{◌≡◌, [], Err, length, refl, sym, ◌∙◌}, proofs.lemmas.Bool.eqb-false}
 use Rattle.piton_syntax.specs.Grammar.{arguments_of}
 use Rattle.piton_syntax.specs.declared.argument.Arguments.TheVariants as row
 use Rattle.stack_text.proofs.TreeListLaws.{not_none}

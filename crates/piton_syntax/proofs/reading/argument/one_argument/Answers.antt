@@ -1,10 +1,7 @@
-use Rattle.std.proofs.Common.{◌≡◌, [], Err, refl, sym, ◌∙◌}
+use Rattle.std.{proofs.Common.{◌≡◌, [], Err, refl, sym, ◌∙◌}, proofs.lemmas.Result.err_from_is_err_and}
 use Rattle.piton_syntax.specs.Grammar.{argument_of, arguments_of, one}
-use Rattle.std.proofs.lemmas.Result.{err_from_is_err_and}
-use Rattle.stack_text.specs.Views.TreeView.{node_of}
-use Rattle.stack_text.proofs.PartLaws.{first_of_value}
+use Rattle.stack_text.{specs.Views.TreeView.node_of, proofs.PartLaws.first_of_value, proofs.TreeListLaws.{not_one, one_part}}
 use Rattle.piton_syntax.specs.declared.argument.Arguments.TheVariants as row
-use Rattle.stack_text.proofs.TreeListLaws.{not_one, one_part}
 use Rattle.piton_syntax.proofs.reading.argument.one_argument.Goals as goal
 
 pub returns-then-trees-ne1 : goal.returns-then-trees-ne1

@@ -1,10 +1,6 @@
-use Rattle.std.proofs.Common.{◌≡◌, [], refl, length, sym, ◌∙◌}
-use Rattle.std.specs.Prelude.{true}
-use Rattle.std.proofs.lemmas.Bool.{eqb-false, eqb-true}
-use Rattle.stack_text.specs.Views.TreeView.{nodes_of}
-use Rattle.piton_syntax.specs.Grammar.{are_of_kind}
-use Rattle.piton_syntax.proofs.ArgumentLaws.{all_of_kind, other_kinds, some_kinds}
-use Rattle.stack_text.proofs.TreeListLaws.{no_parts}
+use Rattle.std.{proofs.Common.{◌≡◌, [], refl, length, sym, ◌∙◌}, specs.Prelude.true, proofs.lemmas.Bool.{eqb-false, eqb-true}}
+use Rattle.stack_text.{specs.Views.TreeView.nodes_of, proofs.TreeListLaws.no_parts}
+use Rattle.piton_syntax.{specs.Grammar.are_of_kind, proofs.ArgumentLaws.{all_of_kind, other_kinds, some_kinds}}
 use Rattle.piton_syntax.proofs.reading.argument.some_arguments.Goals as goal
 
 pub each_argument-requires : goal.each_argument-requires

@@ -1,10 +1,7 @@
-use Rattle.std.proofs.Common.{◌≡◌, [], Err, refl, sym, ◌∙◌}
+use Rattle.std.{proofs.Common.{◌≡◌, [], Err, refl, sym, ◌∙◌}, proofs.lemmas.Result.err_from_is_err_and}
 use Rattle.piton_syntax.specs.Grammar.{arguments_of, named_of, test_and_label}
-use Rattle.std.proofs.lemmas.Result.{err_from_is_err_and}
-use Rattle.stack_text.specs.Views.TreeView.{node_of}
-use Rattle.stack_text.proofs.PartLaws.{first_of_value}
+use Rattle.stack_text.{specs.Views.TreeView.node_of, proofs.PartLaws.first_of_value, proofs.TreeListLaws.{not_two, two_parts}}
 use Rattle.piton_syntax.specs.declared.argument.Arguments.TheVariants as row
-use Rattle.stack_text.proofs.TreeListLaws.{not_two, two_parts}
 use Rattle.piton_syntax.proofs.reading.argument.test_and_label.Goals as goal
 
 pub returns-then-trees-ne2 : goal.returns-then-trees-ne2

@@ -1,8 +1,6 @@
-use Rattle.std.proofs.Common.{◌≡◌, ◌≢◌, [], length, sym, ◌∙◌, arith}
-use Rattle.std.proofs.lemmas.Bool.{eqb-false, eqb-true}
-use Rattle.stack_text.proofs.TreeViewLaws.{node_of-list}
+use Rattle.std.{proofs.Common.{◌≡◌, ◌≢◌, [], length, sym, ◌∙◌, arith}, proofs.lemmas.Bool.{eqb-false, eqb-true}}
+use Rattle.stack_text.{proofs.TreeViewLaws.node_of-list, proofs.TreeListLaws.{three_parts, no_parts}}
 use Rattle.piton_syntax.proofs.InstructionLaws.{not_three_behind, behind_atom, behind_items}
-use Rattle.stack_text.proofs.TreeListLaws.{three_parts, no_parts}
 use Rattle.piton_syntax.proofs.reading.instruction.labelled.Goals as goal
 
 pub returns-then-parts-ne3 : goal.returns-then-parts-ne3

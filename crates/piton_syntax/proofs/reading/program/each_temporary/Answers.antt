@@ -1,5 +1,4 @@
-use Rattle.std.proofs.Common.{arith}
-use Rattle.std.proofs.lemmas.Result.{err_from_is_err_and}
+use Rattle.std.{proofs.Common.arith, proofs.lemmas.Result.err_from_is_err_and}
 use Rattle.stack_text.proofs.PartLaws.{part_fails, part_read, parts_end}
 use Rattle.piton_syntax.specs.Grammar.{temporary_of}
 use Rattle.piton_syntax.proofs.reading.program.each_temporary.Goals as goal

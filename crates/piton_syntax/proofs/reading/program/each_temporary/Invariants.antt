@@ -1,7 +1,5 @@
 use Rattle.std.proofs.Common.{◌≡◌, drop}
-use Rattle.stack_text.specs.Views.TreeView.{nodes_of}
-use Rattle.stack_text.specs.Grammar.Judged.{each_of}
-use Rattle.stack_text.proofs.ResultLoops.{with_front}
+use Rattle.stack_text.{specs.Views.TreeView.nodes_of, specs.Grammar.Judged.each_of, proofs.ResultLoops.with_front}
 use Rattle.piton_syntax.specs.Grammar.{temporary_of}
 use Rattle.piton_syntax.proofs.reading.program.each_temporary.Given as goal
 

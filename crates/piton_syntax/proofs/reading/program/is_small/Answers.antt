@@ -1,6 +1,5 @@
 use Rattle.std.proofs.Common.{◌+◌, ◌≤◌, arith}
-use Rattle.stack_text.specs.Views.TreeView.{node_of}
-use Rattle.stack_text.specs.Grammar.Parts.{list_length}
+use Rattle.stack_text.{specs.Views.TreeView.node_of, specs.Grammar.Parts.list_length}
 use Rattle.piton_syntax.proofs.ProgramLaws.{small_program}
 use Rattle.piton_syntax.proofs.reading.program.is_small.Goals as goal
 

@@ -1,10 +1,7 @@
 use Rattle.std.proofs.lemmas.Result.{err_from_is_err_and}
-use Rattle.stack_text.specs.Trees.{place_of}
-use Rattle.stack_text.specs.Views.TreeView.{node_of, nodes_of}
-use Rattle.piton_syntax.specs.Grammar.{instruction_of, list_of, named_of, temporary_of}
-use Rattle.stack_text.specs.Grammar.Judged.{each_of}
-use Rattle.piton_syntax.specs.Systems.{new_program}
-use Rattle.stack_text.proofs.PartLaws.{first_of_2, first_of_3, first_of_4, first_of_value}
+use Rattle.stack_text.{specs.Trees.place_of, specs.Views.TreeView.{node_of, nodes_of}, specs.Grammar.Judged.each_of, proofs.PartLaws.{first_of_2, first_of_3}}
+use Rattle.stack_text.proofs.PartLaws.{first_of_4, first_of_value}
+use Rattle.piton_syntax.{specs.Grammar.{instruction_of, list_of, named_of, temporary_of}, specs.Systems.new_program}
 use Rattle.piton_syntax.proofs.reading.program.program_parts.Goals as goal
 
 pub returns-in_err-name : goal.returns-in_err-name

@@ -1,10 +1,6 @@
-use Rattle.std.proofs.Common.{[], refl}
-use Rattle.std.proofs.lemmas.Result.{err_from_is_err_and}
-use Rattle.stack_text.specs.Views.TreeView.{node_of}
-use Rattle.piton_syntax.specs.Grammar.{named_of, pair, word_of}
-use Rattle.piton_syntax.proofs.ProgramLaws.{not_two_of_temporary}
-use Rattle.stack_text.proofs.PartLaws.{first_of_2, first_of_value}
-use Rattle.stack_text.proofs.TreeListLaws.{two_parts}
+use Rattle.std.{proofs.Common.{[], refl}, proofs.lemmas.Result.err_from_is_err_and}
+use Rattle.stack_text.{specs.Views.TreeView.node_of, proofs.PartLaws.{first_of_2, first_of_value}, proofs.TreeListLaws.two_parts}
+use Rattle.piton_syntax.{specs.Grammar.{named_of, pair, word_of}, proofs.ProgramLaws.not_two_of_temporary}
 use Rattle.piton_syntax.proofs.reading.program.temporary_at.Goals as goal
 
 pub returns-then-items-ne2 : goal.returns-then-items-ne2

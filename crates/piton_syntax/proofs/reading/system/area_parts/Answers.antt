@@ -1,9 +1,6 @@
 use Rattle.std.proofs.lemmas.Result.{err_from_is_err_and}
-use Rattle.stack_text.specs.Views.TreeView.{node_of, nodes_of}
-use Rattle.piton_syntax.specs.Grammar.{named_of, word_of}
-use Rattle.stack_text.specs.Grammar.Judged.{each_of}
-use Rattle.piton_syntax.specs.Systems.{new_area}
-use Rattle.stack_text.proofs.PartLaws.{first_of_2}
+use Rattle.stack_text.{specs.Views.TreeView.{node_of, nodes_of}, specs.Grammar.Judged.each_of, proofs.PartLaws.first_of_2}
+use Rattle.piton_syntax.{specs.Grammar.{named_of, word_of}, specs.Systems.new_area}
 use Rattle.piton_syntax.proofs.reading.system.area_parts.Goals as goal
 
 pub returns-in_err-name : goal.returns-in_err-name

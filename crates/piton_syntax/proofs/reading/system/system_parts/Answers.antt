@@ -1,11 +1,7 @@
-use Rattle.std.proofs.Common.{map}
-use Rattle.std.proofs.lemmas.Result.{err_from_is_err_and}
-use Rattle.stack_text.specs.Views.TreeView.{node_of, nodes_of}
-use Rattle.piton_syntax.specs.Grammar.{area_of, named_of, number_of, program_of, word_of}
-use Rattle.stack_text.specs.Grammar.Judged.{each_of}
-use Rattle.stack_text.specs.declared.grammar.fault.FormFault.TheVariants.{Form}
-use Rattle.piton_syntax.specs.Systems.{AreaOf, new_system}
+use Rattle.std.{proofs.Common.map, proofs.lemmas.Result.err_from_is_err_and}
+use Rattle.stack_text.{specs.Views.TreeView.{node_of, nodes_of}, specs.Grammar.Judged.each_of, specs.declared.grammar.fault.FormFault.TheVariants.Form}
 use Rattle.stack_text.proofs.PartLaws.{first_of_2, first_of_3, first_of_4, first_of_5, first_of_6, first_of_7, first_of_value}
+use Rattle.piton_syntax.{specs.Grammar.{area_of, named_of, number_of, program_of, word_of}, specs.Systems.{AreaOf, new_system}}
 use Rattle.piton_syntax.specs.declared.word_text.WordText.{WordText}
 use Rattle.piton_syntax.proofs.reading.system.system_parts.Goals as goal
 

@@ -1,8 +1,5 @@
-use Rattle.std.proofs.Common.{◌≡◌, [], Err, refl, sym, ◌∙◌}
-use Rattle.std.proofs.lemmas.Result.{err_from_is_err_and}
-use Rattle.stack_text.specs.Views.TreeView.{node_of}
-use Rattle.stack_text.specs.declared.grammar.fault.FormFault.TheVariants.{Form}
-use Rattle.stack_text.proofs.PartLaws.{first_of_2, first_of_value}
+use Rattle.std.{proofs.Common.{◌≡◌, [], Err, refl, sym, ◌∙◌}, proofs.lemmas.Result.err_from_is_err_and}
+use Rattle.stack_text.{specs.Views.TreeView.node_of, specs.declared.grammar.fault.FormFault.TheVariants.Form, proofs.PartLaws.{first_of_2, first_of_value}}
 use Rattle.stack_text.proofs.TreeListLaws.{not_two, two_parts}
 use Rattle.piton_syntax.specs.Grammar.{named_number, named_of, number_of}
 use Rattle.piton_syntax.proofs.reading.word.named_number.Goals as goal

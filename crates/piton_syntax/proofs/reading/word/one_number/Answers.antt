@@ -1,10 +1,6 @@
-use Rattle.std.proofs.Common.{◌≡◌, ℕ, List, Bool, [], Err, refl, sym, ◌∙◌}
-use Rattle.std.specs.Prelude.{if◌then◌else◌}
-use Rattle.stack_text.specs.Numerals.{is_digits, is_numeral}
-use Rattle.stack_text.specs.Views.TreeView.{node_of}
-use Rattle.stack_text.proofs.TreeListLaws.{not_one, one_part}
-use Rattle.piton_syntax.specs.Grammar.{number_of, one_number}
-use Rattle.piton_syntax.proofs.ItemLaws.{finds_made}
+use Rattle.std.{proofs.Common.{◌≡◌, ℕ, List, Bool, [], Err, refl, sym, ◌∙◌}, specs.Prelude.if◌then◌else◌}
+use Rattle.stack_text.{specs.Numerals.{is_digits, is_numeral}, specs.Views.TreeView.node_of, proofs.TreeListLaws.{not_one, one_part}}
+use Rattle.piton_syntax.{specs.Grammar.{number_of, one_number}, proofs.ItemLaws.finds_made}
 use Rattle.piton_syntax.proofs.reading.word.one_number.Goals as goal
 
 pub returns-then-parts-ne1 : goal.returns-then-parts-ne1

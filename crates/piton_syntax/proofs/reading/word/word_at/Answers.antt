@@ -1,12 +1,7 @@
-use Rattle.std.proofs.Common.{[], refl, sym}
-use Rattle.std.proofs.lemmas.Result.{err_from_is_err_and}
-use Rattle.stack_text.specs.Views.TreeView.{nodes_of}
-use Rattle.stack_text.proofs.PartLaws.{first_of_value}
-use Rattle.stack_text.proofs.TreeListLaws.{rest}
-use Rattle.stack_text.proofs.TreeViewLaws.{node_of-atom, node_of-list}
-use Rattle.piton_syntax.specs.Grammar.{item_of}
-use Rattle.piton_syntax.specs.Systems.{new_word}
-use Rattle.piton_syntax.proofs.ItemLaws.{no_items, first_item}
+use Rattle.std.{proofs.Common.{[], refl, sym}, proofs.lemmas.Result.err_from_is_err_and}
+use Rattle.stack_text.{specs.Views.TreeView.nodes_of, proofs.PartLaws.first_of_value, proofs.TreeListLaws.rest, proofs.TreeViewLaws.node_of-atom}
+use Rattle.stack_text.proofs.TreeViewLaws.{node_of-list}
+use Rattle.piton_syntax.{specs.Grammar.item_of, specs.Systems.new_word, proofs.ItemLaws.{no_items, first_item}}
 use Rattle.piton_syntax.proofs.reading.word.word_at.Goals as goal
 
 pub returns-then-is_empty : goal.returns-then-is_empty

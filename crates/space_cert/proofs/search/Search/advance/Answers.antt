@@ -1,7 +1,6 @@
 use Rattle.std.proofs.Common.{◌≤◌, length, arith}
 use Rattle.stack_heap.proofs.UnlessLaws.{if_ok_unless_weaker}
-use Rattle.space_cert.specs.Internal.SearchView.{HasFinished, HasAdvanced, search_of, seen_calls}
-use Rattle.space_cert.proofs.FollowLaws.{entered_below, finish_advances}
+use Rattle.space_cert.{specs.Internal.SearchView.{HasFinished, HasAdvanced, search_of, seen_calls}, proofs.FollowLaws.{entered_below, finish_advances}}
 use Rattle.space_cert.proofs.search.Search.advance.Goals as goal
 
 pub finish-requires-clause-marked : goal.finish-requires-clause-marked

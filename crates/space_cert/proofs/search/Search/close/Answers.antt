@@ -1,6 +1,5 @@
 use Rattle.std.proofs.Common.{[], ◌∷◌, ap, sym, ◌∙◌, rules}
-use Rattle.space_cert.specs.Internal.Search.{first_with}
-use Rattle.space_cert.proofs.SearchCode.{closes_on}
+use Rattle.space_cert.{specs.Internal.Search.first_with, proofs.SearchCode.closes_on}
 use Rattle.space_cert.proofs.search.Search.close.Goals as goal
 
 pub loop-self-preserved-then-self : goal.loop-self-preserved-then-self

@@ -1,7 +1,6 @@
 use Rattle.std.proofs.Common.{◌≡◌, ◌++◌, ap, sym, ◌∙◌, length, reverse, set, false, arith, rules}
 use Rattle.stack_text.proofs.SharedLaws.{reverse_snoc}
-use Rattle.space_cert.specs.declared.search.Mark.TheVariants.{Entered}
-use Rattle.space_cert.proofs.SearchCode.{search_same, calls_at}
+use Rattle.space_cert.{specs.declared.search.Mark.TheVariants.Entered, proofs.SearchCode.{search_same, calls_at}}
 use Rattle.space_cert.proofs.search.Search.enter.Goals as goal
 
 pub returns-clause-entered : goal.returns-clause-entered

@@ -1,11 +1,8 @@
-use Rattle.std.proofs.Common.{◌<◌, length, refl, sym, subst, arith}
-use Rattle.std.proofs.lemmas.List.{length-map}
+use Rattle.std.{proofs.Common.{◌<◌, length, refl, sym, subst, arith}, proofs.lemmas.List.length-map}
 use Rattle.stack_heap.proofs.UnlessLaws.{on_ok_unless_weaker}
-use Rattle.space_cert.specs.Internal.SearchState.{IsSearch, left_to_do, with_call}
-use Rattle.space_cert.specs.Internal.SearchView.{search_of, seen_calls}
-use Rattle.space_cert.specs.declared.search.Mark.TheVariants.{New, Entered, Done}
-use Rattle.space_cert.proofs.SearchingLaws.{enters_keeps, enters_less, passes_keeps, circles_keeps}
-use Rattle.space_cert.proofs.FollowLaws.{mark_read, follow_below, follow_joins}
+use Rattle.space_cert.{specs.Internal.SearchState.{IsSearch, left_to_do, with_call}, specs.Internal.SearchView.{search_of, seen_calls}}
+use Rattle.space_cert.{specs.declared.search.Mark.TheVariants.{New, Entered, Done}, proofs.SearchingLaws.{enters_keeps, enters_less, passes_keeps}}
+use Rattle.space_cert.{proofs.SearchingLaws.circles_keeps, proofs.FollowLaws.{mark_read, follow_below, follow_joins}}
 use Rattle.space_cert.proofs.search.Search.follow.Goals as goal
 
 pub index-requires : goal.index-requires

@@ -1,10 +1,6 @@
-use Rattle.std.proofs.Common.{◌≡◌, ◌<◌, length, replicate, set, ap, sym, subst, ◌∙◌, reverse, arith, rules}
-use Rattle.std.proofs.lemmas.List.{length-map}
-use Rattle.space_cert.specs.Internal.SearchState.{IsSearch}
-use Rattle.space_cert.specs.Internal.SearchView.{seen_calls}
-use Rattle.space_cert.specs.declared.search.Mark.TheVariants.{New, Entered}
-use Rattle.space_cert.proofs.SearchCode.{search_same, calls_at}
-use Rattle.space_cert.proofs.SearchingLaws.{begins}
+use Rattle.std.{proofs.Common.{◌≡◌, ◌<◌, length, replicate, set, ap, sym, subst, ◌∙◌, reverse, arith, rules}, proofs.lemmas.List.length-map}
+use Rattle.space_cert.{specs.Internal.SearchState.IsSearch, specs.Internal.SearchView.seen_calls, specs.declared.search.Mark.TheVariants.{New, Entered}}
+use Rattle.space_cert.{proofs.SearchCode.{search_same, calls_at}, proofs.SearchingLaws.begins}
 use Rattle.space_cert.proofs.search.Search.new.Goals as goal
 
 pub returns-clause-search : goal.returns-clause-search

@@ -1,8 +1,6 @@
-use Rattle.std.proofs.Common.{◌<◌, length, sym, ◌∙◌, arith}
-use Rattle.std.proofs.lemmas.List.{length-map}
+use Rattle.std.{proofs.Common.{◌<◌, length, sym, ◌∙◌, arith}, proofs.lemmas.List.length-map}
 use Rattle.fm_turns.specs.Turns.{states_of}
-use Rattle.stack_commands.specs.Internal.Told.{has_ended}
-use Rattle.stack_commands.proofs.TaskLoops.{test_more, test_fails}
+use Rattle.stack_commands.{specs.Internal.Told.has_ended, proofs.TaskLoops.{test_more, test_fails}}
 use Rattle.stack_commands.proofs.turns.rounds.have_ended.Goals as goal
 
 pub returns-then-not-has_ended : goal.returns-then-not-has_ended

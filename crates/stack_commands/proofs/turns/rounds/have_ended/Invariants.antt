@@ -1,5 +1,4 @@
-use Rattle.std.proofs.Common.{◌≡◌, drop}
-use Rattle.std.specs.List.{list_all}
+use Rattle.std.{proofs.Common.{◌≡◌, drop}, specs.List.list_all}
 use Rattle.fm_turns.specs.Turns.{states_of}
 use Rattle.stack_commands.specs.Internal.Told.{has_ended}
 use Rattle.stack_commands.proofs.turns.rounds.have_ended.Given as goal

@@ -1,11 +1,8 @@
 use Rattle.std.proofs.Common.{◌≡◌, ◌∙◌, List, Ok, map, sym, ap, subst}
 use Rattle.stack_heap.specs.Heaps.{IfOkUnless}
-use Rattle.fm_turns.specs.EqualTurns.{AreAll, EndAsAlone}
-use Rattle.fm_turns.specs.Starting.{NewTask, new_tasks, started}
-use Rattle.fm_turns.specs.Turns.{TurnsOf, images_of}
+use Rattle.fm_turns.{specs.EqualTurns.{AreAll, EndAsAlone}, specs.Starting.{NewTask, new_tasks, started}, specs.Turns.{TurnsOf, images_of}}
 use Rattle.command_replies.specs.Replies.{ReplyOf, reply_of}
-use Rattle.stack_commands.specs.Internal.Told.{GoneRound}
-use Rattle.stack_commands.proofs.TurnsLaws.{first_images, tells_alone}
+use Rattle.stack_commands.{specs.Internal.Told.GoneRound, proofs.TurnsLaws.{first_images, tells_alone}}
 use Rattle.stack_commands.proofs.turns.rounds.run_by_turns.Goals as goal
 
 pub returns : goal.returns

@@ -1,6 +1,4 @@
-use Rattle.std.proofs.Common.{◌≤◌, length, map, sym, ◌∙◌, arith}
-use Rattle.std.proofs.lemmas.Bool.{eqb-false}
-use Rattle.std.proofs.lemmas.List.{length-map}
+use Rattle.std.{proofs.Common.{◌≤◌, length, map, sym, ◌∙◌, arith}, proofs.lemmas.Bool.eqb-false, proofs.lemmas.List.length-map}
 use Rattle.std.proofs.lemmas.List.Elements.{All-map}
 use Rattle.gypsy_space.specs.Needs.{stack_sizes}
 use Rattle.fm_turns.specs.Starting.{new_tasks}

@@ -1,13 +1,9 @@
-use Rattle.std.proofs.Common.{◌≡◌, ◌++◌, ◌∙◌, [], ◌∷◌, List, ℕ, length, map, sym, ap, subst, arith}
-use Rattle.std.specs.Prelude.{All}
-use Rattle.std.proofs.lemmas.List.{map-append}
+use Rattle.std.{proofs.Common.{◌≡◌, ◌++◌, ◌∙◌, [], ◌∷◌, List, ℕ, length, map, sym, ap, subst, arith}, specs.Prelude.All, proofs.lemmas.List.map-append}
 use Rattle.std.proofs.lemmas.List.Elements.{All-push}
-use Rattle.fm_loader.specs.Loaded.{Fits}
-use Rattle.fm_loader.specs.Values.{values_in}
+use Rattle.fm_loader.{specs.Loaded.Fits, specs.Values.values_in}
 use Rattle.fm_image.specs.Image.{ImageOf}
 use Rattle.fm_turns.specs.Starting.{NewTask, new_task, new_tasks}
-use Rattle.stack_commands.specs.Commands.Turns.{values_or_fault}
-use Rattle.stack_commands.proofs.TaskLoops.{next_read}
+use Rattle.stack_commands.{specs.Commands.Turns.values_or_fault, proofs.TaskLoops.next_read}
 use Rattle.stack_commands.proofs.turns.tasks.read_tasks.Goals as goal
 
 pub loop-image-preserved : goal.loop-image-preserved

@@ -1,7 +1,5 @@
-use Rattle.std.proofs.Common.{arith}
-use Rattle.std.proofs.lemmas.Result.{err_from_is_err_and}
-use Rattle.stack_text.specs.Grammar.Parts.{name_or}
-use Rattle.stack_text.proofs.PartLaws.{part_fails, part_read, parts_end}
+use Rattle.std.{proofs.Common.arith, proofs.lemmas.Result.err_from_is_err_and}
+use Rattle.stack_text.{specs.Grammar.Parts.name_or, proofs.PartLaws.{part_fails, part_read, parts_end}}
 use Rattle.stack_text.proofs.grammar.name.each_name.Goals as goal
 
 pub returns-in_err-name : goal.returns-in_err-name

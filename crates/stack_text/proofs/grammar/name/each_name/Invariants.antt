@@ -1,8 +1,5 @@
 use Rattle.std.proofs.Common.{◌≡◌, drop}
-use Rattle.stack_text.specs.Views.TreeView.{nodes_of}
-use Rattle.stack_text.specs.Grammar.Judged.{each_of}
-use Rattle.stack_text.specs.Grammar.Parts.{name_or}
-use Rattle.stack_text.proofs.ResultLoops.{with_front}
+use Rattle.stack_text.{specs.Views.TreeView.nodes_of, specs.Grammar.Judged.each_of, specs.Grammar.Parts.name_or, proofs.ResultLoops.with_front}
 use Rattle.stack_text.proofs.grammar.name.each_name.Given as goal
 
 -- the names so far, and those that are left, are those of all trees

@@ -1,6 +1,4 @@
-use Rattle.std.proofs.Common.{arith, map}
-use Rattle.std.proofs.lemmas.Result.{err_from_is_err_and}
-use Rattle.std.proofs.lemmas.List.{map-append}
+use Rattle.std.{proofs.Common.{arith, map}, proofs.lemmas.Result.err_from_is_err_and, proofs.lemmas.List.map-append}
 use Rattle.stack_text.proofs.PartLaws.{part_fails, part_read, parts_end}
 use Rattle.stack_text.proofs.grammar.part.each.Goals as goal
 

@@ -1,7 +1,5 @@
 use Rattle.std.proofs.Common.{◌≡◌, drop, map}
-use Rattle.stack_text.specs.Views.TreeView.{nodes_of}
-use Rattle.stack_text.specs.Grammar.Judged.{each_of}
-use Rattle.stack_text.proofs.ResultLoops.{with_front}
+use Rattle.stack_text.{specs.Views.TreeView.nodes_of, specs.Grammar.Judged.each_of, proofs.ResultLoops.with_front}
 use Rattle.stack_text.proofs.grammar.part.each.Given as goal
 
 -- the parts so far, and those that are left, are those of all trees

@@ -1,6 +1,5 @@
 use Rattle.std.proofs.Common.{arith}
-use Rattle.stack_text.proofs.TreeViewLaws.{node_of-list}
-use Rattle.stack_text.proofs.TreeListLaws.{count_of_all}
+use Rattle.stack_text.{proofs.TreeViewLaws.node_of-list, proofs.TreeListLaws.count_of_all}
 use Rattle.stack_text.proofs.grammar.part.list_length.Goals as goal
 
 pub returns-in-List : goal.returns-in-List

@@ -1,7 +1,5 @@
 use Rattle.std.proofs.Common.{◌≡◌, ◌++◌, map, drop}
-use Rattle.stack_text.specs.Views.TreeView.{nodes}
-use Rattle.stack_text.specs.TreeText.{items_text}
-use Rattle.stack_text.specs.Grammar.Printed.{items_after}
+use Rattle.stack_text.{specs.Views.TreeView.nodes, specs.TreeText.items_text, specs.Grammar.Printed.items_after}
 use Rattle.stack_text.proofs.grammar.printing.print_items.Given as goal
 
 abbrev pub invariant-loop-index : goal.invariant-loop-index

@@ -1,6 +1,5 @@
 use Rattle.std.proofs.Common.{◌≡◌, ◌++◌, map, drop}
-use Rattle.stack_text.specs.Views.TreeView.{nodes}
-use Rattle.stack_text.specs.TreeText.{spaced_text}
+use Rattle.stack_text.{specs.Views.TreeView.nodes, specs.TreeText.spaced_text}
 use Rattle.stack_text.proofs.grammar.printing.spaced_items.Given as goal
 
 abbrev pub invariant-loop-item : goal.invariant-loop-item

@@ -1,6 +1,4 @@
-use Rattle.std.proofs.Common.{sym, subst}
-use Rattle.std.specs.Str.{IsAscii}
-use Rattle.std.proofs.lemmas.Str.{IsUtf8-from_ascii}
+use Rattle.std.{proofs.Common.{sym, subst}, specs.Str.IsAscii, proofs.lemmas.Str.IsUtf8-from_ascii}
 use Rattle.stack_text.proofs.AtomLaws.{name_is_ascii}
 use Rattle.stack_text.proofs.name.Name.as_str.Goals as goal
 
