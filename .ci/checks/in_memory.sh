@@ -7,7 +7,7 @@ folder=$(mktemp -d) || exit 1
 trap 'rm -rf "$folder"' EXIT
 
 cd "$top" && git ls-files -z crates crates.txt HANDLES | xargs -0 cp --parents -t "$folder" || exit 1
-cp .ci/tools/in_memory.rt "$folder/crates/cli_stack/src/in_memory_tests.rt" || exit 1
+cp .ci/tools/in_memory.tests "$folder/crates/cli_stack/src/in_memory_tests.rt" || exit 1
 cd "$folder/crates/cli_stack" && sed -i 's/^mod in_memory;$/&\n#[cfg(test)]\nmod in_memory_tests;/' src/main.rt || exit 1
 
 said=$(rt try --test 2>&1)
