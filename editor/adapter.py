@@ -13,6 +13,7 @@ from pathlib import Path
 import beside
 import explain
 from breakpoints import FILTERS, Breakpoints, Wrong
+from ends import end, shown, tell
 from moments import Interrupted, Run
 from program import Refused
 from seen import THREAD, Seen
@@ -51,25 +52,27 @@ class Adapter(Breakpoints, Seen):
 
     def tell(self, text, category="console"):
         """Says something to a person."""
-        self.event("output", category=category, output=f"{beside.shown(text)}\n")
+        self.event("output", category=category, output=f"{shown(text)}\n")
 
     def serve(self):
         """Answers until the editor leaves, or has the adapter end."""
         worker = threading.Thread(target=self.work, daemon=True)
         worker.start()
-        while (message := self.receive()) is not None:
-            if message.get("command") in STOPPING and self.run:
+        try:
+            while (message := self.receive()) is not None:
+                if message.get("command") in STOPPING and self.run:
+                    self.run.stop.set()
+                self.requests.put(message)
+                if message.get("command") == "disconnect":
+                    break
+            self.requests.put(None)
+            if message is None and self.run:
+                # Nobody waits for an answer any more.
                 self.run.stop.set()
-            self.requests.put(message)
-            if message.get("command") == "disconnect":
-                break
-        self.requests.put(None)
-        if message is None and self.run:
-            # Nobody waits for an answer any more.
-            self.run.stop.set()
-        worker.join(LAST)
-        if self.run:
-            self.run.close()
+            worker.join(LAST)
+        finally:
+            if self.run:
+                self.run.close()
         return 0
 
     def receive(self):
@@ -80,7 +83,7 @@ class Adapter(Breakpoints, Seen):
             except Unreadable as fault:
                 self.tell(str(fault), "stderr")
             except Lost as lost:
-                print(f"stack: the editor is left: {lost}", file=sys.stderr)
+                tell(f"the editor is left: {lost}")
                 return None
 
     def work(self):
@@ -96,7 +99,7 @@ class Adapter(Breakpoints, Seen):
         try:
             answer["body"] = self.body_of(message["command"], message.get("arguments"))
         except Exception as fault:
-            answer |= {"success": False, "message": beside.shown(self.told(fault))}
+            answer |= {"success": False, "message": shown(self.told(fault))}
             answer["body"] = {"error": {"id": 1, "format": answer["message"].replace("{", "("), "showUser": True}}
         self.send(answer)
         try:
@@ -183,7 +186,7 @@ class Adapter(Breakpoints, Seen):
         if self.walk.moment.ended and reason != "entry":
             self.tell_report()
         body = {"reason": reason if is_known else "goto", "threadId": THREAD, "allThreadsStopped": True}
-        self.event("stopped", **body, **({} if is_known else {"description": beside.shown(reason), "text": beside.shown(reason)}))
+        self.event("stopped", **body, **({} if is_known else {"description": shown(reason), "text": shown(reason)}))
 
     def tell_report(self):
         """Tells what `run` prints of the run, which is over."""
@@ -258,5 +261,4 @@ class Adapter(Breakpoints, Seen):
 
 
 if __name__ == "__main__":
-    beside.end_by_signals()
-    sys.exit(Adapter(sys.argv[1], Wire()).serve())
+    end(lambda: Adapter(sys.argv[1], Wire()).serve())

@@ -4,6 +4,7 @@ import re
 import beside
 from asking import Unjudged
 from documents import address_of, sources_of
+from ends import shown
 
 # How much a finding matters to an editor: what the program refuses, and that it said nothing of a text.
 ERROR, INFORMATION = 1, 3
@@ -22,7 +23,7 @@ class Findings:
             diagnostics = [self.diagnostic(document, found, source)] if found else []
         except Unjudged as unjudged:
             said = f"This text isn't judged: {unjudged}"
-            diagnostics = [{"range": document.text.range(0, document.end_of(0)), "severity": INFORMATION, "source": "stack", "message": beside.shown(said)}]
+            diagnostics = [{"range": document.text.range(0, document.end_of(0)), "severity": INFORMATION, "source": "stack", "message": shown(said)}]
         self.publish(address, diagnostics)
 
     def judge(self, document):
@@ -54,7 +55,7 @@ class Findings:
         page = address_of(beside.TOP / "docs/program/errors.md")
         return {
             "range": document.text.range(found.place, document.end_of(found.place)), "severity": ERROR, "source": "stack", "code": found.rule,
-            "codeDescription": {"href": page}, "message": beside.shown(said),
+            "codeDescription": {"href": page}, "message": shown(said),
         }
 
     def publish(self, address, diagnostics):

@@ -16,7 +16,7 @@ import zipfile
 from pathlib import Path
 
 from beside import EDITOR
-from help import shown
+from ends import FAILED, end, tell
 
 VERSION, EXTENSION = "1.0.0", "stack.verified-short-stack"
 PACKAGE = '(define-package "stack-modes" "1.0" "The languages of the verified short stack" \'((emacs "28.1")))\n'
@@ -136,16 +136,14 @@ INSTALLS = {"vim": for_vim, "emacs": for_emacs, "code": for_code, "kate": for_ka
 
 def main(stack, name="", *rest):
     if rest or name not in INSTALLS:
-        print(f"stack: wanted is one of {', '.join(INSTALLS)}; editors start server and adapter themselves", file=sys.stderr)
+        tell(f"wanted is one of {', '.join(INSTALLS)}; editors start server and adapter themselves")
         return 1
     try:
         return INSTALLS[name](str(Path(stack).resolve())) or 0
     except Unfit as unfit:
-        print(f"stack: {shown(str(unfit))}", file=sys.stderr)
-    except (OSError, shutil.Error) as fault:
-        print(f"stack: {shown(str(getattr(fault, 'filename', None) or name))}: {shown(getattr(fault, 'strerror', None) or str(fault))}", file=sys.stderr)
-    return 70
+        tell(str(unfit))
+        return FAILED
 
 
 if __name__ == "__main__":
-    sys.exit(main(*sys.argv[1:]))
+    end(lambda: main(*sys.argv[1:]))

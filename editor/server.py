@@ -11,6 +11,7 @@ import sys
 import beside
 from asking import Asker
 from documents import Document
+from ends import end, shown, tell
 from findings import Findings
 from wire import Lost, Quiet, Unreadable, Wire
 from words import Words
@@ -50,7 +51,7 @@ class Server(Findings, Words):
                 self.send(id=None, error={"code": NO_JSON, "message": str(fault)})
                 continue
             except Lost as lost:
-                print(f"stack: the editor is left: {lost}", file=sys.stderr)
+                tell(f"the editor is left: {lost}")
                 return 1
             if message is None or message.get("method") == "exit":
                 return 0 if self.has_shut_down else 1
@@ -67,7 +68,7 @@ class Server(Findings, Words):
         try:
             answer = {"result": act(params if isinstance(params, dict) else {})} if act else no_method(method)
         except Exception as fault:
-            answer = {"error": {"code": FAILED, "message": beside.shown(told(method, fault))}}
+            answer = {"error": {"code": FAILED, "message": shown(told(method, fault))}}
         if "id" in message:
             self.send(id=message["id"], **answer)
         elif act and "error" in answer:
@@ -91,7 +92,7 @@ class Server(Findings, Words):
         self.send(method=method, params=params)
 
     def log(self, kind, text):
-        self.send_note("window/logMessage", type=kind, message=beside.shown(text))
+        self.send_note("window/logMessage", type=kind, message=shown(text))
 
     # ---- The life of the server and of texts ----
 
@@ -129,7 +130,7 @@ class Server(Findings, Words):
 
 
 def no_method(method):
-    return {"error": {"code": NO_METHOD, "message": beside.shown(f"there is no {method} here")}}
+    return {"error": {"code": NO_METHOD, "message": shown(f"there is no {method} here")}}
 
 
 def told(what, fault):
@@ -143,5 +144,4 @@ def told(what, fault):
 
 
 if __name__ == "__main__":
-    beside.end_by_signals()
-    sys.exit(Server(sys.argv[1], Wire()).serve())
+    end(lambda: Server(sys.argv[1], Wire()).serve())

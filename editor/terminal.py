@@ -12,8 +12,8 @@ import sys
 import threading
 
 import beside
+from ends import FAILED, end, tell
 from explain import lines_of
-from help import shown
 from moments import LEVELS, Interrupted, Run
 from panes import NEXT, Pane
 from positions import Text
@@ -249,27 +249,18 @@ def main(program, *words):
         run, level = run_of(program, words)
     except Refused as refused:
         return refused_status(refused, source)
-    except FileNotFoundError as missing:
-        print(f"missing {shown(str(missing.filename))}")
-        return 9
-    except OSError as fault:
-        print(f"shelf fault {shown(str(fault.filename))}")
-        return 10
-    except (Ended, ValueError) as fault:
+    except Ended as fault:
         print(said_of(fault), file=sys.stderr)
-        return 1
+        return fault.status
     try:
         curses.wrapper(lambda screen: Debugger(screen, run, level).serve())
-    except KeyboardInterrupt:
-        return 130
     except (Refused, Interrupted, OSError, curses.error) as fault:
-        print(f"stack: {shown(said_of(fault))}", file=sys.stderr)
-        return 70
+        tell(said_of(fault))
+        return FAILED
     finally:
         run.close()
     return 0
 
 
 if __name__ == "__main__":
-    beside.end_by_signals()
-    sys.exit(main(*sys.argv[1:]))
+    end(lambda: main(*sys.argv[1:]))

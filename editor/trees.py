@@ -2,7 +2,7 @@
 from functools import lru_cache
 
 import beside  # noqa: F401
-from sources import TOKEN
+from sources import tokens
 
 
 class Tree:
@@ -35,17 +35,16 @@ class Tree:
 def tree_of(data):
     """The tree of a text, or an empty list. What has it changes nothing in it."""
     opened = [Tree(0, len(data))]
-    for found in TOKEN.finditer(data):
-        token = found.group()
+    for token, place in tokens(data):
         if token == b"(":
-            made = Tree(found.start(), len(data))
+            made = Tree(place, len(data))
             opened[-1].items.append(made)
             opened.append(made)
         elif token == b")":
             if len(opened) > 1:
-                opened.pop().end = found.end()
-        elif not token.startswith(b";"):
-            opened[-1].items.append(Tree(found.start(), found.end(), token.decode(errors="replace")))
+                opened.pop().end = place + 1
+        else:
+            opened[-1].items.append(Tree(place, place + len(token), token.decode(errors="replace")))
     return opened[0].item(0)
 
 

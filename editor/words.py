@@ -1,9 +1,10 @@
 """What an editor asks of a word in a text: what is said of it, where it is declared and used, and what may stand at a place."""
 from functools import lru_cache
 
-import beside
+import beside  # noqa: F401
 from asking import Unjudged
 from documents import Document, address_of, sources_of
+from ends import shown
 from languages import assembly, declaration_of, gypsy, infix, same
 
 # Of a source with more bytes it takes seconds to tell which code is a statement's.
@@ -41,7 +42,7 @@ class Words:
             said += list(self.generated(document, one)) or [gypsy.template(one)]
         if not said:
             return None
-        return {"contents": {"kind": "markdown", "value": beside.shown("\n\n".join(said))}, "range": document.text.range(one.place, one.end)}
+        return {"contents": {"kind": "markdown", "value": shown("\n\n".join(said))}, "range": document.text.range(one.place, one.end)}
 
     def generated(self, document, one):
         """The Piton that a statement becomes here. Of a large source that takes too long, and of one that is refused there is none."""
@@ -128,10 +129,10 @@ class Words:
 
     def item(self, it):
         """What may come, as an editor takes it."""
-        made = {"label": beside.shown(it.label), "kind": OFFERED[it.kind], "detail": beside.shown(it.detail)}
+        made = {"label": shown(it.label), "kind": OFFERED[it.kind], "detail": shown(it.detail)}
         if self.fills and it.insert != it.label:
             made |= {"insertText": it.insert, "insertTextFormat": 2}
-        return made | ({"documentation": {"kind": "markdown", "value": beside.shown(it.said)}} if it.said else {})
+        return made | ({"documentation": {"kind": "markdown", "value": shown(it.said)}} if it.said else {})
 
 
 def is_variable(mention, name):
@@ -142,6 +143,6 @@ def is_variable(mention, name):
 def symbol(document, it):
     """A part of an outline, as an editor takes it."""
     return {
-        "name": beside.shown(it.name), "kind": OUTLINED[it.kind], "detail": beside.shown(it.detail), "range": document.text.range(it.place, it.end),
+        "name": shown(it.name), "kind": OUTLINED[it.kind], "detail": shown(it.detail), "range": document.text.range(it.place, it.end),
         "selectionRange": document.text.range(it.name_place, it.name_end), "children": [symbol(document, one) for one in it.parts],
     }
