@@ -314,8 +314,9 @@ class Rows:
         for words in ["page", "S", "V", "20", "20", "100", "page.html"], ["trace", "S", "V", "20", "20"], ["try", "S"]:
             for number in signal.SIGTERM, signal.SIGHUP, signal.SIGINT:
                 folder = self.folder()
-                ignoring = lambda: signal.signal(signal.SIGINT, signal.SIG_DFL)  # noqa: E731
-                running = subprocess.Popen([self.played, *words], cwd=folder, env=self.environment(folder, {"PLAYS": "slow"}), stdin=subprocess.DEVNULL, stdout=subprocess.PIPE, stderr=subprocess.PIPE, preexec_fn=ignoring, start_new_session=True)
+                # Who starts the rows may ignore a signal, as nohup does; a shell can't notice it then.
+                noticing = lambda: [signal.signal(it, signal.SIG_DFL) for it in (signal.SIGTERM, signal.SIGHUP, signal.SIGINT)]  # noqa: E731
+                running = subprocess.Popen([self.played, *words], cwd=folder, env=self.environment(folder, {"PLAYS": "slow"}), stdin=subprocess.DEVNULL, stdout=subprocess.PIPE, stderr=subprocess.PIPE, preexec_fn=noticing, start_new_session=True)
                 late = time.monotonic() + WAIT
                 while not asked_slowly(running.pid) and time.monotonic() < late:
                     time.sleep(0.05)
