@@ -12,7 +12,8 @@ import re
 import sys
 from pathlib import Path
 
-sys.path.append(str(Path(__file__).resolve().parents[1] / "tools"))
+TOP = Path(__file__).resolve().parents[1]
+sys.path.append(str(TOP / "tools"))
 
 from imports import DEFINITIONS, grouped  # noqa: E402
 
@@ -203,14 +204,25 @@ def definitions(text, name):
     yield f"{name}_program = record {{ main = {program.names.index(program.main)}; procs = {chain(procs)} }}"
 
 
+def shown(path):
+    """How a page names a file: by its place in the repository, or else by its name alone."""
+    path = path.resolve()
+    return path.relative_to(TOP) if path.is_relative_to(TOP) else path.name
+
+
+def page_of(path, name):
+    """The page of a text's definitions."""
+    page = "\n".join(definitions(path.read_text(), name))
+    head = f"-- The text of {shown(path)} and its program, as guide/definitions_of.py prints them."
+    return f"{head}\n{grouped(chr(10).join(imports(page)), DEFINITIONS)}\n\n{page}\n"
+
+
 def main():
     parser = argparse.ArgumentParser(description=__doc__, formatter_class=argparse.RawDescriptionHelpFormatter)
     parser.add_argument("file", type=Path, metavar="FILE.gypsy", help="the text")
     parser.add_argument("name", metavar="NAME", help="a word of small letters")
     chosen = parser.parse_args()
-    page = "\n".join(definitions(chosen.file.read_text(), chosen.name))
-    print(f"-- The text of {chosen.file} and its program, as guide/definitions_of.py prints them.")
-    print(grouped("\n".join(imports(page)), DEFINITIONS) + "\n\n" + page)
+    print(page_of(chosen.file, chosen.name), end="")
 
 
 if __name__ == "__main__":

@@ -11,6 +11,8 @@ import sys
 import textwrap
 from pathlib import Path
 
+from definitions_of import shown
+
 TOKEN = re.compile(r"[A-Za-z][A-Za-z0-9_]*|[0-9]+|:=|<=|[;=+\-*(){}]")
 SORTS = {"int": "sort.Int", "bool": "sort.Bool"}
 GRAMMAR = ["variable", "number", "truth", "unary", "binary", "group", "assign", "loop", "branch", "block", "no_forms", "form", "InfixProgram"]
@@ -101,7 +103,7 @@ def main():
     if reader.at < len(reader.tokens):
         sys.exit(f"byte {reader.tokens[reader.at][0]}: a statement belongs there")
     used = [it for it in GRAMMAR if re.search(rf"\({it} |\b{it}\b(?=\)|$)", forms, re.M) or it == "InfixProgram"]
-    print(f"-- The text of {chosen.file} and its program, as guide/infix_definitions_of.py prints them.")
+    print(f"-- The text of {shown(chosen.file)} and its program, as guide/infix_definitions_of.py prints them.")
     print("use Rattle.std.specs.Prelude.{ℕ, List, [], ◌∷◌, ◌++◌, codes, refl}")
     for module, name_here in (("Infix", "operator"), ("Prefix", "sign")):
         if f"{name_here}." in forms:

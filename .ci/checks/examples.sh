@@ -17,5 +17,6 @@ done
 twice=$(git ls-files -z examples crates/cli_stack/data | xargs -0 sha256sum | sort | uniq -w 64 -D)
 [ -z "$twice" ] || { echo "the same file stands twice:"; echo "$twice"; status=1; }
 python3 .ci/tools/texts.py || status=1
+python3 .ci/tools/proof_rows.py || status=1
 [ "$status" = 0 ] && echo "examples: ok"
 exit "$status"
