@@ -4,7 +4,7 @@
 
 A word of the code is an instruction, or a number that an instruction takes from behind it, before which `=` stands; of a table of jumps each word is the
 address that is jumped to. Which words are a statement's tell the marks of the image, and the instructions are those that `show` prints. Of an infix
-program the lowered source is listed.
+program each of its statements stands above the code that it became, also where that goes on after the statements in it.
 """
 import argparse
 import re
@@ -12,6 +12,7 @@ import sys
 from pathlib import Path
 
 from ends import end
+from infix_places import InfixSource
 from places import Source
 from program import Program, carried_out, lower, number
 
@@ -44,19 +45,41 @@ def code_of(shown, procedures):
     return programs
 
 
+def source_heads(source):
+    """What stands above the code at a mark: the statement."""
+    return lambda place: f"{source.where(place)}  {source.statement(place)}"
+
+
+def infix_heads(source):
+    """What stands above the code at a mark: the statement of the infix program, where another one's code was before."""
+    last = None
+
+    def head(place):
+        nonlocal last
+        tie = source.tie(place)
+        if tie is None or tie.statement is last:
+            return None
+        last = tie.statement
+        return f"{source.where(last)}  {source.statement(last)}"
+
+    return head
+
+
 def print_listing(words, _):
     """Asks, and prints the listing."""
     with Program(words.program, words.source, None, words.control, words.temporary) as program:
-        lower(program)
+        infix = lower(program)
         program.ask("build", "s", *program.sizes, "i")
-        shown, source = program.ask("show", "i"), Source((program.folder / "s").read_bytes())
+        shown, lowered = program.ask("show", "i"), (program.folder / "s").read_bytes()
+    heads = source_heads(Source(lowered)) if infix is None else infix_heads(InfixSource(infix, lowered))
     marks = {int(address, 16): int(place) for address, place in re.findall(r"^mark ([0-9a-f]{8}) \S+ (\d+)$", shown, re.M)}
     names = re.findall(r"^procedure (\S+)$", shown, re.M)
     for name, code in zip(names, code_of(shown, len(names))):
         print(f"{name}, its prelude")
         for address, word, text in code:
-            if address in marks:
-                print(f"\n{source.where(marks[address])}  {source.statement(marks[address])}")
+            head = heads(marks[address]) if address in marks else None
+            if head:
+                print(f"\n{head}")
             print(f"    {address:08x}  {word:08x}  {text}")
         print()
 

@@ -16,6 +16,7 @@ from pathlib import Path
 import ends
 import explain
 import help as usage
+from infix_places import InfixSource, own
 from places import Source
 from program import MOST_TEXT, read_text
 from sources import NAME, NUMERAL, number_of
@@ -164,8 +165,8 @@ def sizes_of(program, source, room):
 class Asked:
     """What `try` has made of a source, to ask the program more of the same run."""
 
-    def __init__(self, program, room, lowered, sizes):
-        self.program, self.room, self.lowered, self.sizes = program, room, lowered, sizes
+    def __init__(self, program, room, lowered, sizes, infix=None):
+        self.program, self.room, self.lowered, self.sizes, self.infix = program, room, lowered, sizes, infix
         self.values, self.image = os.path.join(room, "values"), os.path.join(room, "image")
 
     def go(self, budget):
@@ -181,10 +182,13 @@ class Asked:
 
     def told(self, moment):
         """Where a moment is, in lines: its place and statement, and the variables of its procedure."""
-        source = Source(Path(self.lowered).read_bytes())
-        values = ", ".join(f"{name} = {value}" for name, value in moment.variables.items()).replace(" = ", f"{explain.UNBROKEN}={explain.UNBROKEN}")
-        yield f"    {source.where(moment.place)}  {source.statement(moment.place)}"
-        yield explain.wrapped(f"in {source.procedure(moment.place)}: {values}")
+        lowered = Path(self.lowered).read_bytes()
+        source = Source(lowered) if self.infix is None else InfixSource(self.infix, lowered)
+        place = moment.place if self.infix is None else source.statement_at(moment.place)
+        variables = moment.variables if self.infix is None else own(moment.variables)
+        values = ", ".join(f"{name} = {value}" for name, value in variables.items()).replace(" = ", f"{explain.UNBROKEN}={explain.UNBROKEN}")
+        yield f"    {source.where(place)}  {source.statement(place)}"
+        yield explain.wrapped(f"in {source.procedure(moment.place)}: {values}" if self.infix is None else values)
 
     def standing(self):
         """Where a run stands that takes long, in lines."""
@@ -238,7 +242,7 @@ def try_source(program, source, *words):
             path = os.path.join(room, "source")
             Path(path).write_text(text, encoding="utf-8")
         try:
-            asked = Asked(program, room, lower(program, path, text, room), [])
+            asked = Asked(program, room, lower(program, path, text, room), [], text if is_infix(text) else None)
             try_text(asked, source, text, words)
         except Ended as end:
             end.printed, end.told = end.printed.replace(path, source), end.told.replace(path, source)
@@ -252,9 +256,9 @@ def try_text(asked, source, text, words):
     Path(asked.values).write_text(values_of(text, words), encoding="utf-8", errors="surrogateescape")
     asked.sizes = sizes_of(asked.program, asked.lowered, asked.room)
     try:
-        printed = run_patiently(asked, not is_infix(text))
+        printed = run_patiently(asked)
         print(printed, end="", flush=True)
-        tell(asked.raised(printed) if not (UNPROVED or is_infix(text)) else [])
+        tell(asked.raised(printed) if not UNPROVED else [])
     except Ended as end:
         if end.status == 3:
             # The values come from the command line, and no file has them.
@@ -265,8 +269,8 @@ def try_text(asked, source, text, words):
         tell(["stack: the same with files:", *(f"    {it}" for it in same_lines(source, text, words, asked.sizes))])
 
 
-def run_patiently(asked, has_places):
-    """What `go` prints. Of a source it is told where a long run stands."""
+def run_patiently(asked):
+    """What `go` prints. Where a long run stands is told."""
     if UNPROVED:
         return asked.go(BUDGET)
     try:
@@ -274,7 +278,7 @@ def run_patiently(asked, has_places):
     except Ended as end:
         if end.status != 5:
             raise
-        tell(asked.standing() if has_places else [])
+        tell(asked.standing())
         return asked.go(BUDGET)
 
 

@@ -4,8 +4,8 @@
     python3 .ci/tools/asking_rows.py PROGRAM
 
 A trace has as many steps as `mean` counts, and ends as it reports; its last values of main's formals are those. A listing has each word of the source's own
-code once, in order, and each mark's statement where the mark is. Words that are no row and refusals have their statuses. The exit status is 1 where
-something differed.
+code once, in order, and each mark's statement where the mark is. Of infix programs both have the program's own statements, without temporaries, and
+`try` tells where one of them raised a condition. Words that are no row and refusals have their statuses. The exit status is 1 where something differed.
 """
 import re
 import subprocess
@@ -51,6 +51,40 @@ ended after 4 steps: condition normal  proc = 8
 """
 
 
+# An infix program with its values, in which a condition is false, is true, and is never known; and a while without statements.
+INFIX = """int x; bool b;
+b := x <= 3;
+while b { x := x * 100000; b := x <= 3; }
+while x = 3 { }
+if b { } else { x := x + 2147483647; }
+"""
+INFIX_TRACE = """    1      2:1  b := x <= 3;                                                  b = true
+    2      3:1  while b                                                       true
+    3     3:11    x := x * 100000;                                            x = 300000
+    4     3:28    b := x <= 3;                                                b = false
+    5      3:1  while b                                                       false
+    6      4:1  while x = 3                                                   false
+    7      5:1  if b                                                          false
+    8     5:17    x := x + 2147483647;                                        condition routineerror
+ended after 8 steps: condition routineerror  x = 300000  b = false
+"""
+INFIX_HEADS = [
+    "2:1  b := x <= 3;", "3:1  while b", "3:11  x := x * 100000;", "3:28  b := x <= 3;", "3:1  while b", "4:1  while x = 3", "5:1  if b",
+    "5:17  x := x + 2147483647;", "5:1  if b",
+]
+INFIX_TOLD = """stack: the condition routineerror was raised here:
+    5:17  x := x + 2147483647;
+    x = 300000, b = false
+"""
+# In its first rounds the while is all that there is.
+ROUNDS = "while 0 <= 1 { }"
+ROUNDS_TRACE = """    1      1:1  while 0 <= 1                                                  true
+    2      1:1  while 0 <= 1                                                  true
+    3      1:1  while 0 <= 1                                                  true
+not ended after 3 steps: condition normal
+"""
+
+
 def answer(*words):
     return subprocess.run([str(it) for it in words], cwd=TOP, capture_output=True, text=True, check=False)
 
@@ -82,6 +116,29 @@ def of_names(program, room):
     told = script(program, "trace", room / "named", room / "values", 100, 100).stdout
     if told != NAMED_TRACE:
         yield f"where a variable is named proc the trace is {told!r}"
+
+
+def of_infix(program, room):
+    """What is told otherwise of infix programs, and whether the words of a listing are those of the lowered source's."""
+    (room / "program").write_text(INFIX)
+    (room / "values").write_text("((x 3) (b false))")
+    (room / "rounds").write_text(ROUNDS)
+    (room / "none").write_text("()")
+    rows = [("program", "values", 20, INFIX_TRACE), ("rounds", "none", 3, ROUNDS_TRACE)]
+    for name, values, steps, wanted in rows:
+        told = script(program, "trace", room / name, room / values, 300, 300, steps).stdout
+        if told != wanted:
+            yield f"the trace of {name} is {told!r}, wanted {wanted!r}"
+    listed = script(program, "listing", room / "program", 300, 300).stdout
+    if re.findall(r"^\d+:.*", listed, re.M) != INFIX_HEADS:
+        yield f"the statements of the listing are {re.findall(r'^[0-9]+:.*', listed, re.M)}"
+    answer(program, "mini", room / "program", room / "lowered")
+    words = re.findall(r"^    [0-9a-f]{8}  .*$", script(program, "listing", room / "lowered", 300, 300).stdout, re.M)
+    if re.findall(r"^    [0-9a-f]{8}  .*$", listed, re.M) != words or not words:
+        yield "the listing has other words than that of the lowered source"
+    told = answer(sys.executable, TOP / "guide/trying.py", program, "try", room / "program", "x=3").stderr
+    if not told.startswith(INFIX_TOLD):
+        yield f"try tells of the infix program {told!r}"
 
 
 def of_listing(program, source, sizes, room):
@@ -129,7 +186,7 @@ def main():
     program = parser.parse_args().program
     differing = list(of_ends(program))
     with tempfile.TemporaryDirectory() as room:
-        differing += of_names(program, Path(room))
+        differing += [*of_names(program, Path(room)), *of_infix(program, Path(room))]
         for source, values, *sizes in RUNS:
             source, values = EXAMPLES / source, EXAMPLES / values
             found = [*of_trace(program, source, values, sizes), *of_listing(program, source, sizes, Path(room))]
