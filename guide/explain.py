@@ -11,6 +11,7 @@ import sys
 import textwrap
 from collections import namedtuple
 
+import assembly
 import ends
 import help as usage
 import infix
@@ -199,7 +200,10 @@ def breach_lines(line, found, task, rules):
     elif by_line:
         yield from script_placed(name, data, place, said)
     else:
-        yield from image_placed(name, data, place, said) if kind == "image" else placed(name, data, place, said)
+        is_assembly = line.names[index] == "TEXT"
+        at = assembly.where(rule, data, place) if is_assembly else place
+        yield from image_placed(name, data, place, said) if kind == "image" else placed(name, data, at, said)
+        yield from map(wrapped, assembly.wanted(rule, data, place) if is_assembly else [])
     if data is not None and kind == "refused" and line.names[index] == "SRC":
         hints = infix.wanted(rule, data, place) if line.words[0] == "mini" else sources.wanted(rule, data, place)
         yield from map(wrapped, hints)

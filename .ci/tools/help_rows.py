@@ -307,7 +307,8 @@ class Rows:
         for block in text.split("== ")[1:]:
             title, _, body = block.partition("\n")
             source, _, told = body.partition("--\n")
-            ending = self.folder({"t": source}).run("mini t o" if title.startswith("infix") else "check t")
+            command = {"infix": "mini t o", "assembly": "asm t o"}.get(title.split(":")[0], "check t")
+            ending = self.folder({"t": source}).run(command)
             missing = [it for it in told.splitlines() if one_line(it) not in one_line(ending.told)]
             self.note("mistakes", ending.status == 2 and told and not missing, title, (missing, ending))
 
@@ -354,12 +355,16 @@ class Rows:
 
 
 def holds_rule(row, told, alone):
-    """Whether an example is refused by its rule, and its place and the sentence are told; the program alone prints and ends the same."""
+    """Whether an example is refused by its rule, and its place and the sentence are told; the program alone prints and ends the same. Of an assembly text
+    the place is that of a line, and a column in it is told: `mistakes` has which."""
     rule, sentence, example, last = row
     kind, place = last.split()[0], int(last.split()[-1])
     before = example[:place].decode("latin-1")
     where = f"t:{before.count(chr(10)) + 1}:{len(before.rpartition(chr(10))[2]) + 1}: {rule}: "
     where = {"image": f"t: byte {place}", "script": f"t:{place}: {rule}: "}.get(kind, where)
+    if rule[0] == "A":
+        found = re.search(rf"t:{before.count(chr(10)) + 1}:[1-9]\d*: {rule}: ", one_line(told.told))
+        where = found[0] if found else where
     same = (told.status, told.printed) == (alone.status, alone.printed) and not alone.told
     text = one_line(told.told)
     return same and told.printed.decode().splitlines()[-1:] == [last] and where in text and one_line(plain(f"{rule}: {sentence}")) in text
