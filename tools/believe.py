@@ -1,7 +1,7 @@
 #!/usr/bin/env python3
 """What a statement rests on: each definition that it reaches, with the enums and structs of the code that these name.
 
-    python3 tools/believe.py [--pages] [--text] [--check] CRATE.PAGE.NAME ..
+    python3 tools/believe.py [--pages] [--text] [--check] [--kit] CRATE.PAGE.NAME ..
 
 as stack_build.Implements.Implements. Without a flag it prints how many lines they have. Lines of definitions are counted with the
 comments on them, without imports and empty lines; enums and structs with their documents, without attributes and methods; of a lemma its
@@ -9,7 +9,7 @@ statement. --pages prints the lines of each page, in an order in which they can 
 text, each after those that it uses, and the crate before a name that several pages define. --check prints what the walk could have
 missed, and fails where there is such a thing: an import of another form, a name that leads to no definition, lines that are no
 definition's, and a word that is neither imported, nor defined on the page, nor bound, nor of the language. The definitions of the kit are
-left out.
+left out; --kit prints those of them that are used, each with the file and the line of the kit where it stands, as far as imports lead there.
 """
 import argparse
 import re
@@ -20,6 +20,7 @@ from pathlib import Path
 
 from arguments import parser_of
 from imports import apart
+from kit import place_of
 
 CRATES = Path(__file__).resolve().parents[1] / "crates"
 IMPORT = re.compile(r"(?:pub )?use Rattle\.(\w+)\.specs\.([\w.]+?)(?:\.\{(.*)\}| as (\w+))?$")
@@ -190,7 +191,7 @@ class Walk:
     """
 
     def __init__(self, *statements):
-        self.lost, self.seen, self.below = [], set(), defaultdict(dict)
+        self.lost, self.seen, self.below, self.kit = [], set(), defaultdict(dict), {}
         for statement in statements:
             self.visit(*STATEMENT.fullmatch(statement).groups(), None)
         pages = {}
@@ -208,6 +209,7 @@ class Walk:
         """A name of a page, as another page uses it."""
         there = page_of(crate, page)
         if there is None:
+            self.kit[crate, page, name] = True
             return
         if name in there.imports and name not in there.place:
             self.visit(*there.imports[name], user)
@@ -243,6 +245,11 @@ class Walk:
         """The lines of definitions, their pages, and the lines of enums and structs."""
         definitions = self.lines()
         return sum(definitions.values()), len(definitions), sum(self.lines(CodeType).values())
+
+    def of_kit(self):
+        """The names of the kit that are used, each with where it stands there, in lines."""
+        lines = (f"{name:20} {place_of(*there, name) or 'not found by imports from ' + '.specs.'.join(there)}" for *there, name in self.kit)
+        yield from sorted(dict.fromkeys(lines))
 
     def text(self):
         """The definitions as one text, under the names of their pages. A name that several pages define has its crate before it."""
@@ -360,6 +367,7 @@ def main():
     parser.add_argument("--pages", action="store_true", help="print the lines of each page")
     parser.add_argument("--text", action="store_true", help="print the definitions as one text")
     parser.add_argument("--check", action="store_true", help="print what could have been missed")
+    parser.add_argument("--kit", action="store_true", help="print what is used of the kit")
     parser.add_argument("statement", nargs="+", type=is_definition, help="a definition, as CRATE.PAGE.NAME")
     chosen = parser.parse_args()
     walk = Walk(*chosen.statement)
@@ -372,6 +380,8 @@ def main():
     if chosen.pages:
         for path, lines in [*walk.lines().items(), *walk.lines(CodeType).items()]:
             print(f"{lines:5} {path}")
+    if chosen.kit:
+        print("\n".join(walk.of_kit()))
     definitions, pages, code = walk.figures()
     if not chosen.text:
         print(f"{definitions:,} lines of definitions in {pages} files, and {code:,} lines of enums and structs")

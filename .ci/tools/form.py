@@ -12,6 +12,7 @@ from pathlib import Path
 sys.path.append(str(Path(__file__).resolve().parents[2] / "tools"))
 
 import crate_table  # noqa: E402
+import kit  # noqa: E402
 from arguments import parser_of  # noqa: E402
 from believe import Walk  # noqa: E402
 from imports import apart  # noqa: E402
@@ -298,6 +299,15 @@ def check_figures():
                 say("tools/believe.py", finding)
 
 
+def check_kit():
+    """What the theorem uses of the kit is found there, if the kit is."""
+    if not kit.KIT.is_dir():
+        return
+    for line in Walk(THEOREM).of_kit():
+        if "not found" in line:
+            say("tools/kit.py", line)
+
+
 def check_readme():
     """The README is read to its end."""
     words = len(README.read_text().split())
@@ -415,6 +425,7 @@ def main():
     check_listings()
     check_reading_list()
     check_figures()
+    check_kit()
     check_readme()
     check_limits()
     check_crates()
