@@ -24,6 +24,10 @@ from arguments import parser_of  # noqa: E402
 from arguments import program as executable  # noqa: E402
 from browsers import Chromium  # noqa: E402
 
+sys.path.append(str(Path(__file__).resolve().parents[2] / "guide"))
+
+from definitions_of import tree_of  # noqa: E402
+
 TOP = Path(__file__).resolve().parent.parent.parent
 EXAMPLES = TOP / "examples"
 # A source, its values, the sizes of the two stacks, the budget, and the moments at which the page is looked at.
@@ -43,11 +47,13 @@ NARROW = 360
 
 # What stands on the page: texts of elements with an id, the rows of tables, and what is marked as current.
 SHOWN = """(() => {
-  const text = (it) => it.textContent;
+  const text = (it) => [...it.childNodes].filter((part) => part.className !== "alias").map((part) => part.textContent).join("");
   const rows = (id) => [...document.getElementById(id).rows].map((row) => [...row.cells].map(text));
   const texts = Object.fromEntries([...document.querySelectorAll("[id]")].map((it) => [it.id, text(it)]));
   texts["piton-stack"] = [...document.getElementById("piton-stack").children].map(text).join(" ");
-  return { texts, variables: rows("variables"), locals: rows("locals"), temporary: rows("temporary"), control: rows("control"),
+  const aliases = (id) => [...document.querySelectorAll(`#${id} tr`)].map((row) => row.querySelector(".alias")?.textContent ?? "");
+  const lines = [...document.querySelectorAll("#source .line")].map((it) => it.dataset.line);
+  return { texts, lines, waiting: rows("waiting"), aliases: aliases("variables"), lent: aliases("waiting"), variables: rows("variables"), locals: rows("locals"), temporary: rows("temporary"), control: rows("control"),
     now: [...document.querySelectorAll(".now")].map((it) => it.id || it.dataset.place),
     infix: text(document.querySelector("#infix .now") ?? document.createElement("i")) };
 })()"""
@@ -126,8 +132,8 @@ def stack_words(stack):
     return [f"{it % 2 ** 32:08x}" for it in reversed(words)]
 
 
-def wanted(program, count):
-    """What a page has to show at a count of instructions."""
+def wanted(program, count, source):
+    """What a page has to show at a count of instructions of a source's run."""
     made, at = program.steps_at("gypsy", count)
     steps, piton_at = program.steps_at("piton", count)
     first, condition, *variables = program.shows("gypsy", made)
@@ -143,13 +149,70 @@ def wanted(program, count):
         "flags": flags.removeprefix("flags "), **dict(it.split() for it in registers),
     }
     return {
-        "texts": texts, "variables": pairs(variables), "locals": pairs(piton[:stack]), "place": place and place[1], "is mark": at == count,
+        "source": source, "activations": activations(program, source, made), "texts": texts, "variables": pairs(variables), "locals": pairs(piton[:stack]), "place": place and place[1], "is mark": at == count,
         "temporary": stack_words(piton[stack]) if piton_at == count else None, "frames": int(where[2]) if where else 0,
     }
 
 
+def activations(program, source, steps):
+    """The activations after so many steps of a source, the newest first, each as its name, its variables and whose each is: from what `show` says of the
+    active one at each moment, and from the calls in the text."""
+    tree = tree_of(source)
+    heads = {proc[1][1][1]: proc for proc in tree[1][2:]}
+    calls = {items[0]: items[1] for items in lists_in(tree)}
+    moments = "\n".join(program.says("gypsy", "show\n" + "step 1\nshow\n" * steps)) + "\n"
+    stack, place = [], None
+    for block in re.split(r"^stepped .*\n", moments, flags=re.M):
+        first, _, *variables = block.splitlines()
+        at = re.fullmatch(r"at (\d+) depth (\d+)", first)
+        if not at:
+            return []
+        if int(at[2]) > len(stack):
+            called = calls[place][1][1] if stack else tree[1][1][1]
+            formals = [it[1][0][1] for it in heads[called][1][2][1]]
+            actuals = [it[1] for it in calls[place][2][1]] if stack else []
+            stack.append((called, {}, {formal: stack[-1][2].get(actual) or (stack[-1][1], stack[-1][0], actual) for formal, actual in zip(formals, actuals)}))
+        del stack[int(at[2]):]
+        stack[-1][1].update(pairs(variables))
+        _, owned, of = stack[-1]
+        for formal, (there, _, name) in of.items():
+            there[name] = owned[formal]
+        for _, owned, of in stack:
+            owned.update({formal: there[name] for formal, (there, _, name) in of.items()})
+        place = int(at[1])
+    return [(name, owned, {formal: f"{whose}.{it}" for formal, (_, whose, it) in of.items()}) for name, owned, of in reversed(stack)]
+
+
+def lists_in(tree):
+    """Each list of a tree, with where it begins."""
+    place, items = tree
+    if isinstance(items, list):
+        yield place, items
+        for it in items:
+            yield from lists_in(it)
+
+
+def of_activations(shown, found):
+    """What a page shows otherwise of the activations."""
+    if not found:
+        if shown["waiting"]:
+            yield f"at the end {shown['waiting']} wait"
+        return
+    lent = [f" → {found[0][2][name]}" if name in found[0][2] else "" for name, _ in shown["variables"]]
+    if shown["aliases"] != lent:
+        yield f"the variables are {shown['aliases']}, wanted {lent}"
+    rows = [row for name, owned, of in found[1:] for row in [[name], *([it, value] for it, value in owned.items())]]
+    whose = [it for _, owned, of in found[1:] for it in ["", *(f" → {of[name]}" if name in of else "" for name in owned)]]
+    if shown["waiting"] != rows or shown["lent"] != whose:
+        yield f"there wait {shown['waiting']} {shown['lent']}, wanted {rows} {whose}"
+
+
 def differences(shown, told, is_infix):
     """What a page shows otherwise at a moment than the program says, in lines."""
+    if not is_infix:
+        yield from of_activations(shown, told["activations"])
+    if shown["lines"] != [str(it + 1) for it in range(len(told["source"].splitlines()))]:
+        yield f"the lines have the numbers {shown['lines']}"
     for name, text in told["texts"].items():
         if shown["texts"].get(name) != text:
             yield f"{name} is {shown['texts'].get(name)!r}, wanted {text!r}"
@@ -278,7 +341,7 @@ def compare(program, browser, path):
             browser.evaluate(f"location.hash = '#{count}'")
             browser.wait_until(f"document.getElementById('moment').value === '{count}'")
             shown = browser.evaluate(SHOWN)
-            yield from (f"{source} after {count} instructions: {it}" for it in differences(shown, wanted(asked, count), source.endswith(".mini")))
+            yield from (f"{source} after {count} instructions: {it}" for it in differences(shown, wanted(asked, count, asked_source.read_text()), source.endswith(".mini")))
             yield None
         yield from (f"{source}: {it}" for it in by_eye(browser))
         if source == "calls/down.gypsy":

@@ -243,6 +243,29 @@ class Run {
   }
 }
 
+// ---- The activations at a moment of the source ----
+
+const itemText = (kind, word) => (kind === "boolean" ? String(word === 1) : kind === "character" ? `#${word}` : String(word >= 2 ** 31 ? word - 2 ** 32 : word));
+
+// The activations after a step of the source, the newest first, read from memory: each a procedure's name and its variables, with the value and, of one
+// that belongs to an older activation, whose it is. The newest has the variables that the source has.
+const activationsOf = (run, moments, step) => {
+  const { listing } = run, memory = run.memory(step.count), owners = new Map();
+  const frames = (moments.get(step.count).frames ?? []).filter(([name]) => listing.variables.has(name));
+  const made = [...frames].reverse().map(([name, at]) => ({
+    name,
+    variables: listing.variables.get(name).map(([variable, kind, length, offset]) => {
+      const first = listing.size - 1 - memory.get(at + offset), owner = owners.get(first) ?? "";
+      if (!owner) owners.set(first, `${name}.${variable}`);
+      const items = Array.from({ length: Math.max(1, length) }, (_, n) => itemText(kind, memory.get(first - n)));
+      return [variable, length ? `(${items.join(" ")})` : items[0], owner];
+    }),
+  })).reverse();
+  const seen = made[0]?.variables.map(([name, value]) => `${name} = ${value}`) ?? [];
+  demand(step.at === null || same(seen, step.variables.map((it) => it.join(" = "))), `after ${step.count} instructions: memory has the source's variables`);
+  return made;
+};
+
 // ---- Where things stand in the texts ----
 
 // Each list of a tree, by the place where it begins.
@@ -365,6 +388,7 @@ const momentsOf = (answers) => {
   const run = new Run(answers), { listing, machines } = run;
   run.comparePiton();
   run.compareSource();
+  const byCount = new Map(run.piton.map((it) => [it.count, it]));
   const source = readTree(bytesOf(answers.source)), numbers = new Map(run.programs.map((it, n) => [it.name, n]));
   return {
     source: answers.source, values: answers.values.split(/\s+/).filter(Boolean).join(" "), sizes: run.sizes, report: run.report,
@@ -374,6 +398,6 @@ const momentsOf = (answers) => {
     piton: run.piton.map((it) => ({
       ...it, program: numbers.get(it.program) ?? null, address: run.addressOf(it), frames: it.frames.map(([name, at]) => [numbers.get(name), at]),
     })),
-    steps: run.steps,
+    steps: run.steps.map((it) => ({ ...it, activations: it.at === null ? [] : activationsOf(run, byCount, it) })),
   };
 };

@@ -25,15 +25,19 @@ const showRun = (data) => {
   // bytes.
   const textWith = (text, parts) => {
     const bytes = new TextEncoder().encode(text), textOf = (from, to) => new TextDecoder().decode(bytes.subarray(from, to));
-    const top = element("code", {}), open = [[top, bytes.length]];
-    let from = 0;
+    let from = 0, line = 1;
+    // The number of a line stands in no text, so that places stay.
+    const numbered = () => element("span", { class: "line", "data-line": line++ });
+    const pieces = (part, isEnd) => part.split("\n").flatMap((it, n, all) =>
+      (n === 0 ? [it] : isEnd && it === "" && n === all.length - 1 ? ["\n"] : ["\n", numbered(), it]));
+    const top = element("code", {}, numbered()), open = [[top, bytes.length]];
     const write = (to) => {
       while (open.length > 1 && open.at(-1)[1] <= to) {
         const [inside, end] = open.pop();
-        inside.append(textOf(from, end));
+        inside.append(...pieces(textOf(from, end), end === bytes.length));
         from = end;
       }
-      open.at(-1)[0].append(textOf(from, to));
+      open.at(-1)[0].append(...pieces(textOf(from, to), to === bytes.length));
       from = to;
     };
     for (const { at, end, name, attributes } of parts) {
@@ -161,11 +165,18 @@ const showRun = (data) => {
 
   const rowsOf = (now, old) => {
     const earlier = new Map(old);
-    return now.map(([name, value]) => {
+    return now.map(([name, value, owner]) => {
       const changed = earlier.has(name) && earlier.get(name) !== value;
-      return element("tr", {}, element("th", { scope: "row" }, name), cell(value, changed && "changed"));
+      const alias = owner ? [element("small", { class: "alias" }, ` → ${owner}`)] : [];
+      return element("tr", {}, element("th", { scope: "row" }, name, ...alias), cell(value, changed && "changed"));
     });
   };
+
+  // The activations that wait under the active one, each with its variables.
+  const waitingRows = (activations, old) => activations.flatMap(({ name, variables }, n) => {
+    const before = old[old.length - activations.length + n];
+    return [element("tr", { class: "head" }, element("th", { colspan: 2, scope: "rowgroup" }, name)), ...rowsOf(variables.filter(isUsed), before?.variables)];
+  });
 
   const unused = (rows) => {
     const left = rows.filter((it) => !isUsed(it)).length;
@@ -173,8 +184,10 @@ const showRun = (data) => {
   };
 
   const showSource = (step, old, procedure) => {
-    const { at, depth, condition, variables } = step;
+    const { at, depth, condition, activations } = step, variables = activations[0]?.variables ?? step.variables;
     by("variables").replaceChildren(...rowsOf(variables.filter(isUsed), old.depth === depth ? old.variables : []));
+    by("waiting").replaceChildren(...waitingRows(activations.slice(1), old.activations));
+    by("waiting-pane").hidden = activations.length < 2;
     by("unused").textContent = unused(variables);
     by("active").textContent = procedure ? `of ${procedure}` : "";
     by("condition").textContent = condition;
