@@ -50,6 +50,7 @@ _stack() {
         done
         ;;
     WHAT) mapfile -t COMPREPLY < <(compgen -W "vim emacs code kate" -- "$word") ;;
+    \[PART\]) mapfile -t COMPREPLY < <(compgen -W "rows examples random damage" -- "$word") ;;
     ?*) [ -z "$(_stack_fields file "$name" means)" ] || _stack_files "$word" "$name" ;;
     esac
 }

@@ -32,18 +32,32 @@ say_version() {
     exit "$status"
 }
 
+# Whether the program is the one of which it is known how it was proved.
+is_proved() { [ "$(sha256sum <"$program" | cut -d ' ' -f 1)" = "$(proof_line sha256)" ]; }
+
+# Says in a few words whether the program that runs is proved.
+describe_program() {
+    if [ "$program" = "$trial" ]; then
+        echo "the unproved program that a trial built"
+    elif [ -z "$(proof_line sha256)" ]; then
+        echo "a program of which it wasn't written down how it was proved"
+    elif is_proved; then
+        echo "the proved program of commit $(proof_line commit)"
+    else
+        echo "a program that isn't the one that was proved"
+    fi
+}
+
 describe_version() {
-    local wanted
     echo "the verified short stack, for Linux on x86-64"
     if [ -z "$built" ]; then
         echo "the program isn't built yet, or was changed since: $self prove proves and builds it"
         return
     fi
     proof_lines
-    wanted=$(proof_line sha256)
-    if [ -z "$wanted" ]; then
+    if [ -z "$(proof_line sha256)" ]; then
         echo "how it was proved wasn't written down: $self prove does that"
-    elif [ "$(sha256sum <"$program" | cut -d ' ' -f 1)" != "$wanted" ]; then
+    elif ! is_proved; then
         echo "the program isn't the one that was proved: its sha256 is another"
         return 70
     fi

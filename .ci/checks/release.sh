@@ -73,6 +73,7 @@ completes "prun prove" pr
 completes piton debug pi
 completes one.gypsy debug one
 completes emacs editor em
+completes rows test ro
 completes one.gypsy try one.
 completes one.values page one.gypsy one.
 completes "--version" --v

@@ -10,7 +10,7 @@ caller=$folder/caller
 export STUB=$folder/stub TMPDIR=$folder/tmp
 unset RATTLE_KIT STACK_TRIAL STACK_PROVE STACK_EXPLAIN
 mkdir -p "$copy" "$folder/kit/bin" "$folder/empty"
-(cd "$top" && git ls-files -z stack guide docs/program/errors.md HANDLES crates.txt crates examples | xargs -0 cp --parents -t "$copy") || exit 1
+(cd "$top" && git ls-files -z stack guide docs/program/errors.md HANDLES crates.txt crates examples conformance/run conformance/rows.py conformance/words.rows | xargs -0 cp --parents -t "$copy") || exit 1
 cp "$top/.ci/tools/stub_kit.sh" "$folder/kit/bin/rt"
 bare_path=$(tr : '\n' <<<"$PATH" | while read -r one; do [ -x "$one/rt" ] || echo "$one"; done | paste -sd :)
 # The crates of the program, as the kit finds them: each behind those that it stands on.
@@ -248,6 +248,14 @@ starts listing a.gypsy 7 3
 ends 7 "printed by what is kept: mini s lowered"
 errs "$unproved_kept"
 calls "try --data word-1.file=FILE -- check word-1.file"
+# What a script of this one's calls says it no second time.
+STACK_TRIED=1 starts check a.gypsy
+ends 7 "printed by what is kept: check a.gypsy"
+errs ""
+starts test rows
+[ "$status" = 1 ] || says "status $status of the rows"
+grep -q "^the unproved program that a trial built: 0 passed, [1-9][0-9]* failed, in [0-9]* seconds\$" "$folder/out" || says "of the rows it printed $(tail -n 3 "$folder/out")"
+[ "$(head -n 1 "$folder/err")" = "${unproved_kept/SELF/"$copy/stack"}" ] || says "of the rows it said $(<"$folder/err")"
 (cd "$caller" && PATH=$bare_path RATTLE_KIT=$folder/empty "$copy/stack" check a.gypsy) >"$folder/out" 2>"$folder/err" </dev/null
 status=$?
 ends 7 "printed by what is kept: check a.gypsy"

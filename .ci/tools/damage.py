@@ -4,7 +4,8 @@ each command that reads such a file.
 
 The files are five sources of `examples/` with their values, a script, an assembly text, the infix programs, a text of
 Piton, the images of the assembly text, of the text of Piton and of one source, and a certificate. No command ends by a signal, or with a status
-that isn't among those of its texts; none takes over a second of processor time, or 64 MB.
+that isn't among those of its texts; none takes over a second of processor time, or 64 MB. --share tries one damaged file of eight. --sanitized is for a
+program that a trial built: it looks at its own use of memory, and has four times as much of both.
 """
 import itertools
 import multiprocessing
@@ -22,6 +23,7 @@ from arguments import program as executable  # noqa: E402
 from tried import statuses  # noqa: E402
 
 SECONDS, KILOBYTES = 1.0, 64 * 1024
+SANITIZED = 4
 # In how many parts the damaged files of one file are tried, so that all processors have work to the end.
 PARTS = 8
 TURNS = 3
@@ -84,7 +86,7 @@ def ends(program, words):
 
 def judge(job):
     """What is wrong with the replies of one command to a part of the damaged files that one file gives, and how many were tried."""
-    program, folder, kind, name, words, part = job
+    program, folder, kind, name, words, part, times = job
     content = Path(folder, name).read_bytes()
     command, count, wrong = words[0], 0, []
     with tempfile.TemporaryDirectory(dir=FOLDERS) as own:
@@ -97,7 +99,7 @@ def judge(job):
             # The machine may be busy: of several turns the best counts.
             for _ in range(TURNS):
                 status, seconds, kilobytes = ends(program, words)
-                if status in STATUSES[command] and seconds <= SECONDS and kilobytes <= KILOBYTES:
+                if status in STATUSES[command] and seconds <= SECONDS * times and kilobytes <= KILOBYTES * times:
                     break
             else:
                 wrong.append(f"{' '.join(words)}, {kind} {name}, {how}: status {status}, {seconds:.2f} s, {kilobytes} KB")
@@ -136,8 +138,10 @@ def main():
     parser = parser_of(__doc__)
     parser.add_argument("program", type=executable, help="cli_stack")
     parser.add_argument("--only", choices=READERS, help="damage files of this kind alone")
+    parser.add_argument("--share", action="store_true", help=f"try one damaged file of {PARTS}")
+    parser.add_argument("--sanitized", action="store_true", help="the program looks at its own use of memory")
     words = parser.parse_args()
-    program = str(words.program)
+    program, times = str(words.program), SANITIZED if words.sanitized else 1
     with tempfile.TemporaryDirectory(dir=FOLDERS) as folder:
         os.chdir(folder)
         jobs = []
@@ -146,7 +150,7 @@ def main():
                 continue
             for row in READERS[kind]:
                 line = [{"DAMAGED": "damaged", **beside}.get(word, word) for word in row.split()]
-                jobs += [(program, folder, kind, name, line, part) for part in range(PARTS)]
+                jobs += [(program, folder, kind, name, line, part, times) for part in range(1 if words.share else PARTS)]
         jobs.sort(key=lambda job: -Path(folder, job[3]).stat().st_size)
         with multiprocessing.Pool(len(os.sched_getaffinity(0))) as pool:
             found = pool.map(judge, jobs, chunksize=1)
