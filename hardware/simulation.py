@@ -8,7 +8,7 @@ from pathlib import Path
 from images import Image, reading
 
 HERE = Path(__file__).resolve().parent
-PROCESSOR = HERE.parent / "crates/print_processor/stdout"   # what the proved program prints
+PROCESSOR = HERE / "fm9001.v"       # what the proved program prints: .ci/checks/circuit.sh compares it with crates/print_processor/stdout
 NETLIST = HERE.parent / "crates/print_netlist/stdout"       # the same of gates alone, as another proved program prints it
 PACKAGES = {"icarus": {"iverilog": "iverilog", "vvp": "iverilog"}, "verilator": {"verilator": "verilator", "g++": "g++", "make": "make"}}
 PHASES = ("fetch", "fetched", "read_a", "got_a", "read_b", "got_b", "execute", "stored", "fault")
@@ -67,9 +67,13 @@ def compiled(simulator: str, bench: Path, folder: Path, processor: Path = PROCES
     return [str(objects / f"V{bench.stem}")]
 
 
+def hex_text(words: list[int]) -> str:
+    """A text for $readmemh. With an address in front a simulator doesn't ask for more words than these."""
+    return "@0\n" + "".join(f"{word:08x}\n" for word in words)
+
+
 def write_words(path: Path, words: list[int]) -> None:
-    """A file for $readmemh. With an address in front a simulator doesn't ask for more words than these."""
-    path.write_text("@0\n" + "".join(f"{word:08x}\n" for word in words))
+    path.write_text(hex_text(words))
 
 
 def simulate(program: list[str], image: Image, memory: list[int], budget: int, folder: Path, wave: str | None = None,

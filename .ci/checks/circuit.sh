@@ -1,5 +1,5 @@
 #!/usr/bin/env bash
-# The processor's Verilog text: its pictures are current, simulators do with it what the machine does, also on the built program's images,
+# The processor's Verilog text: its copy in hardware/ and its pictures are current, a board's words are those of the image, simulators do with it what the machine does, also on the built program's images,
 # expressions have the values of their definition, and Yosys proves that its own netlist of it and the printed one are the same circuit. Where a
 # tool isn't installed, a line says what wasn't seen, and the check passes. --all takes more of everything.
 set -u
@@ -21,6 +21,8 @@ look() {
 # Without words the program only says how it is used. So it is built where it isn't built yet.
 "$top/stack" >/dev/null
 program=$top/crates/cli_stack/out/cli_stack
+cmp "$top/crates/print_processor/stdout" "$top/hardware/fm9001.v" || { echo "circuit: hardware/fm9001.v isn't what print_processor prints"; failed=1; }
+look "the words for a board" python3 "$tools/hex_rows.py" "$program"
 look "the pictures" python3 "$top/tools/circuit_pictures.py" --check
 look "the circuit in Icarus Verilog" python3 "$tools/circuit.py" "$program" --simulator icarus "$@"
 look "the circuit in Verilator" python3 "$tools/circuit.py" "$program" --simulator verilator "$@"
