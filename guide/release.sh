@@ -63,10 +63,15 @@ describe_version() {
     fi
 }
 
-# What a release has, beside the program and PROVED: nothing that wants the rest of the repository.
+# What a release has of the repository, beside the program: what runs without the rest, and the pages that others lead to.
+released=(stack guide editor docs examples conformance hardware README.md CHANGES.md CITATION.cff CONTRIBUTING.md)
+# The text of what is to be believed of the theorem, and what makes it, in the repository.
+believed=docs/proved/implements.txt
+believing=(tools/believe.py --text stack_build.Implements.Implements)
+
 released_files() {
-    git -C "$here" ls-files -- stack guide editor docs examples README.md 2>/dev/null | grep . ||
-        (cd "$here" && find stack guide editor docs examples README.md -type f ! -name '*.pyc')
+    git -C "$here" ls-files -- "${released[@]}" 2>/dev/null | grep . ||
+        (cd "$here" && find "${released[@]}" -type f ! -name '*.pyc')
 }
 
 # Says what the release is, and how it was proved.
@@ -77,8 +82,9 @@ This is the verified short stack, for Linux on x86-64. The program is crates/cli
 $(proof_lines)
 
 What was proved: each function of the crates of this commit meets its contract. README.md has the theorem that the contract of the program's top
-call states, what has to be believed and what is trusted, and docs/proved/promises.md each promise. The sources and the proofs aren't here: they are
-the commit's.
+call states, what has to be believed and what is trusted, and docs/proved/promises.md each promise. $believed is the text of the
+definitions that the theorem rests on, as  python3 ${believing[*]}  prints it. The sources and the proofs aren't here: they
+are the commit's.
 
 To check: ./stack --version compares the program with the sum above. Whoever wants the proof itself takes the commit and the kit, and says
 ./stack prove.
@@ -89,6 +95,8 @@ END
 stage() {
     mkdir -p "$1" || exit 70
     released_files | (cd "$here" && tar -cf - --files-from=-) | tar -xf - -C "$1" || exit 70
+    # A release has the text already.
+    [ -e "$1/$believed" ] || { find_python && "$python" -B "$here/${believing[0]}" "${believing[@]:1}" >"$1/$believed"; } || exit 70
     mkdir -p "$1/crates/cli_stack/out" && cp "$program" "$1/crates/cli_stack/out/" || exit 70
     describe_release >"$1/PROVED" || exit 70
     chmod -R u=rwX,go=rX "$1" || exit 70

@@ -36,6 +36,30 @@ done
 cmp one.tar.gz two.tar.gz || failed=1
 mkdir unpacked && tar -xzf one.tar.gz -C unpacked
 stack=$(echo "$folder"/unpacked/*/stack)
+
+# dead_links FOLDER: the links of its pages that lead to nothing.
+dead_links() {
+    python3 - "$1" <<'END'
+import re
+import sys
+from pathlib import Path
+
+for page in Path(sys.argv[1]).rglob("*.md"):
+    for link in re.findall(r"\]\(([^)\s#]+)[^)\s]*\)", page.read_text()):
+        if "://" not in link and not (page.parent / link).exists():
+            print(f"release: {page.relative_to(sys.argv[1])} leads to {link}, which isn't there")
+END
+}
+unpacked=$(echo "$folder"/unpacked/*)
+told=$(dead_links "$unpacked") && [ -z "$told" ] || { echo "$told"; failed=1; }
+cp -r "$unpacked" without && rm -r without/hardware
+[ -n "$(dead_links without)" ] || { echo "release: a dead link isn't told"; failed=1; }
+cmp "$unpacked/docs/proved/implements.txt" <(cd "$top" && PYTHONDONTWRITEBYTECODE=1 python3 tools/believe.py --text stack_build.Implements.Implements) || failed=1
+grep -q '^Implements image source sizes =$' "$unpacked/docs/proved/implements.txt" || { echo "release: the text of what is believed lacks the theorem"; failed=1; }
+"$unpacked/conformance/run" "$unpacked/crates/cli_stack/out/cli_stack" words.rows >said || { echo "release: its rows fail:"; cat said; failed=1; }
+"$unpacked/stack" build "$unpacked/examples/first/seven.gypsy" 7 3 board.image >/dev/null
+"$unpacked/hardware/run" board.image "$unpacked/examples/first/nine.values" --hex loaded >said 2>&1 && [ -s loaded/words.hex ] ||
+    { echo "release: the words for a board: $(<said)"; failed=1; }
 seven=$'finished 28\ncondition normal\nx = 7'
 examples=${stack%/stack}/examples/first
 wants "the example of the README" 0 "$seven" "$stack" go "$examples/seven.gypsy" "$examples/nine.values" 100 100 1000000 seven.image
