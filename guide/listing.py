@@ -12,7 +12,7 @@ import sys
 from pathlib import Path
 
 from ends import end
-from infix_places import InfixSource
+from infix_sources import InfixSource
 from places import Source
 from program import Program, carried_out, lower, number
 

@@ -26,7 +26,8 @@ GRACE = 5
 MOST_LINES = 20
 TRIED = os.environ.get("STACK_TRIED") == "1"
 
-# What is tried, the words that try it, from the top of the repository, and the line in which it says how many there were, and perhaps how many failed.
+# What is tried, the words that try it, from the top of the repository, and the line in which it says how many there were, unless it is one, and perhaps
+# how many failed. Where it doesn't count what failed by the same measure, this is the line of a trial in which nothing did.
 Trial = namedtuple("Trial", "what words counts")
 Running = namedtuple("Running", "trial process said")
 
@@ -43,16 +44,17 @@ def documents():
 
 def parts(program):
     """The trials of each part. Those of one part run beside one another."""
-    # A program that looks at its own use of memory starts slowly, and takes more.
-    damage = ["--share", *(["--sanitized"] if TRIED else [])]
+    # A program that looks at its own use of memory takes more of it and is slow: too slow for all damaged files, and for the long rows.
+    rows = [it.name for it in sorted(TOP.glob("conformance/*.rows")) + sorted(TOP.glob("conformance/made/*.py")) if it.name != "large.py"] if TRIED else []
+    damage = ["--share", "--sanitized"] if TRIED else []
     return {
-        "rows": [Trial("rows of conformance", [sys.executable, "conformance/run", program], r" *(\d+) rows, (\d+) failed")],
+        "rows": [Trial("rows of conformance", [sys.executable, "conformance/run", program, *rows], r" *(\d+) rows, (\d+) failed")],
         "examples": [Trial("commands that documents show", tool("transcripts", str(TOP / "stack"), *documents()), r" *(\d+) commands of transcripts, (\d+) failed")],
         "random": [
-            Trial("random sources", tool("random_sources", program, "1", "60"), r"(\d+) sources agree"),
-            Trial("random products", tool("random_products", program, "2000"), r"(\d+) products, (\d+) sources"),
-            Trial("random infix programs", tool("random_infix", program, "1", "60"), r"(\d+) random infix programs, .*: (\d+) wrong"),
-            Trial("random words", tool("random_words", program), r"(\d+) random words, "),
+            Trial("random sources", tool("random_sources", program, "1", "60"), r"(60) sources agree"),
+            Trial("random products", tool("random_products", program, "2000"), r"(\d+) products, 0 sources"),
+            Trial("random infix programs", tool("random_infix", program, "1", "60"), r"(\d+) random infix programs, .*: 0 wrong"),
+            Trial("text of a million random words", tool("random_words", program), r"1000000 random words, "),
             Trial("random programs for the processor", tool("random_programs", program), r"(\d+) random programs, "),
         ],
         "damage": [Trial("runs on damaged files", tool("damage", program, *damage), r"damage: (\d+) runs, (\d+) of them wrong")],
@@ -84,18 +86,20 @@ def end(running):
 
 
 def counted(running, is_over):
-    """How many passed and failed of a trial, by what it said and how it ended, with its other lines. What can't be counted has failed."""
+    """How many passed and failed of a trial, by what it said and how it ended, and what is printed of it. What can't be counted has failed once."""
     running.said.seek(0)
+    what, counts, status = running.trial.what, running.trial.counts, running.process.returncode
     lines = running.said.read().decode("utf-8", "replace").splitlines()
-    found = [it for it in (re.match(running.trial.counts, line) for line in lines) if it]
-    lines = [it for it in lines if not re.match(rf"{running.trial.counts}| *\d+ rows: [\w.]+$", it) and it.strip()]
+    found = [it for it in (re.match(counts, line) for line in lines) if it]
+    lines = [it for it in lines if not re.match(rf"{counts}| *\d+ rows: [\w.]+$", it) and it.strip()][:MOST_LINES]
     if not is_over:
-        return 0, 1, [*lines, "it wasn't over in time"]
+        return 0, 1, [*lines, f"        {what}: not over in time"]
     if not found:
-        return 0, 1, [*lines, f"it ended with status {running.process.returncode}, and didn't say how many there were"]
-    count, failed = int(found[-1].group(1)), int(found[-1].group(2)) if found[-1].re.groups > 1 else 0
-    # One that fails without saying how often has failed once.
-    return (count - failed, failed, lines) if failed or not running.process.returncode else (count, 1, lines)
+        return 0, 1, [*lines, f"        {what}: failed, with status {status}"]
+    numbers = [int(it) for it in found[-1].groups()]
+    count, failed = numbers + [1, 0][len(numbers):]
+    failed = max(failed, int(status != 0))
+    return count - failed, failed, [*lines, f"{count:7,} {what}, {failed:,} failed"]
 
 
 def show_progress(text):
@@ -118,7 +122,7 @@ def try_part(name, place, trials, room, began):
         show_progress("")
         for it in running:
             good, bad, lines = counted(it, it not in left)
-            print("\n".join([*lines[:MOST_LINES], f"{good + bad:7,} {it.trial.what}, {bad:,} failed"]), flush=True)
+            print("\n".join(lines), flush=True)
             passed, failed = passed + good, failed + bad
     finally:
         for it in running:
@@ -134,7 +138,10 @@ def main(program, which, part):
     began, passed, failed = time.monotonic(), 0, 0
     with tempfile.TemporaryDirectory(prefix="stack-test-") as room:
         for place, (name, trials) in enumerate(here.items(), 1):
-            if trials:
+            if trials and time.monotonic() > began + SECONDS:
+                print(f"        {name}: not begun in time")
+                failed += 1
+            elif trials:
                 if not sys.stderr.isatty():
                     ends.tell(f"part {place} of {len(here)}, {name}, after {time.monotonic() - began:.0f} seconds")
                 good, bad = try_part(name, f"{place} of {len(here)}", trials, room, began)

@@ -13,7 +13,7 @@ from collections import namedtuple
 from pathlib import Path
 
 from ends import end
-from infix_places import InfixSource, own
+from infix_sources import InfixSource, own
 from places import WIDTH, Source
 from program import Program, Refused, carried_out, lower, number
 

@@ -16,7 +16,7 @@ from pathlib import Path
 import ends
 import explain
 import help as usage
-from infix_places import InfixSource, own
+from infix_sources import InfixSource, own
 from places import Source
 from program import MOST_TEXT, read_text
 from sources import NAME, NUMERAL, number_of

@@ -23,7 +23,7 @@ wants() {
 count='[1-9][0-9,]*'
 copy=$top
 wants 0 "the proved program of commit [0-9a-f]*\(, and changes\)\?: $count passed, 0 failed, in [0-9]* seconds" test
-for what in "rows of conformance" "commands that documents show" "random sources" "random products" "random infix programs" "random words" \
+for what in "rows of conformance" "commands that documents show" "random sources" "random products" "random infix programs" "text of a million random words" \
     "random programs for the processor" "runs on damaged files"; do
     grep -q "^ *$count $what, 0 failed\$" "$folder/out" || { echo "test: there are no $what:"; cat "$folder/out"; failed=1; }
 done
@@ -33,13 +33,13 @@ wants 1 usage test everything
 copy=$folder/copy
 mkdir -p "$copy/crates/cli_stack/out"
 (cd "$top" && git ls-files -z stack guide conformance examples docs | xargs -0 cp --parents -t "$copy") || exit 1
-echo "sha256 of another" >"$copy/PROVED"
+printf "%s\n" "commit 0" "sha256 0" >"$copy/PROVED"
 cp "$top/.ci/tools/mistaken" "$copy/crates/cli_stack/out/cli_stack"
 export PROGRAM=$top/crates/cli_stack/out/cli_stack COMMAND=check MISTAKE='s/^refused M3 at 9$/refused M3 at 8/'
 wants 1 "a program that isn't the one that was proved: $count passed, $count failed, in [0-9]* seconds" test
 grep -q '^check.rows:[0-9]*: check t' "$folder/out" || { echo "test: the row isn't told:"; cat "$folder/out"; failed=1; }
 grep -q '^not tried here, .*: examples, random, damage$' "$folder/out" || { echo "test: it isn't told what wasn't tried"; failed=1; }
 sed -i 's/^SECONDS = 300$/SECONDS = 1/' "$copy/guide/testing.py"
-MISTAKE= wants 1 "it wasn't over in time" test rows
+MISTAKE= wants 1 " *rows of conformance: not over in time" test rows
 [ "$failed" = 0 ] && echo "test: ok"
 exit "$failed"
