@@ -62,11 +62,14 @@ class Rows:
     def lay_out(self, name):
         """A checkout whose program is played."""
         folder = self.room / name
-        for it in ("guide", "docs/program", "docs/languages", "editor", "examples/first"):
+        for it in ("guide", "docs/program", "docs/languages", "editor", "examples/first", "conformance", "hardware"):
             shutil.copytree(self.top / it, folder / it)
         shutil.copy(self.top / "stack", folder / "stack")
-        for it in ("crates.txt", "README.md"):
+        for it in ("crates.txt", "README.md", "CHANGES.md", "CITATION.cff", "CONTRIBUTING.md"):
             shutil.copy(self.top / it, folder / it)
+        # As a release has it.
+        (folder / "docs/proved").mkdir()
+        (folder / "docs/proved/implements.txt").write_text("what is believed\n")
         made = folder / "crates/cli_stack/out"
         made.mkdir(parents=True)
         (made / "cli_stack.proved").write_text(PROVED)
