@@ -29,7 +29,7 @@ fn fetch<H: Heap, S: Shelf>(
     ensures counts { NoneFell (S.counts shelf.old) (S.counts shelf.new) }
 {
     let limit = role.limit();
-    match shelf.fetch(heap.handle(), name, limit) {
+    match shelf.fetch_shared(heap, name, limit) {
         Ok(text) => Ok(Text::new(text)),
         Err(FetchFault::Missing) => {
             let name = FileName::new(heap, name)?;

@@ -17,7 +17,7 @@ pub use command::{Command, TaskFiles};
 pub use early_end::EarlyEnd;
 pub use fetching::gather;
 pub use laws::texts_are_read;
-pub use printing::print;
+pub use printing::{print, print_owned};
 pub use role::{Role, RoleFile};
 pub use status::{Status, exit_code};
 pub use storing::save;

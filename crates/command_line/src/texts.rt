@@ -5,11 +5,12 @@ use stack_heap::Heap;
 use stack_text::Memory;
 use std::alloc::{AllocFailed, Global};
 use std::marker::Model;
+use std::rc::Rc;
 
-/// The bytes of a file that was read, at most 2^31. Contracts see them as a list.
+/// The bytes of a file that was read, at most 2^31. A shelf may own them too. Contracts see them as a list.
 #[derive(Drop)]
 pub struct Text {
-    bytes: Vec<u8>,
+    bytes: Rc<Vec<u8>>,
 }
 
 impl Model for Text {
@@ -17,18 +18,18 @@ impl Model for Text {
 
     ghost Value = { List ℕ };
 
-    ghost view = { λ t. t.bytes.items };
+    ghost view = { λ t. t.bytes.value.items };
 
-    ghost invariant = { λ t. length t.bytes.items ≤ 2 ^ 31 };
+    ghost invariant = { λ t. length t.bytes.value.items ≤ 2 ^ 31 };
 }
 
 impl Text {
     ghost use Rattle.std.specs.Prelude.{◌≡◌, ◌≤◌, ◌^◌, length};
 
     /// The text of these bytes, at most 2^31.
-    pub fn new(bytes: Vec<u8>) -> Text
-        requires { length bytes.items ≤ 2 ^ 31 }
-        ensures { result ≡ bytes.items }
+    pub fn new(bytes: Rc<Vec<u8>>) -> Text
+        requires { length bytes.value.items ≤ 2 ^ 31 }
+        ensures { result ≡ bytes.value.items }
     {
         Text { bytes }
     }
@@ -38,7 +39,7 @@ impl Text {
         ensures value { result.now ≡ self.now }
         ensures short { length result.now ≤ 2 ^ 31 }
     {
-        self.bytes.as_slice()
+        self.bytes.as_ref().as_slice()
     }
 }
 

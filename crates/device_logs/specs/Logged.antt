@@ -1,5 +1,6 @@
 -- Devices with a log of the calls that went well.
-use Rattle.std.specs.Prelude.{ℕ, ◌^◌, ◌⊎◌, List, [], ◌∷◌, ◌++◌, take}
+use Rattle.std.specs.{Prelude.{ℕ, ◌^◌, ◌⊎◌, List, [], ◌∷◌, ◌++◌, Option, Some, None, String, map, take}, Global.{Global, Vec}}
+use Rattle.std.specs.{String.{string_bytes}, declared.rc.Rc.{Rc}}
 use Rattle.stack_shelf.specs.Files.{Files}
 
 -- a shelf, the files that it gave, and those that it got, in the order of the calls
@@ -7,6 +8,10 @@ pub record LoggedShelfOf (S : Type 0) : Type 0 where
   pub shelf : S
   pub fetched : Files
   pub stored : Files
+
+-- the bytes of the names and of the files that were given, which have several owners
+abbrev pub given : List (String Global × Rc (Vec ℕ) Global) → Files
+given files = map (λ file. (string_bytes file.0, file.1.value.items)) files
 
 -- the logged shelf after a fetch that gave bytes, by what the shelf is then
 abbrev pub logged_gave : {S : Type 0} → (S → List ℕ → List ℕ → S) → LoggedShelfOf S → List ℕ → List ℕ → LoggedShelfOf S
@@ -34,3 +39,8 @@ pub record LoggedSinkOf (K : Type 0) : Type 0 where
 -- the logged sink after a call that took all of these bytes
 abbrev pub logged_took : {K : Type 0} → (K → List ℕ → K) → LoggedSinkOf K → List ℕ → LoggedSinkOf K
 logged_took took s bytes = record { sink = took s.sink bytes; printed = take log_limit (s.printed ++ bytes) }
+
+-- the bytes of a text that was offered, if one was
+abbrev pub offered_text : Option (Rc (Vec ℕ) Global) → List ℕ
+offered_text None = []
+offered_text (Some text) = text.value.items

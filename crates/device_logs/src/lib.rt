@@ -8,6 +8,7 @@
 
 mod logged_shelf;
 mod logged_sink;
+mod printed;
 
 pub use logged_shelf::LoggedShelf;
 pub use logged_sink::LoggedSink;

@@ -1,21 +1,21 @@
 //! A sink that keeps a log.
-ghost use Rattle.std.specs.Prelude.{◌≡◌, []};
+ghost use Rattle.std.specs.Prelude.{◌≡◌, ◌++◌, []};
 
+use crate::printed::Printed;
 use stack_heap::Heap;
 use stack_shelf::{PutFault, Sink};
 use std::marker::Model;
-
-/// How many bytes a log has at most: more than any report has, and less than a session may print.
-const LOG_LIMIT: usize = 1 << 24;
+use std::rc::Rc;
 
 /// A sink with the first 2^24 of the bytes that it took, by the calls that went well.
 ///
-/// It copies each of these once. If its heap refuses that, a call returns out of memory.
+/// Of a text that was offered to it, and is then taken, it keeps the text. It copies each other byte once. If its heap refuses that,
+/// a call returns out of memory.
 #[derive(Drop)]
 pub struct LoggedSink<H: Heap, K: Sink + Drop> {
     heap: H,
     sink: K,
-    printed: Vec<u8>,
+    printed: Printed,
 }
 
 impl<H: Heap, K: Sink + Drop> Model for LoggedSink<H, K> {
@@ -23,7 +23,7 @@ impl<H: Heap, K: Sink + Drop> Model for LoggedSink<H, K> {
 
     ghost Value = { LoggedSinkOf K };
 
-    ghost view = { λ s. record { sink = s.sink; printed = s.printed.items } };
+    ghost view = { λ s. record { sink = s.sink; printed = s.printed } };
 }
 
 impl<H: Heap, K: Sink + Drop> LoggedSink<H, K> {
@@ -34,15 +34,15 @@ impl<H: Heap, K: Sink + Drop> LoggedSink<H, K> {
         LoggedSink {
             heap,
             sink,
-            printed: Vec::new(heap.handle()),
+            printed: Printed::new(heap.handle()),
         }
     }
 
-    /// The bytes that it took, from the first on, and no more than 2^24.
-    pub fn printed(&self) -> &[u8]
-        ensures { result.now ≡ self.now.printed }
+    /// The bytes that it took, from the first on, and no more than 2^24, in two pieces.
+    pub fn printed(&self) -> (&[u8], &[u8])
+        ensures { result.0.now ++ result.1.now ≡ self.now.printed }
     {
-        &self.printed
+        self.printed.pieces()
     }
 }
 
@@ -59,12 +59,15 @@ impl<H: Heap, K: Sink + Drop> Sink for LoggedSink<H, K> {
 
     fn put(&mut self, bytes: &[u8]) -> Result<(), PutFault> {
         let before = self.printed.len();
-        self.heap.extend_from_slice(&mut self.printed, bytes)?;
-        self.printed.truncate(LOG_LIMIT);
+        self.printed.note(self.heap, bytes)?;
         let put = self.sink.put(bytes);
         if put.is_err() {
             self.printed.truncate(before);
         }
         put
+    }
+
+    fn offer(&mut self, text: &Rc<Vec<u8>>) {
+        self.printed.offer(self.heap, text);
     }
 }

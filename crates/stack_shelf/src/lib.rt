@@ -20,6 +20,11 @@
 //! `may_refuse` says whether a device may have no memory for a call. It is told of the type, so no clause has to say that a call
 //! leaves it. Standard output takes none, and of the other three devices nothing is known.
 //!
+//! # Without copies
+//!
+//! `fetch_shared`, `store_owned` and `offer` have bodies in the traits, by the other methods. Their clauses are those of `fetch` and
+//! `store`, and that nothing changes. A device that keeps what it gave, got or took has other bodies, and copies no bytes.
+//!
 //! # The edge
 //!
 //! `FolderShelf` and `StdoutSink` open a stream and hand it to a function that is generic over `Read`

@@ -4,7 +4,7 @@ ghost use Rattle.stack_heap.specs.Heaps.{IfOkUnless};
 ghost use Rattle.stack_commands.specs.Works.{IsEnding};
 ghost use Rattle.cli_stack.specs.{World.{out_of}, RepliesTo.{TookLines}, Driver.{machine_kept, conclusion_of, replied, Printed, Stopped, Concludes}};
 
-use command_line::{EarlyEnd, Status, print};
+use command_line::{EarlyEnd, Status, print_owned};
 use fm_machine::Machine;
 use level_debuggers::Watch;
 use stack_commands::{Ending, Reply, tell_session};
@@ -63,7 +63,8 @@ fn keep(kept: &mut Option<Machine>, machine: Option<Machine>)
 }
 
 /// Prints a conclusion, and ends with its status, or with that of what stopped the printing.
-fn print_conclusion<K: Sink>(
+fn print_conclusion<H: Heap, K: Sink>(
+    heap: H,
     conclusion: Conclusion,
     out: &mut K,
     kept: &mut Option<Machine>,
@@ -71,14 +72,14 @@ fn print_conclusion<K: Sink>(
     ensures { let before = out_of (K.taken out.old) (K.faults out.old) kept.old in
         let after = out_of (K.taken out.new) (K.faults out.new) kept.new in
         Printed (TookLines K.took out.old out.new) conclusion result before after
-        ⊎ Stopped K.may_refuse conclusion result before after }
+        ⊎ Stopped (H.may_refuse heap ⊎ K.may_refuse) conclusion result before after }
 {
     let Conclusion {
         text,
         status,
         machine,
     } = conclusion;
-    match print(out, text.as_slice()) {
+    match print_owned(heap, out, text.into_vec()) {
         Ok(()) => {
             keep(kept, machine);
             status
@@ -101,7 +102,7 @@ fn conclude_reply<H: Heap, K: Sink>(
         (out_of (K.taken out.new) (K.faults out.new) kept.new) }
 {
     match conclusion_of(heap, ran) {
-        Ok(conclusion) => print_conclusion(conclusion, out, kept),
+        Ok(conclusion) => print_conclusion(heap, conclusion, out, kept),
         Err(Memory) => Status::OutOfMemory,
     }
 }

@@ -29,7 +29,7 @@ fn perform<H: Heap, S: Shelf>(heap: H, command: &Command, shelf: &mut S) -> Resu
     let texts = gather(heap, shelf, &command.inputs(heap)?)?;
     let Work { stored, left } = prepare(heap, command, &texts)?;
     if let (Some(output), Some(bytes)) = (command.output(), stored) {
-        save(heap, shelf, output.name.as_str(), bytes.as_slice())?;
+        save(heap, shelf, output.name.as_str(), bytes.into_vec())?;
     }
     Ok(finish(heap, left)?)
 }
