@@ -93,7 +93,7 @@ all_named P name fits (x ∷ xs) h = and_from _ _ (fits x (All-head P x xs h)) (
 
 -- ---- slots
 
-length-slots_from : (a : ℕ) (ds : List Decl) → length (slots_from a ds) ≡ length ds
+pub length-slots_from : (a : ℕ) (ds : List Decl) → length (slots_from a ds) ≡ length ds
 length-slots_from a [] = refl
 length-slots_from a (d ∷ ds) = ap suc (length-slots_from (a - item_count (shape_of d.shape)) ds)
 
@@ -102,7 +102,7 @@ names-slots_from a [] = refl
 names-slots_from a (d ∷ ds) = ap (λ (names : List (List ℕ)). d.name.name ∷ names) (names-slots_from (a - item_count (shape_of d.shape)) ds)
 
 -- slots from an address down fit a window that has all their items
-each_fits : (window : Window) (a : ℕ) (ds : List Decl) → list_all is_name (map (λ (d : Decl). d.name.name) ds) ≡ true → HaveShortArrays ds →
+pub each_fits : (window : Window) (a : ℕ) (ds : List Decl) → list_all is_name (map (λ (d : Decl). d.name.name) ds) ≡ true → HaveShortArrays ds →
     window.base + words_of (shapes_in ds) ≤ a + 1 → a < window.base + window.size → list_all (fits_window window) (slots_from a ds) ≡ true
 each_fits window a [] named few low high = refl
 each_fits window a (d ∷ ds) named few low high =

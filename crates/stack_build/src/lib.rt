@@ -21,11 +21,12 @@ pub use building::{Built, Origins, accept, build, build_accepted, build_with_ori
 pub use built_starts::{ImageStart, SystemStart, start_image, start_system};
 pub use fault::BuildFault;
 pub use formals::read_formals;
-pub use imaging::linked_image;
+pub use imaging::{linked_image, slots_from};
 pub use laws::{
     builds_implement, builds_stay_inside, images_implement, images_keep_traces, images_say_moments,
     images_stand_for_piton, moments_are_read, placed_are_words, runs_are_meant,
     source_runs_tell_meaning,
 };
 pub use meaning_starts::start_meaning;
+pub use shown::{formal_conditions, shown_formals};
 pub use start_fault::StartFault;

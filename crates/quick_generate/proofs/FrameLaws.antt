@@ -1,0 +1,36 @@
+-- Where variables stand.
+use Rattle.std.{proofs.Common.{◌≡◌, ℕ, zero, suc, ◌+◌, ◌-◌, ◌≤◌, ◌<◌, List, [], ◌∷◌, length, take, refl, sym, ap, ◌∙◌, arith, min}, specs.Prelude.get_or}
+use Rattle.stack_text.{specs.declared.shape.Shape.Shape, specs.declared.shape.Kind.TheVariants.Integer, specs.Values.item_count}
+use Rattle.gypsy_syntax.specs.Programs.{simple, words_of}
+
+-- the words of the first variables are no more than all
+pub words_before : (b : ℕ) (shapes : List Shape) → words_of (take b shapes) ≤ words_of shapes
+words_before zero shapes = omega arith
+words_before (suc b) [] = omega arith
+words_before (suc b) (s ∷ shapes) = omega (arith, words_before b shapes)
+
+-- those of one variable too, or one word past the last variable
+pub words_with : (b : ℕ) (shapes : List Shape) →
+    words_of (take b shapes) + (item_count (get_or shapes b (simple Integer)) - 1) ≤ words_of shapes
+words_with zero [] = omega arith
+words_with (suc b) [] = omega arith
+words_with zero (s ∷ shapes) = omega arith
+words_with (suc b) (s ∷ shapes) = omega (arith, words_with b shapes)
+
+-- and so are those of any one variable
+pub words_at : (b : ℕ) (shapes : List Shape) (s : Shape) → b < length shapes → s ≡ get_or shapes b s → item_count s ≤ words_of shapes
+words_at b [] s lt is = absurd (omega (arith, lt))
+words_at zero (t ∷ shapes) s lt is = let count = ap item_count is in omega (arith, count)
+words_at (suc b) (t ∷ shapes) s lt is = omega (arith, words_at b shapes s (omega (arith, lt)) is)
+
+-- no more than all can be taken
+pub take_min : (b : ℕ) (shapes : List Shape) → take (min (length shapes) b) shapes ≡ take b shapes
+take_min b [] = nothing (min 0 b) ∙ sym (nothing b)
+  where
+    nothing : (n : ℕ) → take {A = Shape} n [] ≡ []
+    nothing zero = refl
+    nothing (suc n) = refl
+take_min zero (s ∷ shapes) = let none : min (suc (length shapes)) 0 ≡ 0 = omega arith in ap (λ n. take n (s ∷ shapes)) none
+take_min (suc b) (s ∷ shapes) =
+    let one : min (suc (length shapes)) (suc b) ≡ suc (min (length shapes) b) = omega arith in
+    ap (λ n. take n (s ∷ shapes)) one ∙ ap (λ (rest : List Shape). s ∷ rest) (take_min b shapes)

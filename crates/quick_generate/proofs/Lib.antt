@@ -1,0 +1,10 @@
+pub mod LoopLaws
+pub mod RowSizeLaws
+pub mod SizeLaws
+pub mod FrameLaws
+pub mod ArgumentLaws
+pub mod HurdleLaws
+pub mod QuickLaws
+pub mod GivenLaws
+pub mod ImageLaws
+pub mod PlacedLaws

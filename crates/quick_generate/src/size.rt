@@ -1,0 +1,131 @@
+//! How many words the quick code of statements has.
+
+ghost use Rattle.std.specs.Prelude.{◌≡◌, ◌+◌, ◌^◌, ◌<◌, ◌≤◌, length, map};
+ghost use Rattle.gypsy_space.specs.{Nodes.{seen_arg, seen_statement, seen_statements}, StatementNeeds.{capped}};
+ghost use Rattle.quick_code.specs.Access.{find_code};
+ghost use Rattle.quick_gypsy.specs.{Quick.{size, test_code}, RowCode.{arg_access, row_code}};
+ghost use Rattle.quick_generate.specs.{Rows.{row_size}, Views.{layout_of, seen_access}};
+
+use crate::access::Access;
+use crate::argument::reach;
+use crate::frame::Frame;
+use gypsy_space::{Argument, Node};
+use gypsy_syntax::Predef;
+use std::rc::Rc;
+
+/// Sums are exact up to this number, 2^60, and stay there.
+const MOST: u64 = 1 << 60;
+
+/// The words of a jump.
+pub(crate) const JUMP_SIZE: u32 = 2;
+
+/// A sum.
+pub(crate) fn sum(left: u64, right: u64) -> u64
+    ensures { result ≡ capped (left + right) }
+{
+    left.saturating_add(right).min(MOST)
+}
+
+/// How many words it takes to find an address.
+fn find_size(access: Access) -> u64
+    ensures exact { result ≡ length (find_code (seen_access access)) }
+    ensures small { result ≤ 2 }
+{
+    match access {
+        Access::Held(_) => 0,
+        Access::Known(_) => 2,
+    }
+}
+
+/// How many words it takes to find the variable that an argument is.
+fn found(frame: &Frame, args: &[Argument], index: usize) -> u64
+    ensures exact { result ≡ length (find_code (arg_access (layout_of frame.now) (map seen_arg args.now) index)) }
+    ensures small { result ≤ 2 }
+{
+    find_size(reach(frame, args, index))
+}
+
+/// How many words a row has, where finding its variables takes x, y and z words.
+fn row_size_by(x: u64, y: u64, z: u64, which: Predef) -> u64
+    requires x { x ≤ 2 }
+    requires y { y ≤ 2 }
+    requires z { z ≤ 2 }
+    ensures exact { result ≡ row_size x y z which }
+    ensures small { result ≤ 16 }
+{
+    match which {
+        Predef::MgSimpleVariableAssignment if y == 0 => x + 1,
+        Predef::MgSimpleVariableAssignment => x + y + 2,
+        Predef::MgSimpleConstantAssignment => x + 2,
+        Predef::MgSimpleVariableEq | Predef::MgIntegerLe => x + y + z + 4,
+        Predef::MgSimpleConstantEq => x + y + 5,
+        Predef::MgIntegerUnaryMinus | Predef::MgBooleanNot => x + y + 4,
+        Predef::MgIntegerAdd | Predef::MgIntegerSubtract => x + y + z + 5,
+        Predef::MgBooleanOr | Predef::MgBooleanAnd => x + y + z + 3,
+        Predef::MgIndexArray => x + z + 8,
+        Predef::MgArrayElementAssignment => y + z + 8,
+        Predef::MgIntegerMultiply => 0,
+    }
+}
+
+/// How many words the code of a predefined call has.
+pub(crate) fn row_size(frame: &Frame, which: Predef, args: &[Argument]) -> u64
+    ensures exact { result ≡ length (row_code (layout_of frame.now) 0 (map seen_arg args.now) which) }
+    ensures small { result ≤ 16 }
+{
+    let x = found(frame, args, 0);
+    let y = found(frame, args, 1);
+    let z = found(frame, args, 2);
+    row_size_by(x, y, z, which)
+}
+
+/// How many words the test of an `if` has.
+pub(crate) fn test_size(frame: &Frame, variable: u32) -> u64
+    ensures exact { result ≡ length (test_code (layout_of frame.now) variable 0) }
+    ensures small { result ≤ 5 }
+{
+    find_size(frame.reach(variable)) + 3
+}
+
+/// How many words the code of a statement has, exact up to 2^60.
+#[cycle(sizes)]
+pub(crate) fn size(frame: &Frame, node: &Rc<Node>) -> u64
+    ensures { result ≡ capped (size (layout_of frame.now) (seen_statement node.now.value)) }
+{
+    match &**node {
+        Node::NoOp(_) | Node::Call(_) => 0,
+        Node::Signal(_, _) => u64::from(JUMP_SIZE),
+        Node::Seq(parts) => parts_size(frame, parts),
+        Node::Loop(_, body) => sum(size(frame, body), u64::from(JUMP_SIZE)),
+        Node::If(_, variable, yes, no) => {
+            let test = test_size(frame, *variable);
+            let first = sum(test, size(frame, yes));
+            sum(sum(first, u64::from(JUMP_SIZE)), size(frame, no))
+        }
+        Node::Begin(_, body, _, arm) => {
+            let first = sum(size(frame, body), u64::from(JUMP_SIZE));
+            sum(first, size(frame, arm))
+        }
+        Node::Apply(site) => row_size(frame, site.which, site.args.as_slice()),
+    }
+}
+
+/// How many words the code of the parts of a sequence has.
+#[cycle(sizes)]
+fn parts_size(frame: &Frame, parts: &Rc<Vec<Rc<Node>>>) -> u64
+    ensures { result ≡ capped (size (layout_of frame.now) (seen_statements parts.now.value.items)) }
+{
+    let mut words = 0;
+    for index in 0..parts.len() {
+        words = sum(words, size(frame, &parts[index]));
+    }
+    words
+}
+
+/// How many words the code of a statement has, where they are few.
+pub(crate) fn small_size(frame: &Frame, node: &Rc<Node>) -> u32
+    requires { size (layout_of frame.now) (seen_statement node.now.value) < 2 ^ 32 }
+    ensures { result ≡ size (layout_of frame.now) (seen_statement node.now.value) }
+{
+    size(frame, node) as u32
+}
