@@ -31,10 +31,10 @@ class TooMuch(Exception):
     """The program would print more than is asked for."""
 
 
-def read_text(path):
+def read_text(path, most=MOST_TEXT):
     """The bytes of a text, or of one that is too long so many that this is seen."""
     with open(path, "rb") as file:
-        return file.read(MOST_TEXT + 1)
+        return file.read(most + 1)
 
 
 class Program:
@@ -139,10 +139,14 @@ def number(text):
     return int(text)
 
 
+def is_person():
+    """Whether a person reads standard error."""
+    return (os.environ.get("STACK_EXPLAIN") or ("1" if sys.stderr.isatty() else "0")) == "1"
+
+
 def tell_person(refused, words):
     """Says on standard error what a refusal means, where a person reads that: as of the command that would be refused so."""
-    asked = os.environ.get("STACK_EXPLAIN") or ("1" if sys.stderr.isatty() else "0")
-    if asked != "1":
+    if not is_person():
         return
     from explain import lines_of
 

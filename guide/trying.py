@@ -1,6 +1,7 @@
 """Runs a source with as few words as can be, or prints values for it.
 
     trying.py PROGRAM try SRC [NAME=VALUE ..]       runs it: sizes by `need`, or 1,000 each; values 0 and false where none is given
+    trying.py PROGRAM try TEXT                      runs a text of Piton or of assembly, and prints what it leaves in its areas, or in words with a label
     trying.py PROGRAM values SRC [NAME=VALUE ..]    prints the values, for a file to edit
 
 A program of the infix language is lowered first. What `try` stores is in a folder of its own, which is removed; the lines that do the same with
@@ -16,9 +17,10 @@ from pathlib import Path
 import ends
 import explain
 import help as usage
+import trying_texts
 from infix_sources import InfixSource, own
 from places import Source
-from program import MOST_TEXT, read_text
+from program import MOST_TEXT, Refused, read_text
 from sources import NAME, NUMERAL, number_of
 from trace import STEPPED, moment_of
 
@@ -56,17 +58,24 @@ def run(program, words, names=()):
     return ran.stdout
 
 
-def read_source(path):
-    """The text of a source, or the end of the command."""
+def read_whole(path):
+    """The bytes of a text, by its limit, and what kind of text it is: nothing for a source; or the end of the command."""
     try:
-        content = read_text(path)
+        content = read_text(path, max(trying_texts.LIMITS.values()))
     except FileNotFoundError:
         raise ended(9, f"missing {path}\n", ["check", path]) from None
     except OSError:
         raise ended(10, f"shelf fault {path}\n", ["check", path]) from None
-    if len(content) > MOST_TEXT:
-        raise ended(12, f"size file {MOST_TEXT}\n", ["check", path])
-    return content.decode("utf-8", "replace")
+    kind = trying_texts.kind_of(content)
+    limit = trying_texts.LIMITS.get(kind, MOST_TEXT)
+    if len(content) > limit:
+        raise ended(12, f"size file {limit}\n", [{"piton": "pcheck", "assembly": "asm"}.get(kind, "check"), path])
+    return content, kind
+
+
+def read_source(path):
+    """The text of a source, or the end of the command."""
+    return read_whole(path)[0].decode("utf-8", "replace")
 
 
 def is_text(name):
@@ -234,16 +243,20 @@ def same_lines(source, text, words, sizes):
 
 
 def try_source(program, source, *words):
-    text = read_source(source)
+    content, kind = read_whole(source)
+    text = content.decode("utf-8", "replace")
     with tempfile.TemporaryDirectory() as room:
         path = source
         if not os.path.isfile(source) or not is_text(source):
             # It has been read, which may be possible once alone; and the program takes no name that isn't text.
             path = os.path.join(room, "source")
-            Path(path).write_text(text, encoding="utf-8")
+            Path(path).write_bytes(content if kind else text.encode())
         try:
-            asked = Asked(program, room, lower(program, path, text, room), [], text if is_infix(text) else None)
-            try_text(asked, source, text, words)
+            if kind:
+                try_other(program, room, path, source, content, kind, words)
+            else:
+                asked = Asked(program, room, lower(program, path, text, room), [], text if is_infix(text) else None)
+                try_text(asked, source, text, words)
         except Ended as end:
             end.printed, end.told = end.printed.replace(path, source), end.told.replace(path, source)
             raise
@@ -267,6 +280,37 @@ def try_text(asked, source, text, words):
         raise
     finally:
         tell(["stack: the same with files:", *(f"    {it}" for it in same_lines(source, text, words, asked.sizes))])
+
+
+def try_other(program, room, path, source, content, kind, words):
+    """Runs a text of Piton or of assembly. The program that makes of it what the processor runs, and the run, are asked apart."""
+    if words:
+        raise Ended(1, told=f"stack: {usage.shown(words[0])} is for a source: this text has its words in itself")
+    image = os.path.join(room, "linked")
+    try:
+        if kind == "piton":
+            printed = run(program, ["prun", path, str(BUDGET)])
+            print(printed, end="", flush=True)
+            if not UNPROVED:
+                run(program, ["pbuild", path, image], [(image, "IMG")])
+                print(trying_texts.after_piton(program, room, image, printed), end="", flush=True)
+        else:
+            run(program, ["asm", path, image], [(image, "IMG")])
+            print(trying_texts.after_assembly(program, room, image, content, BUDGET), end="", flush=True)
+    except Refused as refused:
+        raise ended(refused.status, refused.text + "\n", ["run", "IMG", "VALS", str(BUDGET)]) from None
+    finally:
+        tell(["stack: the same with files:", *(f"    {it}" for it in other_lines(source, kind))])
+
+
+def other_lines(source, kind):
+    """The lines that do the same with files, of a text of Piton or of assembly."""
+    path, (image, values) = explain.quoted(source), (explain.quoted(f"{Path(source).stem}.{it}") for it in ("image", "values"))
+    if kind == "piton":
+        yield f"{usage.SELF} prun {path} {BUDGET}"
+    yield f"{usage.SELF} {'pbuild' if kind == 'piton' else 'asm'} {path} {image}"
+    yield f"echo '()' >{values}"
+    yield f"{usage.SELF} end {image} {values} {BUDGET}"
 
 
 def run_patiently(asked):

@@ -330,14 +330,17 @@ class Rows:
     def few_words(self):
         """Runs with few words, and the values that they make: the lines that they tell do the same."""
         for words, status, printed, told in FEW:
-            folder = self.folder({"wrong.gypsy": "(())", "wrong.mini": "int x; x < 3;", "endless.gypsy": "(program main (proc main () () () () (loop (no-op))))"})
+            folder = self.folder(TRIED)
             ending = folder.run(words, explains="")
             holds = (ending.status, ending.printed.decode()) == (status, printed) and one_line(told) in one_line(ending.told)
             self.note("few words", holds, words, ending)
-            lines = re.findall(r"^    (\./stack .*)$", ending.told, re.M) if status == 0 else []
+            lines = re.findall(r"^    ((?:\./stack|echo) .*)$", ending.told, re.M) if status == 0 else []
             for line in lines:
                 again = subprocess.run(["bash", "-c", line], cwd=folder.path, capture_output=True, check=False)
-            self.note("few words", not lines or again.stdout == ending.printed, lines, again if lines else "")
+            # Of a text that is no source the last line shows words by their addresses.
+            first = again.stdout.splitlines(True)[:1] if lines else []
+            same = again.stdout == ending.printed if lines and " end " not in lines[-1] else set(first) <= set(ending.printed.splitlines(True))
+            self.note("few words", same and bool(first) == bool(lines), lines, again if lines else "")
 
     def transcript(self):
         """The inputs of the page, with what a person sees."""
@@ -394,6 +397,15 @@ ENDINGS = [
 # Kinds of tokens with one of them.
 NAMED = {"a name": "x", "a number": "3"}
 
+# Files for the next words. The assembly text stores behind its last label, and changes a word of its own code.
+ENDLESS = "(program main (proc main () () () () (loop (no-op))))"
+HEAD = ".base 0\n.size 16\n.final end\n.start begin\nbegin: MOVE r1,(r15)+\n"
+LEFT = f"{HEAD}.word last\nMOVE (r1)+,#7\nMOVE r2,#0\nADD (r1)+,#0\nMOVE (r1),#-3\nMOVE (r2),#9\nend: DEC r15,r15\nkept: .word 5\nlast:\n"
+TRIED = {
+    "wrong.gypsy": "(())", "wrong.mini": "int x; x < 3;", "endless.gypsy": ENDLESS, "wrong.asm": "x: MOVE\n", "wrong.piton": "; no system\n(piton)",
+    "left.asm": f"; an assembly text\n{LEFT}", "outside.asm": f"{HEAD}.word 500\nMOVE (r1),#3\nend: DEC r15,r15\n",
+}
+AREAS = "halted 2\ncounted 6\na (nat 1) (int -2)\nb (addr a 1) (subr main)\nstack (bool f) (nat 1)\n"
 # Words with few sizes and files, the status, what is printed, and what is told.
 SUM = "examples/arrays/sum.gypsy"
 FEW = [
@@ -410,6 +422,13 @@ FEW = [
     ("try wrong.gypsy", 2, "refused M1 at 0\n", "wrong.gypsy:1:1: M1:"),
     ("try wrong.mini", 2, "refused Y1 at 9\n", "wrong.mini:1:10: Y1:"),
     ("try nowhere", 9, "missing nowhere\n", "There is no file nowhere."),
+    ("try examples/assembly/sum.asm", 0, "finished 23\ntable = (3 1 4 1 5)\nsum = 14\n", "./stack end sum.image sum.values 1000000000"),
+    ("try examples/piton/areas.piton", 0, f"{AREAS}finished 6\na = (1 -2)\nb = (12 0)\n", "./stack pbuild examples/piton/areas.piton areas.image"),
+    ("try left.asm", 0, "finished 6\nkept = 5\nlast = (7 0 -3)\n00000000 00e0043f 00000009\n", "./stack asm left.asm left.image"),
+    ("try examples/assembly/sum.asm table=3", 1, "", "this text has its words in itself"),
+    ("try wrong.asm", 2, "refused A2 at 0\n", "wrong.asm:1:4: A2:"),
+    ("try wrong.piton", 2, "refused P1 at 12\n", "wrong.piton:2:1: P1:"),
+    ("try outside.asm", 6, "outside 000001f4 after 1\n", "which isn't in the image's window"),
     ("try", 1, "", "wanted is ./stack try SRC"),
     (f"values {SUM} sum=7", 0, "((a (0 0 0 0 0))\n (sum 7))\n", ""),
     ("values examples/infix/gcd.mini y=2", 0, "((x 0)\n (y 2))\n", ""),

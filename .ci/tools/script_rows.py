@@ -200,7 +200,7 @@ class Rows:
         rows = {
             "trace": lambda source: ["trace", source, "V", "20", "20"], "listing": lambda source: ["listing", source, "20", "20"],
             "page": lambda source: ["page", source, "V", "20", "20", "100", "page.html"], "try": lambda source: ["try", source],
-            "values": lambda source: ["values", source],
+            "values": lambda source: ["values", source], "end": lambda source: ["end", source, "V", "9"],
         }
         for name, row in rows.items():
             for source, status in ("nowhere", 9), ("tmp", 10), ("S/x", 10), ("x" * 256, 10):
