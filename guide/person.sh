@@ -90,6 +90,17 @@ is_stored_by() {
     esac
 }
 
+# Has standard output wait for whoever reads it, where another program has made a pipe or a terminal that doesn't: what can't be written at once would be
+# lost, with status 11. It is opened anew for this script, so the other program keeps what it has made.
+wait_for_reader() {
+    local key flags=0
+    [ -r "/proc/$$/fdinfo/1" ] || return 0
+    while read -r key flags; do [ "$key" != flags: ] || break; done <"/proc/$$/fdinfo/1"
+    ((8#${flags:-0} & 8#4000)) || return 0
+    case $(readlink "/proc/$$/fd/1") in pipe:*) ;; *) [ -t 1 ] || return 0 ;; esac
+    { command exec >"/proc/$$/fd/1"; } 2>/dev/null
+}
+
 # Whether a command's output is an ordinary file of its own. What is standard output can't be looked at again: in a substitution it is another pipe.
 is_own_file() { [ -n "$output" ] && [ -f "$output" ] && [ ! "$output" -ef /dev/stdout ] && [ ! "$output" -ef /dev/stderr ]; }
 

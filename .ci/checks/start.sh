@@ -198,6 +198,45 @@ ends 1 usage
 grep -q "check SRC" "$folder/err" || says "no help"
 calls ""
 
+# unbuilt WHY: the script says that a source was changed, and after that nothing is.
+unbuilt() {
+    starts
+    ends 1 usage
+    grep -q "isn't built yet, or was changed since" "$folder/err" || says "$1 isn't noticed"
+}
+
+begins "what has an old time, is new or is gone"
+starts prove
+changed=$copy/crates/stack_text/src/lib.rt
+cp -p "$changed" "$folder/saved"
+echo "// changed" >>"$changed"
+touch -r "$folder/saved" "$changed"
+unbuilt "a change with an old time"
+cp -p "$folder/saved" "$changed"
+touch -d 2020-01-01 "$copy/crates/stack_text/src/new.rt"
+unbuilt "a new source with an old time"
+rm "$copy/crates/stack_text/src/new.rt"
+mv "$copy/crates/fm_turns" "$folder/gone"
+unbuilt "a crate that is gone"
+mv "$folder/gone" "$copy/crates/fm_turns"
+starts check a.gypsy
+ends 7 "printed by the program: check a.gypsy"
+errs ""
+calls ci
+
+# What the gate built is newer than the sources, and no list of them is there, or an old one.
+begins "what the gate built" built
+rm "$copy/crates/cli_stack/out/cli_stack.proved" "$copy/crates/cli_stack/out/cli_stack.sources"
+for _ in none old; do
+    touch "$changed"
+    touch "$copy/crates/cli_stack/out/cli_stack"
+    starts prove
+    ends 0 ""
+    starts check a.gypsy
+    ends 7 "printed by the program: check a.gypsy"
+done
+calls ""
+
 begins "what was changed since" built
 touch "$copy/crates/stack_text/src/lib.rt"
 starts
@@ -346,7 +385,7 @@ stops() {
     echo "$3" >"$STUB/holds"
     (cd "$caller" && STACK_PROVE=1 PATH=$folder/kit/bin:$PATH exec python3 -c "$in_a_group" "$copy/stack" check a.gypsy) >"$folder/out" 2>"$folder/err" </dev/null &
     process=$!
-    for _ in $(seq 100); do
+    for _ in $(seq 300); do
         [ ! -s "$STUB/held" ] || break
         sleep 0.2
     done
@@ -383,7 +422,7 @@ starts_alone() {
     echo "$?" >"$folder/$1.status"
 }
 waits_for() {
-    for _ in $(seq 100); do
+    for _ in $(seq 300); do
         ! "$@" 2>/dev/null || return
         sleep 0.2
     done

@@ -43,7 +43,7 @@ go) cat "$SHOWN" >"$7"; echo finished 1 ;;
 build) cat "$SHOWN" >"$5"; echo built 1 ;;
 pit) echo "(piton)" >"$5"; echo "written $5" ;;
 run) sleep 3; cat "$SHOWN" ;;
-check) [ "$PLAYS" != slow ] || exec sleep 60; echo ok ;;
+check) [ "$PLAYS" != slow ] || exec sleep 60; [ "$PLAYS" != loud ] || exec seq 100000; echo ok ;;
 show) [ "$PLAYS" != endless ] || exec yes "00000000 00000000 an instruction of a listing that doesn't end"; echo shown ;;
 *) echo usage; exit 1 ;;
 esac
@@ -177,6 +177,24 @@ class Rows:
             self.note("streams", ended[0] == 0 and (folder / "out").read_bytes() == wanted, words, ended)
             ended = self.run(folder, words)
             self.note("streams", ended[:2] == (0, wanted), (words, "explained"), ended)
+
+    def blocking(self):
+        """A pipe that another program has made not to wait for its reader loses nothing, and stays so there."""
+        wanted = "".join(f"{it}\n" for it in range(1, 100_001)).encode()
+        for explains, more in ("0", {}), ("1", {}), ("0", {"POSIXLY_CORRECT": "1"}):
+            folder = self.folder()
+            reading, writing = os.pipe()
+            os.set_blocking(writing, False)
+            environment = self.environment(folder, {"STACK_EXPLAIN": explains, "PLAYS": "loud"} | more)
+            running = subprocess.Popen([self.played, "check", "S"], stdin=subprocess.DEVNULL, stdout=writing, stderr=subprocess.PIPE, cwd=folder, env=environment)
+            # A reader that comes late: until then a pipe holds 64 KB.
+            time.sleep(1)
+            stays = not os.get_blocking(writing)
+            os.close(writing)
+            with os.fdopen(reading, "rb") as pipe:
+                printed = pipe.read()
+            ended = running.wait(), running.stderr.read()
+            self.note("streams", ended == (0, b"") and printed == wanted and stays, ("a pipe that doesn't block", explains, more), (ended, len(printed), stays))
 
     def own_output(self):
         """What is stored isn't written over by what is printed."""
@@ -384,9 +402,11 @@ class Rows:
         (made / "cli_stack").chmod(0o755)
         ended = self.run(folder, [self.played, "check", "S"], shutil.which("bash"), more={"PATH": "/nowhere"})
         self.note("surroundings", ended[0] == 70 and ended[1] == b"", "a PATH without commands", ended)
-        few = lambda: resource.setrlimit(resource.RLIMIT_NOFILE, (11, 11))  # noqa: E731
-        ended = self.run(folder, ["check", "S"], preexec_fn=few)
-        self.note("surroundings", ended[:2] == (0, b"ok\n"), "few descriptors", ended)
+        for count, status, printed, told in (5, 70, b"", b"fewer than 8 descriptors"), (7, 70, b"", b"fewer than 8 descriptors"), (11, 0, b"ok\n", b""):
+            for explains in "01":
+                few = lambda: resource.setrlimit(resource.RLIMIT_NOFILE, (count, count))  # noqa: B023, E731
+                ended = self.run(folder, ["check", "S"], explains=explains, preexec_fn=few)
+                self.note("surroundings", ended[:2] == (status, printed) and told in ended[2], (count, "descriptors", explains), ended)
 
 
 def asked_slowly(session):
@@ -401,7 +421,7 @@ def main():
     words = parser.parse_args()
     with tempfile.TemporaryDirectory() as room:
         rows = Rows(words.stack, room)
-        themes = (rows.sessions, rows.bytes, rows.own_output, rows.statuses, rows.sources, rows.growth, rows.pages, rows.boards, rows.terminals, rows.signals, rows.releases, rows.surroundings)
+        themes = (rows.sessions, rows.bytes, rows.blocking, rows.own_output, rows.statuses, rows.sources, rows.growth, rows.pages, rows.boards, rows.terminals, rows.signals, rows.releases, rows.surroundings)
         for theme in themes:
             if words.only in (None, theme.__name__):
                 theme()

@@ -182,10 +182,10 @@ class Rows:
         """What a store keeps of the file that it replaces: its rights; and what it doesn't replace: links, second names, and what is no file."""
         with Room(self.program) as room:
             whole, image = room.stored("first"), Path(room.folder, "o")
-            for mode in 0o600, 0o640, 0o644, 0o755, 0o666:
+            for mode in 0o600, 0o640, 0o644, 0o755, 0o666, 0o4755, 0o2755, 0o1755:
                 image.write_bytes(OLD)
                 image.chmod(mode)
-                self.note(room.stored("o") == whole and image.stat().st_mode & 0o7777 == mode, ("rights", oct(mode)), oct(image.stat().st_mode))
+                self.note(room.stored("o") == whole and image.stat().st_mode & 0o7777 == mode & 0o777, ("rights", oct(mode)), oct(image.stat().st_mode))
             for make, name in (lambda old, new: new.symlink_to(old.name), "link"), (lambda old, new: new.hardlink_to(old), "second"):
                 image.write_bytes(OLD)
                 other = Path(room.folder, name)
