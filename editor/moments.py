@@ -13,11 +13,11 @@ from pathlib import Path
 import beside
 import trying
 from generated import Code
-from infix_places import InfixPlaces
+from infix_sources import InfixSource, own
 from places import Source
 from positions import Text
+from printed import moment_of, shows_of
 from program import Program, Refused, is_infix
-from trace import moment_of
 from trees import tree_of
 
 LEVELS = ("gypsy", "piton", "fm9001")
@@ -57,7 +57,7 @@ class Run:
         self.code, self.text = Code(self.pit, self.shown), Source(self.data)
         self.image, self.places = self.code.image, self.code.image.places()
         # Of an infix program its own text is shown, with its statements in place of those that they were lowered to.
-        self.tied = InfixPlaces(self.infix, self.data) if self.infix else None
+        self.tied = InfixSource(self.infix.decode("latin-1"), self.data) if self.infix else None
         self.shown_text = Text(self.infix or self.data)
         # The values are judged by the first session.
         self.start = self.moment("gypsy", 0)
@@ -142,8 +142,7 @@ class Run:
     def moments(self, steps, many):
         """The moments of the source after each further step behind so many, with what `show` says: their place, depth, condition and variables."""
         said = self.session("gypsy", f"step {steps}\nshow\n" + "step 1\nshow\n" * many)
-        blocks = re.split(r"^stepped \d+(?: ended)?\n", said, flags=re.M)[2:]
-        for block in blocks:
+        for block in shows_of(said)[2:]:
             made = moment_of(block)
             yield made
             if made.place is None:
@@ -153,14 +152,17 @@ class Run:
 
     def spot(self, place):
         """The place in the text that is shown: of an infix program it is where its statement begins."""
-        return self.tied.statement_at(place).place if self.tied else place
+        if self.tied is None:
+            return place
+        one = self.tied.statement_at(place)
+        return one.place if one else 0
 
     def line(self, place):
         return self.shown_text.line_of(self.spot(place))
 
     def stops_of(self, line):
         """The places at which a run may stand from a line on: those of the first line that has any, in their order."""
-        found = [it for it in self.places if it not in self.text.heads and (not self.tied or it in self.tied.of) and self.line(it) >= line]
+        found = [it for it in self.places if it not in self.text.heads and (not self.tied or it in self.tied.ties) and self.line(it) >= line]
         first = min(map(self.line, found), default=None)
         return sorted((it for it in found if self.line(it) == first), key=lambda it: (self.spot(it), it))
 
@@ -171,7 +173,7 @@ class Run:
 
     def variables_of(self, moment):
         """The variables of a moment that are the program's: without the temporaries of a lowered source."""
-        return [(name, value) for name, value in moment.variables.items() if not (self.tied and "$" in name)]
+        return list((own(moment.variables) if self.tied else moment.variables).items())
 
     # ---- From level to level ----
 

@@ -1,106 +1,87 @@
 """Which statement of an infix program a place of its lowered source belongs to, by the form that docs/languages/mini.md gives: "The lowered source"."""
-import re
 from collections import namedtuple
 
+from infix import tokens_before
 from places import WIDTH
-from sources import tokens
-
-TOKEN = re.compile(r"[A-Za-z]\w*|\d+|:=|<=|\S")
+from positions import Text
+from trees import tree_of
 
 # A statement: its kind, where it begins, where it or its head ends, in how many blocks it is, and its blocks.
-Statement = namedtuple("Statement", "kind start end depth blocks")
+Statement = namedtuple("Statement", "kind place end depth blocks")
 # What a place of the lowered source is: the statement that it belongs to, and whether something is computed there.
 Tie = namedtuple("Tie", "statement is_computing")
 
 
-def statements_of(text):
-    """The statements of a program, in blocks."""
-    found = [(it.group(), it.start(), it.end()) for it in TOKEN.finditer(text)]
-    at = 0
+class Reader:
+    """Reads the statements of an accepted program, in blocks."""
 
-    def passed(wanted):
-        nonlocal at
-        while found[at][0] != wanted:
-            at += 1
-        at += 1
-        return found[at - 1]
+    def __init__(self, text):
+        self.tokens, self.next = tokens_before(text, len(text)), 0
 
-    def block(end, depth):
-        nonlocal at
+    def behind(self, wanted):
+        """Goes behind the next token of a kind. Where the one before it ends, and that one itself, is returned."""
+        while self.tokens[self.next].kind != wanted:
+            self.next += 1
+        self.next += 1
+        return tuple(it.place + len(it.text) for it in self.tokens[self.next - 2:self.next])
+
+    def block(self, depth=0):
+        """The statements up to the end of a block, or of the text."""
         made = []
-        while at < len(found) and found[at][0] != end:
-            kind, start, _ = found[at]
+        while self.next < len(self.tokens) and self.tokens[self.next].kind != "}":
+            kind, _, place = self.tokens[self.next]
             if kind in ("int", "bool"):
-                passed(";")
+                self.behind(";")
             elif kind in ("while", "if"):
-                passed("{")
-                head, blocks = found[at - 2][2], [block("}", depth + 1)]
-                at += 1
+                head, _ = self.behind("{")
+                blocks = [self.block(depth + 1)]
                 if kind == "if":
-                    passed("{")
-                    blocks.append(block("}", depth + 1))
-                    at += 1
-                made.append(Statement(kind, start, head, depth, blocks))
+                    self.behind("{")
+                    blocks.append(self.block(depth + 1))
+                made.append(Statement(kind, place, head, depth, blocks))
             else:
-                made.append(Statement(":=", start, passed(";")[2], depth, []))
+                made.append(Statement(":=", place, self.behind(";")[1], depth, []))
+        self.next += 1
         return made
-
-    return block(None, 0)
-
-
-def tree_of(data):
-    """The tree of a source with places: each list or token with where it begins."""
-    lists = [(0, [])]
-    for token, place in tokens(data):
-        if token == b"(":
-            lists.append((place, []))
-        elif token == b")":
-            made = lists.pop()
-            lists[-1][1].append(made)
-        else:
-            lists[-1][1].append((place, token.decode("latin-1")))
-    return lists[0][1][0]
-
-
-def head_of(tree):
-    return tree[1][0][1]
 
 
 def tied(statements, block):
     """The places of a lowered block, each with what it is."""
-    rest = iter(block[1][2:])
+    rest = iter(block.items[2:])
     for one in statements:
         for it in rest:
-            yield it[0], Tie(one, one.kind == ":=" or head_of(it) not in ("if", "loop"))
+            yield it.place, Tie(one, one.kind == ":=" or it.head() not in ("if", "loop"))
             if is_last(one.kind, it):
                 break
         if one.kind == ":=":
             continue
         branch = it
         if one.kind == "while":
-            *calls, branch = it[1][1][1][1:]
-            yield from ((call[0], Tie(one, True)) for call in calls)
+            inner = it.item(1)
+            *calls, branch = inner.items[1:]
+            yield from ((call.place, Tie(one, True)) for call in calls)
             # The round itself, the `if` in it and the way out of the loop.
-            yield from ((place, Tie(one, False)) for place in (it[1][1][0], branch[0], branch[1][3][0]))
-        for own, lowered in zip(one.blocks, branch[1][2:]):
-            yield lowered[1][1][0], Tie(one, False)
-            yield from tied(own, lowered)
+            yield from ((place.place, Tie(one, False)) for place in (inner, branch, branch.item(3)))
+        for own_block, lowered in zip(one.blocks, branch.items[2:]):
+            yield from ((place.place, Tie(one, False)) for place in (lowered, lowered.item(1)))
+            yield from tied(own_block, lowered)
 
 
 def is_last(kind, lowered):
     """Whether a lowered statement is the last one of its statement."""
     if kind == ":=":
-        return head_of(lowered) == "mg-simple-variable-assignment" and "$" not in lowered[1][1][1]
-    return head_of(lowered) == ("loop" if kind == "while" else "if")
+        return lowered.head() == "mg-simple-variable-assignment" and "$" not in lowered.item(1).text
+    return lowered.head() == ("loop" if kind == "while" else "if")
 
 
 class InfixSource:
     """An infix program with its lowered source, whose places lead to its statements."""
 
     def __init__(self, text, lowered):
-        self.text = text
-        main = tree_of(lowered)[1][2]
-        self.ties = dict(tied(statements_of(text), main[1][6]))
+        self.text, self.lines = text, Text(text.encode("latin-1"))
+        self.ties = dict(tied(Reader(text).block(), tree_of(lowered).item(2).item(6)))
+        statements = sorted((it.statement for it in self.ties.values()), key=lambda it: it.place)
+        self.first, self.last = (statements[0], statements[-1]) if statements else (None, None)
 
     def tie(self, place):
         """What a place of the lowered source is; None where it belongs to no statement."""
@@ -111,15 +92,15 @@ class InfixSource:
         tie = self.ties.get(place)
         if tie:
             return tie.statement
-        return (min if place < min(self.ties) else max)((it.statement for it in self.ties.values()), key=lambda it: it.start)
+        return self.first if place < min(self.ties, default=0) else self.last
 
     def where(self, one):
         """Line and column of a statement."""
-        return f"{self.text.count(chr(10), 0, one.start) + 1}:{one.start - self.text.rfind(chr(10), 0, one.start)}"
+        return self.lines.where(one.place)
 
     def statement(self, one):
         """A statement, or the head of one with blocks, on one line and cut where it is long."""
-        flat = " ".join(self.text[one.start:one.end].split())
+        flat = " ".join(self.text[one.place:one.end].split())
         return flat if len(flat) <= WIDTH else f"{flat[:WIDTH - 3]}..."
 
 

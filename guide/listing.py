@@ -7,42 +7,22 @@ address that is jumped to. Which words are a statement's tell the marks of the i
 program each of its statements stands above the code that it became, also where that goes on after the statements in it.
 """
 import argparse
-import re
 import sys
 from pathlib import Path
 
 from ends import end
+from generated import Code
 from infix_sources import InfixSource
 from places import Source
 from program import Program, carried_out, lower, number
 
-# An instruction that takes the word behind it, the one that adds the address of a table, and the last one of a program.
-TAKES_WORD = re.compile(r",\(r15\)\+?$")
-ADDS_TABLE = "ADD r3,(r15)+"
-RETURNS = "MOVE r15,(r1)+"
 
-
-def code_of(shown, procedures):
-    """The words of the source's own procedures, which come first: each an address, a word and a text, a list for each procedure."""
-    programs, made, rows = [[]], set(), re.findall(r"^([0-9a-f]{8}) ([0-9a-f]{8}) (.*)$", shown, re.M)
-    table = range(0)
-    for address, word, text in ((int(address, 16), int(word, 16), text) for address, word, text in rows):
-        if table and address == table.start and table.stop > address:
-            # The table ends where the first of its jumps leads.
-            table = range(address + 1, min(table.stop, word) if word > address else table.stop)
-            text = f"= {word:08x}"
-        elif address in made:
-            text = f"= {word}" if word < 2 ** 31 else f"= {word - 2 ** 32}"
-        elif TAKES_WORD.search(text):
-            made.add(address + 1)
-        programs[-1].append((address, word, text))
-        if text == ADDS_TABLE:
-            table = range(address + 3, len(rows))
-        elif text == RETURNS:
-            if len(programs) == procedures:
-                return programs
-            programs.append([])
-    return programs
+def text_of(code, address):
+    """A word of the code as a text: an instruction, an operand as a number, or an address in a table."""
+    word = code.image.word(address)
+    if address in code.operands:
+        return f"= {word.number - 2 ** 32 if word.number >= 2 ** 31 else word.number}"
+    return code.shown_word(address)
 
 
 def source_heads(source):
@@ -70,17 +50,17 @@ def print_listing(words, _):
     with Program(words.program, words.source, None, words.control, words.temporary) as program:
         infix = lower(program)
         program.ask("build", "s", *program.sizes, "i")
-        shown, lowered = program.ask("show", "i"), (program.folder / "s").read_bytes()
+        program.ask("pit", "s", *program.sizes, "p")
+        code, lowered = Code((program.folder / "p").read_bytes(), program.ask("show", "i")), (program.folder / "s").read_bytes()
     heads = source_heads(Source(lowered)) if infix is None else infix_heads(InfixSource(infix, lowered))
-    marks = {int(address, 16): int(place) for address, place in re.findall(r"^mark ([0-9a-f]{8}) \S+ (\d+)$", shown, re.M)}
-    names = re.findall(r"^procedure (\S+)$", shown, re.M)
-    for name, code in zip(names, code_of(shown, len(names))):
+    marks = {address: place for address, _, place in code.image.marks}
+    for name in code.image.variables:
         print(f"{name}, its prelude")
-        for address, word, text in code:
+        for address in code.addresses_of(name):
             head = heads(marks[address]) if address in marks else None
             if head:
                 print(f"\n{head}")
-            print(f"    {address:08x}  {word:08x}  {text}")
+            print(f"    {address:08x}  {code.image.word(address).number:08x}  {text_of(code, address)}")
         print()
 
 

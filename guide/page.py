@@ -21,6 +21,8 @@ from pathlib import Path
 from string import Template
 
 from ends import end, store
+from generated import Image
+from printed import shows_of
 from program import Program, TooMuch, carried_out, lower, number
 
 HERE = Path(__file__).resolve().parent / "page"
@@ -38,31 +40,25 @@ class Memory:
     """Asks for memory after each instruction that can write it: the condition word, and the words that the run uses of both stacks."""
 
     def __init__(self, program, shown, machines):
-        self.program = program
-        self.size, self.final, self.condition = (self.field_of(shown, it) for it in ("size", "final", "condition"))
-        listed = re.findall(r"^([0-9a-f]{8}) [0-9a-f]{8} \S+ ?(\S*)$", shown, re.M)
-        self.targets = {int(address, 16): operands.split(",")[0] for address, operands in listed}
+        self.program, self.image = program, Image(shown)
         numbers = [int(it, 16) for it in re.findall(r"^r\d+ ([0-9a-f]{8})$", machines, re.M)]
         self.registers = [numbers[it:it + 16] for it in range(0, len(numbers), 16)]
         self.parts = list(self.parts_of(program.sizes[0]))
 
-    @staticmethod
-    def field_of(shown, name):
-        value = re.search(rf"^{name} (\w+)$", shown, re.M)[1]
-        return int(value, 10 if name == "size" else 16)
-
     def parts_of(self, control):
         """The parts of memory that are asked for, each its first address and its length: the condition word, and what the run uses of the control
         stack, which ends where the other begins, and of that."""
-        begin = self.condition + 1 + control
-        lowest = min(it[1] for it in self.registers if it[15] != self.final)
+        condition = self.image.condition
+        begin = condition + 1 + control
+        lowest = min(it[1] for it in self.registers if it[15] != self.image.final)
         top = min(it[2] for it in self.registers)
-        for low, until in (self.condition, self.condition + 1), (lowest, begin), (top, self.size):
+        for low, until in (condition, condition + 1), (lowest, begin), (top, self.image.end):
             yield from ((first, min(LINE, until - first)) for first in range(low, until, LINE))
 
     def writes(self, moment):
         """Whether the instruction of a moment can write memory: its target is no register."""
-        return not re.fullmatch(r"r\d+", self.targets[self.registers[moment][15]])
+        operands = self.image.word(self.registers[moment][15]).text.partition(" ")[2]
+        return not re.fullmatch(r"r\d+", operands.split(",")[0])
 
     def moments(self):
         """Each count of instructions after which memory is asked for, with what is printed."""
@@ -71,8 +67,7 @@ class Memory:
         many = max(1, min(ASKED, SESSION // sum(size for _, size in self.parts)))
         for some in (counts[it:it + many] for it in range(0, len(counts), many)):
             steps = (f"step {count - before}\n{asks}" for before, count in zip([0, *some], some))
-            printed = re.split(r"^stepped .*\n", self.program.session("fm9001", "".join(steps)), flags=re.M)
-            yield from zip(some, printed[1:])
+            yield from zip(some, shows_of(self.program.session("fm9001", "".join(steps)))[1:])
 
 
 # ---- A run ----

@@ -1,6 +1,7 @@
 """Where a place of a source is, and what stands there."""
 from bisect import bisect_right
 
+from positions import Text
 from sources import tokens
 
 WIDTH = 60
@@ -20,16 +21,7 @@ class Source:
                 # A procedure is a list in the program's list, and its second atom, behind `proc`, is its name.
                 words.setdefault(opened[1], []).append(token.decode("latin-1"))
         self.heads = {place: atoms[1] for place, atoms in words.items()}
-        self.procedures = sorted(self.heads)
-        self.lines, at = [0], content.find(b"\n")
-        while at >= 0:
-            self.lines.append(at + 1)
-            at = content.find(b"\n", at + 1)
-
-    def where(self, place):
-        """Line and column of a place, as `3:17`."""
-        line = bisect_right(self.lines, place)
-        return f"{line}:{place - self.lines[line - 1] + 1}"
+        self.procedures, self.where = sorted(self.heads), Text(content).where
 
     def procedure(self, place):
         """The name of the procedure that a place is in."""

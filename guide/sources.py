@@ -4,13 +4,11 @@ import re
 from difflib import get_close_matches
 from functools import cache
 
-from catalog import GUIDE
+import manual
 
-LANGUAGE = GUIDE.parent / "docs/languages/gypsy.md"
-# The block under "Syntax", a form of a statement in it, and a row of the table of predefined procedures.
+# The block under "Syntax", and a form of a statement in it.
 SYNTAX = re.compile(r"^## Syntax\n.*?^```text\n(.*?)^```$", re.M | re.S)
 FORM = re.compile(r"^(?:statement)? +(\(([a-z-]+)\b.*\))$", re.M)
-ROW = re.compile(r"^\| (`mg-[^|]*) \| (`[^|]*) \| ([^|]*) \|", re.M)
 # As docs/languages/text-form.md has it: nothing else keeps tokens apart.
 TOKEN = re.compile(rb";[^\n]*|[()]|[^ \t\r\n();]+")
 NUMERAL = re.compile(r"-?[0-9]+")
@@ -61,12 +59,11 @@ def number_of(numeral, most):
 @cache
 def forms():
     """The form of each statement, by the block under "Syntax", and what each predefined procedure takes, by its row, by their first words."""
-    page = LANGUAGE.read_text(encoding="utf-8")
-    known = {head: form for form, head in FORM.findall(SYNTAX.search(page).group(1))}
-    for names, arguments, which in ROW.findall(page):
+    known = {head: form for form, head in FORM.findall(SYNTAX.search(manual.page("languages/gypsy.md")).group(1))}
+    for name, (arguments, which, *_) in manual.predefined().items():
         literal = "; every argument is a variable" if which == "none" else f"; {which} is a literal"
         _, taken, kinds = arguments.split("`", 2)
-        known |= {name: f"({name} {taken}){kinds}{literal}" for name in re.findall(r"`(mg-[a-z-]+)`", names)}
+        known[name] = f"({name} {taken}){kinds}{literal}"
     return known
 
 

@@ -7,32 +7,18 @@ and, where another procedure became active, its name and all of its variables; a
 its statements, and behind a while and an if stands what its condition is. At most STEPS steps are printed, 200 if left out, 20,000 at most.
 """
 import argparse
-import re
 import sys
-from collections import namedtuple
 from pathlib import Path
 
 from ends import end
 from infix_sources import InfixSource, own
 from places import WIDTH, Source
+from printed import STEPPED, moment_of
 from program import Program, Refused, carried_out, lower, number
 
 STEPS, MOST_STEPS = 200, 20000
 # No statement of the infix language becomes more steps: 40 operators with their operands, and what leads to its blocks and back.
 MOST_LOWERED = 100
-STEPPED = re.compile(r"^stepped \d+(?: ended)?\n", re.M)
-
-# A moment of a source's run. At the end `place` is None, and the variables are main's formals.
-Moment = namedtuple("Moment", "place depth condition variables")
-
-
-def moment_of(block):
-    """The moment that `show` prints."""
-    first, condition, *variables = block.splitlines()
-    at = re.fullmatch(r"at (\d+) depth (\d+)", first)
-    place, depth = (int(at[1]), int(at[2])) if at else (None, 0)
-    return Moment(place, depth, condition.removeprefix("condition "), dict(it.split(" = ", 1) for it in variables))
-
 
 def moments_of(program, steps):
     """The moments of a run, up to its end or to so many steps, each as soon as it is printed."""

@@ -20,9 +20,9 @@ import help as usage
 import trying_texts
 from infix_sources import InfixSource, own
 from places import Source
+from printed import moment_of, shows_of
 from program import MOST_TEXT, Refused, read_text
 from sources import NAME, NUMERAL, number_of
-from trace import STEPPED, moment_of
 
 BUDGET, SIZE = 1_000_000_000, 1000
 # A run that takes longer is told where it stands; and in how many of its last steps it is looked for where a condition was raised.
@@ -201,7 +201,7 @@ class Asked:
 
     def standing(self):
         """Where a run stands that takes long, in lines."""
-        moments = [moment_of(it) for it in STEPPED.split(self.session(f"step {PATIENCE // 10}\nshow\n")) if it]
+        moments = [moment_of(it) for it in shows_of(self.session(f"step {PATIENCE // 10}\nshow\n")) if it]
         if moments and moments[0].place is not None:
             yield f"stack: {PATIENCE:,} instructions weren't enough. After {PATIENCE // 10:,} steps the source is here, and it goes on up to {BUDGET:,} instructions:"
             yield from self.told(moments[0])
@@ -216,7 +216,7 @@ class Asked:
             return
         before = max(int(found[1]) - LOOKED, 0)
         script = (f"step {before}\n" if before else "") + "show\n" + "step 1\nshow\n" * (int(found[1]) - before)
-        moments = [moment_of(it) for it in STEPPED.split(self.session(script)) if it]
+        moments = [moment_of(it) for it in shows_of(self.session(script)) if it]
         normal = [it for it in moments if it.place is not None and it.condition == "normal"]
         if normal and moments[-1].condition == condition[1]:
             yield f"stack: the condition {condition[1]} was raised here:"

@@ -7,7 +7,7 @@ from editor_clients import EXAMPLES, TOP, Language
 from positions import Text
 
 import explain
-import pages
+import manual
 
 # A text for each language with what is wrong in it: its name, its text, and what stands at the place that is told, with its rule.
 WRONG = [
@@ -98,7 +98,7 @@ def of_words(program):
         if "one integer, a local of p, at first 1" not in said:
             yield f"one: {said!r}"
         offered = {it["label"] for it in editor.at("completion", down, program_text.index("(no-op)") + 1)}
-        if not set(pages.predefined()) <= offered:
+        if not set(manual.predefined()) <= offered:
             yield f"offered are {sorted(offered)}"
         edits = editor.at("rename", down, program_text.index("one integer"), newName="unit")["changes"][down.as_uri()]
         if len(edits) != 2:
@@ -135,7 +135,7 @@ def of_places(_):
 
 def of_colours(_):
     """The colours of each editor know the words that the documents have."""
-    files = {"gypsy": list(pages.predefined()), "piton": list(pages.operations()), "fm9001": list(pages.machine_operations())}
+    files = {"gypsy": list(manual.predefined()), "piton": list(manual.operations()), "fm9001": list(manual.machine_operations())}
     for language, words in files.items():
         for path in (f"vim/syntax/{language}.vim", f"code/syntaxes/{language}.tmLanguage.json", f"kate/{language}.xml"):
             text = (TOP / "editor" / path).read_text().replace("\\\\", "\\").replace("\\*", "*")

@@ -2,7 +2,7 @@
 import re
 
 import beside  # noqa: F401
-import pages
+import manual
 from languages import Mention, Offer, Part, declaration_of
 
 LABEL = re.compile(rb"\s*([A-Za-z][A-Za-z0-9_*$-]*):")
@@ -53,11 +53,11 @@ def outline(data):
 
 def said_of(data, one):
     if one.kind == "operation" and one.name.startswith("."):
-        yield f"**{one.name}**: {pages.directives().get(one.name, '')}"
+        yield f"**{one.name}**: {manual.directives().get(one.name, '')}"
     elif one.kind == "operation":
-        yield f"**{one.name} B,A** stores in B: {pages.machine_operations().get(one.name, 'no operation has this name')}"
+        yield f"**{one.name} B,A** stores in B: {manual.machine_operations().get(one.name, 'no operation has this name')}"
     elif one.kind == "store condition":
-        yield f"**[{one.name}]** The result is stored where the flags say: {pages.store_conditions().get(one.name, 'no condition has this name')}"
+        yield f"**[{one.name}]** The result is stored where the flags say: {manual.store_conditions().get(one.name, 'no condition has this name')}"
     else:
         declared = declaration_of(list(mentions(data)), one)
         yield f"**label** `{declared.detail}`" if declared else f"**{one.name}** isn't declared."
@@ -69,4 +69,4 @@ def offers(data, place):
     if re.search(rb"\.(final|start|word) +\S*$", before):
         yield from (Offer("label", it.name, it.name, it.detail) for it in mentions(data) if it.declares)
     else:
-        yield from (Offer("predefined", name, name, said) for name, said in (pages.machine_operations() | pages.directives()).items())
+        yield from (Offer("predefined", name, name, said) for name, said in (manual.machine_operations() | manual.directives()).items())

@@ -2,7 +2,7 @@
 import re
 
 import beside  # noqa: F401
-import pages
+import manual
 from languages import NAME, Offer, declaration_of, mention, part
 from sources import forms
 from trees import path_to, spelled, tree_of
@@ -57,7 +57,7 @@ def of_statements(tree, scope):
         one = rest.pop()
         head = one.head()
         if head:
-            yield mention("predefined" if head in pages.predefined() else "form", "", one.item(0))
+            yield mention("predefined" if head in manual.predefined() else "form", "", one.item(0))
             yield from of_arguments(head, one, scope)
         if head in STATEMENTS:
             rest += reversed([one.item(it) for it in STATEMENTS[head] or range(1, len(one.items))])
@@ -68,7 +68,7 @@ def of_arguments(head, tree, scope):
     if head == "call" and tree.item(1).text:
         yield mention("procedure", "", tree.item(1))
     conditions = {"signal": [tree.item(1)], "begin": tree.item(2).parts(), "call": tree.item(3).parts()}.get(head, [])
-    variables = {"if": [tree.item(1)], "call": tree.item(2).parts()}.get(head, tree.items[1:] if head in pages.predefined() else [])
+    variables = {"if": [tree.item(1)], "call": tree.item(2).parts()}.get(head, tree.items[1:] if head in manual.predefined() else [])
     yield from (mention("condition", "" if it.text in BUILT_IN else scope, it) for it in conditions if it.text)
     yield from (mention("variable", scope, it) for it in variables if it.text and not LITERAL.fullmatch(it.text))
 
@@ -89,33 +89,33 @@ def outline(data):
 
 def statement_at(data, place):
     """The innermost statement round a place, or None."""
-    known = {*pages.predefined(), *forms()}
+    known = {*manual.predefined(), *forms()}
     return next((it for it in reversed(path_to(tree_of(data), place)) if it.head() in known), None)
 
 
 def said_of(data, one):
     """What is said of a name, in Markdown."""
     if one.kind == "predefined":
-        takes, literals, does, fails = pages.predefined()[one.name]
+        takes, literals, does, fails = manual.predefined()[one.name]
         yield f"**{one.name}** {takes}"
         yield f"{does}. " + (f"Fails if {fails}: `routineerror`, and no variable is changed." if fails else "It never fails.")
         yield "Every argument is a variable." if literals == "none" else f"The literal is {literals}."
     elif one.kind == "form":
         yield f"**{one.name}** `{forms().get(one.name, '')}`"
-        yield pages.meanings().get(one.name, "")
+        yield manual.meanings().get(one.name, "")
     elif one.kind == "condition" and one.name in BUILT_IN:
         yield f"**{one.name}**, a condition that is always there: {BUILT_IN[one.name]}"
     elif one.kind in ("variable", "procedure", "condition"):
         declared = declaration_of(list(mentions(data)), one)
         yield f"**{one.kind}** `{declared.detail}`" if declared else f"**{one.name}** isn't declared."
     if one.kind in ("form", "predefined"):
-        yield from (priced(it) for it in pages.prices().get(one.name, []))
+        yield from (priced(it) for it in manual.prices().get(one.name, []))
         yield from of_call(data, one) if one.name == "call" else ()
 
 
 def template(one):
     """The Piton that statements of a kind become, in Markdown."""
-    text = pages.templates().get("mg-" if one.kind == "predefined" else one.name)
+    text = manual.templates().get("mg-" if one.kind == "predefined" else one.name)
     return f"```\n{text}\n```" if text else ""
 
 
@@ -151,7 +151,7 @@ def offers(data, place):
     word = re.search(r"[^\s();]*$", before)[0]
     names = list(mentions(data))
     if before[:len(before) - len(word)].endswith("("):
-        for name, (takes, _, does, fails) in pages.predefined().items():
+        for name, (takes, _, does, fails) in manual.predefined().items():
             arguments = re.match(r"`([^`]*)`", takes)[1].split()
             filled = " ".join(f"${{{number}:{it}}}" for number, it in enumerate(arguments, 1))
             said = f"{takes}. {does}." + (f" Fails if {fails}." if fails else "")

@@ -1,6 +1,6 @@
 """Piton: docs/languages/piton.md."""
 import beside  # noqa: F401
-import pages
+import manual
 from languages import Offer, declaration_of, mention, part
 from trees import spelled, tree_of
 
@@ -75,8 +75,8 @@ def said_of(data, one):
     """What is said of a name, in Markdown."""
     if one.kind == "operation":
         yield f"**{one.name}**"
-        yield pages.operations().get(one.name, "")
-        code, words = pages.codes().get(one.name, ("", 0))
+        yield manual.operations().get(one.name, "")
+        code, words = manual.codes().get(one.name, ("", 0))
         yield f"On the processor, {words} words:\n```\n{code.replace('; ', chr(10))}\n```" if words else ""
     else:
         declared = declaration_of(list(mentions(data)), one)
@@ -88,5 +88,5 @@ def offers(data, place):
     names = list(mentions(data))
     heads = [it for it in names if it.kind == "program" and it.declares and it.place <= place]
     scope = heads[-1].name if heads else ""
-    yield from (Offer("predefined", name, name, said.split(":")[0], said) for name, said in pages.operations().items())
+    yield from (Offer("predefined", name, name, said.split(":")[0], said) for name, said in manual.operations().items())
     yield from (Offer(it.kind, it.name, it.name, it.detail) for it in names if it.declares and it.scope in ("", scope))

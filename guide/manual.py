@@ -2,7 +2,7 @@
 import re
 from functools import cache
 
-from beside import TOP
+from catalog import GUIDE
 
 PREDEFINED = re.compile(r"^\| (`mg-[^|]*) \| (`[^|]*) \| ([^|]*) \| ([^|]*) \| ([^|]*?) ?\|$", re.M)
 PREDEFINED_PRICE = re.compile(r"^- ((?:`mg-[a-z-]+`(?:, )?)+): (.*)$", re.M)
@@ -14,7 +14,7 @@ CODE = re.compile(r"^\| ([^|]*`[^|]*) \| (`[^|]*`|the same[^|]*) \| ([^|]*) \|$"
 
 @cache
 def page(name):
-    return (TOP / "docs" / name).read_text(encoding="utf-8")
+    return (GUIDE.parent / "docs" / name).read_text(encoding="utf-8")
 
 
 def part(name, head):

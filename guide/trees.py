@@ -1,7 +1,6 @@
 """Trees of texts in parentheses, also of such as are being written: a list that isn't closed ends with the text, and a `)` too many counts for nothing."""
 from functools import lru_cache
 
-import beside  # noqa: F401
 from sources import tokens
 
 

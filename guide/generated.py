@@ -4,8 +4,7 @@ from bisect import bisect_right
 from collections import defaultdict, namedtuple
 from functools import cache
 
-import beside  # noqa: F401
-import pages
+import manual
 from trees import tree_of
 
 # An instruction of Piton: its program, its number there, its label, its text, its address and how many words its code has, and its place in what `pit` stored.
@@ -48,14 +47,15 @@ class Image:
 
 @cache
 def taken_words(name, words):
-    """Which words of the code of an instruction of Piton are no instructions, by docs/languages/fm9001.md."""
+    """Which words of the code of an instruction of Piton are no instructions, by docs/languages/fm9001.md: the operands that stand behind instructions,
+    and those of a table."""
     at, found = 0, []
-    for text in pages.codes()[name][0].split("; "):
+    for text in manual.codes()[name][0].split("; "):
         at += 1
         if re.search("[=@]", text):
             found.append(at)
             at += 1
-    return [*found, *range(at, words)] if name == "jump-case" else found
+    return found, range(at, words) if name == "jump-case" else ()
 
 
 class Code:
@@ -63,8 +63,9 @@ class Code:
 
     def __init__(self, pit, shown):
         self.image, self.pit = Image(shown), pit
-        # `taken` are the addresses of words that are no instructions: an instruction takes them from behind it.
-        self.entries, self.programs, self.frames, self.taken, self.of_place = [], {}, {}, set(), None
+        # The addresses of words that are no instructions: operands, which an instruction takes from behind it, and addresses in tables, to which one jumps.
+        self.operands, self.tables = set(), set()
+        self.entries, self.programs, self.frames, self.of_place = [], {}, {}, None
         self.read()
         if self.end != self.image.final:
             raise ValueError(f"the code of Piton ends at {self.end}, and that of the image at {self.image.final}")
@@ -82,8 +83,10 @@ class Code:
                 found = LINE.match(line.decode())
                 text = found[2].removesuffix(")" * (found[2].count(")") - found[2].count("(")))
                 head = HEAD.match(text)[1]
-                words = pages.codes()[head][1] + (text.count(" ") if head == "jump-case" else 0)
-                self.taken |= {self.end + number for number in taken_words(head, words)}
+                words = manual.codes()[head][1] + (text.count(" ") if head == "jump-case" else 0)
+                operands, table = taken_words(head, words)
+                self.operands |= {self.end + it for it in operands}
+                self.tables |= {self.end + it for it in table}
                 rows.append(Instruction(self.entries[-1][1], len(rows), found[1] or "", text, self.end, words, at))
                 self.end += words
             at += len(line) + 1
@@ -92,7 +95,7 @@ class Code:
         """Begins a program, whose prelude pushes r0, its temporaries' words, and its formals from the stack."""
         name, formals, temporaries = tree.item(0).text, tree.item(1).parts(), tree.item(2).parts()
         self.entries.append((self.end, name))
-        self.taken |= {self.end + 2 + 2 * number for number in range(len(temporaries))}
+        self.operands |= {self.end + 2 + 2 * number for number in range(len(temporaries))}
         self.end += 2 + len(formals) + 2 * len(temporaries)
         self.frames[name], self.programs[name] = len(formals) + len(temporaries), []
         return self.programs[name]
@@ -100,7 +103,16 @@ class Code:
     def shown_word(self, address):
         """A word as an instruction, or as a number if it is none."""
         word = self.image.word(address)
-        return f"= {word.number:08x}" if address in self.taken or address > self.image.final else word.text
+        return word.text if self.is_instruction(address) else f"= {word.number:08x}"
+
+    def is_instruction(self, address):
+        return address <= self.image.final and address not in self.operands and address not in self.tables
+
+    def addresses_of(self, name):
+        """The addresses of a program's code."""
+        number = next(number for number, (_, it) in enumerate(self.entries) if it == name)
+        ends = [address for address, _ in self.entries[number + 1:]]
+        return range(self.entries[number][0], ends[0] if ends else self.end)
 
     def program_at(self, address):
         """The name of the program whose code has an address."""

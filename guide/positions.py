@@ -15,6 +15,11 @@ class Text:
     def line_of(self, place):
         return bisect_right(self.starts, place) - 1
 
+    def where(self, place):
+        """Line and column of a place, in bytes from 1, as `3:17`."""
+        line = self.line_of(place)
+        return f"{line + 1}:{place - self.starts[line] + 1}"
+
     def line(self, number):
         """The bytes of a line, without its end."""
         end = self.starts[number + 1] if number + 1 < len(self.starts) else len(self.data)
