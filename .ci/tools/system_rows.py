@@ -209,6 +209,32 @@ class Rows:
             Path(room.folder, "partly-stored-1").write_bytes(OLD)
             self.note(room.stored("o") == whole and room.parts() == [OLD], "an older part stays", room.parts())
 
+    def own_output(self):
+        """The ordinary file that standard output is open on isn't stored, by whatever name, and keeps what it had; any other file is."""
+        names = "/dev/stdout", "/dev/fd/1", "/proc/self/fd/1", "out", "link", "second", "behind/../out"
+        with Room(self.program) as room:
+            out = Path(room.folder, "out")
+            out.touch()
+            Path(room.folder, "link").symlink_to("out")
+            Path(room.folder, "second").hardlink_to(out)
+            Path(room.folder, "behind").mkdir()
+            for name in names:
+                for old in b"", OLD:
+                    out.write_bytes(old)
+                    with open(out, "ab") as opened:
+                        ended = room.run(name, stdout=opened)
+                    left = out.read_bytes()
+                    self.note(ended.returncode == 10 and left == old + f"shelf fault {name}\n".encode(), ("own output", name, old), (ended, left[:40]))
+            with open(out, "wb") as opened:
+                ended = room.run("o", stdout=opened)
+            self.note(ended.returncode == 0 and Path(room.folder, "o").exists() and out.read_bytes().startswith(b"built "), "beside the output", ended)
+            with open(Path(room.folder, "gone"), "w+b") as opened:
+                Path(room.folder, "gone").unlink()
+                ended = room.run("/dev/stdout", stdout=opened)
+                opened.seek(0)
+                self.note(ended.returncode == 10 and opened.read() == b"shelf fault /dev/stdout\n", "an output without a name", ended)
+            self.note(room.parts() == [], "nothing is left", room.parts())
+
     def unreadable(self):
         """What is there and is no file, or would lie in a file, isn't read."""
         for name in ".", "s/in-a-file", "s/":
@@ -298,6 +324,7 @@ def main():
     rows.sessions(int(SESSION.search(limits).group(1)))
     rows.file_limits()
     rows.kept()
+    rows.own_output()
     rows.unreadable()
     rows.forbidden()
     rows.together()

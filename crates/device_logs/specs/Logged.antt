@@ -1,5 +1,5 @@
 -- Devices with a log of the calls that went well.
-use Rattle.std.specs.{Prelude.{ℕ, ◌^◌, ◌⊎◌, List, [], ◌∷◌, ◌++◌, Option, Some, None, String, map, take}, Global.{Global, Vec}}
+use Rattle.std.specs.{Prelude.{ℕ, Bool, true, ◌^◌, ◌⊎◌, List, [], ◌∷◌, ◌++◌, Option, Some, None, String, map, take}, Global.{Global, Vec}}
 use Rattle.std.specs.{String.{string_bytes}, declared.rc.Rc.{Rc}}
 use Rattle.stack_shelf.specs.Files.{Files}
 
@@ -39,6 +39,20 @@ pub record LoggedSinkOf (K : Type 0) : Type 0 where
 -- the logged sink after a call that took all of these bytes
 abbrev pub logged_took : {K : Type 0} → (K → List ℕ → K) → LoggedSinkOf K → List ℕ → LoggedSinkOf K
 logged_took took s bytes = record { sink = took s.sink bytes; printed = take log_limit (s.printed ++ bytes) }
+
+-- lines, the first bytes of those that came, and whether their end was seen
+pub record LoggedLinesOf (L : Type 0) : Type 0 where
+  pub lines : L
+  pub came : List ℕ
+  pub over : Bool
+
+-- the logged lines after a call that gave this line, by what the lines are then
+abbrev pub logged_came : {L : Type 0} → (L → List ℕ → L) → LoggedLinesOf L → List ℕ → LoggedLinesOf L
+logged_came came s line = record { lines = came s.lines line; came = take log_limit (s.came ++ line); over = s.over }
+
+-- and after one that said that none is left
+abbrev pub logged_ended : {L : Type 0} → (L → L) → LoggedLinesOf L → LoggedLinesOf L
+logged_ended ended s = record { lines = ended s.lines; came = s.came; over = true }
 
 -- the bytes of a text that was offered, if one was
 abbrev pub offered_text : Option (Rc (Vec ℕ) Global) → List ℕ

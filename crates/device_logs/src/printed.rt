@@ -1,4 +1,4 @@
-//! The bytes that a sink took, up to 2^24 of them.
+//! The bytes that a sink took, or that came as lines, up to 2^24 of them.
 ghost use Rattle.std.specs.Prelude.{◌≡◌, ◌≤◌, ◌+◌, ◌++◌, [], IsTrue, OnErr, length, take};
 ghost use Rattle.stack_heap.specs.Heaps.{OnOkUnless};
 ghost use Rattle.device_logs.specs.Logged.{log_limit, offered_text};

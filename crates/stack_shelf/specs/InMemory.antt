@@ -1,11 +1,14 @@
--- What a shelf and a sink in memory are.
-use Rattle.std.specs.{Prelude.{ℕ, List, ◌++◌, take, Option, unwrap_or, Result, Ok, Err, String, ◌==◌, map, find}, Option.{option_map}}
+-- What a shelf, a sink and lines in memory are.
+use Rattle.std.specs.Prelude.{ℕ, Bool, List, ◌++◌, take, drop, length, Option, Some, None, unwrap_or, Result, Ok, Err, String, ◌==◌}
+use Rattle.std.specs.{Prelude.{map, find}, Option.{option_map}, List.{list_any}}
 use Rattle.std.specs.{Global.{Vec, Global}, String.{string_bytes}}
 use Rattle.stack_shelf.specs.{Causes.{Counts, saturating_increment}, Files.{Files, put_file}, declared.fault.FetchFault.{FetchFault}}
 use Rattle.stack_shelf.specs.{declared.fault.StoreFault.{StoreFault}, declared.fault.PutFault.{PutFault}}
 use Rattle.stack_shelf.specs.declared.fault.FetchFault.TheVariants as fetching
 use Rattle.stack_shelf.specs.declared.fault.StoreFault.TheVariants as storing
 use Rattle.stack_shelf.specs.declared.fault.PutFault.TheVariants as putting
+use Rattle.stack_shelf.specs.declared.fault.LineFault.{LineFault}
+use Rattle.stack_shelf.specs.declared.fault.LineFault.TheVariants as asking
 
 -- a shelf in memory: its files, which calls are to fail and how many bytes they keep, the calls so far, and its counts
 pub record MemoryShelfOf : Type 0 where
@@ -82,3 +85,33 @@ after_store shelf name bytes (Err storing.Failed) =
       faults = saturating_increment shelf.faults;
     }
 after_store shelf name bytes (Err storing.Memory) = record shelf { calls = saturating_increment shelf.calls }
+
+-- lines in memory: the text that is still to come, which calls are to fail, the calls so far, and the counts
+pub record MemoryLinesOf : Type 0 where
+  pub ahead : List ℕ
+  pub failing : List ℕ
+  pub calls : ℕ
+  pub faults : ℕ
+  pub overruns : ℕ
+
+-- whether the call with this number is to fail
+abbrev pub fails_at : List ℕ → ℕ → Bool
+fails_at failing call = list_any (λ number. number == call) failing
+
+-- lines after a call, of which only the number of calls is seen
+abbrev pub line_call : MemoryLinesOf → MemoryLinesOf
+line_call lines = record lines { calls = saturating_increment lines.calls }
+
+-- lines after a call that gave this line
+abbrev pub line_given_by : MemoryLinesOf → List ℕ → MemoryLinesOf
+line_given_by lines line = record lines { ahead = drop (length line) lines.ahead; calls = saturating_increment lines.calls }
+
+-- lines after a call with this result
+abbrev pub lines_after : MemoryLinesOf → Result (Option (Vec ℕ)) LineFault → MemoryLinesOf
+lines_after lines (Ok (Some line)) = line_given_by lines line.items
+lines_after lines (Ok None) = line_call lines
+lines_after lines (Err asking.TooLong) =
+    record lines { calls = saturating_increment lines.calls; overruns = saturating_increment lines.overruns }
+lines_after lines (Err asking.Failed) =
+    record lines { calls = saturating_increment lines.calls; faults = saturating_increment lines.faults }
+lines_after lines (Err asking.Memory) = line_call lines

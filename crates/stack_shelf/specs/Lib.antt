@@ -2,7 +2,8 @@
 pub mod Files
 pub mod Causes
 pub mod Shelf
--- what the four implementations are
+pub mod Lines
+-- what the six implementations are
 pub mod InMemory
 pub mod System
 -- what is read from streams and written to them

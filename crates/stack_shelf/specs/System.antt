@@ -1,10 +1,13 @@
--- What the shelf over a folder and the sink over standard output keep: their counts, and nothing of the content.
-use Rattle.std.specs.Prelude.{ℕ, Result, Ok, Err}
+-- What the shelf over a folder, the sink over standard output and the lines of standard input keep: their counts, and nothing of the
+-- content.
+use Rattle.std.specs.{Prelude.{ℕ, Bool, true, Option, Some, None, Result, Ok, Err}, Global.{Vec}}
 use Rattle.stack_shelf.specs.{Causes.{Counts, saturating_increment}, declared.fault.FetchFault.{FetchFault}}
 use Rattle.stack_shelf.specs.{declared.fault.StoreFault.{StoreFault}, declared.fault.PutFault.{PutFault}}
 use Rattle.stack_shelf.specs.declared.fault.FetchFault.TheVariants as fetching
 use Rattle.stack_shelf.specs.declared.fault.StoreFault.TheVariants as storing
 use Rattle.stack_shelf.specs.declared.fault.PutFault.TheVariants as putting
+use Rattle.stack_shelf.specs.declared.fault.LineFault.{LineFault}
+use Rattle.stack_shelf.specs.declared.fault.LineFault.TheVariants as asking
 
 -- a shelf over a folder: one count of each kind, for all names together
 pub record FolderShelfOf : Type 0 where
@@ -35,3 +38,21 @@ abbrev pub faults_after_put : {X : Type 0} → ℕ → Result X PutFault → ℕ
 faults_after_put faults (Ok _) = faults
 faults_after_put faults (Err putting.Failed) = saturating_increment faults
 faults_after_put faults (Err putting.Memory) = faults
+
+-- the lines of standard input: whether their end was seen, and one count of each kind
+pub record StdinLinesOf : Type 0 where
+  pub over : Bool
+  pub faults : ℕ
+  pub overruns : ℕ
+
+-- the lines after their end
+abbrev pub input_over : StdinLinesOf → StdinLinesOf
+input_over lines = record { over = true; faults = lines.faults; overruns = lines.overruns }
+
+-- the lines after a call with this result
+abbrev pub input_after : StdinLinesOf → Result (Option (Vec ℕ)) LineFault → StdinLinesOf
+input_after lines (Ok (Some _)) = lines
+input_after lines (Ok None) = input_over lines
+input_after lines (Err asking.TooLong) = record lines { overruns = saturating_increment lines.overruns }
+input_after lines (Err asking.Failed) = record lines { faults = saturating_increment lines.faults }
+input_after lines (Err asking.Memory) = lines

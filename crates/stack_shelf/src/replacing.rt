@@ -24,6 +24,9 @@ const NEW: u32 = 0o666;
 /// The rights of a file that is to replace one, until it is given those of the old one.
 const PRIVATE: u32 = 0o600;
 
+/// The name by which the system leads to what standard output is open on.
+const STANDARD_OUTPUT: &str = "/proc/self/fd/1";
+
 /// A new file beside the one that it is to replace.
 #[derive(Drop)]
 struct Part<F: Drop> {
@@ -38,9 +41,11 @@ struct Part<F: Drop> {
 /// written in place: what is no ordinary file, is reached by a link or has a second name, whose owner or group a new file wouldn't have, or
 /// beside which the system allows no other.
 ///
+/// The ordinary file that standard output is open on is refused: what is printed would stand over the bytes, or be lost with the old file.
+///
 /// # Errors
 ///
-/// `Failed` where the system fails; what was to give way is then as it was. `Memory` before anything was written.
+/// `Failed` where the system fails, and for that file; what was to give way is then as it was. `Memory` before anything was written.
 pub fn store_at<R: Files>(
     alloc: Global,
     rt: &R,
@@ -48,6 +53,7 @@ pub fn store_at<R: Files>(
     bytes: &[u8],
 ) -> Result<(), StoreFault> {
     let there = match OpenOptions::new().write(true).open(rt, path) {
+        Ok(file) if is_output(rt, &file) => return Err(StoreFault::Failed),
         Ok(file) => Some(file),
         Err(e) if e.kind() == ErrorKind::NotFound => None,
         Err(_) => return Err(StoreFault::Failed),
@@ -61,6 +67,16 @@ pub fn store_at<R: Files>(
         }
     }
     store_into(&mut emptied(rt, path, there), bytes)
+}
+
+/// Whether an opened file is the ordinary file that standard output is open on, by whatever name it was reached.
+fn is_output<R: Files>(rt: &R, file: &R::File) -> bool {
+    match (file.metadata(), fs::metadata(rt, STANDARD_OUTPUT)) {
+        (Ok(file), Ok(output)) => {
+            file.is_file() && (file.dev(), file.ino()) == (output.dev(), output.ino())
+        }
+        _ => false,
+    }
 }
 
 /// Whether what is under a path can give way to a new file: there is none, or it is an ordinary one with this name alone.
