@@ -1,10 +1,11 @@
 -- Words of a line, one after the other.
 use Rattle.std.proofs.Common.{◌≡◌, Bor, ◌+◌, ◌-◌, ◌<◌, ◌≤◌, ◌==◌, ℕ, suc, List, [], ◌∷◌, ◌++◌, length, take, drop, map, Bool, true, false, cond, Option, Some}
-use Rattle.std.{proofs.Common.{None, refl, sym, ap, subst, ◌∙◌, append-nil, append_assoc, arith}, specs.Prelude.IfSome, specs.List.{position, position_or_len}}
+use Rattle.std.{proofs.Common.{None, refl, sym, ap, subst, ◌∙◌, append-nil, append_assoc, arith}, specs.Prelude.{IfSome, MatchOption, codes}}
+use Rattle.std.specs.{List.{position, position_or_len}, Str.{bytes_eq}}
 use Rattle.std.{specs.Option.option_copied, proofs.lemmas.Bool.ltb-false, proofs.lemmas.List.{length-drop, map-append, take_all}}
 use Rattle.std.{proofs.lemmas.List.Quantifiers.position-Some, proofs.lemmas.List.Splits.{slice_split_none, slice_split_first}}
 use Rattle.std.proofs.lemmas.List.Sums.{position_or_len_is, fails_before_first}
-use Rattle.debug_script.specs.Commands.{words_left, words_of}
+use Rattle.debug_script.specs.Commands.{depth_behind, words_left, words_of}
 
 abbrev is_space : ℕ → Bool
 is_space byte = byte == 32
@@ -31,6 +32,16 @@ pub only_word : (line : List ℕ) → None ≡ position is_space line → words_
 only_word line none =
     let past : length line ≤ position_or_len is_space line = ltb-false (position_or_len is_space line) (length line) (none_past _ _ none) in
     slice_split_none is_space line (λ k d lt. fails_before_first is_space line k d (omega arith))
+
+-- what stands behind `depth<=`
+pub depth_found : (word : List ℕ) (r : Option (Bor (List ℕ)))
+    → MatchOption r (bytes_eq (take 7 word) (codes "depth<=") ≡ false)
+    (λ behind. (bytes_eq (take 7 word) (codes "depth<=") ≡ true) × (behind.now ≡ drop 7 word) × (length behind.now + 7 ≡ length word))
+    → option_copied r ≡ depth_behind word
+unfolding depth_behind
+depth_found word None h = ap (λ (b : Bool). cond b (Some (drop 7 word)) None) (sym h)
+depth_found word (Some behind) h =
+    ap (λ (rest : List ℕ). Some rest) h.1 ∙ ap (λ (b : Bool). cond b (Some (drop 7 word)) None) (sym h.0)
 
 -- what is left is shorter after each word
 abbrev pub left_measure : Option (Bor (List ℕ)) → ℕ

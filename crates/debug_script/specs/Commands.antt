@@ -1,6 +1,6 @@
 -- Commands, by their words.
-use Rattle.std.specs.Prelude.{ℕ, ℤ, pos, negsuc, ◌^◌, ◌-◌, ◌==◌, List, [], ◌∷◌, Option, Some, None, Result, Ok, Err, nat_le, if◌then◌else◌}
-use Rattle.std.specs.{Prelude.{codes}, List.{slice_split}, Str.{bytes_eq}}
+use Rattle.std.specs.Prelude.{ℕ, ℤ, pos, negsuc, ◌^◌, ◌-◌, ◌==◌, List, [], ◌∷◌, take, drop, Option, Some, None, Result, Ok, Err, nat_le}
+use Rattle.std.specs.{Prelude.{codes, if◌then◌else◌}, List.{slice_split}, Str.{bytes_eq}}
 use Rattle.stack_text.specs.{SharedLimits.{most_steps}, Names.{name_of}, Numerals.{is_digits, numeral_value}, Results.{◌>>=◌}}
 use Rattle.stack_text.specs.Gives as common
 use Rattle.debug_script.specs.{declared.fault.LineFault.{LineFault}, declared.command.Place.{Place}, declared.fault.ScriptRule.{ScriptRule}}
@@ -29,7 +29,8 @@ verb_of word =
     else (if bytes_eq word (codes "attach") then Some verb.Attach
     else (if bytes_eq word (codes "detach") then Some verb.Detach
     else (if bytes_eq word (codes "words") then Some verb.Words
-    else (if bytes_eq word (codes "until") then Some verb.Until else None))))))
+    else (if bytes_eq word (codes "until") then Some verb.Until
+    else (if bytes_eq word (codes "tally") then Some verb.Tally else None)))))))
 
 unfoldable pub watch_of : List ℕ → Result WatchWord ScriptRule
 watch_of word =
@@ -63,9 +64,22 @@ abbrev pub words_command : List ℕ → List ℕ → Result Command ScriptRule
 words_command address count =
     address_of address >>= λ address. number_of most_words count >>= λ count. Ok (command.Words address count)
 
--- a place as `show` has it: a number, or the name of a program and the number of an instruction
-abbrev pub until_number : List ℕ → List ℕ → Result Command ScriptRule
-until_number number limit = address_of number >>= λ n. count_of limit >>= λ most. Ok (command.Until (place.Number n) most)
+-- what stands behind `depth<=` in a word that begins so
+unfoldable pub depth_behind : List ℕ → Option (List ℕ)
+depth_behind word = if bytes_eq (take 7 word) (codes "depth<=") then Some (drop 7 word) else None
+
+abbrev pub place_by : Option (List ℕ) → List ℕ → Result Place ScriptRule
+place_by (Some most) word = address_of most >>= λ n. Ok (place.Depth n)
+place_by None word = address_of word >>= λ n. Ok (place.Number n)
+
+-- a place in one word: a depth, as in `depth<=2`, or a number as `show` has it
+abbrev pub place_in : List ℕ → Result Place ScriptRule
+place_in word = place_by (depth_behind word) word
+
+abbrev pub until_word : List ℕ → List ℕ → Result Command ScriptRule
+until_word word limit = place_in word >>= λ there. count_of limit >>= λ most. Ok (command.Until there most)
+
+-- a place in two words, as `show` has it: the name of a program, and the number of an instruction
 
 abbrev pub named_place : Option (List ℕ) → List ℕ → Result Place ScriptRule
 named_place None number = Err rules.Argument
@@ -85,8 +99,9 @@ command_by verb.Show [] = Ok command.Show
 command_by verb.Up [] = Ok command.Up
 command_by verb.Attach (watch ∷ []) = watch_of watch >>= λ w. Ok (command.Attach w)
 command_by verb.Detach (watch ∷ []) = watch_of watch >>= λ w. Ok (command.Detach w)
+command_by verb.Tally (watch ∷ []) = watch_of watch >>= λ w. Ok (command.Tally w)
 command_by verb.Words (address ∷ count ∷ []) = words_command address count
-command_by verb.Until (number ∷ limit ∷ []) = until_number number limit
+command_by verb.Until (word ∷ limit ∷ []) = until_word word limit
 command_by verb.Until (program ∷ number ∷ limit ∷ []) = until_instruction program number limit
 command_by verb words = Err rules.WordCount
 

@@ -1,8 +1,8 @@
 //! Commands.
 
-ghost use Rattle.std.specs.Prelude.{◌≡◌, ◌∷◌, map};
-ghost use Rattle.debug_script.specs.Commands.{GivesCommandUnless, GivesPlaceUnless, command_by, command_of, count_of, number_of, place_of, until_instruction};
-ghost use Rattle.debug_script.specs.Commands.{until_number, verb_of, watch_of, words_command};
+ghost use Rattle.std.specs.{Prelude.{◌≡◌, ◌∷◌, map}, Option.{option_copied}};
+ghost use Rattle.debug_script.specs.Commands.{GivesCommandUnless, GivesPlaceUnless, command_by, command_of, count_of, depth_behind, number_of, place_in, place_of, until_instruction};
+ghost use Rattle.debug_script.specs.Commands.{until_word, verb_of, watch_of, words_command};
 ghost use Rattle.debug_script.specs.declared.command.Verb.TheVariants as verb;
 
 use crate::fault::{LineFault, ScriptRule};
@@ -25,13 +25,15 @@ pub enum WatchWord {
     Peak,
 }
 
-/// A place of a run, as `show` has it.
+/// A place of a run, as `show` has it; or a depth.
 #[derive(Debug, Drop, PartialEq, Eq)]
 pub enum Place {
     /// A byte of the source, or an address of the processor's memory.
     Number { number: u32 },
     /// An instruction of a program of Piton, from 0.
     Instruction { program: Name, place: u32 },
+    /// Wherever at most so many activations are left, or frames of Piton.
+    Depth { most: u32 },
 }
 
 /// A command of a script.
@@ -47,6 +49,8 @@ pub enum Command {
     Attach { watch: WatchWord },
     /// Says what the first attached watch of the kind has kept, and takes it away.
     Detach { watch: WatchWord },
+    /// Says what the first attached watch of the kind has kept, which stays attached.
+    Tally { watch: WatchWord },
     /// Says so many words of the processor's memory, from an address on: 0 to 4,096.
     Words { address: u32, count: u32 },
     /// Goes on to where the run first stands at a place, in at most so many steps: 0 to 2^40.
@@ -63,6 +67,7 @@ enum Verb {
     Detach,
     Words,
     Until,
+    Tally,
 }
 
 /// The verb that a word is.
@@ -84,6 +89,8 @@ fn verb_of(word: &[u8]) -> Option<Verb>
         Some(Verb::Words)
     } else if word == b"until".as_slice() {
         Some(Verb::Until)
+    } else if word == b"tally".as_slice() {
+        Some(Verb::Tally)
     } else {
         None
     }
@@ -158,14 +165,34 @@ fn place_of<H: Heap>(heap: H, program: &[u8], place: &[u8]) -> Result<Place, Lin
     })
 }
 
-/// The command of `until` with a number as its place.
-fn until_number(number: &[u8], limit: &[u8]) -> Result<Command, ScriptRule>
-    ensures { result ≡ until_number number.now limit.now }
+/// What stands behind `depth<=` in a word that begins so.
+#[tactic(auto, unfolding(crate::specs::Commands::depth_behind))]
+fn depth_behind(word: &[u8]) -> Option<&[u8]>
+    ensures { option_copied result ≡ depth_behind word.now }
+{
+    word.strip_prefix(b"depth<=")
+}
+
+/// The place that one word names: a depth, or a number.
+fn place_in(word: &[u8]) -> Result<Place, ScriptRule>
+    ensures { result ≡ place_in word.now }
+{
+    match depth_behind(word) {
+        Some(most) => Ok(Place::Depth {
+            most: number_of(most, u32::MAX)?,
+        }),
+        None => Ok(Place::Number {
+            number: number_of(word, u32::MAX)?,
+        }),
+    }
+}
+
+/// The command of `until` with one word as its place.
+fn until_word(word: &[u8], limit: &[u8]) -> Result<Command, ScriptRule>
+    ensures { result ≡ until_word word.now limit.now }
 {
     Ok(Command::Until {
-        place: Place::Number {
-            number: number_of(number, u32::MAX)?,
-        },
+        place: place_in(word)?,
         limit: count_of(limit)?,
     })
 }
@@ -206,7 +233,7 @@ fn until_both<H: Heap>(
         (command_by verb.Until (first.now ∷ second.now ∷ map (λ word. word.now) rest.now)) }
 {
     match rest {
-        [] => Ok(until_number(first, second)?),
+        [] => Ok(until_word(first, second)?),
         [limit] => until_instruction(heap, first, second, limit),
         _ => Err(LineFault::Rule(ScriptRule::WordCount)),
     }
@@ -250,6 +277,9 @@ fn command_by<H: Heap>(heap: H, verb: Verb, arguments: &[&[u8]]) -> Result<Comma
             watch: watch_of(watch)?,
         }),
         (Verb::Detach, [watch]) => Ok(Command::Detach {
+            watch: watch_of(watch)?,
+        }),
+        (Verb::Tally, [watch]) => Ok(Command::Tally {
             watch: watch_of(watch)?,
         }),
         (Verb::Words, [address, rest @ ..]) => Ok(words_from(address, rest)?),

@@ -23,7 +23,7 @@ use Rattle.level_debuggers.{specs.PitonReadings.{piton_end, piton_reading_of, pi
 use Rattle.level_debuggers.{specs.FmLevels.{FmLevelOf, fm_over, fm_up, word_line, word_lines}, specs.Levels.{LevelOf, Gypsy, Piton, Fm, has_places, show_text}}
 use Rattle.level_debuggers.{specs.Levels.{up_text, words_text}, specs.Texts.{mark_text, no_mark}, specs.declared.script_end.ScriptEnd.ScriptEnd}
 use Rattle.level_debuggers.specs.Transcripts.{Followed, Said, arrival_text, arrived_said, attach_with, detach_with, ends_with, follow_on, followed, places_said}
-use Rattle.level_debuggers.{specs.Transcripts.{run_text, said_by, said_to, tally_said, watch_name, words_said}, specs.Walks.{SessionOf, stepped}}
+use Rattle.level_debuggers.{specs.Transcripts.{run_text, said_by, said_to, tally_said, tally_with, watch_name, words_said}, specs.Walks.{SessionOf, stepped}}
 use Rattle.level_debuggers.specs.WholeLines.{AreLines, AnswersAreLines, TranscriptsAreLines}
 use Rattle.level_debuggers.specs.declared.session.SessionRun.TheVariants as run
 use Rattle.level_debuggers.specs.declared.watch.Rule.TheVariants as rule
@@ -160,6 +160,10 @@ detach_is_lines : (number : ℕ) (kept : Rule) (s : SessionOf) (o : Option (Tall
 detach_is_lines number kept s (Some found) = tally_is_lines kept found.0
 detach_is_lines number kept s None = inl refl
 
+kept_is_lines : (number : ℕ) (kept : Rule) (s : SessionOf) (o : Option Tally) → AreLines (tally_with number kept s o).text
+kept_is_lines number kept s (Some tally) = tally_is_lines kept tally
+kept_is_lines number kept s None = inl refl
+
 word_is_line : (address : ℕ) (found : Option ℕ) → AreLines (word_line address found)
 word_is_line address (Some word) = one (hex_digits address ++ codes " " ++ hex_digits word)
 word_is_line address None = one (hex_digits address ++ codes " outside")
@@ -191,6 +195,7 @@ said_is_lines number command.Show s = show_is_lines s.level s.steps
 said_is_lines number command.Up s = up_is_lines s.level
 said_is_lines number (command.Attach word) s = attach_is_lines number word s _
 said_is_lines number (command.Detach word) s = detach_is_lines number _ s _
+said_is_lines number (command.Tally word) s = kept_is_lines number _ s _
 said_is_lines number (command.Words address count) s = words_are_lines number s s.level address count
 said_is_lines number (command.Until there limit) s = until_is_lines number there limit s (has_places s.level there)
 

@@ -4,13 +4,13 @@ use Rattle.std.{proofs.Common.{arith, append_assoc}, specs.Prelude.unwrap_or, pr
 use Rattle.debug_script.{specs.declared.command.Command.Command, specs.declared.command.Place.Place, specs.declared.command.WatchWord.WatchWord}
 use Rattle.debug_script.specs.declared.reading.Line.{Line}
 use Rattle.debug_script.specs.declared.command.Command.TheVariants as command
-use Rattle.level_debuggers.{specs.declared.script_end.ScriptEnd.ScriptEnd, specs.declared.session.SessionRun.SessionRun, specs.declared.watch.Tally.Tally}
+use Rattle.level_debuggers.{specs.declared.script_end.ScriptEnd.ScriptEnd, specs.declared.session.SessionRun.SessionRun, specs.declared.watch.{Rule.Rule, Tally.Tally}}
 use Rattle.level_debuggers.{specs.declared.arrival.Arrival.Arrival, specs.Arrivals.{Arrived, IsFirstArrival, arrived, arrived_by, first_arrival}}
 use Rattle.level_debuggers.{specs.FmLevels.{FmLevelOf, word_lines}, specs.Levels.{LevelOf, Fm, has_places, next_of, up_text, words_text}, specs.Steps.Next}
-use Rattle.level_debuggers.{specs.Steps.{Over, Stops, Makes, is_over}, specs.Tallies.Watching, specs.Taken.{taken, attached_with, detached_with}}
+use Rattle.level_debuggers.{specs.Steps.{Over, Stops, Makes, is_over}, specs.Tallies.Watching, specs.Taken.{taken, attached_with, detached_with, tally_by}}
 use Rattle.level_debuggers.{specs.Walks.{SessionOf, walk, walk_on, ends_by, refused_after, stepped}, specs.Transcripts.{Said, Followed, arrival_end}}
 use Rattle.level_debuggers.specs.Transcripts.{arrival_text, arrived_said, attach_with, detach_with, ends_with, follow_on, followed, rule_of_word, run_end}
-use Rattle.level_debuggers.{specs.Transcripts.{run_text, said_by, said_to, words_said}, specs.ScriptSteps.{AskForSteps, all_asked, steps_asked, steps_led}}
+use Rattle.level_debuggers.{specs.Transcripts.{run_text, said_by, said_to, tally_with, words_said}, specs.ScriptSteps.{AskForSteps, all_asked, steps_asked, steps_led}}
 use Rattle.level_debuggers.specs.ScriptSteps.{steps_of_lines, stepped_lines, until_line, up_line, line_of_words, ArrivalsAreSaid, GoesOn, ScriptsWalk, UpIsSaid}
 use Rattle.level_debuggers.{specs.ScriptSteps.{WordsAreSaid, StepsAreSaid, UpSaysMoment, TextStays}, proofs.ArrivalLaws.is_first, proofs.WalkLaws.walk_level}
 use Rattle.level_debuggers.specs.declared.script_end.ScriptEnd.TheVariants as end
@@ -35,6 +35,10 @@ detach_goes_on : (number : ℕ) (word : WatchWord) (s : SessionOf) (o : Option (
 detach_goes_on number word s (Some found) e = absurd cc
 detach_goes_on number word s None e = absurd cc
 
+tally_goes_on : (number : ℕ) (kept : Rule) (s : SessionOf) (o : Option Tally) → (tally_with number kept s o).end ≡ Some end.Done → ⊥
+tally_goes_on number kept s (Some tally) e = absurd cc
+tally_goes_on number kept s None e = absurd cc
+
 words_go_on : (number : ℕ) (s : SessionOf) (o : Option (List ℕ)) → (words_said number s o).end ≡ Some end.Done → ⊥
 words_go_on number s (Some text) e = absurd cc
 words_go_on number s None e = absurd cc
@@ -54,6 +58,7 @@ never_done number command.Show s e = absurd cc
 never_done number command.Up s e = absurd cc
 never_done number (command.Attach word) s e = attach_goes_on number word s (attached_with s (taken (rule_of_word word) s.waiting)) e
 never_done number (command.Detach word) s e = detach_goes_on number word s (detached_with s (taken (rule_of_word word) s.attached)) e
+never_done number (command.Tally word) s e = tally_goes_on number (rule_of_word word) s (tally_by (rule_of_word word) s) e
 never_done number (command.Words address count) s e = words_go_on number s (words_text s.level address count) e
 never_done number (command.Until there limit) s e = until_goes_on number (has_places s.level there) (arrived there limit s) s e
 
@@ -67,6 +72,10 @@ detach_stays : (number : ℕ) (word : WatchWord) (s : SessionOf) (o : Option (Wa
     (detach_with number (rule_of_word word) s (detached_with s o)).session.level ≡ s.level
 detach_stays number word s (Some found) = refl
 detach_stays number word s None = refl
+
+tally_stays : (number : ℕ) (kept : Rule) (s : SessionOf) (o : Option Tally) → (tally_with number kept s o).session.level ≡ s.level
+tally_stays number kept s (Some tally) = refl
+tally_stays number kept s None = refl
 
 words_stay : (number : ℕ) (s : SessionOf) (o : Option (List ℕ)) → (words_said number s o).session.level ≡ s.level
 words_stay number s (Some text) = refl
@@ -90,6 +99,7 @@ line_walks number command.Show s = refl
 line_walks number command.Up s = refl
 line_walks number (command.Attach word) s = attach_stays number word s (taken (rule_of_word word) s.waiting)
 line_walks number (command.Detach word) s = detach_stays number word s (taken (rule_of_word word) s.attached)
+line_walks number (command.Tally word) s = tally_stays number (rule_of_word word) s (tally_by (rule_of_word word) s)
 line_walks number (command.Words address count) s = words_stay number s (words_text s.level address count)
 line_walks number (command.Until there limit) s =
     until_walks number limit (has_places s.level there) (first_arrival there limit s.level) s

@@ -1,6 +1,6 @@
 -- The first watch of a rule, and the others.
 use Rattle.std.proofs.Common.{◌≡◌, ◌+◌, ◌-◌, ◌<◌, ◌≤◌, ℕ, suc, Bool, true, false, cond, List, [], ◌∷◌, ◌++◌, length, map, get_or, take, drop, Option, Some}
-use Rattle.std.{proofs.Common.{None, refl, sym, ap, ◌∙◌, arith}, specs.List.{position_from, remove}}
+use Rattle.std.{proofs.Common.{None, refl, sym, ap, ◌∙◌, arith}, specs.{List.{position_from, remove}, Option.{option_map}}}
 use Rattle.stack_text.proofs.Loops.{drop-item}
 use Rattle.level_debuggers.{specs.declared.watch.Rule.Rule, specs.Tallies.Watching, specs.Taken.{is_same, behind, taken}}
 
@@ -77,6 +77,18 @@ taken_at {W} all slice new first seen rule i is found item left =
     ∙ ap (λ (n : ℕ). Some (seen (get_or all n first), map seen (remove all n))) j
     ∙ ap (λ (w : W). Some (seen w, map seen (remove all i))) (sym item)
     ∙ ap (λ (ws : List W). Some (seen first, map seen ws)) (sym left)
+
+pub tally_at : {W : Type 0} (slice : List W) (item : W) (seen : W → Watching) (rule : Rule) (i : ℕ) → place_in rule 0 (map seen slice) ≡ Some i
+    → item ≡ get_or slice i item → option_map (λ found. found.0.tally) (taken rule (map seen slice)) ≡ Some (seen item).tally
+tally_at {W} slice item seen rule i found is =
+    let j : i - 0 ≡ i = omega arith in
+    ap (option_map (λ (found : Watching × List Watching). found.0.tally)) ((takes_at seen rule slice 0 i found).takes item)
+    ∙ ap (λ (n : ℕ). Some (seen (get_or slice n item)).tally) j
+    ∙ ap (λ (w : W). Some (seen w).tally) (sym is)
+
+pub no_tally : {W : Type 0} (slice : List W) (seen : W → Watching) (rule : Rule) → place_in rule 0 (map seen slice) ≡ None
+    → option_map (λ found. found.0.tally) (taken rule (map seen slice)) ≡ None
+no_tally slice seen rule none = ap (option_map (λ (found : Watching × List Watching). found.0.tally)) (none_taken slice slice seen rule refl none)
 
 -- A search for the first place, of which the first i watches do not have the rule.
 module _ {W : Type 0} (items : List W) (item : W) (seen : W → Watching) (rule : Rule) (i : ℕ) (place : Option ℕ) (lt : i < length items)

@@ -1,5 +1,5 @@
 -- Runs of a source.
-use Rattle.std.specs.{Prelude.{ℕ, List, ◌++◌, ◌==◌, ◌&&◌, not, Bool, if◌then◌else◌, codes}, Fmt.{decimal}}
+use Rattle.std.specs.{Prelude.{ℕ, List, ◌++◌, ◌==◌, ◌&&◌, not, nat_le, Bool, if◌then◌else◌, codes}, Fmt.{decimal}}
 use Rattle.stack_text.specs.Lines.{line}
 use Rattle.display_maps.specs.Running.{run_lines}
 use Rattle.gypsy_syntax.specs.Sources.{SourceOf}
@@ -32,6 +32,10 @@ gypsy_next level = if gypsy_over level then Over else gypsy_made level
 -- main hasn't ended, and this is the byte of the item on top
 abbrev pub gypsy_stands : GypsyLevelOf → ℕ → Bool
 gypsy_stands level number = not (gypsy_over level) && place_at level.seen.program level.seen.stage == number
+
+-- main hasn't ended, and there are at most so many activations
+abbrev pub gypsy_within : GypsyLevelOf → ℕ → Bool
+gypsy_within level most = not (gypsy_over level) && nat_le (depth_at level.seen.stage) most
 
 -- ---- what is shown
 

@@ -9,8 +9,8 @@ use Rattle.gypsy_meaning.specs.{Views.Belongs.{BelongsTo}, Views.Running.{seen}}
 use Rattle.piton_semantics.specs.{Fits.{system_in}, Placed.{placed}, StateView.{IsSeen}}
 use Rattle.piton_check.specs.NamedWords.{program_name_at}
 use Rattle.level_debuggers.specs.{declared.runner.Runner.{Runner}, Steps.{Next, Over, Stops, Makes}, GypsyLevels.{GypsyLevelOf}}
-use Rattle.level_debuggers.specs.{GypsyLevels.{gypsy_listing, gypsy_next, gypsy_stands, gypsy_up}, PitonLevels.{PitonLevelOf}}
-use Rattle.level_debuggers.specs.{PitonLevels.{piton_listing, piton_next, piton_stands}, PitonReadings.{piton_up}, FmLevels.{FmLevelOf}}
+use Rattle.level_debuggers.specs.{GypsyLevels.{gypsy_listing, gypsy_next, gypsy_stands, gypsy_up, gypsy_within}, PitonLevels.{PitonLevelOf}}
+use Rattle.level_debuggers.specs.{PitonLevels.{piton_listing, piton_next, piton_stands, piton_within}, PitonReadings.{piton_up}, FmLevels.{FmLevelOf}}
 use Rattle.level_debuggers.specs.FmLevels.{fm_next, fm_stands, fm_up, word_lines}
 use Rattle.level_debuggers.specs.declared.runner.Runner.TheVariants as runner
 
@@ -67,11 +67,13 @@ abbrev pub words_text : LevelOf → ℕ → ℕ → Option (List ℕ)
 words_text (Fm run) address count = Some (word_lines run.state address count)
 words_text level address count = None
 
--- whether runs of a level stand at such places: those of Piton at instructions, the others at numbers
+-- whether runs of a level stand at such places: those of Piton at instructions, the others at numbers; the processor has no depth
 abbrev pub has_places : LevelOf → Place → Bool
 has_places (Piton run) (place.Instruction program number) = true
 has_places (Gypsy run) (place.Number number) = true
 has_places (Fm run) (place.Number number) = true
+has_places (Gypsy run) (place.Depth most) = true
+has_places (Piton run) (place.Depth most) = true
 has_places level there = false
 
 -- whether a run stands at a place
@@ -79,4 +81,6 @@ abbrev pub stands_at : Place → LevelOf → Bool
 stands_at (place.Instruction program number) (Piton run) = piton_stands run program number
 stands_at (place.Number number) (Gypsy run) = gypsy_stands run number
 stands_at (place.Number number) (Fm run) = fm_stands run number
+stands_at (place.Depth most) (Gypsy run) = gypsy_within run most
+stands_at (place.Depth most) (Piton run) = piton_within run most
 stands_at there level = false

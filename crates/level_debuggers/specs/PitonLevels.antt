@@ -1,5 +1,5 @@
 -- Runs of Piton's machine.
-use Rattle.std.specs.{Str.{bytes_eq}, Prelude.{ℕ, ◌==◌, ◌&&◌, not, Bool, List, [], ◌∷◌, ◌++◌, length, map, reverse, slice_get, Option}}
+use Rattle.std.specs.{Str.{bytes_eq}, Prelude.{ℕ, ◌==◌, ◌&&◌, not, nat_le, Bool, List, [], ◌∷◌, ◌++◌, length, map, reverse, slice_get, Option}}
 use Rattle.std.specs.{Prelude.{Some, None, Result, Ok, Err, codes, if◌then◌else◌}, Fmt.{decimal}}
 use Rattle.fm_image.specs.Image.{ImageOf}
 use Rattle.stack_text.specs.Lines.{line}
@@ -43,6 +43,10 @@ abbrev pub piton_stands : PitonLevelOf → List ℕ → ℕ → Bool
 piton_stands level program number =
     let state = level.seen.state in
     not (piton_over level) && bytes_eq (program_name_at level.checked.system state.program) program && state.place == number
+
+-- a frame is left, and at most so many are
+abbrev pub piton_within : PitonLevelOf → ℕ → Bool
+piton_within level most = not (piton_over level) && nat_le (length level.seen.state.frames) most
 
 -- ---- what is shown
 

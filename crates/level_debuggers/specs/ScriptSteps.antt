@@ -20,6 +20,7 @@ steps_led command.Show level = 0
 steps_led command.Up level = 0
 steps_led (command.Attach word) level = 0
 steps_led (command.Detach word) level = 0
+steps_led (command.Tally word) level = 0
 steps_led (command.Words address count) level = 0
 steps_led (command.Until there limit) level = until_steps there limit level
 

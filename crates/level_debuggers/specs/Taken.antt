@@ -1,5 +1,5 @@
 -- Watches that are attached and detached.
-use Rattle.std.specs.Prelude.{List, [], ◌∷◌, ◌++◌, Bool, true, false, Option, Some, None, if◌then◌else◌}
+use Rattle.std.specs.{Prelude.{List, [], ◌∷◌, ◌++◌, Bool, true, false, Option, Some, None, if◌then◌else◌}, Option.{option_map}}
 use Rattle.level_debuggers.specs.{declared.watch.Rule.{Rule}, declared.watch.Rule.TheVariants.{Count, Cost, Last, Peak}}
 use Rattle.level_debuggers.specs.{declared.watch.Tally.{Tally}, Tallies.{Watching}, Walks.{SessionOf}}
 
@@ -34,3 +34,7 @@ detached_with s (Some found) = Some (found.0.tally, record s { attached = found.
 -- the tally of the first attached watch of a rule, and the session without that watch
 abbrev pub detached_by : Rule → SessionOf → Option (Tally × SessionOf)
 detached_by rule s = detached_with s (taken rule s.attached)
+
+-- that tally alone
+abbrev pub tally_by : Rule → SessionOf → Option Tally
+tally_by rule s = option_map (λ found. found.0.tally) (taken rule s.attached)

@@ -7,7 +7,7 @@ use Rattle.debug_script.specs.declared.command.Command.TheVariants as command
 use Rattle.debug_script.specs.declared.command.WatchWord.TheVariants as word
 use Rattle.level_debuggers.specs.{declared.session.SessionRun.{SessionRun}, declared.watch.Rule.{Rule}, declared.watch.Tally.{Tally}}
 use Rattle.level_debuggers.specs.{declared.arrival.Arrival.{Arrival}, Arrivals.{Arrived, arrived}, Levels.{has_places, show_text, up_text}}
-use Rattle.level_debuggers.specs.{Levels.{words_text}, Taken.{attached_by, detached_by}, Walks.{SessionOf, Stepped, stepped, HasMadeSome}}
+use Rattle.level_debuggers.specs.{Levels.{words_text}, Taken.{attached_by, detached_by, tally_by}, Walks.{SessionOf, Stepped, stepped, HasMadeSome}}
 use Rattle.level_debuggers.specs.declared.script_end.ScriptEnd.{ScriptEnd}
 use Rattle.level_debuggers.specs.declared.session.SessionRun.TheVariants as run
 use Rattle.level_debuggers.specs.declared.watch.Rule.TheVariants as rule
@@ -86,6 +86,14 @@ detach_with number kept s None = ends_with (end.NoneAttached number) s
 abbrev pub detach_said : ℕ → WatchWord → SessionOf → Said
 detach_said number word s = detach_with number (rule_of_word word) s (detached_by (rule_of_word word) s)
 
+-- the same line of a watch that stays attached
+abbrev pub tally_with : ℕ → Rule → SessionOf → Option Tally → Said
+tally_with number kept s (Some tally) = goes_on (tally_said kept tally) s
+tally_with number kept s None = ends_with (end.NoneAttached number) s
+
+abbrev pub tally_asked : ℕ → WatchWord → SessionOf → Said
+tally_asked number word s = tally_with number (rule_of_word word) s (tally_by (rule_of_word word) s)
+
 -- words of memory, where the run has them
 abbrev pub words_said : ℕ → SessionOf → Option (List ℕ) → Said
 words_said number s (Some text) = goes_on text s
@@ -114,6 +122,7 @@ said_by number command.Show s = goes_on (show_text s.level s.steps) s
 said_by number command.Up s = goes_on (up_text s.level) s
 said_by number (command.Attach word) s = attach_said number word s
 said_by number (command.Detach word) s = detach_said number word s
+said_by number (command.Tally word) s = tally_asked number word s
 said_by number (command.Words address count) s = words_said number s (words_text s.level address count)
 said_by number (command.Until there limit) s = until_said number there limit s
 
@@ -149,6 +158,7 @@ IsLeftBy number command.Show old new = new ≡ old
 IsLeftBy number command.Up old new = new ≡ old
 IsLeftBy number (command.Attach word) old new = new ≡ (attach_said number word old).session
 IsLeftBy number (command.Detach word) old new = new ≡ (detach_said number word old).session
+IsLeftBy number (command.Tally word) old new = new ≡ old
 IsLeftBy number (command.Words address count) old new = new ≡ old
 IsLeftBy number (command.Until there limit) old new = HasMadeSome limit old new
 

@@ -23,7 +23,7 @@ impl GypsyLevel {
     ghost use Rattle.std.specs.Prelude.{◌≡◌, ◌++◌, map, OnErr};
     ghost use Rattle.stack_heap.specs.Heaps.{IfOkUnless, OnOkUnless};
     ghost use Rattle.gypsy_semantics.specs.{Views.RunView.{depth_at, values_at}, Views.Shown.{condition_at, names_at}};
-    ghost use Rattle.level_debuggers.specs.{Steps.{IsAdvance}, GypsyLevels.{gypsy_listing, gypsy_next, gypsy_over, gypsy_place_line, gypsy_stands, gypsy_up}};
+    ghost use Rattle.level_debuggers.specs.{Steps.{IsAdvance}, GypsyLevels.{gypsy_listing, gypsy_next, gypsy_over, gypsy_place_line, gypsy_stands, gypsy_up, gypsy_within}};
     ghost use Rattle.level_debuggers.specs.Views.Belonging.{Belongs, gypsy_of};
 
     /// Whether the end is reached.
@@ -47,6 +47,14 @@ impl GypsyLevel {
         ensures { result ≡ depth_at (gypsy_of self.now).seen.stage }
     {
         self.meaning.depth()
+    }
+
+    /// Whether main hasn't ended, and at most so many activations are left.
+    pub(crate) fn is_within(&self, most: u32) -> bool
+        requires { Belongs self.now }
+        ensures { result ≡ gypsy_within (gypsy_of self.now) most }
+    {
+        !self.is_over() && self.depth() <= most
     }
 
     /// The condition.

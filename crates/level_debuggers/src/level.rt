@@ -136,6 +136,7 @@ impl Level {
         match (self, place) {
             (Level::Piton(_), Place::Instruction { .. }) => true,
             (Level::Gypsy(_) | Level::Fm(_), Place::Number { .. }) => true,
+            (Level::Gypsy(_) | Level::Piton(_), Place::Depth { .. }) => true,
             _ => false,
         }
     }
@@ -151,6 +152,8 @@ impl Level {
                 level.stands_at(program, *place)
             }
             (Level::Fm(level), Place::Number { number }) => level.stands_at(*number),
+            (Level::Gypsy(level), Place::Depth { most }) => level.is_within(*most),
+            (Level::Piton(level), Place::Depth { most }) => level.is_within(*most),
             _ => false,
         }
     }

@@ -44,7 +44,7 @@ impl PitonLevel {
     ghost use Rattle.piton_semantics.specs.{Placed.{addresses_of, areas_start}, State.{locals_of}};
     ghost use Rattle.piton_check.specs.NamedWords.{program_name_at};
     ghost use Rattle.level_debuggers.specs.{Steps.{IsAdvance}, Levels.{IsRunner, Piton, level_of}, PitonLevels.{piton_listing, piton_next, piton_over}};
-    ghost use Rattle.level_debuggers.specs.{PitonLevels.{piton_stands}, PitonReadings.{area_words, element_numbers, is_covered, piton_at, piton_end}};
+    ghost use Rattle.level_debuggers.specs.{PitonLevels.{piton_stands, piton_within}, PitonReadings.{area_words, element_numbers, is_covered, piton_at, piton_end}};
     ghost use Rattle.level_debuggers.specs.{PitonReadings.{piton_reading_of, piton_up}, Standings.{standing_of}};
 
     /// The level of a run, with its system's addresses. The only error is out of memory.
@@ -122,6 +122,13 @@ impl PitonLevel {
     {
         let (here, next) = self.state.at();
         !self.is_over() && self.program_name(here) == program && next == place
+    }
+
+    /// Whether a frame is left, and at most so many are.
+    pub(crate) fn is_within(&self, most: u32) -> bool
+        ensures { result ≡ piton_within self.now most }
+    {
+        !self.is_over() && self.state.frames() <= most
     }
 
     /// The place, the locals of the newest frame, and the stack, as lines.

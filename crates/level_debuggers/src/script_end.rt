@@ -27,7 +27,7 @@ pub enum ScriptEnd {
     NoneWaits {
         line: u32,
     },
-    /// This line detaches a watch, and none of its rule is attached.
+    /// This line detaches a watch, or asks for its tally, and none of its rule is attached.
     NoneAttached {
         line: u32,
     },

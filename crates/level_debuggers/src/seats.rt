@@ -1,9 +1,9 @@
 //! Watches in a list.
 
-ghost use Rattle.std.specs.{Prelude.{◌≡◌, ◌+◌, map, IfSome, IfNone, MatchOption, Some, None, vec_len, vec_capacity}, List.{position_from}};
+ghost use Rattle.std.specs.{Prelude.{◌≡◌, ◌+◌, ◌<◌, length, map, IfSome, IfNone, MatchOption, Some, None, vec_len, vec_capacity}, List.{position_from}, Option.{option_map}};
 ghost use Rattle.level_debuggers.specs.{Tallies.{noted}, Taken.{is_same, taken}};
 
-use crate::watch::{Event, Rule, Watch};
+use crate::watch::{Event, Rule, Tally, Watch};
 
 /// Tells a watch a step.
 fn note(watch: &mut Box<dyn Watch>, event: &Event)
@@ -43,7 +43,8 @@ fn has_rule(watch: &Box<dyn Watch>, rule: Rule) -> bool
 
 /// The position of the first watch of a rule.
 fn place_of(watches: &[Box<dyn Watch>], rule: Rule) -> Option<usize>
-    ensures { result ≡ position_from (λ w. is_same w.rule rule) 0 (map watching watches.now) }
+    ensures place { result ≡ position_from (λ w. is_same w.rule rule) 0 (map watching watches.now) }
+    ensures within { IfSome result (λ place. place < length watches.now) }
 {
     for (place, watch) in watches.iter().enumerate() {
         if has_rule(watch, rule) {
@@ -51,6 +52,23 @@ fn place_of(watches: &[Box<dyn Watch>], rule: Rule) -> Option<usize>
         }
     }
     None
+}
+
+/// What a watch has kept.
+fn tally_of(watch: &Box<dyn Watch>) -> Tally
+    ensures { result ≡ (watching watch.now).tally }
+{
+    watch.tally()
+}
+
+/// The tally of the first watch of a rule.
+pub(crate) fn first_tally(watches: &[Box<dyn Watch>], rule: Rule) -> Option<Tally>
+    ensures { result ≡ option_map (λ found. found.0.tally) (taken rule (map watching watches.now)) }
+{
+    match place_of(watches, rule) {
+        Some(place) => Some(tally_of(&watches[place])),
+        None => None,
+    }
 }
 
 /// Takes the first watch of a rule out of a list.

@@ -6,7 +6,7 @@ use crate::advance::Advance;
 use crate::arrival::Arrival;
 use crate::level::Level;
 use crate::runner::Runner;
-use crate::seats::{note_all, take_first};
+use crate::seats::{first_tally, note_all, take_first};
 use crate::watch::{Event, Rule, Tally, Watch};
 use debug_script::Place;
 use piton_semantics::ErrorKind;
@@ -63,7 +63,7 @@ impl Session {
     ghost use Rattle.std.specs.{Prelude.{◌≡◌, [], map, IfOk, OnOk, OnErr, Some, None}, Option.{option_map}};
     ghost use Rattle.stack_heap.specs.Heaps.{IfOkUnless};
     ghost use Rattle.level_debuggers.specs.{Levels.{IsRunner, has_places, level_of, program_named, show_text, up_text, words_text}, Arrivals.{arrived}};
-    ghost use Rattle.level_debuggers.specs.{Tallies.{noted}, Walks.{after_event, stepped, HasMadeSome}, Taken.{attached_by, detached_by}};
+    ghost use Rattle.level_debuggers.specs.{Tallies.{noted}, Walks.{after_event, stepped, HasMadeSome}, Taken.{attached_by, detached_by, tally_by}};
     ghost use Rattle.level_debuggers.specs.Views.Sessions.{IsSession, session_of};
 
     /// A session of a runner that has made no step, with these watches waiting. Room for all of them to be attached is
@@ -138,6 +138,13 @@ impl Session {
         }
     }
 
+    /// The tally of the first attached watch of a rule, which stays attached; `None` if none is. It takes no memory.
+    pub fn tally(&self, rule: Rule) -> Option<Tally>
+        ensures { result ≡ tally_by rule (session_of (λ w. watching w) self.now) }
+    {
+        first_tally(&self.attached, rule)
+    }
+
     /// Notes a step that the run has made.
     fn note(&mut self, event: &Event)
         ensures noted { session_of (λ w. watching w) self.new
@@ -177,7 +184,7 @@ impl Session {
     }
 
     /// Whether runs of the session's level stand at such places: those of Piton at instructions of programs, the others at
-    /// numbers.
+    /// numbers, and both Micro-Gypsy's and Piton's at depths.
     pub fn has_places(&self, place: &Place) -> bool
         ensures { let session = session_of (λ w. watching w) self.now in
             result ≡ has_places session.level place.now }

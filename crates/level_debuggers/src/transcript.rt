@@ -3,7 +3,7 @@
 ghost use Rattle.std.specs.Prelude.{◌≡◌, ◌++◌, IfOk, None, OnErr};
 ghost use Rattle.stack_heap.specs.Heaps.{IfOkUnless};
 ghost use Rattle.level_debuggers.specs.{Views.Sessions.{IsSession, session_of}, Transcripts.{IsLeftBy, IsLeftIn, IsSaid, arrival_end, arrival_text}};
-ghost use Rattle.level_debuggers.specs.Transcripts.{attach_said, attached_word, detach_said, followed, rule_of_word, run_end, run_text, said_to, step_said};
+ghost use Rattle.level_debuggers.specs.Transcripts.{attach_said, attached_word, detach_said, followed, rule_of_word, run_end, run_text, said_to, step_said, tally_asked};
 ghost use Rattle.level_debuggers.specs.{Transcripts.{until_said, words_said}, Levels.{words_text}, Walks.{HasMadeSome, stepped}};
 
 use crate::arrival::Arrival;
@@ -156,6 +156,28 @@ fn push_detach<H: Heap>(
     }
 }
 
+/// Appends what a watch has kept so far, by the command of a line.
+fn push_kept<H: Heap>(
+    heap: H,
+    session: &Session,
+    line: u32,
+    watch: WatchWord,
+    text: &mut Vec<u8>,
+) -> Result<Option<ScriptEnd>, Memory>
+    ensures { let session = session_of (λ w. watching w) session.now in
+        IfOkUnless (H.may_refuse heap) result
+        (λ end. IsSaid (tally_asked line watch session) text.old.items text.new.items end session) }
+{
+    let rule = rule_of_word(watch);
+    match session.tally(rule) {
+        Some(tally) => {
+            push_tally(heap, text, rule, &tally)?;
+            Ok(None)
+        }
+        None => Ok(Some(ScriptEnd::NoneAttached { line })),
+    }
+}
+
 /// Appends words of memory, by the command of a line.
 fn push_words<H: Heap>(
     heap: H,
@@ -240,6 +262,7 @@ pub fn push_answer<H: Heap>(
         Command::Up => push_said(heap, text, session.up(heap)?),
         Command::Attach { watch } => push_attach(heap, session, line.line, *watch, text),
         Command::Detach { watch } => push_detach(heap, session, line.line, *watch, text),
+        Command::Tally { watch } => push_kept(heap, session, line.line, *watch, text),
         Command::Words { address, count } => {
             push_words(heap, session, line.line, *address, *count, text)
         }
