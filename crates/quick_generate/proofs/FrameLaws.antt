@@ -22,15 +22,3 @@ pub words_at : (b : ℕ) (shapes : List Shape) (s : Shape) → b < length shapes
 words_at b [] s lt is = absurd (omega (arith, lt))
 words_at zero (t ∷ shapes) s lt is = let count = ap item_count is in omega (arith, count)
 words_at (suc b) (t ∷ shapes) s lt is = omega (arith, words_at b shapes s (omega (arith, lt)) is)
-
--- no more than all can be taken
-pub take_min : (b : ℕ) (shapes : List Shape) → take (min (length shapes) b) shapes ≡ take b shapes
-take_min b [] = nothing (min 0 b) ∙ sym (nothing b)
-  where
-    nothing : (n : ℕ) → take {A = Shape} n [] ≡ []
-    nothing zero = refl
-    nothing (suc n) = refl
-take_min zero (s ∷ shapes) = let none : min (suc (length shapes)) 0 ≡ 0 = omega arith in ap (λ n. take n (s ∷ shapes)) none
-take_min (suc b) (s ∷ shapes) =
-    let one : min (suc (length shapes)) (suc b) ≡ suc (min (length shapes) b) = omega arith in
-    ap (λ n. take n (s ∷ shapes)) one ∙ ap (λ (rest : List Shape). s ∷ rest) (take_min b shapes)

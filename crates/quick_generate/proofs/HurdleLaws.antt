@@ -28,22 +28,6 @@ plain_if_none (Call place p xs cs) e = absurd cc
 plain_if_none (Apply place row.MgIntegerMultiply args) e = absurd cc
 plain_if_none (Apply place r args) e = tt
 
-neither_then : (m n : Option QuickFault) → m ≡ None → n ≡ None → first_hurdle m n ≡ None
-neither_then None n e f = f
-neither_then (Some found) n e f = absurd cc
-
-pub none_if_plain : (s : Stmt) → IsPlain s → hurdle_of s ≡ None
-none_if_plain Skip h = refl
-none_if_plain (NoOp place) h = refl
-none_if_plain (Signal place c) h = refl
-none_if_plain (Seq a b) h = neither_then (hurdle_of a) (hurdle_of b) (none_if_plain a h.0) (none_if_plain b h.1)
-none_if_plain (Loop place s) h = none_if_plain s h
-none_if_plain (If place b s w) h = neither_then (hurdle_of s) (hurdle_of w) (none_if_plain s h.0) (none_if_plain w h.1)
-none_if_plain (Begin place s cs w) h = neither_then (hurdle_of s) (hurdle_of w) (none_if_plain s h.0) (none_if_plain w h.1)
-none_if_plain (Call place p xs cs) h = absurd h
-none_if_plain (Apply place row.MgIntegerMultiply args) h = absurd h
-none_if_plain (Apply place r args) h = refl
-
 -- a hurdle is never out of memory
 either : (m n : Option QuickFault) (found : QuickFault) → first_hurdle m n ≡ Some found → (m ≡ Some found → fault_of found ≡ Some found)
     → (n ≡ Some found → fault_of found ≡ Some found) → fault_of found ≡ Some found

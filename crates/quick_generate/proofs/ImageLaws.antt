@@ -50,7 +50,7 @@ window_long vs p base fit =
     )
 
 -- the first values are of the variables' shapes
-main_fit : (s : SourceOf) → IsAccepted s → VarsFit (shapes_of (main_proc s)) (first_values (main_proc s))
+pub main_fit : (s : SourceOf) → IsAccepted s → VarsFit (shapes_of (main_proc s)) (first_values (main_proc s))
 main_fit s accepted =
     let p : Proc = main_proc s in
     let here = accepted.fits.procs (program_of s).main in

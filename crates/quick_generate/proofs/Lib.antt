@@ -4,7 +4,13 @@ pub mod SizeLaws
 pub mod FrameLaws
 pub mod ArgumentLaws
 pub mod HurdleLaws
+pub mod WeighingLaws
+pub mod ChoiceLaws
 pub mod QuickLaws
 pub mod GivenLaws
 pub mod ImageLaws
 pub mod PlacedLaws
+pub mod CodeWordsLaws
+pub mod SpelledLaws
+pub mod QuickenLaws
+pub mod StoredLaws

@@ -1,20 +1,23 @@
 -- The image that is made of main's parts is the quick image of the source.
-use Rattle.std.{proofs.Common.{◌≡◌, ℕ, ◌+◌, ◌-◌, ◌*◌, ◌≤◌, ◌^◌, List, ◌∷◌, ◌++◌, length, Some, sym, ap, ◌∙◌, arith}, specs.Prelude.reverse}
-use Rattle.stack_text.specs.declared.shape.Shape.{Shape}
+use Rattle.std.{proofs.Common.{◌≡◌, ℕ, ◌+◌, ◌-◌, ◌*◌, ◌≤◌, ◌^◌, List, ◌∷◌, ◌++◌, length, length-append, map, Some, sym, ap, ◌∙◌, arith}, specs.Prelude.reverse}
+use Rattle.std.proofs.lemmas.List.{length-map}
+use Rattle.stack_text.{specs.declared.shape.Shape.Shape, specs.Values.ValueOf}
 use Rattle.fm_words.specs.WindowLimit.{most_window}
 use Rattle.fm_code.specs.InstructionWords.{halt_word}
 use Rattle.fm_image.{specs.declared.slot.Slot.Slot, specs.Bare.bare_image, specs.Image.ImageOf}
 use Rattle.piton_linker.specs.Layouts.{trimmed}
-use Rattle.gypsy_syntax.{specs.Programs.{Proc, proc_at, shapes_of, words_of}, specs.Resolved.program_of, specs.Sources.SourceOf}
+use Rattle.gypsy_syntax.{specs.Programs.{Proc, proc_at, shapes_of, words_of}, specs.Resolved.{local_value, procedure_of, program_of, shape_of}}
+use Rattle.gypsy_syntax.{specs.Sources.SourceOf, specs.declared.literal.Decl.Decl}
 use Rattle.gypsy_syntax.specs.Programs as source
 use Rattle.gypsy_check.specs.Accepted.{IsAccepted}
-use Rattle.gypsy_space.{specs.Nodes.{seen_proc, seen_program, seen_statement}, specs.StatementNeeds.capped, specs.declared.program.Procedure.Procedure}
+use Rattle.gypsy_space.{specs.Nodes.{seen_proc, seen_program, seen_statement}, specs.declared.program.Procedure.Procedure}
 use Rattle.gypsy_space.specs.declared.program.Program.{Program}
 use Rattle.stack_build.{specs.Formals.{shown_conditions, shown_formals}, specs.Image.slots_from, proofs.MainLaws.main_is}
 use Rattle.quick_gypsy.{specs.Layout.Layout, specs.Numbers.numbers_of, specs.Quick.size}
 use Rattle.quick_build.{specs.QuickImage.{final_of, first_values, layout_in, quick_image, quick_registers, quick_window}, specs.QuickImplements.main_proc}
-use Rattle.quick_generate.{specs.QuickOf.{image_size, registers_by, window_end, words_by}, specs.Views.{layout_by, layout_of}, specs.declared.frame.Frame.Frame}
-use Rattle.quick_generate.{proofs.QuickLaws.{cell_is, window_is, words_are}, proofs.SizeLaws.size_anywhere}
+use Rattle.quick_generate.{specs.QuickOf.{image_size, registers_by, window_end, words_by}, specs.Views.{layout_by, frame_layout}}
+use Rattle.quick_generate.{specs.declared.frame.Frame.Frame, specs.Sums.limited, proofs.QuickLaws.{cell_is, window_is, words_are}}
+use Rattle.quick_generate.proofs.SizeLaws.{size_anywhere}
 
 -- Main of an accepted source, and a frame that ends its smallest window.
 pub record IsHere (frame : Frame) (main : Procedure) (s : SourceOf) (base : ℕ) : Type 0 where
@@ -32,6 +35,22 @@ few_conds s accepted =
     let few = main.1.form.few_conds in
     omega (arith, same, few)
 
+pub few_variables : (s : SourceOf) → IsAccepted s → length (shapes_of (main_proc s)) ≤ 200
+few_variables s accepted =
+    let main = main_is s accepted in
+    let p : Proc = procedure_of s main.0 in
+    let same : length (shapes_of (main_proc s)) ≡ length (shapes_of p) = ap (λ (p : Proc). length (shapes_of p)) main.1.at in
+    let few = main.1.form.few_variables in
+    omega (
+      arith,
+      same,
+      few,
+      length-append p.formals (map (λ (v : ValueOf). v.shape) p.locals),
+      length-map main.0.formals (λ (d : Decl). shape_of d.shape),
+      length-map p.locals (λ (v : ValueOf). v.shape),
+      length-map main.0.locals local_value,
+    )
+
 pub conds_are : (frame : Frame) (main : Procedure) (s : SourceOf) (base : ℕ) → IsHere frame main s base →
     length main.conds.items ≡ (main_proc s).conds
 conds_are frame main s base h = ap (λ (p : Proc). p.conds) h.is_main
@@ -45,7 +64,7 @@ size_here vs shapes end e p q same is =
 
 -- the window's words, one after the other
 pub ends : (frame : Frame) (main : Procedure) (s : SourceOf) (base : ℕ) → IsHere frame main s base →
-    base + 6 * (2 + length main.conds.items) + size (layout_of frame) (seen_statement main.body.value) + (2 + words_of (shapes_of (main_proc s)))
+    base + 6 * (2 + length main.conds.items) + size (frame_layout frame) (seen_statement main.body.value) + (2 + words_of (shapes_of (main_proc s)))
     ≡ frame.end
 ends frame main s base h =
     omega (
@@ -60,7 +79,7 @@ pub ends_low : (frame : Frame) (main : Procedure) (s : SourceOf) (base : ℕ) �
 ends_low frame main s base h = let small = h.small in let low = h.low in omega (arith, small, low)
 
 pub final_is : (frame : Frame) (main : Procedure) (s : SourceOf) (base conds words : ℕ) → IsHere frame main s base → conds ≡ length main.conds.items
-    → words ≡ size (layout_of frame) (seen_statement main.body.value)
+    → words ≡ size (frame_layout frame) (seen_statement main.body.value)
     → base + 6 * (2 + conds) + words ≡ final_of frame.chosen.items (main_proc s) base (window_end frame.chosen.items (main_proc s) base)
 final_is frame main s base conds words h count sized =
     let p : Proc = main_proc s in
@@ -85,7 +104,7 @@ registers_are frame main s base conds made h count is =
     ∙ ap (λ (n : ℕ). registers_by vs (shapes_of p) (window_end vs p base) (base + 6 * (2 + n))) (count ∙ conds_are frame main s base h)
 
 pub window_words : (frame : Frame) (main : Procedure) (s : SourceOf) (base : ℕ) (code numbers words : List ℕ) → IsHere frame main s base
-    → code ≡ words_by (layout_of frame) base (length main.conds.items) (seen_statement main.body.value)
+    → code ≡ words_by (frame_layout frame) base (length main.conds.items) (seen_statement main.body.value)
     → numbers ≡ numbers_of (first_values (seen_proc main)) → words ≡ trimmed (code ++ (halt_word ∷ 2 ∷ reverse numbers))
     → words ≡ trimmed (quick_window frame.chosen.items (main_proc s) base (window_end frame.chosen.items (main_proc s) base))
 window_words frame main s base code numbers words h coded numbered is =
@@ -93,10 +112,10 @@ window_words frame main s base code numbers words h coded numbered is =
     let vs : List ℕ = frame.chosen.items in
     let end : ℕ = window_end vs p base in
     let values : Proc → List ℕ = λ q. halt_word ∷ 2 ∷ reverse (numbers_of (first_values q)) in
-    let placed : layout_of frame ≡ layout_in vs p end =
+    let placed : frame_layout frame ≡ layout_in vs p end =
     ap (λ (z : List Shape). layout_by vs z frame.end) h.shapes ∙ ap (λ (e : ℕ). layout_in vs p e) h.end in
     is ∙ ap (λ (ws : List ℕ). trimmed (ws ++ (halt_word ∷ 2 ∷ reverse numbers))) coded
-    ∙ ap (λ (ns : List ℕ). trimmed (words_by (layout_of frame) base (length main.conds.items) (seen_statement main.body.value) ++
+    ∙ ap (λ (ns : List ℕ). trimmed (words_by (frame_layout frame) base (length main.conds.items) (seen_statement main.body.value) ++
     (halt_word ∷ 2 ∷ reverse ns))) numbered
     ∙ ap (λ (L : Layout). trimmed (words_by L base (length main.conds.items) (seen_statement main.body.value) ++ values (seen_proc main))) placed
     ∙ ap (λ (q : Proc). trimmed (words_by (layout_in vs p end) base q.conds q.body ++ values q)) h.is_main
@@ -125,8 +144,8 @@ image_made frame main s base final registers words bare names slots h f r w b n 
 -- How many words were counted, at whatever end.
 pub image_words : (frame : Frame) (main : Procedure) (vs : List ℕ) (p : Proc) (words : ℕ) → frame.chosen.items ≡ vs → frame.shapes.items ≡ shapes_of p
     → seen_proc main ≡ p
-    → words ≡ capped (6 * (2 + length main.conds.items) + size (layout_of frame) (seen_statement main.body.value) + (2 + words_of frame.shapes.items))
-    → words ≡ capped (image_size vs p)
+    → words ≡ limited (6 * (2 + length main.conds.items) + size (frame_layout frame) (seen_statement main.body.value) + (2 + words_of frame.shapes.items))
+    → words ≡ limited (image_size vs p)
 image_words frame main vs p words chosen same is counted =
     omega (
       arith,

@@ -4,11 +4,10 @@ use Rattle.std.specs.Prelude.{if◌then◌else◌}
 use Rattle.fm_words.{specs.declared.condition.Cc.TheVariants.Zs, specs.declared.operation.Op.TheVariants.Move}
 use Rattle.fm_code.specs.InstructionWords.{flag_z}
 use Rattle.gypsy_syntax.{specs.declared.predef.Predef.Predef, specs.Programs.{Arg, Proc, Stmt, Skip, NoOp, Signal, Seq, Loop, If, Begin, Call, Apply}}
-use Rattle.gypsy_space.specs.StatementNeeds.{capped, HasMoreWords}
+use Rattle.quick_generate.{specs.Sums.{HasMoreToAdd, limited}, specs.Rows.row_size, proofs.RowSizeLaws.{by_word_size, row_size_is}}
 use Rattle.quick_code.{specs.Access.{Held, find_code}, specs.Pieces.{by_word_code, jump_when_code}}
 use Rattle.quick_gypsy.{specs.Layout.Layout, specs.RowCode.{arg_access, arg_var, row_code}, specs.Quick.{size, test_code}}
 use Rattle.quick_build.specs.QuickImage.{access_from, layout_in, variable_address}
-use Rattle.quick_generate.{specs.Rows.row_size, proofs.RowSizeLaws.{by_word_size, row_size_is}}
 
 -- whether a register has the address, doesn't depend on the address
 same_find : (k : ℕ) (vs : List ℕ) (b a a' : ℕ) → length (find_code (access_from k vs b a)) ≡ length (find_code (access_from k vs b a'))
@@ -22,7 +21,7 @@ same_find k (v ∷ vs) b a a' = pick (v == b) (same_find (suc k) vs b a a')
     pick false e = e
 
 -- where all is counted
-pub no_more_words : (n whole : ℕ) → HasMoreWords n 0 whole → n ≡ capped whole
+pub no_more_words : (n whole : ℕ) → HasMoreToAdd n 0 whole → n ≡ limited whole
 no_more_words n whole h = omega (arith, h.words, h.small)
 
 -- two layouts in which each variable is found by as many words

@@ -1,4 +1,9 @@
+pub mod Sums
 pub mod Rows
 pub mod Views
 pub mod Hurdles
+pub mod Choice
+pub mod Weighing
 pub mod QuickOf
+pub mod Quickened
+pub mod DoesQuickly

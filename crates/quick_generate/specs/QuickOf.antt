@@ -62,22 +62,3 @@ fault_of found = Some found
 -- the call returned exactly what the definition gives, seen through the view; memory runs out only where it was refused
 abbrev pub GivesQuickUnless : {X Y : Type 0} → Type 0 → (X → Y) → Result X QuickFault → Result Y QuickFault → Type 0
 GivesQuickUnless refused view result value = common.GivesUnless refused fault_of view result value
-
--- 4. The same of a choice that a pass makes: some choice of at most ten variables.
-
--- the quick image of a source in some window, of which the laws of quick images hold
-pub record IsQuick (s : SourceOf) (base : ℕ) (image : ImageOf) : Type 0 where
-  pub chosen : List ℕ
-  pub end : ℕ
-  pub can : CanBeQuick chosen s base end
-  pub is : image ≡ quick_image chosen s base end
-
--- some choice of at most ten variables leads to this fault
-pub record HasNoQuick (s : SourceOf) (base : ℕ) (found : QuickFault) : Type 0 where
-  pub chosen : List ℕ
-  pub ten : length chosen ≤ 10
-  pub is : quick_of chosen s base ≡ Err found
-
-abbrev pub IsQuickFaultUnless : Type 0 → SourceOf → ℕ → QuickFault → Type 0
-IsQuickFaultUnless refused s base fault.Memory = refused
-IsQuickFaultUnless refused s base found = HasNoQuick s base found

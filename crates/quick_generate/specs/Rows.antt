@@ -14,9 +14,9 @@ abbrev pub var_of : Arg → ℕ
 var_of (Var b) = b
 var_of (Lit v) = 0
 
-abbrev pub number_in : Arg → ℕ
-number_in (Var b) = 0
-number_in (Lit v) = word_of_int (item_of_value v)
+abbrev pub literal_number : Arg → ℕ
+literal_number (Var b) = 0
+literal_number (Lit v) = word_of_int (item_of_value v)
 
 -- the truth of a comparison of two variables
 abbrev pub compared_code : Layout → List Arg → Op → Flags → Cc → List ℕ

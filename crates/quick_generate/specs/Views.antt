@@ -21,8 +21,8 @@ layout_by vs shapes end = record {
   access = λ b. access_from 5 vs b (end - 1 - words_of (take b shapes));
 }
 
-abbrev pub layout_of : Frame → Layout
-layout_of f = layout_by f.chosen.items f.shapes.items f.end
+abbrev pub frame_layout : Frame → Layout
+frame_layout f = layout_by f.chosen.items f.shapes.items f.end
 
 -- where each condition goes, by what stands round a statement
 abbrev pub targets : Scopes → Targets

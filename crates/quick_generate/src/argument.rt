@@ -5,7 +5,7 @@ ghost use Rattle.gypsy_syntax.specs.Effects.{item_of_value};
 ghost use Rattle.gypsy_space.specs.Nodes.{seen_arg};
 ghost use Rattle.quick_code.specs.Access.{register_of};
 ghost use Rattle.quick_gypsy.specs.RowCode.{arg_access, arg_number, arg_var};
-ghost use Rattle.quick_generate.specs.{Rows.{number_in, var_of}, Views.{layout_of, seen_access}};
+ghost use Rattle.quick_generate.specs.{Rows.{literal_number, var_of}, Views.{frame_layout, seen_access}};
 
 use crate::access::Access;
 use crate::frame::Frame;
@@ -46,7 +46,7 @@ fn item(value: &Value) -> i32
 
 /// The number of a literal.
 fn number_of(arg: &Argument) -> u32
-    ensures { result ≡ number_in (seen_arg arg.now) }
+    ensures { result ≡ literal_number (seen_arg arg.now) }
 {
     match arg {
         Argument::Variable(_) => 0,
@@ -67,7 +67,7 @@ pub(crate) fn number(args: &[Argument], index: usize) -> u32
 
 /// How the variable that an argument is is reached.
 pub(crate) fn reach(frame: &Frame, args: &[Argument], index: usize) -> Access
-    ensures value { seen_access result ≡ arg_access (layout_of frame.now) (map seen_arg args.now) index }
+    ensures value { seen_access result ≡ arg_access (frame_layout frame.now) (map seen_arg args.now) index }
     ensures register { register_of (seen_access result) < 16 }
 {
     frame.reach(variable(args, index))

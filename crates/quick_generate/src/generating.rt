@@ -1,16 +1,16 @@
 //! Quick images.
 
-ghost use Rattle.std.specs.Prelude.{◌≡◌, ◌+◌, ◌-◌, ◌*◌, ◌^◌, ◌<◌, ◌≤◌, ◌∷◌, IfErr, IfOk, length, map};
+ghost use Rattle.std.specs.Prelude.{◌≡◌, ◌+◌, ◌-◌, ◌*◌, ◌^◌, ◌<◌, ◌≤◌, ◌∷◌, IfOk, length, map};
 ghost use Rattle.stack_heap.specs.Heaps.{IfOkUnless};
 ghost use Rattle.fm_words.specs.WindowLimit.{most_window};
 ghost use Rattle.display_maps.specs.Reading.{space_name};
 ghost use Rattle.gypsy_check.specs.Accepted.{IsAccepted};
 ghost use Rattle.gypsy_syntax.specs.{Programs.{proc_at, shapes_of, words_of}, Resolved.{program_of}, Views.SourceView.{source_of}};
-ghost use Rattle.gypsy_space.specs.{Nodes.{seen_proc, seen_program, seen_statement}, StatementNeeds.{capped}};
+ghost use Rattle.gypsy_space.specs.Nodes.{seen_proc, seen_program, seen_statement};
 ghost use Rattle.quick_gypsy.specs.Quick.{size};
 ghost use Rattle.quick_build.specs.{QuickImage.{quick_image}, QuickImplements.{CanBeQuick, main_proc}};
-ghost use Rattle.quick_generate.specs.QuickOf.{final_by, GivesQuickUnless, IsQuick, IsQuickFaultUnless, quick_of, start_by, window_end, words_by};
-ghost use Rattle.quick_generate.specs.Views.{layout_of};
+ghost use Rattle.quick_generate.specs.{QuickOf.{final_by, GivesQuickUnless, quick_of, window_end, words_by}, Quickened.{KeepsPlain, quickened}, Sums.{limited}};
+ghost use Rattle.quick_generate.specs.Views.{frame_layout};
 
 use crate::choice::choose;
 use crate::exits::{EXIT_SIZE, Exits, append_exits};
@@ -47,8 +47,8 @@ fn main_of(program: &Program) -> &Procedure
 /// How many words the image of a main procedure has, exact up to 2^60.
 fn image_size(frame: &Frame, main: &Procedure) -> u64
     requires { length main.now.conds.items ≤ 200 }
-    ensures { let code = size (layout_of frame.now) (seen_statement main.now.body.value) in
-        result ≡ capped (6 * (2 + length main.now.conds.items) + code + (2 + words_of frame.now.shapes.items)) }
+    ensures { let code = size (frame_layout frame.now) (seen_statement main.now.body.value) in
+        result ≡ limited (6 * (2 + length main.now.conds.items) + code + (2 + words_of frame.now.shapes.items)) }
 {
     let before = u64::from(EXIT_SIZE) * (2 + main.conds.len() as u64);
     let code = sum(before, size(frame, &main.body));
@@ -59,10 +59,10 @@ fn image_size(frame: &Frame, main: &Procedure) -> u64
 /// The code of a main procedure from this address on: its exits, and its body.
 fn code<H: Heap>(heap: H, frame: &Frame, main: &Procedure, base: u32) -> Result<Vec<u32>, Memory>
     requires conds { length main.now.conds.items ≤ 200 }
-    requires fits { final_by (layout_of frame.now) base (length main.now.conds.items)
+    requires fits { final_by (frame_layout frame.now) base (length main.now.conds.items)
         (seen_statement main.now.body.value) + 1 < 2 ^ 32 }
     ensures { let statement = seen_statement main.now.body.value in
-        let code = words_by (layout_of frame.now) base (length main.now.conds.items) statement in
+        let code = words_by (frame_layout frame.now) base (length main.now.conds.items) statement in
         IfOkUnless (H.may_refuse heap) result (λ words. words.items ≡ code) }
 {
     let conds = main.conds.len() as u32;
@@ -165,28 +165,41 @@ pub fn quick_with<H: Heap>(
     Ok(placed(heap, accepted, &frame, main, base)?)
 }
 
-/// A quick image of an accepted source in a window from `base` on. The image goes for all values of main's formals, and
-/// does what the source means in no more instructions than are counted for the image that `build` makes.
+/// The plain image, where there is no quick one for this reason. Out of memory is an error.
+fn kept(fault: QuickFault, plain: Image) -> Result<Image, Memory>
+    ensures { KeepsPlain fault plain result }
+{
+    match fault {
+        QuickFault::Memory => Err(Memory),
+        _ => Ok(plain),
+    }
+}
+
+/// The quick image of an accepted source if it has one, and else `plain`, which was built of the source. The variables that
+/// main names most have registers. An image goes for all values of main's formals.
 ///
-/// It is made of main's body alone. So main may call no procedure of the source, and may not multiply.
+/// A quick image is made of main's body alone. So there is none if main calls a procedure of the source, if it multiplies,
+/// or if the image would take more than 2^20 words.
 ///
 /// # Errors
 ///
-/// The first call or product of main's body; or `Words`; or out of memory.
-pub fn quick<H: Heap>(
+/// Out of memory.
+pub fn quicken<H: Heap>(
     heap: H,
     accepted: &Accepted,
     program: &Program,
-    base: u32,
-) -> Result<Image, QuickFault>
+    plain: Image,
+) -> Result<Image, Memory>
     requires program { seen_program program.now ≡ program_of (source_of accepted.now) }
     requires accepted { IsAccepted (source_of accepted.now) }
-    requires base { base ≤ 2 ^ 31 }
-    ensures image { IfOk result (IsQuick (source_of accepted.now) base) }
-    ensures fault { IfErr result (IsQuickFaultUnless (H.may_refuse heap) (source_of accepted.now) base) }
+    requires base { plain.base ≤ 2 ^ 31 }
+    ensures { IfOkUnless (H.may_refuse heap) result (λ image. image ≡ quickened (source_of accepted.now) plain) }
 {
     let main = main_of(program);
     let variables = shapes(heap, main)?;
     let chosen = choose(heap, main, variables.as_slice())?;
-    quick_with(heap, accepted, program, chosen, base)
+    match quick_with(heap, accepted, program, chosen, plain.base) {
+        Ok(image) => Ok(image),
+        Err(fault) => kept(fault, plain),
+    }
 }

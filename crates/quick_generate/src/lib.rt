@@ -1,7 +1,7 @@
 //! Quick images of sources, as code.
 //!
-//! `quick_with` makes the image that `quick_build` defines, for a choice of variables that have registers, and `quick`
-//! chooses them itself.
+//! `quick_with` makes the image that `quick_build` defines, for a choice of variables that have registers. `quicken` chooses
+//! them itself, and keeps the plain image of a source that has no quick one.
 #![tactic(auto)]
 
 mod access;
@@ -12,6 +12,7 @@ mod fault;
 mod frame;
 mod generating;
 mod hurdle;
+mod laws;
 mod piece;
 mod reaching;
 mod row;
@@ -21,4 +22,5 @@ mod statement;
 mod window;
 
 pub use fault::QuickFault;
-pub use generating::{quick, quick_with};
+pub use generating::{quick_with, quicken};
+pub use laws::quickened_images_mean;

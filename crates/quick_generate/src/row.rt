@@ -5,7 +5,7 @@ ghost use Rattle.stack_heap.specs.Heaps.{OnOkUnless};
 ghost use Rattle.gypsy_syntax.specs.declared.predef.Predef.TheVariants as predef;
 ghost use Rattle.gypsy_space.specs.Nodes.{seen_arg};
 ghost use Rattle.quick_gypsy.specs.RowCode.{row_code};
-ghost use Rattle.quick_generate.specs.{Rows.{compared_code, counted_code, joined_code, front_code}, Views.{layout_of}};
+ghost use Rattle.quick_generate.specs.{Rows.{compared_code, counted_code, joined_code, front_code}, Views.{frame_layout}};
 
 use crate::argument::{number, reach, variable};
 use crate::frame::Frame;
@@ -37,7 +37,7 @@ fn compared<H: Heap>(
     set: Flags,
     cc: Cc,
 ) -> Result<(), Memory>
-    ensures { let code = compared_code (layout_of frame.now) (map seen_arg args.now) op set cc in
+    ensures { let code = compared_code (frame_layout frame.now) (map seen_arg args.now) op set cc in
         OnOkUnless (H.may_refuse heap) result (words.new.items ≡ words.old.items ++ code) }
 {
     load(heap, words, reach(frame, args, 2))?;
@@ -53,7 +53,7 @@ fn compared_constant<H: Heap>(
     frame: &Frame,
     args: &[Argument],
 ) -> Result<(), Memory>
-    ensures { let code = row_code (layout_of frame.now) 0 (map seen_arg args.now) predef.MgSimpleConstantEq in
+    ensures { let code = row_code (frame_layout frame.now) 0 (map seen_arg args.now) predef.MgSimpleConstantEq in
         OnOkUnless (H.may_refuse heap) result (words.new.items ≡ words.old.items ++ code) }
 {
     by_literal(heap, words, Op::Move, Flags::NONE, number(args, 2))?;
@@ -70,7 +70,7 @@ fn negated<H: Heap>(
     args: &[Argument],
     target: u32,
 ) -> Result<(), Memory>
-    ensures { let code = row_code (layout_of frame.now) target (map seen_arg args.now) predef.MgIntegerUnaryMinus in
+    ensures { let code = row_code (frame_layout frame.now) target (map seen_arg args.now) predef.MgIntegerUnaryMinus in
         OnOkUnless (H.may_refuse heap) result (words.new.items ≡ words.old.items ++ code) }
 {
     by_word(heap, words, Op::Neg, FLAG_V, reach(frame, args, 1))?;
@@ -88,7 +88,7 @@ fn counted<H: Heap>(
     op: Op,
     target: u32,
 ) -> Result<(), Memory>
-    ensures { let code = counted_code (layout_of frame.now) target (map seen_arg args.now) op in
+    ensures { let code = counted_code (frame_layout frame.now) target (map seen_arg args.now) op in
         OnOkUnless (H.may_refuse heap) result (words.new.items ≡ words.old.items ++ code) }
 {
     load(heap, words, reach(frame, args, 1))?;
@@ -106,7 +106,7 @@ fn joined<H: Heap>(
     args: &[Argument],
     op: Op,
 ) -> Result<(), Memory>
-    ensures { let code = joined_code (layout_of frame.now) (map seen_arg args.now) op in
+    ensures { let code = joined_code (frame_layout frame.now) (map seen_arg args.now) op in
         OnOkUnless (H.may_refuse heap) result (words.new.items ≡ words.old.items ++ code) }
 {
     load(heap, words, reach(frame, args, 1))?;
@@ -122,7 +122,7 @@ fn inverted<H: Heap>(
     frame: &Frame,
     args: &[Argument],
 ) -> Result<(), Memory>
-    ensures { let code = row_code (layout_of frame.now) 0 (map seen_arg args.now) predef.MgBooleanNot in
+    ensures { let code = row_code (frame_layout frame.now) 0 (map seen_arg args.now) predef.MgBooleanNot in
         OnOkUnless (H.may_refuse heap) result (words.new.items ≡ words.old.items ++ code) }
 {
     load(heap, words, reach(frame, args, 1))?;
@@ -141,7 +141,7 @@ fn item<H: Heap>(
     target: u32,
 ) -> Result<(), Memory>
     requires { array < 2 }
-    ensures { let code = front_code (layout_of frame.now) target (map seen_arg args.now) array in
+    ensures { let code = front_code (frame_layout frame.now) target (map seen_arg args.now) array in
         OnOkUnless (H.may_refuse heap) result (words.new.items ≡ words.old.items ++ code) }
 {
     let named = variable(args, array);
@@ -161,7 +161,7 @@ fn item_read<H: Heap>(
     args: &[Argument],
     target: u32,
 ) -> Result<(), Memory>
-    ensures { let code = row_code (layout_of frame.now) target (map seen_arg args.now) predef.MgIndexArray in
+    ensures { let code = row_code (frame_layout frame.now) target (map seen_arg args.now) predef.MgIndexArray in
         OnOkUnless (H.may_refuse heap) result (words.new.items ≡ words.old.items ++ code) }
 {
     item(heap, words, frame, args, 1, target)?;
@@ -178,7 +178,7 @@ fn item_stored<H: Heap>(
     target: u32,
 ) -> Result<(), Memory>
     ensures { let args = map seen_arg args.now in
-        let code = row_code (layout_of frame.now) target args predef.MgArrayElementAssignment in
+        let code = row_code (frame_layout frame.now) target args predef.MgArrayElementAssignment in
         OnOkUnless (H.may_refuse heap) result (words.new.items ≡ words.old.items ++ code) }
 {
     item(heap, words, frame, args, 0, target)?;
@@ -195,7 +195,7 @@ pub(crate) fn row<H: Heap>(
     args: &[Argument],
     target: u32,
 ) -> Result<(), Memory>
-    ensures { let code = row_code (layout_of frame.now) target (map seen_arg args.now) which in
+    ensures { let code = row_code (frame_layout frame.now) target (map seen_arg args.now) which in
         OnOkUnless (H.may_refuse heap) result (words.new.items ≡ words.old.items ++ code) }
 {
     match which {

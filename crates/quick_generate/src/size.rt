@@ -1,10 +1,10 @@
 //! How many words the quick code of statements has.
 
 ghost use Rattle.std.specs.Prelude.{◌≡◌, ◌+◌, ◌^◌, ◌<◌, ◌≤◌, length, map};
-ghost use Rattle.gypsy_space.specs.{Nodes.{seen_arg, seen_statement, seen_statements}, StatementNeeds.{capped}};
+ghost use Rattle.gypsy_space.specs.Nodes.{seen_arg, seen_statement, seen_statements};
 ghost use Rattle.quick_code.specs.Access.{find_code};
 ghost use Rattle.quick_gypsy.specs.{Quick.{size, test_code}, RowCode.{arg_access, row_code}};
-ghost use Rattle.quick_generate.specs.{Rows.{row_size}, Views.{layout_of, seen_access}};
+ghost use Rattle.quick_generate.specs.{Rows.{row_size}, Sums.{limited}, Views.{frame_layout, seen_access}};
 
 use crate::access::Access;
 use crate::argument::reach;
@@ -14,14 +14,14 @@ use gypsy_syntax::Predef;
 use std::rc::Rc;
 
 /// Sums are exact up to this number, 2^60, and stay there.
-const MOST: u64 = 1 << 60;
+pub(crate) const MOST: u64 = 1 << 60;
 
 /// The words of a jump.
 pub(crate) const JUMP_SIZE: u32 = 2;
 
 /// A sum.
 pub(crate) fn sum(left: u64, right: u64) -> u64
-    ensures { result ≡ capped (left + right) }
+    ensures { result ≡ limited (left + right) }
 {
     left.saturating_add(right).min(MOST)
 }
@@ -39,7 +39,7 @@ fn find_size(access: Access) -> u64
 
 /// How many words it takes to find the variable that an argument is.
 fn found(frame: &Frame, args: &[Argument], index: usize) -> u64
-    ensures exact { result ≡ length (find_code (arg_access (layout_of frame.now) (map seen_arg args.now) index)) }
+    ensures exact { result ≡ length (find_code (arg_access (frame_layout frame.now) (map seen_arg args.now) index)) }
     ensures small { result ≤ 2 }
 {
     find_size(reach(frame, args, index))
@@ -70,7 +70,7 @@ fn row_size_by(x: u64, y: u64, z: u64, which: Predef) -> u64
 
 /// How many words the code of a predefined call has.
 pub(crate) fn row_size(frame: &Frame, which: Predef, args: &[Argument]) -> u64
-    ensures exact { result ≡ length (row_code (layout_of frame.now) 0 (map seen_arg args.now) which) }
+    ensures exact { result ≡ length (row_code (frame_layout frame.now) 0 (map seen_arg args.now) which) }
     ensures small { result ≤ 16 }
 {
     let x = found(frame, args, 0);
@@ -81,7 +81,7 @@ pub(crate) fn row_size(frame: &Frame, which: Predef, args: &[Argument]) -> u64
 
 /// How many words the test of an `if` has.
 pub(crate) fn test_size(frame: &Frame, variable: u32) -> u64
-    ensures exact { result ≡ length (test_code (layout_of frame.now) variable 0) }
+    ensures exact { result ≡ length (test_code (frame_layout frame.now) variable 0) }
     ensures small { result ≤ 5 }
 {
     find_size(frame.reach(variable)) + 3
@@ -90,7 +90,7 @@ pub(crate) fn test_size(frame: &Frame, variable: u32) -> u64
 /// How many words the code of a statement has, exact up to 2^60.
 #[cycle(sizes)]
 pub(crate) fn size(frame: &Frame, node: &Rc<Node>) -> u64
-    ensures { result ≡ capped (size (layout_of frame.now) (seen_statement node.now.value)) }
+    ensures { result ≡ limited (size (frame_layout frame.now) (seen_statement node.now.value)) }
 {
     match &**node {
         Node::NoOp(_) | Node::Call(_) => 0,
@@ -113,7 +113,7 @@ pub(crate) fn size(frame: &Frame, node: &Rc<Node>) -> u64
 /// How many words the code of the parts of a sequence has.
 #[cycle(sizes)]
 fn parts_size(frame: &Frame, parts: &Rc<Vec<Rc<Node>>>) -> u64
-    ensures { result ≡ capped (size (layout_of frame.now) (seen_statements parts.now.value.items)) }
+    ensures { result ≡ limited (size (frame_layout frame.now) (seen_statements parts.now.value.items)) }
 {
     let mut words = 0;
     for index in 0..parts.len() {
@@ -124,8 +124,8 @@ fn parts_size(frame: &Frame, parts: &Rc<Vec<Rc<Node>>>) -> u64
 
 /// How many words the code of a statement has, where they are few.
 pub(crate) fn small_size(frame: &Frame, node: &Rc<Node>) -> u32
-    requires { size (layout_of frame.now) (seen_statement node.now.value) < 2 ^ 32 }
-    ensures { result ≡ size (layout_of frame.now) (seen_statement node.now.value) }
+    requires { size (frame_layout frame.now) (seen_statement node.now.value) < 2 ^ 32 }
+    ensures { result ≡ size (frame_layout frame.now) (seen_statement node.now.value) }
 {
     size(frame, node) as u32
 }

@@ -5,7 +5,7 @@ ghost use Rattle.stack_heap.specs.Heaps.{OnOkUnless};
 ghost use Rattle.gypsy_space.specs.Nodes.{seen_arg, seen_cond, seen_statement, seen_statements};
 ghost use Rattle.gypsy_syntax.specs.Programs.{Loop, Routine};
 ghost use Rattle.quick_gypsy.specs.{Quick.{begin_targets, quick, size, test_code}, RowCode.{row_code}};
-ghost use Rattle.quick_generate.specs.Views.{layout_of, targets};
+ghost use Rattle.quick_generate.specs.Views.{frame_layout, targets};
 
 use crate::frame::Frame;
 use crate::piece::{by_word, jump, jump_when};
@@ -27,7 +27,7 @@ fn test<H: Heap>(
     variable: u32,
     otherwise: u32,
 ) -> Result<(), Memory>
-    ensures { let code = test_code (layout_of frame.now) variable otherwise in
+    ensures { let code = test_code (frame_layout frame.now) variable otherwise in
         OnOkUnless (H.may_refuse heap) result (words.new.items ≡ words.old.items ++ code) }
 {
     by_word(heap, words, Op::Move, FLAG_Z, frame.reach(variable))?;
@@ -44,7 +44,7 @@ fn apply<H: Heap>(
     site: &Application,
 ) -> Result<(), Memory>
     ensures { let fault = targets scopes.now Routine in
-        let code = row_code (layout_of frame.now) fault (map seen_arg site.now.args.items) site.now.which in
+        let code = row_code (frame_layout frame.now) fault (map seen_arg site.now.args.items) site.now.which in
         OnOkUnless (H.may_refuse heap) result (words.new.items ≡ words.old.items ++ code) }
 {
     let fault = target(scopes, Condition::Routine);
@@ -61,12 +61,12 @@ fn repetition<H: Heap>(
     pc: u32,
     body: &Rc<Node>,
 ) -> Result<u32, Memory>
-    requires { pc + (size (layout_of frame.now) (seen_statement body.now.value) + 2) < 2 ^ 32 }
+    requires { pc + (size (frame_layout frame.now) (seen_statement body.now.value) + 2) < 2 ^ 32 }
     ensures code { let statement = Loop 0 (seen_statement body.now.value) in
-        let code = quick (layout_of frame.now) (targets scopes.now) pc statement in
+        let code = quick (frame_layout frame.now) (targets scopes.now) pc statement in
         OnOkUnless (H.may_refuse heap) result (words.new.items ≡ words.old.items ++ code) }
     ensures next { IfOk result
-        (λ next. next ≡ pc + (size (layout_of frame.now) (seen_statement body.now.value) + 2)) }
+        (λ next. next ≡ pc + (size (frame_layout frame.now) (seen_statement body.now.value) + 2)) }
 {
     let behind = pc + (small_size(frame, body) + JUMP_SIZE);
     let inner = Scopes::InLoop(behind, &*scopes);
@@ -87,9 +87,9 @@ fn guarded<H: Heap>(
     conds: &Rc<Vec<Condition>>,
     arm: u32,
 ) -> Result<(), Memory>
-    requires { pc + size (layout_of frame.now) (seen_statement body.now.value) < 2 ^ 32 }
+    requires { pc + size (frame_layout frame.now) (seen_statement body.now.value) < 2 ^ 32 }
     ensures { let inside = begin_targets (map seen_cond conds.now.value.items) arm (targets scopes.now) in
-        let code = quick (layout_of frame.now) inside pc (seen_statement body.now.value) in
+        let code = quick (frame_layout frame.now) inside pc (seen_statement body.now.value) in
         OnOkUnless (H.may_refuse heap) result (words.new.items ≡ words.old.items ++ code) }
 {
     let inner = Scopes::InBegin(conds.as_slice(), arm, &*scopes);
@@ -107,10 +107,10 @@ pub(crate) fn statement<H: Heap>(
     pc: u32,
     node: &Rc<Node>,
 ) -> Result<u32, Memory>
-    requires { pc + size (layout_of frame.now) (seen_statement node.now.value) < 2 ^ 32 }
-    ensures code { let code = quick (layout_of frame.now) (targets scopes.now) pc (seen_statement node.now.value) in
+    requires { pc + size (frame_layout frame.now) (seen_statement node.now.value) < 2 ^ 32 }
+    ensures code { let code = quick (frame_layout frame.now) (targets scopes.now) pc (seen_statement node.now.value) in
         OnOkUnless (H.may_refuse heap) result (words.new.items ≡ words.old.items ++ code) }
-    ensures next { IfOk result (λ next. next ≡ pc + size (layout_of frame.now) (seen_statement node.now.value)) }
+    ensures next { IfOk result (λ next. next ≡ pc + size (frame_layout frame.now) (seen_statement node.now.value)) }
 {
     match &**node {
         Node::NoOp(_) | Node::Call(_) => Ok(pc),
@@ -158,12 +158,12 @@ fn parts<H: Heap>(
     pc: u32,
     parts: &Rc<Vec<Rc<Node>>>,
 ) -> Result<u32, Memory>
-    requires { pc + size (layout_of frame.now) (seen_statements parts.now.value.items) < 2 ^ 32 }
+    requires { pc + size (frame_layout frame.now) (seen_statements parts.now.value.items) < 2 ^ 32 }
     ensures code { let statement = seen_statements parts.now.value.items in
-        let code = quick (layout_of frame.now) (targets scopes.now) pc statement in
+        let code = quick (frame_layout frame.now) (targets scopes.now) pc statement in
         OnOkUnless (H.may_refuse heap) result (words.new.items ≡ words.old.items ++ code) }
     ensures next { IfOk result
-        (λ next. next ≡ pc + size (layout_of frame.now) (seen_statements parts.now.value.items)) }
+        (λ next. next ≡ pc + size (frame_layout frame.now) (seen_statements parts.now.value.items)) }
 {
     let mut next = pc;
     for index in 0..parts.len() {

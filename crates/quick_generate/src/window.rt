@@ -1,6 +1,6 @@
 //! What stands in a quick image behind its code, and its registers.
 
-ghost use Rattle.std.specs.Prelude.{◌≡◌, ◌+◌, ◌-◌, ◌++◌, ◌∷◌, [], ◌<◌, ◌≤◌, get_or, length, map, replicate, reverse, take};
+ghost use Rattle.std.specs.Prelude.{◌≡◌, ◌++◌, ◌∷◌, map, replicate, reverse, take};
 ghost use Rattle.stack_heap.specs.Heaps.{IfOkUnless, OnOkUnless};
 ghost use Rattle.fm_words.specs.Word.{word_of_int};
 ghost use Rattle.fm_code.specs.InstructionWords.{halt_word};
@@ -8,9 +8,9 @@ ghost use Rattle.piton_linker.specs.Layouts.{trimmed};
 ghost use Rattle.gypsy_syntax.specs.Programs.{words_of};
 ghost use Rattle.gypsy_space.specs.Nodes.{held_shapes, held_values, seen_proc};
 ghost use Rattle.gypsy_codegen.specs.WordsOf.{zero_value};
-ghost use Rattle.quick_gypsy.specs.{Layout.{first_of}, Numbers.{numbers_of, value_numbers}};
+ghost use Rattle.quick_gypsy.specs.Numbers.{numbers_of};
 ghost use Rattle.quick_build.specs.QuickImage.{first_values};
-ghost use Rattle.quick_generate.specs.{QuickOf.{registers_by}, Views.{layout_of}};
+ghost use Rattle.quick_generate.specs.QuickOf.{registers_by};
 
 use crate::frame::{Frame, words_of};
 use crate::piece::append;

@@ -2,10 +2,10 @@ use Rattle.std.proofs.Common.{◌≡◌, ◌≤◌, ◌<◌, ◌∙◌, ap, sym,
 use Rattle.fm_words.specs.WindowLimit.{most_window}
 use Rattle.fm_image.specs.Image.{ImageOf}
 use Rattle.gypsy_syntax.{specs.Programs.{Proc, shapes_of}, specs.Sources.SourceOf, specs.Views.SourceView.source_of}
-use Rattle.gypsy_space.{specs.Nodes.seen_proc, specs.StatementNeeds.capped}
+use Rattle.gypsy_space.specs.Nodes.{seen_proc}
+use Rattle.quick_generate.{specs.Sums.limited, specs.Hurdles.hurdle_of, specs.QuickOf.{image_size, window_end}, proofs.GivenLaws.{hurdle_given, quick_given}}
+use Rattle.quick_generate.{proofs.GivenLaws.words_given, proofs.PlacedLaws.{few_conds, image_words, main_here}, proofs.QuickLaws.can_be}
 use Rattle.quick_build.{specs.QuickImage.quick_image, specs.QuickImplements.main_proc}
-use Rattle.quick_generate.{specs.Hurdles.hurdle_of, specs.QuickOf.{image_size, window_end}, proofs.GivenLaws.{hurdle_given, quick_given, words_given}}
-use Rattle.quick_generate.{proofs.PlacedLaws.{few_conds, image_words, main_here}, proofs.QuickLaws.can_be}
 use Rattle.quick_generate.proofs.generating.quick_with.Goals as goal
 
 pub returns-in-Some-clause-image : goal.returns-in-Some-clause-image
@@ -32,7 +32,7 @@ returns-then-words-from-clause-image g c =
     ap (λ (p : Proc). hurdle_of p.body) (sym here) ∙ sym c.hurdle_of.ensures ∙ c.in_default.is in
     let shapes : c.new-anywhere.result.shapes.items ≡ shapes_of (main_proc s) =
     c.new-anywhere.ensures.shapes ∙ c.in_ok-shapes.ensures ∙ ap shapes_of here in
-    let counted : c.image_size-words.result ≡ capped (image_size c.args.chosen.items (main_proc s)) =
+    let counted : c.image_size-words.result ≡ limited (image_size c.args.chosen.items (main_proc s)) =
     image_words c.new-anywhere.result main c.args.chosen.items (main_proc s) c.image_size-words.result c.new-anywhere.ensures.chosen shapes here
     c.image_size-words.ensures in
     let large : most_window < image_size c.args.chosen.items (main_proc s) = omega (arith, counted, c.if-words-from.true, c.from.ensures) in
@@ -45,7 +45,7 @@ placed-requires-clause-end g c =
     let here : seen_proc main ≡ main_proc s = main_here c.args.program.now main s c.requires.program c.main_of-main.ensures in
     let shapes : c.new-anywhere.result.shapes.items ≡ shapes_of (main_proc s) =
     c.new-anywhere.ensures.shapes ∙ c.in_ok-shapes.ensures ∙ ap shapes_of here in
-    let counted : c.image_size-words.result ≡ capped (image_size c.args.chosen.items (main_proc s)) =
+    let counted : c.image_size-words.result ≡ limited (image_size c.args.chosen.items (main_proc s)) =
     image_words c.new-anywhere.result main c.args.chosen.items (main_proc s) c.image_size-words.result c.new-anywhere.ensures.chosen shapes here
     c.image_size-words.ensures in
     let small : image_size c.args.chosen.items (main_proc s) ≤ most_window = omega (arith, counted, c.if-words-from.false, c.from.ensures) in
@@ -63,7 +63,7 @@ returns-clause-image g c =
     ap (λ (p : Proc). hurdle_of p.body) (sym here) ∙ sym c.hurdle_of.ensures ∙ c.in_default.is in
     let shapes : c.new-anywhere.result.shapes.items ≡ shapes_of (main_proc s) =
     c.new-anywhere.ensures.shapes ∙ c.in_ok-shapes.ensures ∙ ap shapes_of here in
-    let counted : c.image_size-words.result ≡ capped (image_size c.args.chosen.items (main_proc s)) =
+    let counted : c.image_size-words.result ≡ limited (image_size c.args.chosen.items (main_proc s)) =
     image_words c.new-anywhere.result main c.args.chosen.items (main_proc s) c.image_size-words.result c.new-anywhere.ensures.chosen shapes here
     c.image_size-words.ensures in
     let small : image_size c.args.chosen.items (main_proc s) ≤ most_window = omega (arith, counted, c.if-words-from.false, c.from.ensures) in
@@ -84,7 +84,7 @@ returns-clause-can g c =
     ap (λ (p : Proc). hurdle_of p.body) (sym here) ∙ sym c.hurdle_of.ensures ∙ c.in_default.is in
     let shapes : c.new-anywhere.result.shapes.items ≡ shapes_of (main_proc s) =
     c.new-anywhere.ensures.shapes ∙ c.in_ok-shapes.ensures ∙ ap shapes_of here in
-    let counted : c.image_size-words.result ≡ capped (image_size c.args.chosen.items (main_proc s)) =
+    let counted : c.image_size-words.result ≡ limited (image_size c.args.chosen.items (main_proc s)) =
     image_words c.new-anywhere.result main c.args.chosen.items (main_proc s) c.image_size-words.result c.new-anywhere.ensures.chosen shapes here
     c.image_size-words.ensures in
     let small : image_size c.args.chosen.items (main_proc s) ≤ most_window = omega (arith, counted, c.if-words-from.false, c.from.ensures) in

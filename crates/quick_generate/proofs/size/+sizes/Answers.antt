@@ -1,7 +1,7 @@
 use Rattle.std.{proofs.Common.{◌≡◌, ap, sym, ◌∙◌, vec_len, arith}, proofs.lemmas.List.drop_all}
 use Rattle.gypsy_space.{specs.Nodes.{seen_statement, seen_statements}, proofs.NodeLaws.seen_statement-seq}
 use Rattle.quick_gypsy.specs.Quick.{size}
-use Rattle.quick_generate.{specs.Views.layout_of, proofs.SizeLaws.no_more_words}
+use Rattle.quick_generate.{specs.Views.frame_layout, proofs.SizeLaws.no_more_words}
 use Rattle.quick_generate.proofs.size.+sizes.Goals as goal
 
 pub size-returns-in-Seq : goal.size-returns-in-Seq
@@ -13,5 +13,5 @@ size-returns-in-Seq t c =
 pub parts_size-returns : goal.parts_size-returns
 parts_size-returns t c =
     let count : vec_len c.deref.result.now ≡ vec_len c.args.parts.now.value = ap vec_len c.deref.ensures in
-    no_more_words c.loop-index.words (size (layout_of c.args.frame.now) (seen_statements c.args.parts.now.value.items))
+    no_more_words c.loop-index.words (size (frame_layout c.args.frame.now) (seen_statements c.args.parts.now.value.items))
     (rw (drop_all c.loop-index.index c.args.parts.now.value.items (omega (arith, count, c.loop-index-test.false))) at c.loop-index.invariant)
