@@ -52,6 +52,7 @@ def parts(program):
         "examples": [Trial("commands that documents show", tool("transcripts", str(TOP / "stack"), *documents()), r" *(\d+) commands of transcripts, (\d+) failed")],
         "random": [
             Trial("random sources", tool("random_sources", program, "1", "60"), r"(60) sources agree"),
+            Trial("random sources by quick", tool("random_quick", program, "1", "60"), r"(60) sources agree"),
             Trial("random products", tool("random_products", program, "2000"), r"(\d+) products, 0 sources"),
             Trial("random infix programs", tool("random_infix", program, "1", "60"), r"(\d+) random infix programs, .*: 0 wrong"),
             Trial("text of a million random words", tool("random_words", program), r"1000000 random words, "),

@@ -23,7 +23,7 @@ wants() {
 count='[1-9][0-9,]*'
 copy=$top
 wants 0 "the proved program of commit [0-9a-f]*\(, and changes\)\?: $count passed, 0 failed, in [0-9]* seconds" test
-for what in "rows of conformance" "commands that documents show" "random sources" "random products" "random infix programs" "text of a million random words" \
+for what in "rows of conformance" "commands that documents show" "random sources" "random sources by quick" "random products" "random infix programs" "text of a million random words" \
     "random programs for the processor" "runs on damaged files"; do
     grep -q "^ *$count $what, 0 failed\$" "$folder/out" || { echo "test: there are no $what:"; cat "$folder/out"; failed=1; }
 done

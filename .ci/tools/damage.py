@@ -51,6 +51,7 @@ READERS = {
         "mean DAMAGED VALUES 20 20 1000",
         "pit DAMAGED 20 20 out",
         "build DAMAGED 20 20 out",
+        "quick DAMAGED 20 20 out",
         "go DAMAGED VALUES 20 20 1000 out",
         "need DAMAGED out",
         "cert DAMAGED CERTIFICATE 20 20",

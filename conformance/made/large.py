@@ -326,6 +326,7 @@ def large():
     """Programs with many words, and texts with many lines."""
     # Main's 14 words of code and 8,256 for each of 130 calls, and the procedure's 16.
     yield "130 calls", "build t 100 100 i", many_locals(130, 1), "", 12, "size words 1073310"
+    yield "130 calls", "quick t 100 100 i", many_locals(130, 1), "", 12, "size words 1073310"
     # 44 for a call of a procedure without locals, 61,440 constants, and 4 for each local.
     yield "fifteen arrays", "go t v 19 61455 61544 i", many_locals(1, 15), "()", 0, "finished 61544\ncondition normal"
     area = " (nat 0)" * 20_000
@@ -357,7 +358,7 @@ def many_lines():
 def run_of(words, status, printed):
     """A run that stores its last word where its command stores a file."""
     parts = words.split()
-    stored = parts[-1] if parts[0] in ("go", "build", "pit", "pbuild", "asm", "mini") else None
+    stored = parts[-1] if parts[0] in ("go", "build", "pit", "pbuild", "asm", "mini", "quick") else None
     return Run(words.encode(), printed.encode() + b"\n", status, stored)
 
 

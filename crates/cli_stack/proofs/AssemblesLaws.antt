@@ -12,8 +12,8 @@ use Rattle.fm_asm.{specs.Printing.assembly_text, proofs.FileLaws.assembled_fits,
 use Rattle.fm_asm.proofs.RelatedLaws.{assembled_is_spelled}
 use Rattle.stack_build.proofs.ImageBytes.{file_few}
 use Rattle.command_line.{specs.declared.command.Command.Command, specs.declared.early_end.EarlyEnd.EarlyEnd, specs.declared.role.Role.TheVariants.Source}
-use Rattle.command_line.{specs.declared.role.Role.TheVariants.{Piton, Values, Image, Assembly, Certificate}, specs.Roles.limit_of, specs.Gathered.text_or_end}
-use Rattle.command_line.{specs.CommandFiles.{inputs_of, output_of}, proofs.FileLaws.was_short}
+use Rattle.command_line.{specs.declared.role.Role.TheVariants.{Piton, Values, Image, Assembly, Certificate, QuickImage}, specs.Roles.limit_of}
+use Rattle.command_line.{specs.Gathered.text_or_end, specs.CommandFiles.{inputs_of, output_of}, proofs.FileLaws.was_short}
 use Rattle.command_line.specs.declared.command.Command.TheVariants as command
 use Rattle.command_replies.{specs.Commands.Asm.assembled_stored, specs.Commands.Unasm.printed_stored}
 use Rattle.stack_commands.specs.Prepared.{stored_by}
@@ -132,6 +132,8 @@ images_by (command.Need source certificate) watches files =
     λ name own stored bytes reads writes sets. absurd (let e : Certificate ≡ Image = ap written_role writes in cc)
 images_by (command.Mini program source) watches files =
     λ name own stored bytes reads writes sets. absurd (let e : Source ≡ Image = ap written_role writes in cc)
+images_by (command.Quick source control temporary image) watches files =
+    λ name own stored bytes reads writes sets. absurd (let e : QuickImage ≡ Image = ap written_role writes in cc)
 images_by c watches files = λ name own stored bytes reads writes sets. absurd (let e : None ≡ Some (Image, own) = writes in cc)
 
 texts_by : (c : Command) (watches : List Watching) (files : Files) → StoresAssembly c files (answer_to c watches files).output
@@ -155,6 +157,8 @@ texts_by (command.Need source certificate) watches files =
     λ name own stored written reads writes sets. absurd (let e : Certificate ≡ Assembly = ap written_role writes in cc)
 texts_by (command.Mini program source) watches files =
     λ name own stored written reads writes sets. absurd (let e : Source ≡ Assembly = ap written_role writes in cc)
+texts_by (command.Quick source control temporary image) watches files =
+    λ name own stored written reads writes sets. absurd (let e : QuickImage ≡ Assembly = ap written_role writes in cc)
 texts_by c watches files = λ name own stored written reads writes sets. absurd (let e : None ≡ Some (Assembly, own) = writes in cc)
 
 pub assembles : (c : Command) (watches : List Watching) (files : Files) → Assembles c files (answer_to c watches files).output

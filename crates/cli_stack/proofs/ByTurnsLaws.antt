@@ -89,7 +89,7 @@ module _ (implement : BuiltImplements) (take : BuiltTakesValues) (meant : KeptMe
           either = inr (
             record {
               beyond = not_within t.image t.source sizes is.implements t.values is.fits budget spent;
-              tells = spent_told meant t.image t.source sizes is.implements is.moments t.values is.fits budget None reply refl spent;
+              tells = spent_told t.image t.values budget None reply refl spent;
             },
             refl,
           );

@@ -180,6 +180,8 @@ module _ (watches : List Watching) (before after : World) (status : Status) wher
       λ source values image reads writes. absurd (let e : [] ≡ (Values, values) ∷ [] = ap others reads in cc)
   completes_on (command.Mini program name) files answers shelf_fault sink_fault tells =
       λ source values image reads writes. absurd (let e : [] ≡ (Values, values) ∷ [] = ap others reads in cc)
+  completes_on (command.Quick source_name control temporary name) files answers shelf_fault sink_fault tells =
+      λ source values image reads writes. absurd (let e : [] ≡ (Values, values) ∷ [] = ap others reads in cc)
   completes_on c files answers shelf_fault sink_fault tells = λ source values image reads writes. absurd (let e : None ≡ Some (Image, image) = writes in cc)
 
   pub completes : (command : Option Command) (files : Files)

@@ -27,6 +27,18 @@ use Rattle.cli_stack.{specs.FilesAndSizes.IsReadable, specs.Kept.IsRunEnd, specs
 
 -- 1. A run of an image that keeps to a source.
 
+-- if the budget is used up, that is told
+pub spent_told : (image : ImageOf) (values : List ValueOf) (budget : ℕ) (output : Option (List ℕ × List ℕ)) (reply : ReplyOf)
+    → reply ≡ run_reply image values budget → (outcome budget image.final_pc (loaded image values)).run ≡ run.Spent
+    → TellsUnfinished budget (answer_with output reply)
+unfolding run_reply
+spent_told image values budget output reply is spent =
+    let o : RunOutcome = outcome budget image.final_pc (loaded image values) in
+    let verdict : reply.verdict ≡ verdict.Unfinished budget =
+    ap (λ (r : ReplyOf). r.verdict) is ∙ ap (λ (r : Run). (end_reply image budget r o.state).verdict) spent in
+    let said : reply.said ≡ [] = ap (λ (r : ReplyOf). r.said) is ∙ ap (λ (r : Run). (end_reply image budget r o.state).said) spent in
+    record { status = ap status_of verdict; text = λ i. said i ++ verdict_line (verdict i) }
+
 module _ (meant : KeptMeansOnly) (image : ImageOf) (source : SourceOf) (sizes : StackSizes) (does : Implements image source sizes)
     (keeps : KeepsMoments image source sizes)
     (values : List ValueOf) (fits : FitsFormals source values) (budget : ℕ) (output : Option (List ℕ × List ℕ)) (reply : ReplyOf)
@@ -49,21 +61,15 @@ module _ (meant : KeptMeansOnly) (image : ImageOf) (source : SourceOf) (sizes : 
       } in
       (d, refl)
 
-  pub spent_told : (outcome budget image.final_pc (loaded image values)).run ≡ run.Spent → TellsUnfinished budget (answer_with output reply)
-  unfolding run_reply
-  spent_told spent =
-      let o : RunOutcome = outcome budget image.final_pc (loaded image values) in
-      let verdict : reply.verdict ≡ verdict.Unfinished budget =
-      ap (λ (r : ReplyOf). r.verdict) is ∙ ap (λ (r : Run). (end_reply image budget r o.state).verdict) spent in
-      let said : reply.said ≡ [] = ap (λ (r : ReplyOf). r.said) is ∙ ap (λ (r : Run). (end_reply image budget r o.state).said) spent in
-      record { status = ap status_of verdict; text = λ i. said i ++ verdict_line (verdict i) }
-
   pub reply_decided : Decided source sizes image values budget (answer_with output reply)
   reply_decided = record {
     either = ⊎_elim (λ ended. inl (done ended.0 ended.1 ended.2).0)
-        (λ spent. inr (record { beyond = not_within image source sizes does values fits budget spent; tells = spent_told spent }))
+        (λ spent. inr (record {
+          beyond = not_within image source sizes does values fits budget spent;
+          tells = spent_told image values budget output reply is spent;
+        }))
         ((meant image source sizes keeps).inside values budget fits);
-    endless = λ never. spent_told ((meant image source sizes keeps).endless values budget fits never);
+    endless = λ never. spent_told image values budget output reply is ((meant image source sizes keeps).endless values budget fits never);
   }
 
 -- 2. The files lead to it.

@@ -7,7 +7,7 @@ use Rattle.gypsy_space.specs.Needs.{StackSizes, stack_sizes}
 use Rattle.level_debuggers.specs.Tallies.{Watching}
 use Rattle.stack_build.{specs.declared.fault.BuildFault.BuildFault, specs.Build.{BuiltOf, built, BuildsText}, specs.Joined.BuiltImplements}
 use Rattle.command_line.{proofs.FileLaws.was_short, specs.declared.command.Command.Command, specs.declared.early_end.EarlyEnd.EarlyEnd}
-use Rattle.command_line.{specs.declared.role.Role.Role, specs.declared.role.Role.TheVariants.{Source, Piton, Values, Image, Assembly, Certificate}}
+use Rattle.command_line.{specs.declared.role.Role.Role, specs.declared.role.Role.TheVariants.{Source, Piton, Values, Image, Assembly, Certificate, QuickImage}}
 use Rattle.command_line.{specs.Roles.{limit_of, is_role}, specs.Gathered.{Texts, AreShort, roles_of, text_of, text_or_end}, specs.CommandFiles.inputs_of}
 use Rattle.command_line.specs.CommandFiles.{output_of}
 use Rattle.command_line.specs.declared.command.Command.TheVariants as command
@@ -108,6 +108,8 @@ stores laws (command.Need source certificate) watches files = λ name own stored
     absurd (let e : Certificate ≡ Image = ap written_role writes in cc)
 stores laws (command.Mini program source) watches files =
     λ name own stored bytes reads writes sets. absurd (let e : Source ≡ Image = ap written_role writes in cc)
+stores laws (command.Quick source control temporary image) watches files =
+    λ name own stored bytes reads writes sets. absurd (let e : QuickImage ≡ Image = ap written_role writes in cc)
 stores laws c watches files = λ name own stored bytes reads writes sets. absurd (let e : None ≡ Some (Image, own) = writes in cc)
 
 -- The texts of its files, as any shelf gives them.
@@ -117,7 +119,7 @@ first_role [] = Piton
 first_role (role ∷ roles) = role
 
 -- the first text is the source's, and short
-source_short : (texts : Texts) (roles : List Role) → roles_of texts ≡ Source ∷ roles → AreShort texts → length (text_of Source texts) ≤ 1048576
+pub source_short : (texts : Texts) (roles : List Role) → roles_of texts ≡ Source ∷ roles → AreShort texts → length (text_of Source texts) ≤ 1048576
 source_short [] roles e short = absurd cc
 source_short ((role, text) ∷ texts) roles e short =
     let first : role ≡ Source = ap first_role e in
@@ -148,6 +150,8 @@ stores_of laws (command.Unasm image assembly) texts are = λ name own bytes read
 stores_of laws (command.Need source certificate) texts are =
     λ name own bytes reads writes is. absurd (let e : Certificate ≡ Image = ap written_role writes in cc)
 stores_of laws (command.Mini program source) texts are = λ name own bytes reads writes is. absurd (let e : Source ≡ Image = ap written_role writes in cc)
+stores_of laws (command.Quick source control temporary image) texts are =
+    λ name own bytes reads writes is. absurd (let e : QuickImage ≡ Image = ap written_role writes in cc)
 stores_of laws c texts are = λ name own bytes reads writes is. absurd (let e : None ≡ Some (Image, own) = writes in cc)
 
 -- Moments left out.

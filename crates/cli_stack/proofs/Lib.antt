@@ -32,3 +32,5 @@ pub mod StandingLaws
 pub mod TaskCountLaws
 pub mod TasksReadyLaws
 pub mod TellsLaws
+pub mod QuickensLaws
+pub mod QuickRunsLaws

@@ -14,7 +14,7 @@ use Rattle.piton_linker.{specs.Theorem.ComesToStand, proofs.ProcessorLaws.checke
 use Rattle.display_maps.specs.Report.{shaped}
 use Rattle.stack_build.{specs.Image.linked_image, specs.PlacedWords.PlacedAreWords}
 use Rattle.command_line.{specs.declared.command.Command.Command, specs.declared.early_end.EarlyEnd.EarlyEnd, specs.declared.role.Role.Role}
-use Rattle.command_line.{specs.declared.role.Role.TheVariants.{Source, Piton, Values, Image, Assembly}, specs.Roles.limit_of, specs.Gathered.Texts}
+use Rattle.command_line.{specs.declared.role.Role.TheVariants.{Source, Piton, Values, Image, Assembly, QuickImage}, specs.Roles.limit_of, specs.Gathered.Texts}
 use Rattle.command_line.{specs.Gathered.text_or_end, specs.CommandFiles.{inputs_of, output_of}, proofs.FileLaws.was_short}
 use Rattle.command_line.specs.declared.command.Command.TheVariants as command
 use Rattle.command_replies.{specs.declared.reply.Verdict.Verdict, specs.declared.reply.Verdict.TheVariants.Done, specs.Replies.{ReplyOf, status_of}}
@@ -124,4 +124,6 @@ links words (command.Need source certificate) watches files =
     λ name own stored bytes reads writes sets. absurd (only_role Piton Source source name (λ e. cc) reads)
 links words (command.Mini program source) watches files =
     λ name own stored bytes reads writes sets. absurd (let e : Source ≡ Image = ap written_role writes in cc)
+links words (command.Quick source control temporary image) watches files =
+    λ name own stored bytes reads writes sets. absurd (let e : QuickImage ≡ Image = ap written_role writes in cc)
 links words c watches files = λ name own stored bytes reads writes sets. absurd (let e : None ≡ Some (Image, own) = writes in cc)

@@ -32,7 +32,7 @@ use Rattle.stack_commands.{specs.Commands.Debug.{script_reply, session_reply}, s
 use Rattle.stack_commands.{specs.Commands.Mean.mean_accepted_reply, specs.Commands.Pbuild.{is_large, linked_reply, checked_reply}, specs.Commands.Pit.pit_reply}
 use Rattle.stack_commands.{specs.Commands.Need.{bounds_reply, certified_reply, need_reply_by}, specs.Commands.Cert.{judged_reply, certificate_reply}}
 use Rattle.stack_commands.{specs.Commands.Cert.cert_reply_by, specs.Commands.SourceText.accepted_in, specs.Commands.Turns.{fault_reply, tasks_of, tasks_reply}}
-use Rattle.stack_commands.specs.Commands.Turns.{turns_by}
+use Rattle.stack_commands.{specs.Commands.Turns.turns_by, specs.Commands.Quick.{quick_built, quick_reply}}
 use Rattle.stack_commands.specs.declared.turns.tasks.TasksFault.TheVariants as tasks_fault
 use Rattle.command_replies.{specs.declared.reply.Reply.Reply, specs.declared.reply.SizeOf.TheVariants.Words, specs.declared.reply.Verdict.Verdict}
 use Rattle.command_replies.specs.Replies.{ReplyOf, reply_of, status_of, verdict_alone, judgement_reply, built_reply, written_reply}
@@ -129,6 +129,10 @@ judgement_none (Err verdict) = refl
 build_none : (found : Result BuiltOf BuildFault) → NoMachine (build_reply found)
 build_none (Ok built) = refl
 build_none (Err fault) = refl
+
+quick_none : (found : Result ImageOf BuildFault) → NoMachine (quick_reply found)
+quick_none (Ok image) = refl
+quick_none (Err fault) = refl
 
 pit_none : (name : List ℕ) (found : Result SystemOf BuildFault) → NoMachine (pit_reply name found)
 pit_none name (Ok system) = refl
@@ -231,6 +235,8 @@ by_command (command.Turns turn budget control temporary tasks) watches texts =
 by_command (command.Big number procedures) watches texts =
     with_run (command.Big number procedures) (reply_by (command.Big number procedures) watches texts) tt (big_ends number procedures)
 by_command (command.Mini program source) watches texts = inl (lowered_none source (lowering_of (text_of role.Infix texts)))
+by_command (command.Quick source control temporary image) watches texts =
+    inl (quick_none (quick_built (text_of role.Source texts) control temporary))
 
 -- the reply is the command's to some texts, or `usage` where there is no command
 abbrev pub RepliesToSome : Option Command → List Watching → ReplyOf → Type 0

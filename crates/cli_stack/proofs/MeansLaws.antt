@@ -17,7 +17,7 @@ use Rattle.level_debuggers.specs.Tallies.{Watching}
 use Rattle.stack_build.{specs.declared.start_fault.StartFault.StartFault, specs.Starts.{or_values, shortage_of, unless_short, gypsy_start}}
 use Rattle.stack_build.{specs.declared.fault.BuildFault.BuildFault, specs.Build.accepted_source, specs.Image.formal_slots}
 use Rattle.command_line.{specs.declared.command.Command.Command, specs.declared.early_end.EarlyEnd.EarlyEnd, specs.declared.role.Role.Role}
-use Rattle.command_line.specs.declared.role.Role.TheVariants.{Source, Piton, Image, Values, Script, Assembly, Certificate, Infix}
+use Rattle.command_line.specs.declared.role.Role.TheVariants.{Source, Piton, Image, Values, Script, Assembly, Certificate, Infix, QuickImage}
 use Rattle.command_line.{specs.declared.command.TaskFiles.TaskFiles, specs.declared.status.Status.TheVariants.Done, specs.Gathered.Texts}
 use Rattle.command_line.specs.CommandFiles.{task_inputs, inputs_of, output_of}
 use Rattle.command_line.specs.declared.command.Command.TheVariants as command
@@ -240,4 +240,6 @@ means (command.Turns turn budget control temporary tasks) watches files = λ sou
     no_source [] e = cc
     no_source (task ∷ tasks) e = cc
 means (command.Mini program stored) watches files = λ source values reads writes. absurd (let e : Infix ≡ Source = ap first_role reads in cc)
+means (command.Quick source_name control temporary image) watches files =
+    λ source values reads writes. absurd (let e : Some (QuickImage, image) ≡ None = writes in cc)
 means c watches files = λ source values reads writes. absurd (let e : Piton ≡ Source = ap first_role reads in cc)

@@ -98,6 +98,7 @@ module _ {S K : Type 0} (gave got : S → List ℕ → List ℕ → S) (took : K
         fetched = ap (λ (s : LoggedShelfOf S). s.fetched) is.shelf ∙ stored.0 ∙ given.0;
         stored = ap (λ (s : LoggedShelfOf S). s.stored) is.shelf ∙ stored.1 ∙ ap (λ (fs : Files). fs ++ file_list output) given.1;
         implements = means.stores is.texts is.are;
+        quickens = means.quickens is.texts is.are;
         printed = ap (λ (k : LoggedSinkOf K). take log_limit k.printed) replies.lines ∙ took_text took out_before (reply_text replies.reply)
             ∙ ap (λ (r : ReplyOf). take log_limit (out_before.printed ++ reply_text r)) is.is;
         ends = replies.ends ∙ ap (λ (r : ReplyOf). status_of r.verdict) is.is;

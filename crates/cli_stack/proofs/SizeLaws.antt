@@ -201,6 +201,7 @@ sizes_by (command.Big number procedures) watches texts = λ size. inl refl
 sizes_by (command.Mini program source) watches texts =
     no_sizes (command.Mini program source) (reply_by (command.Mini program source) watches texts)
     (lowered_no_size source (lowering_of (text_of role.Infix texts)))
+sizes_by (command.Quick source control temporary image) watches texts = λ size. inl refl
 
 -- where a size is refused, the command has sizes
 pub has_sizes : (c : Option Command) (watches : List Watching) (reply : Reply) → RepliesToSome c watches (reply_of reply)

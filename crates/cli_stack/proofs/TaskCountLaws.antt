@@ -5,8 +5,8 @@ use Rattle.stack_text.specs.Options.{◌>>=◌}
 use Rattle.command_line.{specs.declared.command.Command.Command, specs.declared.command.TaskFiles.TaskFiles, specs.CommandRows.{command_of, row_of, row_with}}
 use Rattle.command_line.specs.CommandRows.{rows, whole_of, at_end, read_on, check_row, mean_row, pit_row, build_row, pcheck_row, prun_row, pbuild_row, run_row}
 use Rattle.command_line.specs.CommandRows.{go_row, show_row, migrate_row, asm_row, unasm_row, need_row, cert_row, debug_row, turns_row, big_row, mini_row}
-use Rattle.command_line.specs.CommandWords.{CommandWords, Reader, task, tasks, tasks_within, unless_ended, file, size, limit, seed, procedures, debug_level}
-use Rattle.command_line.specs.CommandWords.{turn_length, end}
+use Rattle.command_line.{specs.CommandRows.quick_row, specs.CommandWords.{CommandWords, Reader, task, tasks, tasks_within, unless_ended, file, size, limit}}
+use Rattle.command_line.specs.CommandWords.{seed, procedures, debug_level, turn_length, end}
 use Rattle.command_line.specs.declared.command.Command.TheVariants as command
 
 -- there are one to eight tasks where there are any
@@ -147,6 +147,11 @@ mini_few : Few mini_row
 unfolding mini_row
 mini_few = two (λ a b. command.Mini a b) (λ a b. tt)
 
+quick_few : Few quick_row
+unfolding quick_row
+quick_few = then_few file _ (λ source. then_few size _
+    (λ control. then_few size _ (λ temporary. then_few file _ (λ image. last (command.Quick source control temporary image) tt))))
+
 -- the tasks of a row of `turns`
 last_tasks : (turn budget control temporary : ℕ) → Few (λ words. read_on (tasks words) (λ names. at_end (command.Turns turn budget control temporary names)))
 unfolding tasks
@@ -183,7 +188,7 @@ each_few =
     check_few beside mean_few beside pit_few beside build_few beside pcheck_few beside prun_few beside
     pbuild_few beside run_few beside go_few beside show_few beside migrate_few beside asm_few beside
     unasm_few beside need_few beside cert_few beside debug_few beside turns_few beside big_few beside
-    mini_few beside tt
+    mini_few beside quick_few beside tt
 
 named_few : (word : List ℕ) (table : List (List ℕ × (CommandWords → Option Command))) (words : CommandWords) → EachFew table
     → IfSome (row_with word table words) HasFew

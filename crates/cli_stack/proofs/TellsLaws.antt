@@ -11,8 +11,8 @@ use Rattle.level_debuggers.specs.Tallies.{Watching}
 use Rattle.gypsy_syntax.specs.Sources.{SourceOf}
 use Rattle.gypsy_space.specs.Needs.{StackSizes, stack_sizes}
 use Rattle.gypsy_semantics.specs.Calls.{CurrentCondition}
-use Rattle.stack_build.{specs.Build.{built, BuildsText}, specs.Implements.{meaning_shown, FitsFormals, Finishes, Implements}, specs.Joined.BuiltImplements}
-use Rattle.stack_build.specs.Joined.{BuiltTakesValues}
+use Rattle.stack_build.{specs.Build.{built, BuildsText}, specs.ComesTo.ComesTo, specs.Implements.{meaning_shown, FitsFormals, Finishes, Implements}}
+use Rattle.stack_build.specs.Joined.{BuiltImplements, BuiltTakesValues}
 use Rattle.command_line.{specs.declared.command.Command.Command, specs.declared.early_end.EarlyEnd.EarlyEnd, specs.declared.role.Role.Role}
 use Rattle.command_line.specs.declared.role.Role.TheVariants.{Source, Piton, Image, Values, Script, Assembly, Certificate, Infix, TaskSource, TaskValues}
 use Rattle.command_line.{specs.declared.command.TaskFiles.TaskFiles, specs.declared.words.reader.Level.Level, specs.Roles.limit_of, specs.Gathered.Texts}
@@ -26,13 +26,11 @@ use Rattle.cli_stack.{specs.FilesAndSizes.IsReadable, proofs.RoleLaws.{only_role
 
 -- 1. A run that is long enough tells the meaning.
 
-run_tells : (image : ImageOf) (source : SourceOf) (sizes : StackSizes) (values finals : List ValueOf) (way : CurrentCondition) (count budget : ℕ)
-    → Implements image source sizes → FitsFormals source values
-    → Finishes source sizes values finals way count → count ≤ budget
+run_tells : (image : ImageOf) (source : SourceOf) (values finals : List ValueOf) (way : CurrentCondition) (count budget : ℕ)
+    → ComesTo image values count (meaning_shown source finals way) → count ≤ budget
     → ((run_reply image values budget).verdict ≡ Done) × ((run_reply image values budget).said ≡ report_text image (meaning_shown source finals way) count)
 unfolding run_reply
-run_tells image source sizes values finals way count budget does fits done enough =
-    let end = does values finals way count fits done in
+run_tells image source values finals way count budget end enough =
     let is : outcome budget image.final_pc (loaded image values) ≡ record { run = Ended count; state = end.state } =
     outcome_only (loaded image values) image.final_pc budget (Ended count) end.state (enough, end.first) in (
       ap (λ (o : RunOutcome). (outcome_reply image budget o).verdict) is,
@@ -41,18 +39,26 @@ run_tells image source sizes values finals way count budget does fits done enoug
     )
 
 -- so does the answer that has its reply
-pub reply_tells : (image : ImageOf) (source : SourceOf) (sizes : StackSizes) (values finals : List ValueOf) (way : CurrentCondition) (count budget : ℕ)
-    (output : Option (List ℕ × List ℕ)) (reply : ReplyOf) → Implements image source sizes → FitsFormals source values
-    → Finishes source sizes values finals way count → count ≤ budget → reply ≡ run_reply image values budget
+pub end_tells : (image : ImageOf) (source : SourceOf) (values finals : List ValueOf) (way : CurrentCondition) (count budget : ℕ)
+    (output : Option (List ℕ × List ℕ)) (reply : ReplyOf) → ComesTo image values count (meaning_shown source finals way)
+    → count ≤ budget → reply ≡ run_reply image values budget
     → TellsReport source image finals way count (answer_with output reply)
-reply_tells image source sizes values finals way count budget output reply does fits done enough is =
-    let ends = run_tells image source sizes values finals way count budget does fits done enough in
+end_tells image source values finals way count budget output reply end enough is =
+    let ends = run_tells image source values finals way count budget end enough in
     let verdict : reply.verdict ≡ Done = ap (λ (r : ReplyOf). r.verdict) is ∙ ends.0 in
     let said : reply.said ≡ report_text image (meaning_shown source finals way) count = ap (λ (r : ReplyOf). r.said) is ∙ ends.1 in
     record {
       status = ap status_of verdict;
       text = ap (λ (v : Verdict). reply.said ++ verdict_line v) verdict ∙ append-nil reply.said ∙ said;
     }
+
+-- and so it is of an image that implements the source
+pub reply_tells : (image : ImageOf) (source : SourceOf) (sizes : StackSizes) (values finals : List ValueOf) (way : CurrentCondition) (count budget : ℕ)
+    (output : Option (List ℕ × List ℕ)) (reply : ReplyOf) → Implements image source sizes → FitsFormals source values
+    → Finishes source sizes values finals way count → count ≤ budget → reply ≡ run_reply image values budget
+    → TellsReport source image finals way count (answer_with output reply)
+reply_tells image source sizes values finals way count budget output reply does fits done enough is =
+    end_tells image source values finals way count budget output reply (does values finals way count fits done) enough is
 
 -- 2. The files lead to it.
 
@@ -183,6 +189,8 @@ tells implement take (command.Debug level source_name values_file control tempor
     λ name reads has. absurd (debug_has_none level source_name values_file control temporary script has)
 tells implement take (command.Turns turn budget control temporary tasks) watches files = λ name reads has. absurd (tasks_no_values tasks name reads)
 tells implement take (command.Mini program stored) watches files = λ name reads has. absurd (only_role Values Infix program name (λ e. cc) reads)
+tells implement take (command.Quick source_name control temporary image_name) watches files =
+    λ name reads has. absurd (only_role Values Source source_name name (λ e. cc) reads)
 tells implement take c watches files = λ name reads has. absurd (nothing name reads)
   where
     nothing : (name : List ℕ) → Contains {X = Role × List ℕ} [] (Values, name) → ⊥

@@ -6,7 +6,7 @@ use Rattle.command_line.specs.{declared.command.Command.{Command}, CommandRows.{
 use Rattle.cli_stack.specs.{Answer.{Answer, answer_to}, Implements.{StoresImplementation, StoresImplementationOf, StoresMoments}}
 use Rattle.cli_stack.specs.{Implements.{StoresMomentsOf}, RepliesTo.{AreTexts}, Tells.{TellsMeanings}, Decides.{Decides}}
 use Rattle.cli_stack.specs.{Means.{FollowsMeanings}, Links.{StoresLinked}, Assembles.{Assembles}, Needs.{Needs}, Lowers.{LowersPrograms}}
-use Rattle.cli_stack.specs.{Explains.{Explains}, Turns.{TellsEach}}
+use Rattle.cli_stack.specs.{Explains.{Explains}, Turns.{TellsEach}, Quickens.{StoresQuickened, StoresQuickenedOf}, QuickRuns.{RunsQuickly}}
 
 pub record AnswerMeans (command : Command) (watches : List Watching) (files : Files) (answer : Answer) : Type 0 where
   -- the image that is stored for a source implements it
@@ -31,12 +31,17 @@ pub record AnswerMeans (command : Command) (watches : List Watching) (files : Fi
   pub explains : Explains command watches files answer
   -- sources whose images take turns are told each as it is alone
   pub turns : TellsEach command files answer
+  -- the image that `quick` stores is the quickened one, and does what its source means in no more instructions than are counted
+  pub quickens : StoresQuickened command files answer.output
+  -- a run of an image that does so tells the meaning
+  pub runs_quickly : RunsQuickly command files answer
 
 -- So do all answers to a command. And of whatever texts a shelf gives, the image that is stored implements the source among them.
 pub record CommandMeans (command : Command) (watches : List Watching) : Type 0 where
   pub answers : (files : Files) → AnswerMeans command watches files (answer_to command watches files)
   pub stores : (texts : Texts) → AreTexts command texts → StoresImplementationOf command texts
   pub keeps : (texts : Texts) → AreTexts command texts → StoresMomentsOf command texts
+  pub quickens : (texts : Texts) → AreTexts command texts → StoresQuickenedOf command texts
 
 -- the command that these words ask for
 abbrev pub AnswersMean : List (List ℕ) → List Watching → Type 0

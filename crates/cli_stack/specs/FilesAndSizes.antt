@@ -3,7 +3,7 @@ use Rattle.std.specs.Prelude.{◌≡◌, ◌≤◌, ℕ, List, length, Option, S
 use Rattle.stack_shelf.specs.Files.{Files, file_at}
 use Rattle.gypsy_space.specs.Needs.{StackSizes, stack_sizes}
 use Rattle.command_line.specs.{declared.command.Command.{Command}, declared.command.Command.TheVariants.{Mean, Pit, Build, Go, Debug}}
-use Rattle.command_line.specs.{declared.command.Command.TheVariants.{Turns, Big}, declared.role.Role.{Role}, Roles.{limit_of}}
+use Rattle.command_line.specs.{declared.command.Command.TheVariants.{Turns, Big, Quick}, declared.role.Role.{Role}, Roles.{limit_of}}
 use Rattle.command_line.specs.CommandFiles.{inputs_of, output_of}
 
 -- the command reads the file of this name in this role
@@ -23,6 +23,7 @@ sizes_of (Go source values control temporary budget image) = Some (stack_sizes c
 sizes_of (Debug level source values control temporary script) = Some (stack_sizes control temporary)
 sizes_of (Turns turn budget control temporary tasks) = Some (stack_sizes control temporary)
 sizes_of (Big number procedures) = Some (stack_sizes 64 64)
+sizes_of (Quick source control temporary image) = Some (stack_sizes control temporary)
 sizes_of _ = None
 
 -- the file is there, and within the limit of its role

@@ -21,6 +21,8 @@ pub mod Decides
 pub mod Explains
 pub mod SessionMoments
 pub mod Turns
+pub mod Quickens
+pub mod QuickRuns
 pub mod Answer
 pub mod World
 -- what it promises where there is memory enough

@@ -16,7 +16,7 @@ use Rattle.command_line.specs.{CommandFiles.{inputs_of, output_of, input_names},
 use Rattle.command_replies.specs.{declared.reply.Verdict.TheVariants.{Usage}, Replies.{reply_text, status_of, verdict_alone}}
 use Rattle.stack_commands.specs.Prepared.{reply_by, stored_by}
 use Rattle.cli_stack.specs.{Answer.{set_file}, Causes.{RoseAt}, Implements.{IsImplementation, StoresImplementationOf}, RepliesTo.{AreTexts}}
-use Rattle.cli_stack.specs.World.{ShelfOf}
+use Rattle.cli_stack.specs.{Quickens.{StoresQuickenedOf}, World.{ShelfOf}}
 
 -- the logs of a shelf and of a sink
 pub record Logs : Type 0 where
@@ -49,6 +49,7 @@ pub record RepliedTo (command : Command) (watches : List Watching) (before after
   pub fetched : after.fetched ≡ before.fetched ++ files_with (inputs_of command) texts
   pub stored : after.stored ≡ before.stored ++ file_list (set_file (output_of command) (stored_by command texts))
   pub implements : StoresImplementationOf command texts
+  pub quickens : StoresQuickenedOf command texts
   pub printed : WasPrinted (reply_text (reply_by command watches texts)) before after
   pub ends : status ≡ status_of (reply_by command watches texts).verdict
 

@@ -7,6 +7,7 @@ use crate::driver::{conclude, run_words};
 use crate::moments::moments_are_said;
 use fm_machine::Machine;
 use level_debuggers::{Watch, runs_walk, scripts_walk};
+use quick_generate::quickened_images_mean;
 use stack_build::{builds_implement, placed_are_words, runs_are_meant};
 use stack_heap::Heap;
 use stack_shelf::{Shelf, Sink};
@@ -43,6 +44,7 @@ pub fn cli<H: Heap, S: Shelf, K: Sink>(
     builds_implement();
     runs_are_meant();
     placed_are_words();
+    quickened_images_mean();
     scripts_walk();
     runs_walk();
     moments_are_said();

@@ -2,7 +2,7 @@
 use Rattle.std.specs.{Prelude.{ℕ, List, [], ◌∷◌, ◌++◌, Option, Some, None, map, if◌then◌else◌}, Option.{option_to_list}}
 use Rattle.command_line.specs.{declared.command.Command.{Command}, declared.command.Command.TheVariants.{Check, Mean, Pit, Build, Pcheck}}
 use Rattle.command_line.specs.declared.command.Command.TheVariants.{Prun, Pbuild, Run, Go, Show, Migrate, Asm, Unasm, Need, Cert, Debug}
-use Rattle.command_line.specs.{declared.command.Command.TheVariants.{Turns, Big, Mini}, declared.command.TaskFiles.{TaskFiles}}
+use Rattle.command_line.specs.{declared.command.Command.TheVariants.{Turns, Big, Mini, Quick}, declared.command.TaskFiles.{TaskFiles}}
 use Rattle.command_line.specs.{declared.role.Role.{Role}, Roles.{is_role}}
 use Rattle.command_line.specs.declared.role.Role.TheVariants as role
 
@@ -32,6 +32,7 @@ inputs_of (Debug level source values control temporary script) =
 inputs_of (Turns turn budget control temporary tasks) = task_inputs tasks
 inputs_of (Big number procedures) = []
 inputs_of (Mini program source) = (role.Infix, program) ∷ []
+inputs_of (Quick source control temporary image) = (role.Source, source) ∷ []
 
 unfoldable pub output_of : Command → Option (Role × List ℕ)
 output_of (Pit source control temporary piton) = Some (role.Piton, piton)
@@ -43,6 +44,7 @@ output_of (Asm assembly image) = Some (role.Image, image)
 output_of (Unasm image assembly) = Some (role.Assembly, assembly)
 output_of (Need source certificate) = Some (role.Certificate, certificate)
 output_of (Mini program source) = Some (role.Source, source)
+output_of (Quick source control temporary image) = Some (role.QuickImage, image)
 output_of _ = None
 
 -- the names of the files of a role, in order

@@ -2,8 +2,8 @@
 use Rattle.std.specs.{Prelude.{ℕ, List, [], ◌∷◌, Option, Some, None, codes, if◌then◌else◌}, Str.{bytes_eq}}
 use Rattle.command_line.specs.{declared.command.Command.{Command}, declared.command.Command.TheVariants.{Check, Mean, Pit, Build, Pcheck}}
 use Rattle.command_line.specs.declared.command.Command.TheVariants.{Prun, Pbuild, Run, Go, Show, Migrate, Asm, Unasm, Need, Cert, Debug}
-use Rattle.command_line.specs.{declared.command.Command.TheVariants.{Turns, Big, Mini}, CommandWords.{CommandWords, Reader, file, size}}
-use Rattle.command_line.specs.CommandWords.{limit, seed, procedures, debug_level, turn_length, tasks, end}
+use Rattle.command_line.specs.{declared.command.Command.TheVariants.{Turns, Big, Mini, Quick}, CommandWords.{CommandWords, Reader, file}}
+use Rattle.command_line.specs.CommandWords.{size, limit, seed, procedures, debug_level, turn_length, tasks, end}
 
 -- what is read goes on to what reads the words after it
 abbrev pub read_on : {A B : Type 0} → Option (A × CommandWords) → (A → CommandWords → Option B) → Option B
@@ -173,6 +173,15 @@ mini_row = do
   source ← file
   at_end (Mini program source)
 
+-- `quick SRC CTRL TEMP IMG`
+unfoldable pub quick_row : CommandWords → Option Command
+quick_row = do
+  source ← file
+  control ← size
+  temporary ← size
+  image ← file
+  at_end (Quick source control temporary image)
+
 -- the name of each command, and its row
 unfoldable pub rows : List (List ℕ × (CommandWords → Option Command))
 rows =
@@ -195,6 +204,7 @@ rows =
     ∷ (codes "turns", turns_row)
     ∷ (codes "big", big_row)
     ∷ (codes "mini", mini_row)
+    ∷ (codes "quick", quick_row)
     ∷ []
 
 -- the first row of this name, of these words

@@ -161,6 +161,17 @@ pub enum Command {
         program: FileName,
         source: FileName,
     },
+    /// Compiles a source to an image of fewer instructions, if it has one, and stores that.
+    Quick {
+        /// The source that is compiled.
+        source: FileName,
+        /// How many words the control stack has.
+        control: StackSize,
+        /// How many words the temporary stack has.
+        temporary: StackSize,
+        /// Where the image is stored.
+        image: FileName,
+    },
 }
 
 /// The files of a task.
@@ -187,7 +198,8 @@ impl Command {
             Command::Check { source }
             | Command::Pit { source, .. }
             | Command::Build { source, .. }
-            | Command::Need { source, .. } => Ok(heap.copied(&[Role::Source.file(source)])?),
+            | Command::Need { source, .. }
+            | Command::Quick { source, .. } => Ok(heap.copied(&[Role::Source.file(source)])?),
             Command::Mean { source, values, .. } | Command::Go { source, values, .. } => Ok(
                 heap.copied(&[Role::Source.file(source), Role::Values.file(values)])?,
             ),
@@ -241,6 +253,7 @@ impl Command {
             Command::Unasm { assembly, .. } => Some(Role::Assembly.file(assembly)),
             Command::Need { certificate, .. } => Some(Role::Certificate.file(certificate)),
             Command::Mini { source, .. } => Some(Role::Source.file(source)),
+            Command::Quick { image, .. } => Some(Role::QuickImage.file(image)),
             _ => None,
         }
     }

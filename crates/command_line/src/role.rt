@@ -28,6 +28,8 @@ pub enum Role {
     TaskSource,
     /// Values of a task's variables.
     TaskValues,
+    /// A quick image, or a plain one in its place.
+    QuickImage,
 }
 
 impl Role {
@@ -63,7 +65,7 @@ impl Role {
             | Role::TaskSource
             | Role::TaskValues => u64::from(MOST_TEXT),
             Role::Piton => MOST_PITON_TEXT,
-            Role::Image | Role::Assembly => u64::from(MOST_IMAGE_FILE),
+            Role::Image | Role::Assembly | Role::QuickImage => u64::from(MOST_IMAGE_FILE),
         }
     }
 }

@@ -11,3 +11,4 @@ pub mod Cert
 pub mod Debug
 pub mod Turns
 pub mod Big
+pub mod Quick

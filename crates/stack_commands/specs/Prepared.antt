@@ -5,7 +5,7 @@ use Rattle.stack_build.specs.Build.{built, compiled}
 use Rattle.level_debuggers.specs.Tallies.{Watching}
 use Rattle.command_line.specs.{declared.command.Command.{Command}, declared.command.Command.TheVariants.{Check, Mean, Pit, Build, Pcheck}}
 use Rattle.command_line.specs.declared.command.Command.TheVariants.{Prun, Pbuild, Run, Go, Show, Migrate, Asm, Unasm, Need, Cert, Debug}
-use Rattle.command_line.specs.{declared.command.Command.TheVariants.{Turns, Big, Mini}, Gathered.{Texts, text_of, texts_of}}
+use Rattle.command_line.specs.{declared.command.Command.TheVariants.{Turns, Big, Mini, Quick}, Gathered.{Texts, text_of, texts_of}}
 use Rattle.command_line.specs.declared.role.Role.TheVariants as role
 use Rattle.command_replies.specs.{Replies.{ReplyOf}, Commands.Pcheck.{pcheck_reply}, Commands.Prun.{prun_reply}}
 use Rattle.command_replies.specs.{Commands.Run.{image_file_reply}, Commands.Show.{show_reply}, Commands.Migrate.{migrate_stored}}
@@ -15,6 +15,7 @@ use Rattle.stack_commands.specs.{Commands.Check.{check_reply}, Commands.Mean.{me
 use Rattle.stack_commands.specs.{Commands.Build.{image_stored, build_reply}, Commands.Pbuild.{pbuild_stored, pbuild_reply}}
 use Rattle.stack_commands.specs.{Commands.Go.{go_reply}, Commands.Need.{need_stored, need_reply}, Commands.Cert.{cert_reply}}
 use Rattle.stack_commands.specs.{Commands.Debug.{debug_reply}, Commands.Turns.{turns_reply}, Commands.Big.{big_reply}}
+use Rattle.stack_commands.specs.Commands.Quick.{quick_built, quick_stored, quick_reply}
 
 unfoldable pub stored_by : Command → Texts → Option (List ℕ)
 stored_by (Pit source control temporary piton) texts = pit_stored (compiled (text_of role.Source texts) control temporary 0)
@@ -27,6 +28,7 @@ stored_by (Asm assembly image) texts = asm_stored (text_of role.Assembly texts)
 stored_by (Unasm image assembly) texts = unasm_stored (text_of role.Image texts)
 stored_by (Need source certificate) texts = need_stored (text_of role.Source texts)
 stored_by (Mini program source) texts = mini_stored (text_of role.Infix texts)
+stored_by (Quick source control temporary image) texts = quick_stored (quick_built (text_of role.Source texts) control temporary)
 stored_by _ texts = None
 
 unfoldable pub reply_by : Command → List Watching → Texts → ReplyOf
@@ -54,3 +56,4 @@ reply_by (Turns turn budget control temporary tasks) watches texts =
     turns_reply turn budget (stack_sizes control temporary) (texts_of role.TaskSource texts) (texts_of role.TaskValues texts)
 reply_by (Big number procedures) watches texts = big_reply number procedures
 reply_by (Mini program source) watches texts = mini_reply source (text_of role.Infix texts)
+reply_by (Quick source control temporary image) watches texts = quick_reply (quick_built (text_of role.Source texts) control temporary)

@@ -18,6 +18,7 @@ mod mean;
 mod need;
 mod pbuild;
 mod pit;
+mod quick;
 mod script_run;
 mod source_text;
 mod telling;
@@ -100,6 +101,11 @@ fn plan_of<H: Heap>(heap: H, command: &Command, texts: &Texts) -> Result<Plan, M
         } => turns::prepare(heap, texts, turn, *budget, control, temporary),
         Command::Big { number, procedures } => big::prepare(heap, *number, procedures),
         Command::Mini { source: name, .. } => mini::prepare(heap, texts.of(Role::Infix), name),
+        Command::Quick {
+            control,
+            temporary,
+            ..
+        } => quick::prepare(heap, source, control, temporary),
     }
 }
 

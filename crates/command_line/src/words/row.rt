@@ -1,7 +1,7 @@
 //! The words of each command.
 ghost use Rattle.command_line.specs.{CommandWords.{ReadsWordsUnless, ReadsExactly, spelled}, CommandRows.{check_row, mean_row, pit_row, build_row, pcheck_row}};
 ghost use Rattle.command_line.specs.CommandRows.{prun_row, pbuild_row, run_row, go_row, show_row, migrate_row, asm_row, unasm_row, need_row, cert_row};
-ghost use Rattle.command_line.specs.CommandRows.{debug_row, turns_row, big_row, mini_row, row_of, command_of};
+ghost use Rattle.command_line.specs.CommandRows.{debug_row, turns_row, big_row, mini_row, quick_row, row_of, command_of};
 
 use crate::command::Command;
 use crate::words::reader::{
@@ -284,6 +284,24 @@ fn mini_row<H: Heap>(heap: H, words: &[String]) -> Result<Command, WordsFault>
     Ok(Command::Mini { program, source })
 }
 
+/// `quick SRC CTRL TEMP IMG`
+#[tactic(auto, unfolding(crate::specs::CommandRows::quick_row))]
+fn quick_row<H: Heap>(heap: H, words: &[String]) -> Result<Command, WordsFault>
+    ensures { ReadsWordsUnless (H.may_refuse heap) (λ command. command) result (quick_row (spelled words.now)) }
+{
+    let (source, words) = file(heap, words)?;
+    let (control, words) = size(words)?;
+    let (temporary, words) = size(words)?;
+    let (image, words) = file(heap, words)?;
+    end(words)?;
+    Ok(Command::Quick {
+        source,
+        control,
+        temporary,
+        image,
+    })
+}
+
 /// The command whose name is the word, with the words after it.
 #[tactic(auto, unfolding(crate::specs::CommandRows::row_of, crate::specs::CommandRows::row_with, crate::specs::CommandRows::rows))]
 fn row_of<H: Heap>(heap: H, word: &str, words: &[String]) -> Result<Command, WordsFault>
@@ -309,6 +327,7 @@ fn row_of<H: Heap>(heap: H, word: &str, words: &[String]) -> Result<Command, Wor
         "turns" => turns_row(heap, words),
         "big" => big_row(words),
         "mini" => mini_row(heap, words),
+        "quick" => quick_row(heap, words),
         _ => Err(WordsFault::Usage),
     }
 }

@@ -20,7 +20,7 @@ pub returns-clause-means : goal.returns-clause-means
 returns-clause-means g c =
     let watches : List Watching = map (λ w. (goal.Watch-dyn g (w.vtable, w.value)).watching w.value) c.args.watches.items in
     let built = c.builds_implement.ensures in
-    answers_mean built.implements built.values c.runs_are_meant.ensures c.placed_are_words.ensures
+    answers_mean built.implements built.values c.runs_are_meant.ensures c.placed_are_words.ensures c.quickened_images_mean.ensures.texts
     c.moments_are_said.ensures.built c.moments_are_said.ensures.ends
     c.scripts_walk.ensures.up c.scripts_walk.ensures.words c.scripts_walk.ensures.arrivals c.scripts_walk.ensures.steps c.scripts_walk.ensures.text
     c.runs_walk.ensures.machines c.runs_walk.ensures.arrivals

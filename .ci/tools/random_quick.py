@@ -1,0 +1,95 @@
+#!/usr/bin/env python3
+"""Random sources by `quick` and `run`, beside `go`: the same condition and values, in no more instructions.
+
+Each seed makes a source, values and sizes, as in random_sources.py; of an odd seed main calls no procedure and has no product, so that it has a
+quick image. `run` of what `quick` stored has to print what `go` prints, but for the number of instructions, which may be smaller; with one
+instruction less it has to be unfinished. At sizes of the stacks that are too small both `build` and `quick` have to say so. The files of the two
+have to differ exactly if the source has a quick image. A seed for which this isn't so is told in a line.
+"""
+import re
+import subprocess
+import sys
+import tempfile
+from pathlib import Path
+from random import Random
+
+sys.path.append(str(Path(__file__).resolve().parents[2] / "tools"))
+
+from arguments import seeds_of  # noqa: E402
+from random_sources import ROWS, SECONDS, Case, Literal, Source, listed, random_case  # noqa: E402
+
+PRODUCT = ROWS["mg-integer-multiply"]
+FINISHED = re.compile(r"finished (\d+)\n(.*)", re.S)
+
+
+def has_quick(source: Source) -> bool:
+    """Whether a source has a quick image."""
+    return not source.main.body.calls() and PRODUCT not in source.main.body.rows()
+
+
+def case_of(seed: int) -> Case:
+    rng = Random(seed)
+    while True:
+        case = random_case(rng)
+        if seed % 2 == 0 or has_quick(case.run.source):
+            return case
+
+
+class Folder:
+    """A folder with a source and values, in which commands are answered."""
+
+    def __init__(self, program: str, folder: str, case: Case):
+        self.program, self.path = program, Path(folder)
+        formals = case.run.source.main.formals
+        self.path.joinpath("s").write_text(case.run.source.text)
+        self.path.joinpath("v").write_text(listed(f"({v.name} {Literal(v.type.kind, case.run.start[v.name])})" for v in formals))
+
+    def ask(self, words: str) -> tuple[int, str]:
+        made = subprocess.run([self.program, *words.split()], cwd=self.path, capture_output=True, text=True, timeout=SECONDS, check=False)
+        return made.returncode, made.stdout + made.stderr
+
+    def has_same(self, name: str, other: str) -> bool:
+        return self.path.joinpath(name).read_bytes() == self.path.joinpath(other).read_bytes()
+
+
+def difference(program: str, seed: int) -> str:
+    """What isn't as it has to be, or nothing."""
+    case = case_of(seed)
+    run = case.run
+    with tempfile.TemporaryDirectory() as name:
+        folder = Folder(program, name, case)
+        sizes, count = f"{run.control} {run.temporary}", run.instructions
+        for tight in case.tight:
+            words = f"s {tight.control} {tight.temporary} t"
+            built, made = folder.ask(f"build {words}"), folder.ask(f"quick {words}")
+            if built[0] != made[0] or built[0] != 0 and built != made:
+                return f"quick {words} ends otherwise than build: {made}"
+        went, made = folder.ask(f"go s v {sizes} {count} i"), folder.ask(f"quick s {sizes} q")
+        if made[0] != 0 or not re.fullmatch(r"built \d+\n", made[1]):
+            return f"quick s {sizes} q: {made}"
+        if folder.has_same("i", "q") == has_quick(run.source):
+            return f"quick s {sizes} q stores {'the plain image' if has_quick(run.source) else 'another image'}"
+        ran = folder.ask(f"run q v {count}")
+        told, wanted = FINISHED.fullmatch(ran[1]), FINISHED.fullmatch(went[1])
+        if not told or not wanted or told[2] != wanted[2] or int(told[1]) > int(wanted[1]):
+            return f"run q v {count}: wanted {went}, got {ran}"
+        less = int(told[1]) - 1
+        if less >= 0 and folder.ask(f"run q v {less}") != (5, f"unfinished {less}\n"):
+            return f"run q v {less} isn't unfinished"
+    return ""
+
+
+def main() -> int:
+    words, agreeing = seeds_of(__doc__), 0
+    for seed in range(words.first, words.first + words.how_many):
+        found = difference(str(words.program), seed)
+        if found:
+            print(f"seed {seed}: {found}; source {case_of(seed).run.source.text!r}", flush=True)
+        else:
+            agreeing += 1
+    print(f"{agreeing} sources agree")
+    return 0 if agreeing == words.how_many else 1
+
+
+if __name__ == "__main__":
+    sys.exit(main())
