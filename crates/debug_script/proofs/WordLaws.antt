@@ -1,10 +1,9 @@
 -- Words of a line, one after the other.
 use Rattle.std.proofs.Common.{◌≡◌, Bor, ◌+◌, ◌-◌, ◌<◌, ◌≤◌, ◌==◌, ℕ, suc, List, [], ◌∷◌, ◌++◌, length, take, drop, map, Bool, true, false, cond, Option, Some}
 use Rattle.std.{proofs.Common.{None, refl, sym, ap, subst, ◌∙◌, append-nil, append_assoc, arith}, specs.Prelude.{IfSome, MatchOption, codes}}
-use Rattle.std.specs.{List.{position, position_or_len}, Str.{bytes_eq}}
-use Rattle.std.{specs.Option.option_copied, proofs.lemmas.Bool.ltb-false, proofs.lemmas.List.{length-drop, map-append, take_all}}
-use Rattle.std.{proofs.lemmas.List.Quantifiers.position-Some, proofs.lemmas.List.Splits.{slice_split_none, slice_split_first}}
-use Rattle.std.proofs.lemmas.List.Sums.{position_or_len_is, fails_before_first}
+use Rattle.std.{specs.List.{position, position_or_len}, specs.Str.bytes_eq, specs.Option.option_copied, proofs.lemmas.Bool.ltb-false}
+use Rattle.std.{proofs.lemmas.List.{length-drop, map-append, take_all}, proofs.lemmas.List.Quantifiers.position-Some}
+use Rattle.std.{proofs.lemmas.List.Splits.{slice_split_none, slice_split_first}, proofs.lemmas.List.Sums.{position_or_len_is, fails_before_first}}
 use Rattle.debug_script.specs.Commands.{depth_behind, words_left, words_of}
 
 abbrev is_space : ℕ → Bool

@@ -1,8 +1,8 @@
 //! Commands.
 
 ghost use Rattle.std.specs.{Prelude.{◌≡◌, ◌∷◌, map}, Option.{option_copied}};
-ghost use Rattle.debug_script.specs.Commands.{GivesCommandUnless, GivesPlaceUnless, command_by, command_of, count_of, depth_behind, number_of, place_in, place_of, until_instruction};
-ghost use Rattle.debug_script.specs.Commands.{until_word, verb_of, watch_of, words_command};
+ghost use Rattle.debug_script.specs.Commands.{GivesCommandUnless, GivesPlaceUnless, command_by, command_of, count_of, depth_behind, number_of, place_in};
+ghost use Rattle.debug_script.specs.Commands.{place_of, until_instruction, until_word, verb_of, watch_of, words_command};
 ghost use Rattle.debug_script.specs.declared.command.Verb.TheVariants as verb;
 
 use crate::fault::{LineFault, ScriptRule};

@@ -4,15 +4,16 @@ use Rattle.std.{proofs.Common.{arith, append_assoc}, specs.Prelude.unwrap_or, pr
 use Rattle.debug_script.{specs.declared.command.Command.Command, specs.declared.command.Place.Place, specs.declared.command.WatchWord.WatchWord}
 use Rattle.debug_script.specs.declared.reading.Line.{Line}
 use Rattle.debug_script.specs.declared.command.Command.TheVariants as command
-use Rattle.level_debuggers.{specs.declared.script_end.ScriptEnd.ScriptEnd, specs.declared.session.SessionRun.SessionRun, specs.declared.watch.{Rule.Rule, Tally.Tally}}
-use Rattle.level_debuggers.{specs.declared.arrival.Arrival.Arrival, specs.Arrivals.{Arrived, IsFirstArrival, arrived, arrived_by, first_arrival}}
-use Rattle.level_debuggers.{specs.FmLevels.{FmLevelOf, word_lines}, specs.Levels.{LevelOf, Fm, has_places, next_of, up_text, words_text}, specs.Steps.Next}
-use Rattle.level_debuggers.{specs.Steps.{Over, Stops, Makes, is_over}, specs.Tallies.Watching, specs.Taken.{taken, attached_with, detached_with, tally_by}}
-use Rattle.level_debuggers.{specs.Walks.{SessionOf, walk, walk_on, ends_by, refused_after, stepped}, specs.Transcripts.{Said, Followed, arrival_end}}
-use Rattle.level_debuggers.specs.Transcripts.{arrival_text, arrived_said, attach_with, detach_with, ends_with, follow_on, followed, rule_of_word, run_end}
-use Rattle.level_debuggers.{specs.Transcripts.{run_text, said_by, said_to, tally_with, words_said}, specs.ScriptSteps.{AskForSteps, all_asked, steps_asked, steps_led}}
-use Rattle.level_debuggers.specs.ScriptSteps.{steps_of_lines, stepped_lines, until_line, up_line, line_of_words, ArrivalsAreSaid, GoesOn, ScriptsWalk, UpIsSaid}
-use Rattle.level_debuggers.{specs.ScriptSteps.{WordsAreSaid, StepsAreSaid, UpSaysMoment, TextStays}, proofs.ArrivalLaws.is_first, proofs.WalkLaws.walk_level}
+use Rattle.level_debuggers.{specs.declared.script_end.ScriptEnd.ScriptEnd, specs.declared.session.SessionRun.SessionRun, specs.declared.watch.Rule.Rule}
+use Rattle.level_debuggers.{specs.declared.watch.Tally.Tally, specs.declared.arrival.Arrival.Arrival, specs.Arrivals.{Arrived, IsFirstArrival, arrived}}
+use Rattle.level_debuggers.{specs.Arrivals.{arrived_by, first_arrival}, specs.FmLevels.{FmLevelOf, word_lines}, specs.Levels.{LevelOf, Fm, has_places, next_of}}
+use Rattle.level_debuggers.{specs.Levels.{up_text, words_text}, specs.Steps.{Next, Over, Stops, Makes, is_over}, specs.Tallies.Watching, specs.Taken.taken}
+use Rattle.level_debuggers.{specs.Taken.{attached_with, detached_with, tally_by}, specs.Walks.{SessionOf, walk, walk_on, ends_by, refused_after, stepped}}
+use Rattle.level_debuggers.specs.Transcripts.{Said, Followed, arrival_end, arrival_text, arrived_said, attach_with, detach_with, ends_with, follow_on, followed}
+use Rattle.level_debuggers.{specs.Transcripts.{rule_of_word, run_end, run_text, said_by, said_to, tally_with, words_said}, specs.ScriptSteps.AskForSteps}
+use Rattle.level_debuggers.specs.ScriptSteps.{all_asked, steps_asked, steps_led, steps_of_lines, stepped_lines, until_line, up_line, line_of_words}
+use Rattle.level_debuggers.specs.ScriptSteps.{ArrivalsAreSaid, GoesOn, ScriptsWalk, UpIsSaid, WordsAreSaid, StepsAreSaid, UpSaysMoment, TextStays}
+use Rattle.level_debuggers.{proofs.ArrivalLaws.is_first, proofs.WalkLaws.walk_level}
 use Rattle.level_debuggers.specs.declared.script_end.ScriptEnd.TheVariants as end
 use Rattle.level_debuggers.specs.declared.session.SessionRun.TheVariants as run
 use Rattle.level_debuggers.specs.declared.arrival.Arrival.TheVariants as arrival

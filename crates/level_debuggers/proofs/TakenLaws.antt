@@ -1,6 +1,6 @@
 -- The first watch of a rule, and the others.
 use Rattle.std.proofs.Common.{◌≡◌, ◌+◌, ◌-◌, ◌<◌, ◌≤◌, ℕ, suc, Bool, true, false, cond, List, [], ◌∷◌, ◌++◌, length, map, get_or, take, drop, Option, Some}
-use Rattle.std.{proofs.Common.{None, refl, sym, ap, ◌∙◌, arith}, specs.{List.{position_from, remove}, Option.{option_map}}}
+use Rattle.std.{proofs.Common.{None, refl, sym, ap, ◌∙◌, arith}, specs.List.{position_from, remove}, specs.Option.option_map}
 use Rattle.stack_text.proofs.Loops.{drop-item}
 use Rattle.level_debuggers.{specs.declared.watch.Rule.Rule, specs.Tallies.Watching, specs.Taken.{is_same, behind, taken}}
 

@@ -10,8 +10,8 @@ use Rattle.piton_semantics.specs.{Fits.{system_in}, Placed.{placed}, StateView.{
 use Rattle.piton_check.specs.NamedWords.{program_name_at}
 use Rattle.level_debuggers.specs.{declared.runner.Runner.{Runner}, Steps.{Next, Over, Stops, Makes}, GypsyLevels.{GypsyLevelOf}}
 use Rattle.level_debuggers.specs.{GypsyLevels.{gypsy_listing, gypsy_next, gypsy_stands, gypsy_up, gypsy_within}, PitonLevels.{PitonLevelOf}}
-use Rattle.level_debuggers.specs.{PitonLevels.{piton_listing, piton_next, piton_stands, piton_within}, PitonReadings.{piton_up}, FmLevels.{FmLevelOf}}
-use Rattle.level_debuggers.specs.FmLevels.{fm_next, fm_stands, fm_up, word_lines}
+use Rattle.level_debuggers.specs.{PitonLevels.{piton_listing, piton_next, piton_stands, piton_within}, PitonReadings.{piton_up}}
+use Rattle.level_debuggers.specs.FmLevels.{FmLevelOf, fm_next, fm_stands, fm_up, word_lines}
 use Rattle.level_debuggers.specs.declared.runner.Runner.TheVariants as runner
 
 -- a run at one of the levels

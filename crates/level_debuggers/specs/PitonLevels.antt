@@ -1,6 +1,6 @@
 -- Runs of Piton's machine.
-use Rattle.std.specs.{Str.{bytes_eq}, Prelude.{ℕ, ◌==◌, ◌&&◌, not, nat_le, Bool, List, [], ◌∷◌, ◌++◌, length, map, reverse, slice_get, Option}}
-use Rattle.std.specs.{Prelude.{Some, None, Result, Ok, Err, codes, if◌then◌else◌}, Fmt.{decimal}}
+use Rattle.std.specs.{Str.{bytes_eq}, Prelude.{ℕ, ◌==◌, ◌&&◌, not, nat_le, Bool, List, [], ◌∷◌, ◌++◌, length, map, reverse, slice_get}}
+use Rattle.std.specs.{Prelude.{Option, Some, None, Result, Ok, Err, codes, if◌then◌else◌}, Fmt.{decimal}}
 use Rattle.fm_image.specs.Image.{ImageOf}
 use Rattle.stack_text.specs.Lines.{line}
 use Rattle.piton_words.specs.declared.word.Word.{Word}

@@ -7,8 +7,8 @@ use Rattle.debug_script.specs.declared.command.Command.TheVariants as command
 use Rattle.debug_script.specs.declared.command.WatchWord.TheVariants as word
 use Rattle.level_debuggers.specs.{declared.session.SessionRun.{SessionRun}, declared.watch.Rule.{Rule}, declared.watch.Tally.{Tally}}
 use Rattle.level_debuggers.specs.{declared.arrival.Arrival.{Arrival}, Arrivals.{Arrived, arrived}, Levels.{has_places, show_text, up_text}}
-use Rattle.level_debuggers.specs.{Levels.{words_text}, Taken.{attached_by, detached_by, tally_by}, Walks.{SessionOf, Stepped, stepped, HasMadeSome}}
-use Rattle.level_debuggers.specs.declared.script_end.ScriptEnd.{ScriptEnd}
+use Rattle.level_debuggers.specs.{Levels.{words_text}, Taken.{attached_by, detached_by, tally_by}, Walks.{SessionOf, Stepped, stepped}}
+use Rattle.level_debuggers.specs.{Walks.{HasMadeSome}, declared.script_end.ScriptEnd.{ScriptEnd}}
 use Rattle.level_debuggers.specs.declared.session.SessionRun.TheVariants as run
 use Rattle.level_debuggers.specs.declared.watch.Rule.TheVariants as rule
 use Rattle.level_debuggers.specs.declared.arrival.Arrival.TheVariants as arrival

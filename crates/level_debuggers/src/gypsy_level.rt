@@ -23,8 +23,8 @@ impl GypsyLevel {
     ghost use Rattle.std.specs.Prelude.{◌≡◌, ◌++◌, map, OnErr};
     ghost use Rattle.stack_heap.specs.Heaps.{IfOkUnless, OnOkUnless};
     ghost use Rattle.gypsy_semantics.specs.{Views.RunView.{depth_at, values_at}, Views.Shown.{condition_at, names_at}};
-    ghost use Rattle.level_debuggers.specs.{Steps.{IsAdvance}, GypsyLevels.{gypsy_listing, gypsy_next, gypsy_over, gypsy_place_line, gypsy_stands, gypsy_up, gypsy_within}};
-    ghost use Rattle.level_debuggers.specs.Views.Belonging.{Belongs, gypsy_of};
+    ghost use Rattle.level_debuggers.specs.{Steps.{IsAdvance}, GypsyLevels.{gypsy_listing, gypsy_next, gypsy_over, gypsy_place_line, gypsy_stands, gypsy_up}};
+    ghost use Rattle.level_debuggers.specs.{GypsyLevels.{gypsy_within}, Views.Belonging.{Belongs, gypsy_of}};
 
     /// Whether the end is reached.
     pub(crate) fn is_over(&self) -> bool

@@ -44,8 +44,8 @@ impl PitonLevel {
     ghost use Rattle.piton_semantics.specs.{Placed.{addresses_of, areas_start}, State.{locals_of}};
     ghost use Rattle.piton_check.specs.NamedWords.{program_name_at};
     ghost use Rattle.level_debuggers.specs.{Steps.{IsAdvance}, Levels.{IsRunner, Piton, level_of}, PitonLevels.{piton_listing, piton_next, piton_over}};
-    ghost use Rattle.level_debuggers.specs.{PitonLevels.{piton_stands, piton_within}, PitonReadings.{area_words, element_numbers, is_covered, piton_at, piton_end}};
-    ghost use Rattle.level_debuggers.specs.{PitonReadings.{piton_reading_of, piton_up}, Standings.{standing_of}};
+    ghost use Rattle.level_debuggers.specs.{PitonLevels.{piton_stands, piton_within}, PitonReadings.{area_words, element_numbers, is_covered, piton_at}};
+    ghost use Rattle.level_debuggers.specs.{PitonReadings.{piton_end, piton_reading_of, piton_up}, Standings.{standing_of}};
 
     /// The level of a run, with its system's addresses. The only error is out of memory.
     pub(crate) fn new<H: Heap>(

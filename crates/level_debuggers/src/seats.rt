@@ -1,6 +1,7 @@
 //! Watches in a list.
 
-ghost use Rattle.std.specs.{Prelude.{◌≡◌, ◌+◌, ◌<◌, length, map, IfSome, IfNone, MatchOption, Some, None, vec_len, vec_capacity}, List.{position_from}, Option.{option_map}};
+ghost use Rattle.std.specs.{Prelude.{◌≡◌, ◌+◌, ◌<◌, length, map, IfSome, IfNone, MatchOption, Some, None, vec_len, vec_capacity}, List.{position_from}};
+ghost use Rattle.std.specs.Option.{option_map};
 ghost use Rattle.level_debuggers.specs.{Tallies.{noted}, Taken.{is_same, taken}};
 
 use crate::watch::{Event, Rule, Tally, Watch};

@@ -3,8 +3,8 @@
 ghost use Rattle.std.specs.Prelude.{◌≡◌, ◌++◌, IfOk, None, OnErr};
 ghost use Rattle.stack_heap.specs.Heaps.{IfOkUnless};
 ghost use Rattle.level_debuggers.specs.{Views.Sessions.{IsSession, session_of}, Transcripts.{IsLeftBy, IsLeftIn, IsSaid, arrival_end, arrival_text}};
-ghost use Rattle.level_debuggers.specs.Transcripts.{attach_said, attached_word, detach_said, followed, rule_of_word, run_end, run_text, said_to, step_said, tally_asked};
-ghost use Rattle.level_debuggers.specs.{Transcripts.{until_said, words_said}, Levels.{words_text}, Walks.{HasMadeSome, stepped}};
+ghost use Rattle.level_debuggers.specs.Transcripts.{attach_said, attached_word, detach_said, followed, rule_of_word, run_end, run_text, said_to, step_said};
+ghost use Rattle.level_debuggers.specs.{Transcripts.{tally_asked, until_said, words_said}, Levels.{words_text}, Walks.{HasMadeSome, stepped}};
 
 use crate::arrival::Arrival;
 use crate::script_end::ScriptEnd;

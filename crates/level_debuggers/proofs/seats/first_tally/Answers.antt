@@ -1,6 +1,5 @@
 use Rattle.std.proofs.Common.{Some, ap, sym, ◌∙◌}
-use Rattle.level_debuggers.specs.declared.watch.Tally.{Tally}
-use Rattle.level_debuggers.proofs.TakenLaws.{no_tally, tally_at}
+use Rattle.level_debuggers.{specs.declared.watch.Tally.Tally, proofs.TakenLaws.{no_tally, tally_at}}
 use Rattle.level_debuggers.proofs.seats.first_tally.Goals as goal
 
 pub returns-in-Some : goal.returns-in-Some
