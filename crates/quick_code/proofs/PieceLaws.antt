@@ -1,77 +1,19 @@
 -- What each piece does, by the laws of single instructions.
-use Rattle.std.proofs.Common.{◌≡◌, ℕ, zero, suc, ◌+◌, ◌-◌, ◌<◌, ◌≤◌, Some, Ok, Bool, true, false, List, [], ◌∷◌, length, refl, ap, ◌∙◌, subst, arith}
-use Rattle.std.{proofs.Common.length-append, specs.Prelude.{if◌then◌else◌, reverse, slice_get, slice_set, slice_index}, proofs.lemmas.List.length-reverse}
-use Rattle.std.{proofs.lemmas.List.length-set, proofs.lemmas.Option.slice_get_within}
+use Rattle.std.proofs.Common.{◌≡◌, ℕ, zero, suc, ◌+◌, ◌-◌, ◌<◌, Some, Ok, Bool, true, false, List, [], ◌∷◌, length, refl, ap, ◌∙◌, subst, arith, length-append}
+use Rattle.std.{specs.Prelude.{if◌then◌else◌, reverse, slice_get, slice_set, slice_index}, proofs.lemmas.List.{length-reverse, length-set}}
 use Rattle.fm_words.{specs.declared.operation.Op.Op, specs.declared.operation.Op.TheVariants.Move, specs.declared.condition.Cc.Cc}
 use Rattle.fm_words.{specs.declared.condition.Flags.Flags, specs.declared.instruction.Mode.TheVariants.Indirect, specs.declared.instruction.OperandA.OperandA}
 use Rattle.fm_words.{specs.Alu.{alu_of, does_hold}, specs.Code.no_flags}
 use Rattle.fm_machine.{specs.State.{Fm, word_at, with_word}, specs.Step.{flags_set, found_word, store_at}}
 use Rattle.fm_code.{specs.Execution.{Parts, CodeAt, CodeWord}, specs.InstructionWords.{reg, at, immediate, literal, mov, setting, when}}
-use Rattle.fm_code.{proofs.CodeLaws.{code_front, code_after}, proofs.HoldsLaws.Holds-get, proofs.LayoutLaws.laid_temp, proofs.RegisterLaws.index_of}
-use Rattle.fm_code.{proofs.RegisterLaws.{registers_of, with_register, next, past}, proofs.OperandLaws.{RunsTo, ReadsOperand, state_of, found, kept}}
-use Rattle.fm_code.proofs.OperandLaws.{some_word_at, into_memory, conditional, from_immediate, from_literal, from_literal_at, from_register, from_address}
-use Rattle.fm_code.specs.Templates.{jump_code}
+use Rattle.fm_code.{proofs.CodeLaws.{code_front, code_after}, proofs.LayoutLaws.laid_temp, proofs.RegisterLaws.{index_of, registers_of, with_register, next}}
+use Rattle.fm_code.{proofs.RegisterLaws.past, proofs.OperandLaws.{RunsTo, ReadsOperand, state_of, found, kept, some_word_at, into_memory, conditional}}
+use Rattle.fm_code.{proofs.OperandLaws.{from_immediate, from_literal, from_literal_at, from_register}, specs.Templates.jump_code}
 use Rattle.fm_code.proofs.TargetLaws as target
-use Rattle.quick_code.{specs.Access.{Access, Held, Known, Reaches, register_of, find_code, find_count}, specs.Moments.{Now, Does, Jumps}}
-use Rattle.quick_code.specs.Pieces.{by_word_code, by_literal_code, store_code, store_literal_code, truth_code, move_code, put_code, jump_when_code}
-use Rattle.quick_code.{specs.Pieces.set_area_code, specs.PieceRows.{LeadsTo, PieceRows, operated, with_var}, proofs.StackLaws.{from_bottom, set_from_bottom}}
-use Rattle.quick_code.proofs.StandLaws.{At, other, does, jumps}
-
--- a register of the table, or one from 4 on, where another below it and the pc are set
-untouched : (r : ℕ → ℕ) (p j v k : ℕ) → 5 ≤ k → k < 15 → j < 5 → with_register (with_register r 15 p) j v k ≡ r k
-untouched r p j v k low high h = other (with_register r 15 p) j v k (omega arith) ∙ other r 15 p k (omega arith)
-
--- a run whose flags, words, count and pc are written another way
-at_of : {P : Parts} {table : ℕ → ℕ} {ctrl : List ℕ} {n n' : ℕ} {s : Fm} {pc : ℕ} {r : ℕ → ℕ} {fl : Flags} {temp areas : List ℕ} (a : Now)
-    → RunsTo P n s r fl ctrl temp areas → n ≡ n' → fl ≡ a.fl → temp ≡ reverse a.vars → areas ≡ a.areas
-    → ((k : ℕ) → 5 ≤ k → k < 15 → r k ≡ table k) → r 3 ≡ a.x3 → r 15 ≡ pc → At P table ctrl n' s pc a
-at_of {P} {table} {ctrl} {n} {n'} {s} {pc} {r} {fl} {temp} {areas} a c en ef et ea held e3 e15 =
-    let c1 = subst (λ i. RunsTo P i s r fl ctrl temp areas) en c in
-    let c2 = subst (λ f. RunsTo P n' s r f ctrl temp areas) ef c1 in
-    let c3 = subst (λ t. RunsTo P n' s r a.fl ctrl t areas) et c2 in
-    record { r = r; run = subst (λ t. RunsTo P n' s r a.fl ctrl (reverse a.vars) t) ea c3; held = held; r3_is = e3; r15_is = e15 }
-
--- a run where the address of a variable's word is in its register
-record Found (P : Parts) (table : ℕ → ℕ) (ctrl : List ℕ) (n : ℕ) (s : Fm) (pc : ℕ) (a : Now) (x : Access) (d : ℕ) : Type 0 where
-  here : At P table ctrl n s pc a
-  address_is : here.r (register_of x) ≡ d
-  low : 4 ≤ register_of x
-  high : register_of x < 15
-
-find : {P : Parts} {table : ℕ → ℕ} {ctrl : List ℕ} {n : ℕ} {s : Fm} {pc : ℕ} {a : Now} (x : Access) (d : ℕ) → Reaches table x d
-    → At P table ctrl n s pc a → CodeAt P pc (find_code x) → Found P table ctrl (n + find_count x) s (pc + length (find_code x)) a x d
-unfolding at_of
-find {P} {a = a} (Held k) d h c code =
-    let e : c.r 15 ≡ _ = c.r15_is in
-    record {
-      here = at_of a c.run (omega arith) refl refl refl c.held c.r3_is (omega (arith, c.r15_is));
-      address_is = c.held k h.0 h.1 ∙ h.2;
-      low = omega (arith, h.0);
-      high = h.1;
-    }
-find {P} {a = a} (Known b) d h c code =
-    let words = rw (← c.r15_is) at code in
-    let c1 = target.into_r4 Move no_flags c.run (from_literal c.run words.1.0) words.0 in
-    record {
-      here = at_of a c1 refl refl refl refl (λ k low high. untouched c.r (c.r 15 + 1 + 1) 4 b k low high (omega arith) ∙ c.held k low high) c.r3_is
-          (omega (arith, c.r15_is));
-      address_is = h;
-      low = omega arith;
-      high = omega arith;
-    }
-
--- the word of a variable as an operand
-reads : {P : Parts} {table : ℕ → ℕ} {ctrl : List ℕ} {n : ℕ} {s : Fm} {pc : ℕ} {a : Now} (k i w : ℕ) (c : At P table ctrl n s pc a)
-    → c.r k ≡ P.end - 1 - i → k < 15 → slice_get a.vars i ≡ Some w
-    → ReadsOperand P c.run.m c.r a.fl a.areas (at k) w (next c.r) ctrl (reverse a.vars)
-reads {P} {a = a} k i w c e high there =
-    let within = slice_get_within a.vars i w there in
-    let laid = c.run.laid in
-    let q = length a.vars - 1 - i in
-    let d : c.r 2 + q ≡ P.end - 1 - i = omega (arith, length-reverse a.vars, laid.temp_end, within) in
-    let read = Holds-get P.base c.run.m (c.r 2) q w (reverse a.vars) (from_bottom a.vars i w there) laid.temp_at in
-    from_address k (P.end - 1 - i) c.run (omega (arith, high)) (other c.r 15 (c.r 15 + 1) k (omega (arith, high)) ∙ e)
-    (subst (λ z. word_at P.base c.run.m z ≡ Some w) d read)
+use Rattle.quick_code.{specs.Access.{Access, Held, register_of, find_code, find_count}, specs.Moments.{Now, Does, Jumps}, specs.Pieces.by_word_code}
+use Rattle.quick_code.specs.Pieces.{by_literal_code, store_code, store_literal_code, truth_code, move_code, put_code, jump_when_code, set_area_code}
+use Rattle.quick_code.{specs.PieceRows.{LeadsTo, PieceRows, operated, with_var}, proofs.StackLaws.set_from_bottom, proofs.StandLaws.{At, other, does, jumps}}
+use Rattle.quick_code.{proofs.ReachLaws.{untouched, at_of, find, reads}, proofs.ProductLaws.product_row}
 
 -- `MOVE (rk),a`, where rk has the address of a variable's word
 into_var : {P : Parts} {n : ℕ} {s : Fm} {r : ℕ → ℕ} {fl : Flags} {ctrl areas : List ℕ} {o : OperandA} {v : ℕ} {r1 : ℕ → ℕ} (vars : List ℕ) (k i : ℕ)
@@ -328,4 +270,5 @@ piece_rows P table a =
       jump_when = jump_when;
       jump = jump;
       set_area = set_area;
+      product = λ x y i j v w to_x to_y at_x at_y fits_x fits_y. product_row x y i j v w to_x to_y at_x at_y fits_x fits_y;
     }

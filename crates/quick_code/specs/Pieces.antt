@@ -1,8 +1,9 @@
 -- The pieces that quick code is made of, as words.
-use Rattle.std.specs.Prelude.{ℕ, List, [], ◌∷◌, ◌++◌}
-use Rattle.fm_words.specs.{declared.operation.Op.{Op}, declared.operation.Op.TheVariants.{Move}, declared.condition.Cc.{Cc}}
-use Rattle.fm_words.specs.declared.condition.Flags.{Flags}
-use Rattle.fm_code.specs.InstructionWords.{reg, at, immediate, literal, mov, setting, when}
+use Rattle.std.specs.Prelude.{ℕ, List, [], ◌∷◌, ◌++◌, true, false}
+use Rattle.fm_words.specs.{declared.operation.Op.{Op}, declared.operation.Op.TheVariants.{Move, Add, Neg, Sub, Lsr}}
+use Rattle.fm_words.specs.{declared.condition.Cc.{Cc}, declared.condition.Cc.TheVariants.{Cs, Vc, Vs, Nc, Zs}}
+use Rattle.fm_words.specs.{declared.condition.Flags.{Flags}, Encoding.{encode_of}}
+use Rattle.fm_code.specs.InstructionWords.{reg, at, immediate, literal, instruction, always, mov, setting, when}
 use Rattle.quick_code.specs.Access.{Access, register_of, find_code}
 
 -- `OP{set} r3,(x)`: an operation on r3 by a variable's word
@@ -41,3 +42,36 @@ jump_when_code cc target = when cc Move (reg 15) literal ∷ target ∷ []
 -- `MOVE r3,=address; MOVE (r3),=w`: a word of the areas set
 abbrev pub set_area_code : ℕ → ℕ → List ℕ
 set_area_code address w = mov (reg 3) literal ∷ address ∷ mov (at 3) literal ∷ w ∷ []
+
+-- A product, r3 = (x) * (y), and the overflow flag where it has no 32 bits. Its jumps are relative to r15.
+abbrev pub flag_n : Flags
+flag_n = record { c = false; v = false; n = true; z = false }
+
+abbrev pub flag_v : Flags
+flag_v = record { c = false; v = true; n = false; z = false }
+
+abbrev pub flags_cz : Flags
+flags_cz = record { c = true; v = false; n = false; z = true }
+
+-- `MOVE r3,#0; MOVE r0,(x); MOVE{n} r4,(y)`
+abbrev pub factors_code : Access → Access → List ℕ
+factors_code x y =
+    mov (reg 3) (immediate 0) ∷ (find_code x ++ mov (reg 0) (at (register_of x)) ∷
+    (find_code y ++ setting flag_n Move (reg 4) (at (register_of y)) ∷ []))
+
+-- `ADD[nc] r15,#3; NEG r4,r4; NEG{v} r0,r0; ADD[vs] r15,#5`: where the second factor is negative, both change their signs; the last jump
+-- leaves the code where the first one can't
+abbrev pub signs_code : List ℕ
+signs_code =
+    when Nc Add (reg 15) (immediate 3) ∷ always Neg (reg 4) (reg 4) ∷ setting flag_v Neg (reg 0) (reg 0) ∷
+    when Vs Add (reg 15) (immediate 5) ∷ []
+
+-- `LSR{cz} r4,r4; ADD[cs]{v} r3,r0; ADD[zs] r15,#2; ADD{v} r0,r0; SUB[vc] r15,#5`: a round for each binary digit of r4 from the lowest on:
+-- where it is 1, r0 is added; the round of the highest digit is the last, else r0 is doubled
+abbrev pub rounds_code : List ℕ
+rounds_code =
+    setting flags_cz Lsr (reg 4) (reg 4) ∷ encode_of (instruction Add Cs flag_v (reg 3) (reg 0)) ∷
+    when Zs Add (reg 15) (immediate 2) ∷ setting flag_v Add (reg 0) (reg 0) ∷ when Vc Sub (reg 15) (immediate 5) ∷ []
+
+abbrev pub product_code : Access → Access → List ℕ
+product_code x y = factors_code x y ++ (signs_code ++ rounds_code)

@@ -3,15 +3,15 @@ use Rattle.std.proofs.Common.{◌≡◌, ℕ, zero, suc, ◌+◌, ◌≤◌, Lis
 use Rattle.stack_text.specs.Values.{ValueOf}
 use Rattle.gypsy_syntax.{specs.declared.predef.Predef.Predef, specs.Programs.{ConditionOf, Arg, Program, Stmt, Skip, NoOp, Signal, Seq, Loop, If, Begin, Call}}
 use Rattle.gypsy_syntax.{specs.Programs.Apply, specs.Predefined.{predef_effect, predef_cost}, specs.Effects.{Effect, Normal, Fault, Beyond, value_at}}
-use Rattle.gypsy_syntax.specs.Effects.{is_true_value}
+use Rattle.gypsy_syntax.specs.Effects.{is_true_value, item_of_value}
 use Rattle.gypsy_syntax.specs.declared.predef.Predef.TheVariants as row
 use Rattle.gypsy_space.{specs.Costs.{Tally, spend}, specs.Needs.StackSizes}
 use Rattle.gypsy_semantics.{specs.Calls.{has_cond, is_leave, values_of}, specs.Meaning.{MeaningOutcome, Done, then_do, either_way, caught, round_end, applied}}
 use Rattle.gypsy_semantics.{specs.Meaning.evaluate, specs.Counted.{CountedOutcome, CountedDone, CountedUnfinished, counted_then, counted_part, counted_either}}
 use Rattle.gypsy_semantics.specs.Counted.{counted_caught, counted_round_end, counted_applied, counted_evaluate, uncounted}
-use Rattle.quick_code.specs.Access.{Access, Held, Known, find_count}
+use Rattle.quick_code.{specs.Access.{Access, Held, Known, find_count}, specs.Products.product_count, proofs.ProductNumbers.product_few}
 use Rattle.quick_gypsy.{specs.Layout.Layout, specs.RowCode.{assign_count, row_cost, arg_access}, specs.QuickRuns.QuickIsNoSlower, specs.Quick.quick_cost}
-use Rattle.quick_gypsy.specs.Quick.{after_part, after_body, IsPlain, IsPlainRow}
+use Rattle.quick_gypsy.specs.Quick.{after_part, after_body, IsPlain}
 
 -- where the plain run is done, so many instructions from t on are no more than it took
 abbrev pub Bound : ℕ → Tally → CountedOutcome → Type 0
@@ -121,45 +121,53 @@ assign_small : (x y : Access) → assign_count x y ≤ 28
 assign_small x (Held k) = omega (arith, find_small x)
 assign_small x (Known a) = omega (arith, find_small x)
 
-row_bound : (L : Layout) (args : List Arg) (r : Predef) (e : Effect) → IsPlainRow r → row_cost L args r e ≤ (predef_cost r e).0
-unfolding predef_cost
-row_bound L args row.MgSimpleVariableAssignment e h = assign_small (arg_access L args 0) (arg_access L args 1)
-row_bound L args row.MgSimpleConstantAssignment e h = omega (arith, find_small (arg_access L args 0))
-row_bound L args row.MgSimpleVariableEq e h =
-    omega (arith, find_small (arg_access L args 0), find_small (arg_access L args 1), find_small (arg_access L args 2))
-row_bound L args row.MgSimpleConstantEq e h = omega (arith, find_small (arg_access L args 0), find_small (arg_access L args 1))
-row_bound L args row.MgIntegerLe e h =
-    omega (arith, find_small (arg_access L args 0), find_small (arg_access L args 1), find_small (arg_access L args 2))
-row_bound L args row.MgIntegerUnaryMinus (Normal v) h = omega (arith, find_small (arg_access L args 0), find_small (arg_access L args 1))
-row_bound L args row.MgIntegerUnaryMinus Fault h = omega (arith, find_small (arg_access L args 1))
-row_bound L args row.MgIntegerUnaryMinus Beyond h = omega (arith, find_small (arg_access L args 1))
-row_bound L args row.MgIntegerAdd (Normal v) h =
-    omega (arith, find_small (arg_access L args 0), find_small (arg_access L args 1), find_small (arg_access L args 2))
-row_bound L args row.MgIntegerAdd Fault h = omega (arith, find_small (arg_access L args 1), find_small (arg_access L args 2))
-row_bound L args row.MgIntegerAdd Beyond h = omega (arith, find_small (arg_access L args 1), find_small (arg_access L args 2))
-row_bound L args row.MgIntegerSubtract (Normal v) h =
-    omega (arith, find_small (arg_access L args 0), find_small (arg_access L args 1), find_small (arg_access L args 2))
-row_bound L args row.MgIntegerSubtract Fault h = omega (arith, find_small (arg_access L args 1), find_small (arg_access L args 2))
-row_bound L args row.MgIntegerSubtract Beyond h = omega (arith, find_small (arg_access L args 1), find_small (arg_access L args 2))
-row_bound L args row.MgIntegerMultiply e h = absurd h
-row_bound L args row.MgBooleanOr e h =
-    omega (arith, find_small (arg_access L args 0), find_small (arg_access L args 1), find_small (arg_access L args 2))
-row_bound L args row.MgBooleanAnd e h =
-    omega (arith, find_small (arg_access L args 0), find_small (arg_access L args 1), find_small (arg_access L args 2))
-row_bound L args row.MgBooleanNot e h = omega (arith, find_small (arg_access L args 0), find_small (arg_access L args 1))
-row_bound L args row.MgIndexArray (Normal v) h = omega (arith, find_small (arg_access L args 0), find_small (arg_access L args 2))
-row_bound L args row.MgIndexArray Fault h = omega (arith, find_small (arg_access L args 2))
-row_bound L args row.MgIndexArray Beyond h = omega (arith, find_small (arg_access L args 2))
-row_bound L args row.MgArrayElementAssignment (Normal v) h = omega (arith, find_small (arg_access L args 1), find_small (arg_access L args 2))
-row_bound L args row.MgArrayElementAssignment Fault h = omega (arith, find_small (arg_access L args 1))
-row_bound L args row.MgArrayElementAssignment Beyond h = omega (arith, find_small (arg_access L args 1))
+product_small : (vs : List ValueOf) → product_count (item_of_value (value_at vs 1)) (item_of_value (value_at vs 2)) ≤ 167
+product_small vs = product_few (item_of_value (value_at vs 1)) (item_of_value (value_at vs 2))
 
-row_at : (L : Layout) (args : List Arg) (r : Predef) (e : Effect) (x : List ValueOf) (t : Tally) → IsPlainRow r
-    → Paired (row_cost L args r e) t (applied args e x) (counted_applied r args e x t)
+row_bound : (L : Layout) (args : List Arg) (r : Predef) (vs : List ValueOf) (e : Effect) → row_cost L args r vs e ≤ (predef_cost r e).0
+unfolding predef_cost
+row_bound L args row.MgSimpleVariableAssignment vs e = assign_small (arg_access L args 0) (arg_access L args 1)
+row_bound L args row.MgSimpleConstantAssignment vs e = omega (arith, find_small (arg_access L args 0))
+row_bound L args row.MgSimpleVariableEq vs e =
+    omega (arith, find_small (arg_access L args 0), find_small (arg_access L args 1), find_small (arg_access L args 2))
+row_bound L args row.MgSimpleConstantEq vs e = omega (arith, find_small (arg_access L args 0), find_small (arg_access L args 1))
+row_bound L args row.MgIntegerLe vs e =
+    omega (arith, find_small (arg_access L args 0), find_small (arg_access L args 1), find_small (arg_access L args 2))
+row_bound L args row.MgIntegerUnaryMinus vs (Normal v) = omega (arith, find_small (arg_access L args 0), find_small (arg_access L args 1))
+row_bound L args row.MgIntegerUnaryMinus vs Fault = omega (arith, find_small (arg_access L args 1))
+row_bound L args row.MgIntegerUnaryMinus vs Beyond = omega (arith, find_small (arg_access L args 1))
+row_bound L args row.MgIntegerAdd vs (Normal v) =
+    omega (arith, find_small (arg_access L args 0), find_small (arg_access L args 1), find_small (arg_access L args 2))
+row_bound L args row.MgIntegerAdd vs Fault = omega (arith, find_small (arg_access L args 1), find_small (arg_access L args 2))
+row_bound L args row.MgIntegerAdd vs Beyond = omega (arith, find_small (arg_access L args 1), find_small (arg_access L args 2))
+row_bound L args row.MgIntegerSubtract vs (Normal v) =
+    omega (arith, find_small (arg_access L args 0), find_small (arg_access L args 1), find_small (arg_access L args 2))
+row_bound L args row.MgIntegerSubtract vs Fault = omega (arith, find_small (arg_access L args 1), find_small (arg_access L args 2))
+row_bound L args row.MgIntegerSubtract vs Beyond = omega (arith, find_small (arg_access L args 1), find_small (arg_access L args 2))
+row_bound L args row.MgIntegerMultiply vs (Normal v) =
+    omega (arith, find_small (arg_access L args 0), find_small (arg_access L args 1), find_small (arg_access L args 2), product_small vs)
+row_bound L args row.MgIntegerMultiply vs Fault =
+    omega (arith, find_small (arg_access L args 1), find_small (arg_access L args 2), product_small vs)
+row_bound L args row.MgIntegerMultiply vs Beyond =
+    omega (arith, find_small (arg_access L args 1), find_small (arg_access L args 2), product_small vs)
+row_bound L args row.MgBooleanOr vs e =
+    omega (arith, find_small (arg_access L args 0), find_small (arg_access L args 1), find_small (arg_access L args 2))
+row_bound L args row.MgBooleanAnd vs e =
+    omega (arith, find_small (arg_access L args 0), find_small (arg_access L args 1), find_small (arg_access L args 2))
+row_bound L args row.MgBooleanNot vs e = omega (arith, find_small (arg_access L args 0), find_small (arg_access L args 1))
+row_bound L args row.MgIndexArray vs (Normal v) = omega (arith, find_small (arg_access L args 0), find_small (arg_access L args 2))
+row_bound L args row.MgIndexArray vs Fault = omega (arith, find_small (arg_access L args 2))
+row_bound L args row.MgIndexArray vs Beyond = omega (arith, find_small (arg_access L args 2))
+row_bound L args row.MgArrayElementAssignment vs (Normal v) = omega (arith, find_small (arg_access L args 1), find_small (arg_access L args 2))
+row_bound L args row.MgArrayElementAssignment vs Fault = omega (arith, find_small (arg_access L args 1))
+row_bound L args row.MgArrayElementAssignment vs Beyond = omega (arith, find_small (arg_access L args 1))
+
+row_at : (L : Layout) (args : List Arg) (r : Predef) (vs : List ValueOf) (e : Effect) (x : List ValueOf) (t : Tally)
+    → Paired (row_cost L args r vs e) t (applied args e x) (counted_applied r args e x t)
 unfolding spend
-row_at L args r (Normal v) x t h = record { same = refl; bound = omega (arith, row_bound L args r (Normal v) h) }
-row_at L args r Fault x t h = record { same = refl; bound = omega (arith, row_bound L args r Fault h) }
-row_at L args r Beyond x t h = record { same = refl; bound = omega (arith, row_bound L args r Beyond h) }
+row_at L args r vs (Normal v) x t = record { same = refl; bound = omega (arith, row_bound L args r vs (Normal v)) }
+row_at L args r vs Fault x t = record { same = refl; bound = omega (arith, row_bound L args r vs Fault) }
+row_at L args r vs Beyond x t = record { same = refl; bound = omega (arith, row_bound L args r vs Beyond) }
 
 module _ (q : Program) (sizes : StackSizes) (L : Layout) (u : StackSizes) where
   pub paired : (n : ℕ) (s : Stmt) (x : List ValueOf) (t : Tally) → IsPlain s
@@ -196,7 +204,9 @@ module _ (q : Program) (sizes : StackSizes) (L : Layout) (u : StackSizes) where
       (caught_at (quick_cost q sizes L (suc n) s u x) t (counted_evaluate q sizes (suc n) s u x t) cs (counted_evaluate q sizes (suc n) w u)
       (evaluate q sizes (suc n) w u) (quick_cost q sizes L (suc n) w u) one.bound (λ y t'. paired (suc n) w y t' h.1))
   paired (suc n) (Call place p xs cs) x t h = absurd h
-  paired (suc n) (Apply place r args) x t h = row_at L args r (predef_effect r (values_of x args)) x t h
+  paired (suc n) (Apply place r args) x t h =
+      let vs = values_of x args in
+      row_at L args r vs (predef_effect r vs) x t
 
 pub no_slower : QuickIsNoSlower
 no_slower L q sizes n s u x y c t t' h e =

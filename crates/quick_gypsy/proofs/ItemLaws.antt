@@ -1,33 +1,5 @@
 -- Items as numbers: equality, order, truth values, sums and indices.
-use Rattle.std.proofs.Common.{
-  ◌≡◌,
-  ℕ,
-  zero,
-  suc,
-  ◌+◌,
-  ◌-◌,
-  ◌%◌,
-  ◌<◌,
-  ◌^◌,
-  ◌==◌,
-  ℤ,
-  pos,
-  negsuc,
-  ◌+ℤ◌,
-  ◌-ℤ◌,
-  neg_ℤ,
-  Bool,
-  true,
-  false,
-  not,
-  ◌⊎◌,
-  inl,
-  inr,
-  refl,
-  sym,
-  ap,
-  ◌∙◌,
-}
+use Rattle.std.proofs.Common.{◌≡◌, ℕ, ◌+◌, ◌-◌, ◌%◌, ◌<◌, ◌^◌, ◌==◌, ℤ, pos, negsuc, ◌+ℤ◌, ◌-ℤ◌, Bool, true, false, not, ◌⊎◌, inl, inr, refl, sym, ap, ◌∙◌}
 use Rattle.std.{proofs.Common.{arith, int_lt, int_le, Less, Equal, Greater, cond}, specs.Prelude.{nat_lt, nat_le, if◌then◌else◌, bit_and, bit_or, bit_xor}}
 use Rattle.std.{specs.Prelude.{◌&&◌, ◌||◌}, specs.Ordering.is_eq, proofs.lemmas.Bool.{cases_order, eq-eqb, ne_eqb, lt-ltb, le-ltb, le-leb, lt-leb, ltb-false}}
 use Rattle.std.{proofs.lemmas.Bool.{ltb-true, eqb-true, or_cases}, proofs.lemmas.Bool.Decides.nat_tests, proofs.Math.IntN.+ℤ_comm}
@@ -175,13 +147,3 @@ pub difference_over : (x y : ℤ) → is_int x ≡ true → is_int y ≡ true
     → not (is_int (signed_of (word_of_int x) -ℤ signed_of (word_of_int y))) ≡ not (is_int (x -ℤ y))
 difference_over x y p q =
     (λ i. not (is_int (signed_of-word_of_int x p i -ℤ signed_of-word_of_int y q i)))
-
-pub minus_item : (x : ℤ) → is_int x ≡ true → is_int (neg_ℤ x) ≡ true → (2 ^ 32 - word_of_int x) % 2 ^ 32 ≡ word_of_int (neg_ℤ x)
-minus_item (pos zero) p h = refl
-minus_item (pos (suc n)) p h = grind (arith, nat_tests)
-minus_item (negsuc n) p h = grind (arith, nat_tests)
-
-pub minus_over : (x : ℤ) → is_int x ≡ true → (word_of_int x == 2 ^ 31) ≡ not (is_int (neg_ℤ x))
-minus_over (pos zero) p = refl
-minus_over (pos (suc n)) p = grind (arith, nat_tests)
-minus_over (negsuc n) p = grind (arith, nat_tests)

@@ -15,12 +15,12 @@ use Rattle.gypsy_space.specs.Needs.{StackSizes}
 use Rattle.gypsy_semantics.{specs.Calls.{CurrentCondition, has_cond, is_leave, values_of, target_of}, specs.Meaning.{MeaningOutcome, Done, Unfinished, then_do}}
 use Rattle.gypsy_semantics.{specs.Meaning.{either_way, caught, round_end, applied, evaluate}, proofs.EffectLaws.apply_fits}
 use Rattle.quick_code.{specs.Access.{Access, find_count}, specs.Moments.now, specs.Pieces.{by_word_code, by_literal_code, store_code, move_code, put_code}}
-use Rattle.quick_code.{specs.Pieces.jump_when_code, specs.PieceRows.operated, proofs.PieceLaws.piece_rows, proofs.StandLaws.{does_then, jumps_then, comes_then}}
-use Rattle.quick_code.proofs.StandLaws.{comes_at_once, comes_as}
+use Rattle.quick_code.{specs.Pieces.{jump_when_code, flag_v, product_code}, specs.PieceRows.operated, proofs.PieceLaws.piece_rows, proofs.StandLaws.does_then}
+use Rattle.quick_code.proofs.StandLaws.{jumps_then, comes_then, comes_at_once, comes_as}
 use Rattle.quick_gypsy.{specs.Numbers.numbers_of, specs.Layout.{Layout, IsLayout, first_of, count_of, last_address}, specs.RowCode.{row_code, row_cost, load}}
-use Rattle.quick_gypsy.{specs.RowCode.{item_code, arg_var, arg_access, flag_v}, specs.Quick.{Targets, loop_targets, begin_targets, test_code, size, quick}}
-use Rattle.quick_gypsy.{specs.Quick.{quick_cost, after_part, after_body, IsPlain}, specs.QuickRuns.{StandsWith, ComesWith, GoesOn, goal_of, StatementsRun}}
-use Rattle.quick_gypsy.{specs.QuickRuns.StatementsGoOn, proofs.NumbersLaws.simple_var, proofs.ItemLaws.test_item, proofs.RowLaws.{RowDoes, row_runs}}
+use Rattle.quick_gypsy.{specs.RowCode.{item_code, arg_var, arg_access}, specs.Quick.{Targets, loop_targets, begin_targets, test_code, size, quick, quick_cost}}
+use Rattle.quick_gypsy.{specs.Quick.{after_part, after_body, IsPlain}, specs.QuickRuns.{StandsWith, ComesWith, GoesOn, goal_of, StatementsRun, StatementsGoOn}}
+use Rattle.quick_gypsy.{proofs.NumbersLaws.simple_var, proofs.ItemLaws.test_item, proofs.RowLaws.{RowDoes, row_runs}}
 
 -- How long the code is.
 
@@ -48,6 +48,9 @@ row_length L f args row.MgIntegerSubtract =
     let c = by_word_code Sub flag_v (arg_access L args 2) in
     longer (load (arg_access L args 1)) (c ++ (jump_when_code Vs f ++ d)) (c ++ (jump_when_code Vs 0 ++ d))
     (longer c (jump_when_code Vs f ++ d) (jump_when_code Vs 0 ++ d) refl)
+row_length L f args row.MgIntegerMultiply =
+    let d = store_code (arg_access L args 0) in
+    longer (product_code (arg_access L args 1) (arg_access L args 2)) (jump_when_code Vs f ++ d) (jump_when_code Vs 0 ++ d) refl
 row_length L f args row.MgIndexArray =
     item_length L f (arg_var args 1) (arg_access L args 2) (move_code (arg_access L args 0) 3)
 row_length L f args row.MgArrayElementAssignment = item_length L f (arg_var args 0) (arg_access L args 1) (put_code (arg_access L args 2))
@@ -325,9 +328,10 @@ module _ (P : Parts) (table : ℕ → ℕ) (L : Layout) (q : Program) (sizes : S
       lands_at P table L ctrl areas (suc n) _ _ m T (arm + size L w) (pc + (size L s + 2 + size L w)) _ refl (omega arith) whole
   run (suc n) (Call place p xs cs) looping x T pc m f plain fits code st = absurd plain
   run (suc n) (Apply place r args) looping x T pc m f plain fits code st =
-      let e = predef_effect r (values_of x args) in
-      let does = row_runs P table L lay x fits (T Routine) st.x3 st.fl areas f.0 r args f.1 plain in
-      let whole = row_lands P table L ctrl areas (suc n) (row_cost L args r e) m T pc (row_code L (T Routine) args r) args x e is st code fits
+      let vs = values_of x args in
+      let e = predef_effect r vs in
+      let does = row_runs P table L lay x fits (T Routine) st.x3 st.fl areas f.0 r args f.1 in
+      let whole = row_lands P table L ctrl areas (suc n) (row_cost L args r vs e) m T pc (row_code L (T Routine) args r) args x e is st code fits
       (λ v is_v. apply_fits L.shapes x f.0 r args v fits f.1 is_v) does in
       lands_at P table L ctrl areas (suc n) _ _ m T (pc + length (row_code L (T Routine) args r)) (pc + size L (Apply place r args)) (applied args e x) refl
       (ap (λ i. pc + i) (row_length L (T Routine) args r)) whole

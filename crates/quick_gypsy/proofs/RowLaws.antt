@@ -13,6 +13,7 @@ use Rattle.std.proofs.Common.{
   negsuc,
   ◌+ℤ◌,
   ◌-ℤ◌,
+  ◌*ℤ◌,
   neg_ℤ,
   Some,
   Bool,
@@ -43,12 +44,13 @@ use Rattle.gypsy_syntax.{specs.Effects.{number_effect, indexed, stored, is_true_
 use Rattle.gypsy_syntax.specs.declared.predef.Predef.TheVariants as row
 use Rattle.gypsy_semantics.specs.Calls.{values_of, target_of}
 use Rattle.quick_code.{specs.Access.{Access, Held, Known, find_count}, specs.Moments.{Now, now, Does, Jumps}, specs.Pieces.{by_word_code, by_literal_code}}
-use Rattle.quick_code.{specs.Pieces.{store_code, store_literal_code, truth_code, move_code, put_code, jump_when_code}, specs.PieceRows.{LeadsTo, operated}}
-use Rattle.quick_code.{proofs.PieceLaws.piece_rows, proofs.StandLaws.{does_then, jumps_then, jumps_over}}
+use Rattle.quick_code.specs.Pieces.{store_code, store_literal_code, truth_code, move_code, put_code, jump_when_code, flag_v, product_code}
+use Rattle.quick_code.{specs.PieceRows.{LeadsTo, operated}, proofs.PieceLaws.piece_rows, proofs.StandLaws.{does_then, jumps_then, jumps_over}}
+use Rattle.quick_code.{specs.Products.product_count, proofs.ProductNumbers.{minus_word, minus_overflows}}
 use Rattle.quick_gypsy.{specs.Numbers.numbers_of, specs.Layout.{Layout, IsLayout, first_of, count_of, last_address}, specs.RowCode.{assign_code, assign_count}}
-use Rattle.quick_gypsy.{specs.RowCode.{row_code, row_cost, load, item_code, flag_v, unless_fails}, specs.Quick.IsPlainRow, proofs.NumbersLaws.IsSimple}
-use Rattle.quick_gypsy.{proofs.NumbersLaws.{IsArray, simple_var, simple_value, array_var, with_item}, proofs.ItemLaws.{item_is_int, truth_number, same_items}}
-use Rattle.quick_gypsy.proofs.ItemLaws.{le_items, or_items, and_items, not_item, sum_item, sum_over, difference_over, minus_item, minus_over, same_range}
+use Rattle.quick_gypsy.{specs.RowCode.{row_code, row_cost, load, item_code, unless_fails}, proofs.NumbersLaws.{IsSimple, IsArray, simple_var, simple_value}}
+use Rattle.quick_gypsy.{proofs.NumbersLaws.{array_var, with_item}, proofs.ItemLaws.{item_is_int, truth_number, same_items, le_items, or_items, and_items}}
+use Rattle.quick_gypsy.proofs.ItemLaws.{not_item, sum_item, sum_over, difference_over, same_range}
 
 -- what a row's code does in each outcome, where f is the target of routineerror and t the variable that is written
 abbrev pub RowDoes : Parts → (ℕ → ℕ) → List ℕ → ℕ → ℕ → Now → List ValueOf → List ℕ → ℕ → Effect → Type 0
@@ -235,6 +237,26 @@ module _ (P : Parts) (table : ℕ → ℕ) (L : Layout) (is : IsLayout P table L
       before (load (L.access b)) (by_word_code Sub flag_v (L.access c) ++ ending) (find_count (L.access b) + 1) (find_count (L.access c) + 1 + k3) d a a1 e d1
       (before (by_word_code Sub flag_v (L.access c)) ending (find_count (L.access c) + 1) k3 d a1 a2 e d2 d3)
 
+  product : (d b c : ℕ) → IsSimple L.shapes x d Integer → IsSimple L.shapes x b Integer → IsSimple L.shapes x c Integer
+      → (let zb = item_of_value (value_at x b) in
+      let zc = item_of_value (value_at x c) in
+      let e = number_effect (zb *ℤ zc) in
+      RowDoes P table (product_code (L.access b) (L.access c) ++ (jump_when_code Vs f ++ store_code (L.access d)))
+      (find_count (L.access b) + find_count (L.access c) + product_count zb zc + (1 + unless_fails (find_count (L.access d) + 1) e)) f
+      (now x3 fl (numbers_of x) areas) x areas d e)
+  product d b c vd vb vc =
+      let zb = item_of_value (value_at x b) in
+      let zc = item_of_value (value_at x c) in
+      let e = number_effect (zb *ℤ zc) in
+      let a = now x3 fl (numbers_of x) areas in
+      let g = (piece_rows P table a).product (L.access b) (L.access c) (first_of L b) (first_of L c) zb zc (is.reaches b vb.bound)
+      (is.reaches c vc.bound) vb.word vc.word (item_is_int Integer zb vb.range) (item_is_int Integer zc vc.range) in
+      let rest = checked d (zb *ℤ zc) (is_in_range Integer (zb *ℤ zc)) g.x3 g.fl vd refl
+      (λ h. g.word (sym (same_range (zb *ℤ zc)) ∙ h)) (g.overflow ∙ ap not (sym (same_range (zb *ℤ zc)))) in
+      before (product_code (L.access b) (L.access c)) (jump_when_code Vs f ++ store_code (L.access d))
+      (find_count (L.access b) + find_count (L.access c) + product_count zb zc) (1 + unless_fails (find_count (L.access d) + 1) e) d a
+      (now g.x3 g.fl (numbers_of x) areas) e g.does rest
+
   minus : (d b : ℕ) → IsSimple L.shapes x d Integer → IsSimple L.shapes x b Integer
       → (let e = number_effect (neg_ℤ (item_of_value (value_at x b))) in
       RowDoes P table (by_word_code Neg flag_v (L.access b) ++ (jump_when_code Vs f ++ store_code (L.access d)))
@@ -250,7 +272,7 @@ module _ (P : Parts) (table : ℕ → ℕ) (L : Layout) (is : IsLayout P table L
       let k3 = 1 + unless_fails (find_count (L.access d) + 1) e in
       let d1 = (piece_rows P table a).by_word Neg flag_v (L.access b) (first_of L b) (word_of_int zb) (is.reaches b vb.bound) vb.word in
       let d3 = checked d (neg_ℤ zb) (is_in_range Integer (neg_ℤ zb)) a1.x3 a1.fl vd refl
-      (λ h. minus_item zb pb (sym (same_range (neg_ℤ zb)) ∙ h)) (minus_over zb pb ∙ ap not (sym (same_range (neg_ℤ zb)))) in
+      (λ h. minus_word zb pb (sym (same_range (neg_ℤ zb)) ∙ h)) (minus_overflows zb pb ∙ ap not (sym (same_range (neg_ℤ zb)))) in
       before (by_word_code Neg flag_v (L.access b)) ending (find_count (L.access b) + 1) k3 d a a1 e d1 d3
 
   -- a truth value from two
@@ -474,17 +496,17 @@ var_var_one shapes k j l Q go a b fa fb =
 -- what has to be shown of a row
 abbrev pub RowGoal : Parts → (ℕ → ℕ) → Layout → List ValueOf → ℕ → ℕ → Flags → List ℕ → Predef → List Arg → Type 0
 RowGoal P table L x f x3 fl areas r args =
-    RowDoes P table (row_code L f args r) (row_cost L args r (predef_effect r (values_of x args))) f (now x3 fl (numbers_of x) areas) x areas (target_of args)
+    RowDoes P table (row_code L f args r) (row_cost L args r (values_of x args) (predef_effect r (values_of x args))) f (now x3 fl (numbers_of x) areas) x areas (target_of args)
     (predef_effect r (values_of x args))
 
 small : (n : ℕ) → n ≤ most_array → n ≤ 2 ^ 31
 small n h = omega (arith, h)
 
 pub row_runs : (P : Parts) (table : ℕ → ℕ) (L : Layout) → IsLayout P table L → (x : List ValueOf) → VarsFit L.shapes x
-    → (f x3 : ℕ) (fl : Flags) (areas : List ℕ) (k : Kind) (r : Predef) (args : List Arg) → ArgsFit L.shapes k (slots_of r) args → IsPlainRow r
+    → (f x3 : ℕ) (fl : Flags) (areas : List ℕ) (k : Kind) (r : Predef) (args : List Arg) → ArgsFit L.shapes k (slots_of r) args
     → RowGoal P table L x f x3 fl areas r args
 unfolding predef_effect effect_by values_of target_of
-row_runs P table L is x fits f x3 fl areas k row.MgSimpleVariableAssignment args h plain =
+row_runs P table L is x fits f x3 fl areas k row.MgSimpleVariableAssignment args h =
     two_args L.shapes k (shared Simple) (shared Simple) (RowGoal P table L x f x3 fl areas row.MgSimpleVariableAssignment)
     (var_var L.shapes k k k (RowGoal P table L x f x3 fl areas row.MgSimpleVariableAssignment)
     (λ d b fd fb.
@@ -492,7 +514,7 @@ row_runs P table L is x fits f x3 fl areas k row.MgSimpleVariableAssignment args
     subst (λ (v : ValueOf). RowDoes P table (assign_code (L.access d) (L.access b)) (assign_count (L.access d) (L.access b)) f
     (now x3 fl (numbers_of x) areas) x areas d (Normal v)) vb.value (assigned P table L is x f x3 fl areas k d b (simple_var L.shapes x d k fits fd)
     vb (L.access b) (is.reaches b vb.bound)))) args h
-row_runs P table L is x fits f x3 fl areas k row.MgSimpleConstantAssignment args h plain =
+row_runs P table L is x fits f x3 fl areas k row.MgSimpleConstantAssignment args h =
     two_args L.shapes k (shared Simple) (shared Literal) (RowGoal P table L x f x3 fl areas row.MgSimpleConstantAssignment)
     (λ a b fa fb.
     one_var L.shapes k (λ a. RowGoal P table L x f x3 fl areas row.MgSimpleConstantAssignment (a ∷ b ∷ []))
@@ -502,12 +524,12 @@ row_runs P table L is x fits f x3 fl areas k row.MgSimpleConstantAssignment args
     (now x3 fl (numbers_of x) areas) x areas d (Normal u)) (sym (simple_value k v e g)) (constant P table L is x f x3 fl areas k d (item_of_value v)
     (simple_var L.shapes x d k fits fd))) b fb)
     a fa) args h
-row_runs P table L is x fits f x3 fl areas k row.MgSimpleVariableEq args h plain =
+row_runs P table L is x fits f x3 fl areas k row.MgSimpleVariableEq args h =
     three_args L.shapes k boolean_slot (shared Simple) (shared Simple) (RowGoal P table L x f x3 fl areas row.MgSimpleVariableEq)
     (var_var_var L.shapes k Boolean k k (RowGoal P table L x f x3 fl areas row.MgSimpleVariableEq)
     (λ d b c fd fb fc. equal P table L is x f x3 fl areas k d b c (simple_var L.shapes x d Boolean fits fd) (simple_var L.shapes x b k fits fb)
     (simple_var L.shapes x c k fits fc))) args h
-row_runs P table L is x fits f x3 fl areas k row.MgSimpleConstantEq args h plain =
+row_runs P table L is x fits f x3 fl areas k row.MgSimpleConstantEq args h =
     three_args L.shapes k boolean_slot (shared Simple) (shared Literal) (RowGoal P table L x f x3 fl areas row.MgSimpleConstantEq)
     (λ a b c fa fb fc.
     one_literal L.shapes k (λ c. RowGoal P table L x f x3 fl areas row.MgSimpleConstantEq (a ∷ b ∷ c ∷ []))
@@ -515,28 +537,31 @@ row_runs P table L is x fits f x3 fl areas k row.MgSimpleConstantEq args h plain
     (λ d b fd fb. equal_constant P table L is x f x3 fl areas k d b v (simple_var L.shapes x d Boolean fits fd) (simple_var L.shapes x b k fits fb)
     (simple_item k v e g)) a b fa fb)
     c fc) args h
-row_runs P table L is x fits f x3 fl areas k row.MgIntegerLe args h plain =
+row_runs P table L is x fits f x3 fl areas k row.MgIntegerLe args h =
     three_args L.shapes k boolean_slot integer_slot integer_slot (RowGoal P table L x f x3 fl areas row.MgIntegerLe)
     (var_var_var L.shapes k Boolean Integer Integer (RowGoal P table L x f x3 fl areas row.MgIntegerLe)
     (λ d b c fd fb fc. less_or_equal P table L is x f x3 fl areas d b c (simple_var L.shapes x d Boolean fits fd) (simple_var L.shapes x b Integer
     fits fb) (simple_var L.shapes x c Integer fits fc))) args h
-row_runs P table L is x fits f x3 fl areas k row.MgIntegerUnaryMinus args h plain =
+row_runs P table L is x fits f x3 fl areas k row.MgIntegerUnaryMinus args h =
     two_args L.shapes k integer_slot integer_slot (RowGoal P table L x f x3 fl areas row.MgIntegerUnaryMinus)
     (var_var L.shapes k Integer Integer (RowGoal P table L x f x3 fl areas row.MgIntegerUnaryMinus)
     (λ d b fd fb. minus P table L is x f x3 fl areas d b (simple_var L.shapes x d Integer fits fd) (simple_var L.shapes x b Integer fits fb))) args h
-row_runs P table L is x fits f x3 fl areas k row.MgIntegerAdd args h plain =
+row_runs P table L is x fits f x3 fl areas k row.MgIntegerAdd args h =
     three_args L.shapes k integer_slot integer_slot integer_slot (RowGoal P table L x f x3 fl areas row.MgIntegerAdd)
     (var_var_var L.shapes k Integer Integer Integer (RowGoal P table L x f x3 fl areas row.MgIntegerAdd)
     (λ d b c fd fb fc. sum P table L is x f x3 fl areas d b c (simple_var L.shapes x d Integer fits fd) (simple_var L.shapes x b Integer fits fb)
     (simple_var L.shapes x c Integer fits fc))) args h
-row_runs P table L is x fits f x3 fl areas k row.MgIntegerSubtract args h plain =
+row_runs P table L is x fits f x3 fl areas k row.MgIntegerSubtract args h =
     three_args L.shapes k integer_slot integer_slot integer_slot (RowGoal P table L x f x3 fl areas row.MgIntegerSubtract)
     (var_var_var L.shapes k Integer Integer Integer (RowGoal P table L x f x3 fl areas row.MgIntegerSubtract)
     (λ d b c fd fb fc. difference P table L is x f x3 fl areas d b c (simple_var L.shapes x d Integer fits fd) (simple_var L.shapes x b Integer fits
     fb) (simple_var L.shapes x c Integer fits fc))) args h
-row_runs P table L is x fits f x3 fl areas k row.MgIntegerMultiply args h plain =
-    absurd plain
-row_runs P table L is x fits f x3 fl areas k row.MgBooleanOr args h plain =
+row_runs P table L is x fits f x3 fl areas k row.MgIntegerMultiply args h =
+    three_args L.shapes k integer_slot integer_slot integer_slot (RowGoal P table L x f x3 fl areas row.MgIntegerMultiply)
+    (var_var_var L.shapes k Integer Integer Integer (RowGoal P table L x f x3 fl areas row.MgIntegerMultiply)
+    (λ d b c fd fb fc. product P table L is x f x3 fl areas d b c (simple_var L.shapes x d Integer fits fd) (simple_var L.shapes x b Integer fits fb)
+    (simple_var L.shapes x c Integer fits fc))) args h
+row_runs P table L is x fits f x3 fl areas k row.MgBooleanOr args h =
     three_args L.shapes k boolean_slot boolean_slot boolean_slot (RowGoal P table L x f x3 fl areas row.MgBooleanOr)
     (var_var_var L.shapes k Boolean Boolean Boolean (RowGoal P table L x f x3 fl areas row.MgBooleanOr)
     (λ d b c fd fb fc.
@@ -545,7 +570,7 @@ row_runs P table L is x fits f x3 fl areas k row.MgBooleanOr args h plain =
     combined P table L is x f x3 fl areas Or d b c (is_true_value (value_at x b) || is_true_value (value_at x c)) (simple_var L.shapes x d Boolean
     fits fd) vb vc
     (λ g. or_items (item_of_value (value_at x b)) (item_of_value (value_at x c)) vb.range vc.range))) args h
-row_runs P table L is x fits f x3 fl areas k row.MgBooleanAnd args h plain =
+row_runs P table L is x fits f x3 fl areas k row.MgBooleanAnd args h =
     three_args L.shapes k boolean_slot boolean_slot boolean_slot (RowGoal P table L x f x3 fl areas row.MgBooleanAnd)
     (var_var_var L.shapes k Boolean Boolean Boolean (RowGoal P table L x f x3 fl areas row.MgBooleanAnd)
     (λ d b c fd fb fc.
@@ -554,11 +579,11 @@ row_runs P table L is x fits f x3 fl areas k row.MgBooleanAnd args h plain =
     combined P table L is x f x3 fl areas And d b c (is_true_value (value_at x b) && is_true_value (value_at x c)) (simple_var L.shapes x d Boolean
     fits fd) vb vc
     (λ g. and_items (item_of_value (value_at x b)) (item_of_value (value_at x c)) vb.range vc.range))) args h
-row_runs P table L is x fits f x3 fl areas k row.MgBooleanNot args h plain =
+row_runs P table L is x fits f x3 fl areas k row.MgBooleanNot args h =
     two_args L.shapes k boolean_slot boolean_slot (RowGoal P table L x f x3 fl areas row.MgBooleanNot)
     (var_var L.shapes k Boolean Boolean (RowGoal P table L x f x3 fl areas row.MgBooleanNot)
     (λ d b fd fb. opposite P table L is x f x3 fl areas d b (simple_var L.shapes x d Boolean fits fd) (simple_var L.shapes x b Boolean fits fb))) args h
-row_runs P table L is x fits f x3 fl areas k row.MgIndexArray args h plain =
+row_runs P table L is x fits f x3 fl areas k row.MgIndexArray args h =
     three_args L.shapes k (shared Simple) (shared Array) integer_slot (RowGoal P table L x f x3 fl areas row.MgIndexArray)
     (λ a b c fa fb fc.
     one_array L.shapes k (λ b. RowGoal P table L x f x3 fl areas row.MgIndexArray (a ∷ b ∷ c ∷ []))
@@ -568,7 +593,7 @@ row_runs P table L is x fits f x3 fl areas k row.MgIndexArray args h plain =
     indexing P table L is x f x3 fl areas d v i n k (item_of_value (value_at x i)) (simple_var L.shapes x d k fits fd) (array_var L.shapes x v n k
     fits low fv) vi (small n few) low refl vi.range)
     a c fa fc) b fb) args h
-row_runs P table L is x fits f x3 fl areas k row.MgArrayElementAssignment args h plain =
+row_runs P table L is x fits f x3 fl areas k row.MgArrayElementAssignment args h =
     three_args L.shapes k (shared Array) integer_slot (shared Simple) (RowGoal P table L x f x3 fl areas row.MgArrayElementAssignment)
     (λ a b c fa fb fc.
     one_array L.shapes k (λ a. RowGoal P table L x f x3 fl areas row.MgArrayElementAssignment (a ∷ b ∷ c ∷ []))

@@ -1,10 +1,9 @@
--- The quick code of statements without calls and products, and how many instructions a run of it takes.
+-- The quick code of statements without calls, and how many instructions a run of it takes.
 use Rattle.std.specs.Prelude.{ℕ, zero, suc, ◌+◌, List, [], ◌++◌, length, if◌then◌else◌, Some, None}
 use Rattle.stack_text.specs.Values.{ValueOf}
 use Rattle.fm_words.specs.{declared.condition.Cc.TheVariants.{Zs}, declared.operation.Op.TheVariants.{Move}}
-use Rattle.gypsy_syntax.specs.{declared.predef.Predef.{Predef}, Programs.{ConditionOf, Routine, Program, Stmt, Skip, NoOp, Signal, Seq}}
-use Rattle.gypsy_syntax.specs.{Programs.{Loop, If, Begin, Call, Apply}, Predefined.{predef_effect}, Effects.{value_at, is_true_value}}
-use Rattle.gypsy_syntax.specs.declared.predef.Predef.TheVariants as row
+use Rattle.gypsy_syntax.specs.Programs.{ConditionOf, Routine, Program, Stmt, Skip, NoOp, Signal, Seq, Loop, If, Begin, Call, Apply}
+use Rattle.gypsy_syntax.specs.{Predefined.{predef_effect}, Effects.{value_at, is_true_value}}
 use Rattle.gypsy_space.specs.Needs.{StackSizes}
 use Rattle.gypsy_semantics.specs.{Calls.{has_cond, is_leave, values_of}, Meaning.{MeaningOutcome, Done, Unfinished, evaluate}}
 use Rattle.fm_code.specs.{InstructionWords.{flag_z}, Templates.{jump_code}}
@@ -54,11 +53,7 @@ quick L T pc (Begin place s cs w) =
 quick L T pc (Call place p xs cs) = []
 quick L T pc (Apply place r args) = row_code L (T Routine) args r
 
--- no calls and no products
-abbrev pub IsPlainRow : Predef → Type 0
-IsPlainRow row.MgIntegerMultiply = ⊥
-IsPlainRow r = Unit {0}
-
+-- no calls
 abbrev pub IsPlain : Stmt → Type 0
 IsPlain Skip = Unit {0}
 IsPlain (NoOp place) = Unit {0}
@@ -68,7 +63,7 @@ IsPlain (Loop place s) = IsPlain s
 IsPlain (If place b s w) = IsPlain s × IsPlain w
 IsPlain (Begin place s cs w) = IsPlain s × IsPlain w
 IsPlain (Call place p xs cs) = ⊥
-IsPlain (Apply place r args) = IsPlainRow r
+IsPlain (Apply place r args) = Unit {0}
 
 -- what is spent after a part that ends normally
 abbrev pub after_part : MeaningOutcome → (List ValueOf → ℕ) → ℕ
@@ -101,4 +96,6 @@ quick_cost q sizes L (suc n) (If place b s w) u x =
 quick_cost q sizes L (suc n) (Begin place s cs w) u x =
     quick_cost q sizes L (suc n) s u x + after_body (evaluate q sizes (suc n) s u x) cs (quick_cost q sizes L (suc n) w u)
 quick_cost q sizes L (suc n) (Call place p xs cs) u x = 0
-quick_cost q sizes L (suc n) (Apply place r args) u x = row_cost L args r (predef_effect r (values_of x args))
+quick_cost q sizes L (suc n) (Apply place r args) u x =
+    let vs = values_of x args in
+    row_cost L args r vs (predef_effect r vs)

@@ -1,18 +1,17 @@
 -- The quick code of a predefined call, and how many instructions it takes.
-use Rattle.std.specs.Prelude.{ℕ, zero, suc, ◌+◌, ◌-◌, List, [], ◌∷◌, ◌++◌, true, false}
-use Rattle.fm_words.specs.{declared.condition.Cc.TheVariants.{Vs, Zs, Ge, Cs}, declared.condition.Flags.{Flags}}
-use Rattle.fm_words.specs.{declared.operation.Op.TheVariants.{Move, Neg, Add, Sub, Xor, Or, And}, Code.{no_flags}, Word.{word_of_int}}
+use Rattle.std.specs.Prelude.{ℕ, zero, suc, ◌+◌, ◌-◌, List, [], ◌∷◌, ◌++◌}
+use Rattle.stack_text.specs.Values.{ValueOf}
+use Rattle.fm_words.specs.{declared.condition.Cc.TheVariants.{Vs, Zs, Ge, Cs}, declared.operation.Op.TheVariants.{Move, Neg, Add, Sub, Xor}}
+use Rattle.fm_words.specs.{declared.operation.Op.TheVariants.{Or, And}, Code.{no_flags}, Word.{word_of_int}}
 use Rattle.fm_machine.specs.Masks.{all_flags}
 use Rattle.fm_code.specs.InstructionWords.{flag_z, flag_c}
 use Rattle.gypsy_syntax.specs.{declared.predef.Predef.{Predef}, Programs.{Arg, Var, Lit}, Effects.{Effect, Normal, Fault, Beyond}}
-use Rattle.gypsy_syntax.specs.Effects.{item_of_value}
+use Rattle.gypsy_syntax.specs.Effects.{item_of_value, value_at}
 use Rattle.gypsy_syntax.specs.declared.predef.Predef.TheVariants as row
 use Rattle.quick_code.specs.{Access.{Access, Held, Known, find_count}, Pieces.{by_word_code, by_literal_code, store_code}}
-use Rattle.quick_code.specs.Pieces.{store_literal_code, truth_code, move_code, put_code, jump_when_code}
+use Rattle.quick_code.specs.Pieces.{store_literal_code, truth_code, move_code, put_code, jump_when_code, flag_v, product_code}
+use Rattle.quick_code.specs.Products.{product_count}
 use Rattle.quick_gypsy.specs.Layout.{Layout, count_of, last_address}
-
-abbrev pub flag_v : Flags
-flag_v = record { c = false; v = true; n = false; z = false }
 
 -- the variable that an argument is
 abbrev pub arg_var : List Arg → ℕ → ℕ
@@ -69,7 +68,9 @@ row_code L f args row.MgIntegerAdd =
 row_code L f args row.MgIntegerSubtract =
     load (arg_access L args 1) ++
     (by_word_code Sub flag_v (arg_access L args 2) ++ (jump_when_code Vs f ++ store_code (arg_access L args 0)))
-row_code L f args row.MgIntegerMultiply = []
+row_code L f args row.MgIntegerMultiply =
+    product_code (arg_access L args 1) (arg_access L args 2) ++
+    (jump_when_code Vs f ++ store_code (arg_access L args 0))
 row_code L f args row.MgBooleanOr =
     load (arg_access L args 1) ++ (by_word_code Or no_flags (arg_access L args 2) ++ store_code (arg_access L args 0))
 row_code L f args row.MgBooleanAnd =
@@ -91,22 +92,25 @@ unless_fails k (Normal v) = k
 unless_fails k Fault = 0
 unless_fails k Beyond = 0
 
-abbrev pub row_cost : Layout → List Arg → Predef → Effect → ℕ
-row_cost L args row.MgSimpleVariableAssignment e = assign_count (arg_access L args 0) (arg_access L args 1)
-row_cost L args row.MgSimpleConstantAssignment e = arg_find L args 0 + 1
-row_cost L args row.MgSimpleVariableEq e = arg_find L args 2 + 1 + (arg_find L args 1 + 1 + (arg_find L args 0 + 2))
-row_cost L args row.MgSimpleConstantEq e = 1 + (arg_find L args 1 + 1 + (arg_find L args 0 + 2))
-row_cost L args row.MgIntegerLe e = arg_find L args 2 + 1 + (arg_find L args 1 + 1 + (arg_find L args 0 + 2))
-row_cost L args row.MgIntegerUnaryMinus e = arg_find L args 1 + 1 + (1 + unless_fails (arg_find L args 0 + 1) e)
-row_cost L args row.MgIntegerAdd e =
+-- on these values of the arguments, with this effect
+abbrev pub row_cost : Layout → List Arg → Predef → List ValueOf → Effect → ℕ
+row_cost L args row.MgSimpleVariableAssignment vs e = assign_count (arg_access L args 0) (arg_access L args 1)
+row_cost L args row.MgSimpleConstantAssignment vs e = arg_find L args 0 + 1
+row_cost L args row.MgSimpleVariableEq vs e = arg_find L args 2 + 1 + (arg_find L args 1 + 1 + (arg_find L args 0 + 2))
+row_cost L args row.MgSimpleConstantEq vs e = 1 + (arg_find L args 1 + 1 + (arg_find L args 0 + 2))
+row_cost L args row.MgIntegerLe vs e = arg_find L args 2 + 1 + (arg_find L args 1 + 1 + (arg_find L args 0 + 2))
+row_cost L args row.MgIntegerUnaryMinus vs e = arg_find L args 1 + 1 + (1 + unless_fails (arg_find L args 0 + 1) e)
+row_cost L args row.MgIntegerAdd vs e =
     arg_find L args 1 + 1 + (arg_find L args 2 + 1 + (1 + unless_fails (arg_find L args 0 + 1) e))
-row_cost L args row.MgIntegerSubtract e =
+row_cost L args row.MgIntegerSubtract vs e =
     arg_find L args 1 + 1 + (arg_find L args 2 + 1 + (1 + unless_fails (arg_find L args 0 + 1) e))
-row_cost L args row.MgIntegerMultiply e = 0
-row_cost L args row.MgBooleanOr e = arg_find L args 1 + 1 + (arg_find L args 2 + 1 + (arg_find L args 0 + 1))
-row_cost L args row.MgBooleanAnd e = arg_find L args 1 + 1 + (arg_find L args 2 + 1 + (arg_find L args 0 + 1))
-row_cost L args row.MgBooleanNot e = arg_find L args 1 + 1 + (1 + (arg_find L args 0 + 1))
-row_cost L args row.MgIndexArray e =
+row_cost L args row.MgIntegerMultiply vs e =
+    arg_find L args 1 + arg_find L args 2 + product_count (item_of_value (value_at vs 1)) (item_of_value (value_at vs 2)) +
+    (1 + unless_fails (arg_find L args 0 + 1) e)
+row_cost L args row.MgBooleanOr vs e = arg_find L args 1 + 1 + (arg_find L args 2 + 1 + (arg_find L args 0 + 1))
+row_cost L args row.MgBooleanAnd vs e = arg_find L args 1 + 1 + (arg_find L args 2 + 1 + (arg_find L args 0 + 1))
+row_cost L args row.MgBooleanNot vs e = arg_find L args 1 + 1 + (1 + (arg_find L args 0 + 1))
+row_cost L args row.MgIndexArray vs e =
     1 + (arg_find L args 2 + 1 + (1 + unless_fails (1 + (arg_find L args 0 + 1)) e))
-row_cost L args row.MgArrayElementAssignment e =
+row_cost L args row.MgArrayElementAssignment vs e =
     1 + (arg_find L args 1 + 1 + (1 + unless_fails (1 + (arg_find L args 2 + 1)) e))
