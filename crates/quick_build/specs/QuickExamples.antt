@@ -1,5 +1,5 @@
--- An example, computed: the program of `examples/counting/upto.gypsy`.
-use Rattle.std.specs.Prelude.{◌≡◌, pos, [], ◌∷◌, false}
+-- Examples, computed: the programs of `examples/counting/upto.gypsy` and of `examples/numbers/product.gypsy`.
+use Rattle.std.specs.Prelude.{◌≡◌, ℕ, ℤ, pos, negsuc, [], ◌∷◌, false}
 use Rattle.gypsy_syntax.specs.declared.predef.Predef.TheVariants as row
 use Rattle.gypsy_syntax.specs.Programs.{Leave, Var, Lit, Proc, Program, simple, Skip, NoOp, Signal, Seq, Loop, If, Apply}
 use Rattle.gypsy_syntax.specs.Effects.{integer_value, truth_value}
@@ -41,3 +41,32 @@ pub record UptoIsQuick : Type 0 where
       25 ∷ 14695455 ∷ 32 ∷ 14695455 ∷ 25 ∷ 14683158 ∷ 65276952 ∷ 3161151 ∷ 0 ∷ 14702595 ∷
       14695455 ∷ 14 ∷ []
   pub count : program_cost (0 ∷ 1 ∷ 2 ∷ 3 ∷ []) upto hundred 38 (integer_value (pos 5) ∷ integer_value (pos 0) ∷ []) 7 ≡ 63
+
+-- formals x, y and z
+abbrev pub product_main : Proc
+product_main = record {
+  place = 0;
+  formals = simple Integer ∷ simple Integer ∷ simple Integer ∷ [];
+  locals = [];
+  conds = 0;
+  local_conds = 0;
+  body = Apply 0 row.MgIntegerMultiply (Var 2 ∷ Var 0 ∷ Var 1 ∷ []);
+}
+
+abbrev pub product : Program
+product = record { main = 0; procs = product_main ∷ [] }
+
+-- how many instructions the product of these numbers takes
+abbrev pub product_takes : ℤ → ℤ → ℕ
+product_takes x y =
+    program_cost (0 ∷ 1 ∷ 2 ∷ []) product hundred 32 (integer_value x ∷ integer_value y ∷ integer_value (pos 0) ∷ []) 2
+
+-- its code in a window from 0 to 31; that 6 times -7 takes 22 instructions, where the plain image takes 2,604, and 65,536 times 32,768,
+-- which has no 32 bits, 83, where the plain image takes 2,600
+pub record ProductIsQuick : Type 0 where
+  pub words : quick_words (0 ∷ 1 ∷ 2 ∷ []) product_main 0 32 ≡
+      14683199 ∷ 28 ∷ 14699583 ∷ 1 ∷ 14695455 ∷ 27 ∷ 14683199 ∷ 28 ∷ 14699583 ∷ 3 ∷ 14695455 ∷ 27 ∷
+      14683648 ∷ 14680085 ∷ 14815254 ∷ 54541827 ∷ 81793028 ∷ 82051072 ∷ 53493253 ∷ 183046148 ∷
+      51645440 ∷ 57687554 ∷ 65273856 ∷ 119553541 ∷ 3161151 ∷ 0 ∷ 14703619 ∷ []
+  pub count : product_takes (pos 6) (negsuc 6) ≡ 22
+  pub overflow : product_takes (pos 65536) (pos 32768) ≡ 83

@@ -29,8 +29,8 @@ program_cost vs q sizes end v n =
 abbrev pub main_proc : SourceOf → Proc
 main_proc s = proc_at (program_of s) (program_of s).main
 
--- At most ten variables are chosen; main calls nothing and multiplies nothing; the code lies below the condition's word, and the window's
--- end is a number of 32 bits.
+-- At most ten variables are chosen; main calls nothing; the code lies below the condition's word, and the window's end is a number of 32
+-- bits.
 pub record CanBeQuick (vs : List ℕ) (s : SourceOf) (base end : ℕ) : Type 0 where
   pub ten : length vs ≤ 10
   pub plain : IsPlain (body_of (program_of s) (program_of s).main)

@@ -1,6 +1,6 @@
 //! The laws of quick images. The functions do nothing: their clauses hold of all sources and values.
 
-ghost use Rattle.quick_build.specs.{QuickExamples.{UptoIsQuick}, QuickImplements.{QuickImagesImplement, QuickImagesEndAsMeant, QuickImagesGoOn}};
+ghost use Rattle.quick_build.specs.{QuickExamples.{ProductIsQuick, UptoIsQuick}, QuickImplements.{QuickImagesImplement, QuickImagesEndAsMeant, QuickImagesGoOn}};
 ghost use Rattle.quick_build.specs.QuickImplements.{QuickProgramsAreNoSlower};
 
 /// Quick images do what sources mean, in exactly the instructions that are counted for them.
@@ -23,4 +23,9 @@ pub fn quick_images_end_as_meant()
 /// The code of an example, and what it takes.
 pub fn upto_is_quick()
     ensures { UptoIsQuick }
+{}
+
+/// The code of a product, and what it takes.
+pub fn product_is_quick()
+    ensures { ProductIsQuick }
 {}

@@ -4,5 +4,6 @@
 mod laws;
 
 pub use laws::{
-    quick_images_end_as_meant, quick_images_implement, quick_programs_are_no_slower, upto_is_quick,
+    product_is_quick, quick_images_end_as_meant, quick_images_implement,
+    quick_programs_are_no_slower, upto_is_quick,
 };

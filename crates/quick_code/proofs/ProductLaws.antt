@@ -470,7 +470,8 @@ module _ {P : Parts} {table : ℕ → ℕ} {a : Now} where
           let others = signs_code ++ rounds_code in
           let start = loaded x y i j (word_of_int v) (word_of_int w) to_x to_y at_x at_y ctrl s pc c (code_front P pc factors others code) in
           let end = rest.leads ctrl (find_count x + find_count y + 3) s (pc + length factors) c.run.is (code_after P pc factors others code) start in
-          let last = mid_as {n' = find_count x + find_count y + (3 + k)} {pc' = pc + length (product_code x y)} end (omega arith) (omega (arith, length-append factors others)) in
+          let last = mid_as {n' = find_count x + find_count y + (3 + k)} {pc' = pc + length (product_code x y)} end (omega arith)
+          (omega (arith, length-append factors others)) in
           record { r = last.r; run = last.run; held = last.held; r3_is = last.r3_is; r15_is = last.r15_is }
 
   pub product_row : (x y : Access) (i j : ℕ) (v w : ℤ) → LeadsTo P table x i → LeadsTo P table y j → slice_get a.vars i ≡ Some (word_of_int v)

@@ -40,7 +40,7 @@ digits_small n m h = digits_next n m false (lt-leb (2 ^ n) m h)
 digits_full : (n m : ℕ) → 2 ^ n ≤ m → digits (suc n) m ≡ suc n
 digits_full n m h = digits_next n m true (le-leb (2 ^ n) m h)
 
-pub digits_few : (n m : ℕ) → digits n m ≤ n
+digits_few : (n m : ℕ) → digits n m ≤ n
 digits_few zero m = omega arith
 digits_few (suc n) m = pick (nat_le (2 ^ n) m) refl (digits_few n m)
   where
@@ -64,7 +64,7 @@ digits_half (suc n) m h = pick (nat_le (2 ^ suc n) m) refl (digits_half n m h)
         let small = leb-false (2 ^ suc n) m e in
         digits_next (suc n) m false e ∙ less ∙ ap suc (sym (digits_small n (m / 2) (omega (arith, small, power))))
 
-pub digits_more : (m : ℕ) → 1 ≤ m → m < 2 ^ 32 → digits 32 m ≡ suc (digits 32 (m / 2))
+digits_more : (m : ℕ) → 1 ≤ m → m < 2 ^ 32 → digits 32 m ≡ suc (digits 32 (m / 2))
 digits_more m h few = digits_half 31 m h ∙ ap suc (sym (digits_small 31 (m / 2) (omega (arith, few))))
 
 -- what n's sign leaves of it
@@ -140,15 +140,15 @@ counted_free : (h : ℕ) → h ≤ 30 → counted (suc h) 31 ≡ 5 + counted h 3
 counted_free h low =
     omega (arith, counted_at h 31 true (le-leb h 31 (omega (arith, low))), counted_at (suc h) 31 true (le-leb (suc h) 31 (omega (arith, low))))
 
-counted_few : (h k : ℕ) → h ≤ 31 → k ≤ 31 → counted h k ≤ 160
-counted_few h k few less = pick (nat_le h k) refl
+counted_few : (h k : ℕ) → h ≤ 31 → counted h k ≤ 158
+counted_few h k few = pick (nat_le h k) refl
   where
-    pick : (t : Bool) → nat_le h k ≡ t → counted h k ≤ 160
+    pick : (t : Bool) → nat_le h k ≡ t → counted h k ≤ 158
     pick true e = omega (arith, counted_at h k true e, few)
-    pick false e = omega (arith, counted_at h k false e, less)
+    pick false e = let less = leb-false h k e in omega (arith, counted_at h k false e, few, less)
 
-pub rounds_few : (z : ℤ) (m : ℕ) → rounds_count z m ≤ 160
-rounds_few z m = counted_few (digits 32 m - 1) (31 - digits_of z) (omega (arith, digits_few 32 m)) (omega arith)
+rounds_few : (z : ℤ) (m : ℕ) → rounds_count z m ≤ 158
+rounds_few z m = counted_few (digits 32 m - 1) (31 - digits_of z) (omega (arith, digits_few 32 m))
 
 pub rounds_last : (z : ℤ) (m : ℕ) → m / 2 ≡ 0 → rounds_count z m ≡ 3
 rounds_last z m h = ap (λ j. counted j k) (none m (omega (arith, h))) ∙ counted_at 0 k true (le-leb 0 k (omega arith))
@@ -243,11 +243,11 @@ minus_overflows (pos zero) p = refl
 minus_overflows (pos (suc n)) p = grind (arith, nat_tests)
 minus_overflows (negsuc n) p = grind (arith, nat_tests)
 
--- a product takes at most 167 instructions
-pub product_few : (x y : ℤ) → product_count x y ≤ 167
+-- a product takes at most 165 instructions
+pub product_few : (x y : ℤ) → product_count x y ≤ 165
 product_few x (pos m) = omega (arith, rounds_few x m)
 product_few x (negsuc m) = pick (is_int (neg_ℤ x))
   where
-    pick : (t : Bool) → 3 + (4 + (if t then rounds_count (neg_ℤ x) (suc m) else 0)) ≤ 167
+    pick : (t : Bool) → 3 + (4 + (if t then rounds_count (neg_ℤ x) (suc m) else 0)) ≤ 165
     pick true = omega (arith, rounds_few (neg_ℤ x) (suc m))
     pick false = omega arith

@@ -67,4 +67,3 @@ reads {P} {a = a} k i w c e high there =
     let read = Holds-get P.base c.run.m (c.r 2) q w (reverse a.vars) (from_bottom a.vars i w there) laid.temp_at in
     from_address k (P.end - 1 - i) c.run (omega (arith, high)) (other c.r 15 (c.r 15 + 1) k (omega (arith, high)) ∙ e)
     (subst (λ z. word_at P.base c.run.m z ≡ Some w) d read)
-

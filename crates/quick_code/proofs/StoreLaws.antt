@@ -31,7 +31,8 @@ module _ {P : Parts} {n : ℕ} {s : Fm} {r : ℕ → ℕ} {fl : Flags} {ctrl tem
       → ReadsOperand P c.m r fl areas a x r1 ctrl1 temp1 → CodeWord P (r 15) (encode_of (instruction op cc set (reg k) a)) → k < 16 → does_hold cc fl ≡ t
       → (let out = alu_of op fl.c x (r1 k) in
       let after : Fm = record { base = P.base; registers = registers_of r1; flags = flags_set set fl out; memory = c.m } in
-      fm_step (state_of P.base r fl c.m) ≡ (if t then store_result after (address_of (instruction op cc set (reg k) a).mode_b k (registers_of r1)) k out.word else Ok after))
+      fm_step (state_of P.base r fl c.m)
+      ≡ (if t then store_result after (address_of (instruction op cc set (reg k) a).mode_b k (registers_of r1)) k out.word else Ok after))
   step_when op cc set k t c from w h holds =
       let i = instruction op cc set (reg k) a in
       let state = state_of P.base r fl c.m in

@@ -1,7 +1,6 @@
--- Code without calls and products.
+-- Code without calls.
 use Rattle.std.proofs.Common.{◌≡◌, Option, Some, None, refl, subst}
 use Rattle.gypsy_syntax.specs.Programs.{Stmt, Skip, NoOp, Signal, Seq, Loop, If, Begin, Call, Apply}
-use Rattle.gypsy_syntax.specs.declared.predef.Predef.TheVariants as row
 use Rattle.quick_gypsy.specs.Quick.{IsPlain}
 use Rattle.quick_generate.{specs.Hurdles.{first_hurdle, hurdle_of}, specs.declared.fault.QuickFault.QuickFault, specs.QuickOf.fault_of}
 use Rattle.quick_generate.specs.declared.fault.QuickFault.TheVariants as fault
@@ -25,7 +24,6 @@ plain_if_none (Begin place s cs w) e =
     let h = neither (hurdle_of s) (hurdle_of w) e in
     (plain_if_none s h.0, plain_if_none w h.1)
 plain_if_none (Call place p xs cs) e = absurd cc
-plain_if_none (Apply place row.MgIntegerMultiply args) e = absurd cc
 plain_if_none (Apply place r args) e = tt
 
 -- a hurdle is never out of memory
@@ -44,6 +42,4 @@ hurdle_told (If place b s w) found e = either (hurdle_of s) (hurdle_of w) found 
 hurdle_told (Begin place s cs w) found e = either (hurdle_of s) (hurdle_of w) found e (hurdle_told s found) (hurdle_told w found)
 hurdle_told (Call place p xs cs) found e =
     let same : fault.Call place ≡ found = cc in subst (λ (f : QuickFault). fault_of f ≡ Some f) same refl
-hurdle_told (Apply place row.MgIntegerMultiply args) found e =
-    let same : fault.Product place ≡ found = cc in subst (λ (f : QuickFault). fault_of f ≡ Some f) same refl
 hurdle_told (Apply place r args) found e = absurd cc

@@ -8,8 +8,8 @@ use Rattle.fm_code.specs.InstructionWords.{flag_z, flag_c}
 use Rattle.gypsy_syntax.{specs.declared.predef.Predef.Predef, specs.Programs.Arg}
 use Rattle.gypsy_syntax.specs.declared.predef.Predef.TheVariants as row
 use Rattle.quick_code.{specs.Access.{Access, Held, Known, find_code}, specs.Pieces.{by_word_code, by_literal_code, store_code, store_literal_code, truth_code}}
-use Rattle.quick_code.specs.Pieces.{move_code, put_code, jump_when_code}
-use Rattle.quick_gypsy.{specs.Layout.{Layout, count_of, last_address}, specs.RowCode.{arg_access, arg_number, arg_var, assign_code, flag_v, item_code, load}}
+use Rattle.quick_code.specs.Pieces.{flag_v, factors_code, move_code, product_code, put_code, jump_when_code, rounds_code, signs_code}
+use Rattle.quick_gypsy.{specs.Layout.{Layout, count_of, last_address}, specs.RowCode.{arg_access, arg_number, arg_var, assign_code, item_code, load}}
 use Rattle.quick_gypsy.specs.RowCode.{row_code}
 use Rattle.quick_generate.specs.Rows.{copy_size, row_size}
 
@@ -72,6 +72,23 @@ counted f op x y z =
       store_size x,
     )
 
+factors_size : (x y : Access) → length (factors_code x y) ≡ length (find_code x) + length (find_code y) + 3
+factors_size (Held j) (Held k) = refl
+factors_size (Held j) (Known b) = refl
+factors_size (Known a) (Held k) = refl
+factors_size (Known a) (Known b) = refl
+
+multiplied : (f : ℕ) (x y z : Access) →
+    length (product_code y z ++ (jump_when_code Vs f ++ store_code x)) ≡ length (find_code x) + length (find_code y) + length (find_code z) + 15
+multiplied f x y z =
+    omega (
+      arith,
+      parts (product_code y z) (jump_when_code Vs f) (store_code x),
+      length-append (factors_code y z) (signs_code ++ rounds_code),
+      factors_size y z,
+      store_size x,
+    )
+
 joined : (op : Op) (x y z : Access) →
     length (load y ++ (by_word_code op no_flags z ++ store_code x)) ≡ length (find_code x) + length (find_code y) + length (find_code z) + 3
 joined op x y z =
@@ -115,7 +132,7 @@ row_size_is L f args row.MgIntegerUnaryMinus =
     omega (arith, parts (by_word_code Neg flag_v y) (jump_when_code Vs f) (store_code x), by_word_size Neg flag_v y, store_size x)
 row_size_is L f args row.MgIntegerAdd = counted f Add (arg_access L args 0) (arg_access L args 1) (arg_access L args 2)
 row_size_is L f args row.MgIntegerSubtract = counted f Sub (arg_access L args 0) (arg_access L args 1) (arg_access L args 2)
-row_size_is L f args row.MgIntegerMultiply = refl
+row_size_is L f args row.MgIntegerMultiply = multiplied f (arg_access L args 0) (arg_access L args 1) (arg_access L args 2)
 row_size_is L f args row.MgBooleanOr = joined Or (arg_access L args 0) (arg_access L args 1) (arg_access L args 2)
 row_size_is L f args row.MgBooleanAnd = joined And (arg_access L args 0) (arg_access L args 1) (arg_access L args 2)
 row_size_is L f args row.MgBooleanNot =

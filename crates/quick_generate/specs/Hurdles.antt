@@ -1,7 +1,6 @@
--- What quick code doesn't have yet: calls and products.
+-- What quick code doesn't have yet: calls.
 use Rattle.std.specs.Prelude.{Option, Some, None}
-use Rattle.gypsy_syntax.specs.{declared.predef.Predef.{Predef}, Programs.{Stmt, Skip, NoOp, Signal, Seq, Loop, If, Begin, Call, Apply}}
-use Rattle.gypsy_syntax.specs.declared.predef.Predef.TheVariants as row
+use Rattle.gypsy_syntax.specs.{Programs.{Stmt, Skip, NoOp, Signal, Seq, Loop, If, Begin, Call, Apply}}
 use Rattle.quick_generate.specs.declared.fault.QuickFault.{QuickFault}
 use Rattle.quick_generate.specs.declared.fault.QuickFault.TheVariants as fault
 
@@ -9,7 +8,7 @@ abbrev pub first_hurdle : Option QuickFault → Option QuickFault → Option Qui
 first_hurdle None second = second
 first_hurdle (Some found) second = Some found
 
--- the first call or product of a statement, in the order of the text
+-- the first call of a statement, in the order of the text
 abbrev pub hurdle_of : Stmt → Option QuickFault
 hurdle_of Skip = None
 hurdle_of (NoOp place) = None
@@ -19,5 +18,4 @@ hurdle_of (Loop place s) = hurdle_of s
 hurdle_of (If place b s w) = first_hurdle (hurdle_of s) (hurdle_of w)
 hurdle_of (Begin place s cs w) = first_hurdle (hurdle_of s) (hurdle_of w)
 hurdle_of (Call place p xs cs) = Some (fault.Call place)
-hurdle_of (Apply place row.MgIntegerMultiply args) = Some (fault.Product place)
 hurdle_of (Apply place r args) = None

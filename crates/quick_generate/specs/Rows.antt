@@ -6,8 +6,8 @@ use Rattle.fm_words.specs.Word.{word_of_int}
 use Rattle.fm_code.specs.InstructionWords.{flag_c}
 use Rattle.gypsy_syntax.specs.{declared.predef.Predef.{Predef}, Programs.{Arg, Var, Lit}, Effects.{item_of_value}}
 use Rattle.gypsy_syntax.specs.declared.predef.Predef.TheVariants as row
-use Rattle.quick_code.specs.Pieces.{by_word_code, by_literal_code, store_code, truth_code, jump_when_code}
-use Rattle.quick_gypsy.specs.{Layout.{Layout, count_of, last_address}, RowCode.{arg_access, arg_var, flag_v, load}}
+use Rattle.quick_code.specs.Pieces.{flag_v, by_word_code, by_literal_code, store_code, truth_code, jump_when_code}
+use Rattle.quick_gypsy.specs.{Layout.{Layout, count_of, last_address}, RowCode.{arg_access, arg_var, load}}
 
 -- the variable that an argument is, and the number of a literal
 abbrev pub var_of : Arg → ℕ
@@ -54,7 +54,7 @@ row_size x y z row.MgIntegerLe = x + y + z + 4
 row_size x y z row.MgIntegerUnaryMinus = x + y + 4
 row_size x y z row.MgIntegerAdd = x + y + z + 5
 row_size x y z row.MgIntegerSubtract = x + y + z + 5
-row_size x y z row.MgIntegerMultiply = 0
+row_size x y z row.MgIntegerMultiply = x + y + z + 15
 row_size x y z row.MgBooleanOr = x + y + z + 3
 row_size x y z row.MgBooleanAnd = x + y + z + 3
 row_size x y z row.MgBooleanNot = x + y + 4

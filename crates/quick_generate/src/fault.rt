@@ -3,15 +3,12 @@
 use stack_text::Memory;
 use thiserror::Error;
 
-/// Why a source has no quick image. The first call or product of main's body comes before `Words`.
+/// Why a source has no quick image. The first call of main's body comes before `Words`.
 #[derive(Clone, Copy, Debug, PartialEq, Eq, Error)]
 pub enum QuickFault {
     /// Main calls a procedure of the source, at this place of the text.
     #[error("a call of a procedure at {place}")]
     Call { place: u32 },
-    /// Main multiplies, at this place of the text.
-    #[error("a product at {place}")]
-    Product { place: u32 },
     /// The image would take more than 1,048,576 words.
     #[error("too many words")]
     Words,

@@ -135,7 +135,7 @@ fn placed<H: Heap>(
 ///
 /// # Errors
 ///
-/// The first call or product of main's body; or `Words`; or out of memory.
+/// The first call of main's body; or `Words`; or out of memory.
 pub fn quick_with<H: Heap>(
     heap: H,
     accepted: &Accepted,
@@ -178,8 +178,8 @@ fn kept(fault: QuickFault, plain: Image) -> Result<Image, Memory>
 /// The quick image of an accepted source if it has one, and else `plain`, which was built of the source. The variables that
 /// main names most have registers. An image goes for all values of main's formals.
 ///
-/// A quick image is made of main's body alone. So there is none if main calls a procedure of the source, if it multiplies,
-/// or if the image would take more than 2^20 words.
+/// A quick image is made of main's body alone. So there is none if main calls a procedure of the source, or if the image
+/// would take more than 2^20 words.
 ///
 /// # Errors
 ///

@@ -14,6 +14,7 @@ mod generating;
 mod hurdle;
 mod laws;
 mod piece;
+mod product;
 mod reaching;
 mod row;
 mod scopes;

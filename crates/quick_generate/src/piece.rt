@@ -23,7 +23,7 @@ pub(crate) fn append<H: Heap>(heap: H, words: &mut Vec<u32>, more: &[u32]) -> Re
 }
 
 /// Nothing, or `MOVE r4,=a`.
-fn find<H: Heap>(heap: H, words: &mut Vec<u32>, access: Access) -> Result<(), Memory>
+pub(crate) fn find<H: Heap>(heap: H, words: &mut Vec<u32>, access: Access) -> Result<(), Memory>
     ensures { OnOkUnless (H.may_refuse heap) result
         (words.new.items ≡ words.old.items ++ find_code (seen_access access)) }
 {

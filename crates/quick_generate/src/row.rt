@@ -10,22 +10,15 @@ ghost use Rattle.quick_generate.specs.{Rows.{compared_code, counted_code, joined
 use crate::argument::{number, reach, variable};
 use crate::frame::Frame;
 use crate::piece::{
-    append, assign, by_literal, by_word, fetch, jump_when, load, put, store, store_literal, truth,
+    assign, by_literal, by_word, fetch, jump_when, load, put, store, store_literal, truth,
 };
+use crate::product::{FLAG_V, product};
 use fm_code::word::{ALL_FLAGS, FLAG_C, FLAG_Z};
 use fm_words::{Cc, Flags, Op};
 use gypsy_space::Argument;
 use gypsy_syntax::Predef;
 use stack_heap::Heap;
 use stack_text::Memory;
-
-/// `{v}`
-const FLAG_V: Flags = Flags {
-    c: false,
-    v: true,
-    n: false,
-    z: false,
-};
 
 /// The truth of a comparison of two variables.
 fn compared<H: Heap>(
@@ -93,6 +86,23 @@ fn counted<H: Heap>(
 {
     load(heap, words, reach(frame, args, 1))?;
     by_word(heap, words, op, FLAG_V, reach(frame, args, 2))?;
+    jump_when(heap, words, Cc::Vs, target)?;
+    store(heap, words, reach(frame, args, 0))?;
+    Ok(())
+}
+
+/// The product of two variables, or a jump to the target of routineerror.
+fn multiplied<H: Heap>(
+    heap: H,
+    words: &mut Vec<u32>,
+    frame: &Frame,
+    args: &[Argument],
+    target: u32,
+) -> Result<(), Memory>
+    ensures { let code = row_code (layout_of frame.now) target (map seen_arg args.now) predef.MgIntegerMultiply in
+        OnOkUnless (H.may_refuse heap) result (words.new.items ≡ words.old.items ++ code) }
+{
+    product(heap, words, reach(frame, args, 1), reach(frame, args, 2))?;
     jump_when(heap, words, Cc::Vs, target)?;
     store(heap, words, reach(frame, args, 0))?;
     Ok(())
@@ -186,7 +196,7 @@ fn item_stored<H: Heap>(
     Ok(())
 }
 
-/// A predefined call, where a failure jumps to the target. A product has no code.
+/// A predefined call, where a failure jumps to the target.
 pub(crate) fn row<H: Heap>(
     heap: H,
     words: &mut Vec<u32>,
@@ -213,11 +223,11 @@ pub(crate) fn row<H: Heap>(
         Predef::MgIntegerUnaryMinus => negated(heap, words, frame, args, target),
         Predef::MgIntegerAdd => counted(heap, words, frame, args, Op::Add, target),
         Predef::MgIntegerSubtract => counted(heap, words, frame, args, Op::Sub, target),
+        Predef::MgIntegerMultiply => multiplied(heap, words, frame, args, target),
         Predef::MgBooleanOr => joined(heap, words, frame, args, Op::Or),
         Predef::MgBooleanAnd => joined(heap, words, frame, args, Op::And),
         Predef::MgBooleanNot => inverted(heap, words, frame, args),
         Predef::MgIndexArray => item_read(heap, words, frame, args, target),
         Predef::MgArrayElementAssignment => item_stored(heap, words, frame, args, target),
-        Predef::MgIntegerMultiply => append(heap, words, &[]),
     }
 }

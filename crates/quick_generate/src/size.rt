@@ -51,7 +51,7 @@ fn row_size_by(x: u64, y: u64, z: u64, which: Predef) -> u64
     requires y { y ≤ 2 }
     requires z { z ≤ 2 }
     ensures exact { result ≡ row_size x y z which }
-    ensures small { result ≤ 16 }
+    ensures small { result ≤ 21 }
 {
     match which {
         Predef::MgSimpleVariableAssignment if y == 0 => x + 1,
@@ -61,17 +61,17 @@ fn row_size_by(x: u64, y: u64, z: u64, which: Predef) -> u64
         Predef::MgSimpleConstantEq => x + y + 5,
         Predef::MgIntegerUnaryMinus | Predef::MgBooleanNot => x + y + 4,
         Predef::MgIntegerAdd | Predef::MgIntegerSubtract => x + y + z + 5,
+        Predef::MgIntegerMultiply => x + y + z + 15,
         Predef::MgBooleanOr | Predef::MgBooleanAnd => x + y + z + 3,
         Predef::MgIndexArray => x + z + 8,
         Predef::MgArrayElementAssignment => y + z + 8,
-        Predef::MgIntegerMultiply => 0,
     }
 }
 
 /// How many words the code of a predefined call has.
 pub(crate) fn row_size(frame: &Frame, which: Predef, args: &[Argument]) -> u64
     ensures exact { result ≡ length (row_code (frame_layout frame.now) 0 (map seen_arg args.now) which) }
-    ensures small { result ≤ 16 }
+    ensures small { result ≤ 21 }
 {
     let x = found(frame, args, 0);
     let y = found(frame, args, 1);

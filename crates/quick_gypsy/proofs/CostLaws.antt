@@ -121,7 +121,7 @@ assign_small : (x y : Access) → assign_count x y ≤ 28
 assign_small x (Held k) = omega (arith, find_small x)
 assign_small x (Known a) = omega (arith, find_small x)
 
-product_small : (vs : List ValueOf) → product_count (item_of_value (value_at vs 1)) (item_of_value (value_at vs 2)) ≤ 167
+product_small : (vs : List ValueOf) → product_count (item_of_value (value_at vs 1)) (item_of_value (value_at vs 2)) ≤ 165
 product_small vs = product_few (item_of_value (value_at vs 1)) (item_of_value (value_at vs 2))
 
 row_bound : (L : Layout) (args : List Arg) (r : Predef) (vs : List ValueOf) (e : Effect) → row_cost L args r vs e ≤ (predef_cost r e).0

@@ -496,8 +496,8 @@ var_var_one shapes k j l Q go a b fa fb =
 -- what has to be shown of a row
 abbrev pub RowGoal : Parts → (ℕ → ℕ) → Layout → List ValueOf → ℕ → ℕ → Flags → List ℕ → Predef → List Arg → Type 0
 RowGoal P table L x f x3 fl areas r args =
-    RowDoes P table (row_code L f args r) (row_cost L args r (values_of x args) (predef_effect r (values_of x args))) f (now x3 fl (numbers_of x) areas) x areas (target_of args)
-    (predef_effect r (values_of x args))
+    let e = predef_effect r (values_of x args) in
+    RowDoes P table (row_code L f args r) (row_cost L args r (values_of x args) e) f (now x3 fl (numbers_of x) areas) x areas (target_of args) e
 
 small : (n : ℕ) → n ≤ most_array → n ≤ 2 ^ 31
 small n h = omega (arith, h)
