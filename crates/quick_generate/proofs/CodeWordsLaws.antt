@@ -3,8 +3,8 @@ use Rattle.std.proofs.Common.{◌≡◌, ◌<◌, ◌≤◌, ◌+◌, ◌-◌, �
 use Rattle.std.{proofs.Common.{refl, sym, ap, subst, ◌∙◌, arith}, proofs.lemmas.Int.ints, specs.Prelude.{◌^◌, ◌==◌, nat_lt, replicate, reverse, if◌then◌else◌}}
 use Rattle.std.{specs.Prelude.{ℤ, pos}, proofs.lemmas.Bool.{and_parts, and_from, lt-ltb}, proofs.lemmas.List.Folds.list_all-append, specs.List.list_all}
 use mathlib.Core.List.{reverse_aux}
-use Rattle.fm_words.{specs.declared.operation.Op.Op, specs.declared.operation.Op.TheVariants.{Move, Neg, Add, Sub, Xor, Or, And}}
-use Rattle.fm_words.{specs.declared.condition.Cc.Cc, specs.declared.condition.Cc.TheVariants.{Al, Vs, Zs, Ge, Cs}, specs.declared.condition.Flags.Flags}
+use Rattle.fm_words.{specs.declared.operation.Op.Op, specs.declared.operation.Op.TheVariants.{Move, Neg, Add, Sub, Lsr, Xor, Or, And}}
+use Rattle.fm_words.{specs.declared.condition.Cc.Cc, specs.declared.condition.Cc.TheVariants.{Al, Vc, Vs, Nc, Zs, Ge, Cs}, specs.declared.condition.Flags.Flags}
 use Rattle.fm_words.{specs.declared.instruction.Instr.Instr, specs.Code.{decode_of, no_flags}, specs.Encoding.{encode_of, IsInstr, significant}}
 use Rattle.fm_words.{specs.Word.word_of_int, proofs.FieldLaws.{decode_encode, encode_decode}, proofs.WordLaws.word_of_int_below}
 use Rattle.fm_machine.specs.Masks.{all_flags}
@@ -20,8 +20,9 @@ use Rattle.gypsy_syntax.specs.Ranges.{is_in_range}
 use Rattle.gypsy_syntax.specs.declared.predef.Predef.TheVariants as row
 use Rattle.gypsy_semantics.specs.Calls.{has_cond, is_leave}
 use Rattle.quick_code.{specs.Access.{Access, Held, Known, register_of, find_code}, specs.Pieces.{by_word_code, by_literal_code, store_code, store_literal_code}}
-use Rattle.quick_code.specs.Pieces.{truth_code, move_code, put_code, jump_when_code, set_area_code}
-use Rattle.quick_gypsy.{specs.Layout.{Layout, count_of, last_address, first_of}, specs.RowCode.{arg_access, arg_number, arg_var, assign_code, flag_v}}
+use Rattle.quick_code.specs.Pieces.{truth_code, move_code, put_code, jump_when_code, set_area_code, factors_code, flag_n, flag_v, flags_cz}
+use Rattle.quick_code.specs.Pieces.{product_code, rounds_code, signs_code}
+use Rattle.quick_gypsy.{specs.Layout.{Layout, count_of, last_address, first_of}, specs.RowCode.{arg_access, arg_number, arg_var, assign_code}}
 use Rattle.quick_gypsy.{specs.RowCode.{item_code, load, row_code}, specs.Quick.{Targets, begin_targets, loop_targets, quick, size, test_code}}
 use Rattle.quick_gypsy.{specs.Numbers.{numbers_of, value_numbers}, proofs.ItemLaws.item_is_int}
 use Rattle.quick_generate.proofs.FrameLaws.{words_with}
@@ -129,6 +130,42 @@ set_area_words address w lt small =
     (number_word address _ lt
     (instruction_word (instruction Move Al no_flags (at 3) literal) (w ∷ []) (omega arith, omega arith) (number_word w [] small no_words)))
 
+-- `OP[cc]{set} rk,rj`, and `OP[cc] r15,#k`
+between : (op : Op) (cc : Cc) (set : Flags) (k j : ℕ) (ws : List ℕ) → k < 16 → j < 16 → AreWords ws
+    → AreWords (encode_of (instruction op cc set (reg k) (reg j)) ∷ ws)
+between op cc set k j ws h g = instruction_word (instruction op cc set (reg k) (reg j)) ws (h, g)
+
+by_small : (op : Op) (cc : Cc) (r k : ℕ) (ws : List ℕ) → r < 16 → k < 256 → AreWords ws
+    → AreWords (encode_of (instruction op cc no_flags (reg r) (immediate k)) ∷ ws)
+by_small op cc r k ws h few = instruction_word (instruction op cc no_flags (reg r) (immediate k)) ws (h, (omega (arith, ints), omega (arith, ints, few)))
+
+factors_words : (x y : Access) → IsReach x → IsReach y → AreWords (factors_code x y)
+factors_words x y h g =
+    by_small Move Al 3 0 _ (omega arith) (omega arith)
+    (words-append (find_code x) _ (find_words x h)
+    (instruction_word (instruction Move Al no_flags (reg 0) (at (register_of x))) _ (omega arith, register_below x h)
+    (words-append (find_code y) _ (find_words y g)
+    (instruction_word (instruction Move Al flag_n (reg 4) (at (register_of y))) [] (omega arith, register_below y g) no_words))))
+
+signs_words : AreWords signs_code
+signs_words =
+    by_small Add Nc 15 3 _ (omega arith) (omega arith)
+    (between Neg Al no_flags 4 4 _ (omega arith) (omega arith)
+    (between Neg Al flag_v 0 0 _ (omega arith) (omega arith)
+    (by_small Add Vs 15 5 [] (omega arith) (omega arith) no_words)))
+
+rounds_words : AreWords rounds_code
+rounds_words =
+    between Lsr Al flags_cz 4 4 _ (omega arith) (omega arith)
+    (between Add Cs flag_v 3 0 _ (omega arith) (omega arith)
+    (by_small Add Zs 15 2 _ (omega arith) (omega arith)
+    (between Add Al flag_v 0 0 _ (omega arith) (omega arith)
+    (by_small Sub Vc 15 5 [] (omega arith) (omega arith) no_words))))
+
+product_words : (x y : Access) → IsReach x → IsReach y → AreWords (product_code x y)
+product_words x y h g =
+    words-append (factors_code x y) _ (factors_words x y h g) (words-append signs_code rounds_code signs_words rounds_words)
+
 -- 4. Values.
 
 items_words : (k : Kind) (items : List ℤ) → list_all (is_in_range k) items ≡ true → AreWords (map word_of_int items)
@@ -216,7 +253,9 @@ module _ (L : Layout) (near : IsNear L) where
         words-append (by_word_code Neg flag_v (arg_access L args 1)) _ (by_word_words Neg flag_v (arg_access L args 1) (reached 1)) checked
     row_words row.MgIntegerAdd = two Add flag_v 1 2 _ checked
     row_words row.MgIntegerSubtract = two Sub flag_v 1 2 _ checked
-    row_words row.MgIntegerMultiply = no_words
+    row_words row.MgIntegerMultiply =
+        words-append (product_code (arg_access L args 1) (arg_access L args 2)) _
+        (product_words (arg_access L args 1) (arg_access L args 2) (reached 1) (reached 2)) checked
     row_words row.MgBooleanOr = two Or no_flags 1 2 _ (store_words (arg_access L args 0) (reached 0))
     row_words row.MgBooleanAnd = two And no_flags 1 2 _ (store_words (arg_access L args 0) (reached 0))
     row_words row.MgBooleanNot =

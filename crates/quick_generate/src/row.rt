@@ -99,7 +99,7 @@ fn multiplied<H: Heap>(
     args: &[Argument],
     target: u32,
 ) -> Result<(), Memory>
-    ensures { let code = row_code (layout_of frame.now) target (map seen_arg args.now) predef.MgIntegerMultiply in
+    ensures { let code = row_code (frame_layout frame.now) target (map seen_arg args.now) predef.MgIntegerMultiply in
         OnOkUnless (H.may_refuse heap) result (words.new.items ≡ words.old.items ++ code) }
 {
     product(heap, words, reach(frame, args, 1), reach(frame, args, 2))?;
