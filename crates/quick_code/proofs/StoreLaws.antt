@@ -1,4 +1,4 @@
--- A step at an instruction that stores in a register where a condition holds.
+-- A step at an instruction that stores in a register if a condition holds.
 use Rattle.std.{proofs.Common.{◌≡◌, ℕ, ◌+◌, ◌<◌, Ok, Bool, true, false, List, refl, ap, ◌∙◌}, specs.Prelude.{if◌then◌else◌, slice_index}}
 use Rattle.fm_words.{specs.declared.operation.Op.Op, specs.declared.condition.Cc.Cc, specs.declared.condition.Flags.Flags}
 use Rattle.fm_words.{specs.declared.instruction.OperandA.OperandA, specs.declared.instruction.Instr.Instr, specs.Alu.{alu_of, does_hold}}

@@ -43,7 +43,8 @@ jump_when_code cc target = when cc Move (reg 15) literal ∷ target ∷ []
 abbrev pub set_area_code : ℕ → ℕ → List ℕ
 set_area_code address w = mov (reg 3) literal ∷ address ∷ mov (at 3) literal ∷ w ∷ []
 
--- A product, r3 = (x) * (y), and the overflow flag where it has no 32 bits. Its jumps are relative to r15.
+-- A product, r3 = (x) * (y), which sets the overflow flag if it has no 32 bits. Its jumps are relative to r15.
+
 abbrev pub flag_n : Flags
 flag_n = record { c = false; v = false; n = true; z = false }
 
@@ -59,15 +60,15 @@ factors_code x y =
     mov (reg 3) (immediate 0) ∷ (find_code x ++ mov (reg 0) (at (register_of x)) ∷
     (find_code y ++ setting flag_n Move (reg 4) (at (register_of y)) ∷ []))
 
--- `ADD[nc] r15,#3; NEG r4,r4; NEG{v} r0,r0; ADD[vs] r15,#5`: where the second factor is negative, both change their signs; the last jump
--- leaves the code where the first one can't
+-- `ADD[nc] r15,#3; NEG r4,r4; NEG{v} r0,r0; ADD[vs] r15,#5`: if the second factor is negative, both change their signs. If the first one
+-- can't, because it is -2^31, the code ends with the overflow flag.
 abbrev pub signs_code : List ℕ
 signs_code =
     when Nc Add (reg 15) (immediate 3) ∷ always Neg (reg 4) (reg 4) ∷ setting flag_v Neg (reg 0) (reg 0) ∷
     when Vs Add (reg 15) (immediate 5) ∷ []
 
--- `LSR{cz} r4,r4; ADD[cs]{v} r3,r0; ADD[zs] r15,#2; ADD{v} r0,r0; SUB[vc] r15,#5`: a round for each binary digit of r4 from the lowest on:
--- where it is 1, r0 is added; the round of the highest digit is the last, else r0 is doubled
+-- `LSR{cz} r4,r4; ADD[cs]{v} r3,r0; ADD[zs] r15,#2; ADD{v} r0,r0; SUB[vc] r15,#5`: a round for each binary digit of r4, from the lowest
+-- on. If the digit is 1, r0 is added. Then r0 is doubled, unless the digit was the highest. The code ends there, or when a doubling overflows.
 abbrev pub rounds_code : List ℕ
 rounds_code =
     setting flags_cz Lsr (reg 4) (reg 4) ∷ encode_of (instruction Add Cs flag_v (reg 3) (reg 0)) ∷

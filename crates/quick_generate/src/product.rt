@@ -68,7 +68,7 @@ fn factors<H: Heap>(heap: H, words: &mut Vec<u32>, x: Access, y: Access) -> Resu
     Ok(())
 }
 
-/// `ADD[nc] r15,#3; NEG r4,r4; NEG{v} r0,r0; ADD[vs] r15,#5`: where the second factor is negative, both change their
+/// `ADD[nc] r15,#3; NEG r4,r4; NEG{v} r0,r0; ADD[vs] r15,#5`: if the second factor is negative, both change their
 /// signs.
 fn signs<H: Heap>(heap: H, words: &mut Vec<u32>) -> Result<(), Memory>
     ensures { OnOkUnless (H.may_refuse heap) result (words.new.items ≡ words.old.items ++ signs_code) }
@@ -92,7 +92,7 @@ fn rounds<H: Heap>(heap: H, words: &mut Vec<u32>) -> Result<(), Memory>
     append(heap, words, &[halve, sum, out, double, again])
 }
 
-/// r3 the product of two variables, and the overflow flag where it has no 32 bits.
+/// r3 the product of two variables. The overflow flag is set if it has no 32 bits.
 pub(crate) fn product<H: Heap>(
     heap: H,
     words: &mut Vec<u32>,

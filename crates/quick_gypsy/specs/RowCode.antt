@@ -92,7 +92,7 @@ unless_fails k (Normal v) = k
 unless_fails k Fault = 0
 unless_fails k Beyond = 0
 
--- on these values of the arguments, with this effect
+-- how many instructions a predefined call takes, from the values of its arguments and its effect
 abbrev pub row_cost : Layout → List Arg → Predef → List ValueOf → Effect → ℕ
 row_cost L args row.MgSimpleVariableAssignment vs e = assign_count (arg_access L args 0) (arg_access L args 1)
 row_cost L args row.MgSimpleConstantAssignment vs e = arg_find L args 0 + 1
