@@ -68,7 +68,8 @@ signs_code =
     when Vs Add (reg 15) (immediate 5) ∷ []
 
 -- `LSR{cz} r4,r4; ADD[cs]{v} r3,r0; ADD[zs] r15,#2; ADD{v} r0,r0; SUB[vc] r15,#5`: a round for each binary digit of r4, from the lowest
--- on. If the digit is 1, r0 is added. Then r0 is doubled, unless the digit was the highest. The code ends there, or when a doubling overflows.
+-- on. If the digit is 1, r0 is added. Then r0 is doubled, unless the digit was the highest. The code ends there, or when a doubling
+-- overflows.
 abbrev pub rounds_code : List ℕ
 rounds_code =
     setting flags_cz Lsr (reg 4) (reg 4) ∷ encode_of (instruction Add Cs flag_v (reg 3) (reg 0)) ∷

@@ -1,5 +1,5 @@
 -- Where variables stand.
-use Rattle.std.{proofs.Common.{◌≡◌, ℕ, zero, suc, ◌+◌, ◌-◌, ◌≤◌, ◌<◌, List, [], ◌∷◌, length, take, refl, sym, ap, ◌∙◌, arith, min}, specs.Prelude.get_or}
+use Rattle.std.{proofs.Common.{◌≡◌, ℕ, zero, suc, ◌+◌, ◌-◌, ◌≤◌, ◌<◌, List, [], ◌∷◌, length, take, ap, arith}, specs.Prelude.get_or}
 use Rattle.stack_text.{specs.declared.shape.Shape.Shape, specs.declared.shape.Kind.TheVariants.Integer, specs.Values.item_count}
 use Rattle.gypsy_syntax.specs.Programs.{simple, words_of}
 

@@ -1,6 +1,7 @@
 -- What the definition's result says of the image or of the fault.
 use Rattle.stack_heap.specs.Heaps.{IfOkUnless}
-use Rattle.quick_generate.specs.Quickened.{KeepsPlain}
+use Rattle.quick_generate.{specs.Quickened.{KeepsPlain, image_or, quickened}, specs.Hurdles.hurdle_of, specs.declared.fault.QuickFault.QuickFault}
+use Rattle.quick_generate.{specs.QuickOf.{fault_of, image_size, placed_unless, quick_of, window_end}, proofs.HurdleLaws.hurdle_told, specs.Choice.chosen_of}
 use Rattle.std.{proofs.Common.{◌≡◌, ℕ, ◌≤◌, ◌<◌, List, Bool, true, false, Option, Some, None, refl, ap, sym, subst, ◌∙◌}, proofs.lemmas.Bool.{le-leb, lt-leb}}
 use Rattle.std.{proofs.lemmas.Bool.leb-true, specs.Prelude.{Result, Ok, Err, nat_le, if◌then◌else◌}}
 use Rattle.stack_text.specs.Gives.{FailsUnless}
@@ -8,8 +9,6 @@ use Rattle.fm_words.specs.WindowLimit.{most_window}
 use Rattle.fm_image.specs.Image.{ImageOf}
 use Rattle.gypsy_syntax.specs.Sources.{SourceOf}
 use Rattle.quick_build.{specs.QuickImage.quick_image, specs.QuickImplements.main_proc}
-use Rattle.quick_generate.{specs.Hurdles.hurdle_of, specs.declared.fault.QuickFault.QuickFault, specs.QuickOf.{fault_of, image_size, placed_unless, quick_of}}
-use Rattle.quick_generate.{specs.QuickOf.window_end, proofs.HurdleLaws.hurdle_told, specs.Choice.chosen_of, specs.Quickened.{image_or, quickened}}
 use Rattle.quick_generate.specs.declared.fault.QuickFault.TheVariants as fault
 
 -- Where there is an image, it is the quick one, and nothing is in its way.

@@ -14,9 +14,9 @@ use Rattle.gypsy_check.specs.Accepted.{IsAccepted}
 use Rattle.gypsy_space.specs.Needs.{stack_sizes}
 use Rattle.gypsy_semantics.proofs.Keeping.{vars_join, locals_fit}
 use Rattle.gypsy_codegen.{specs.Generated.generated_view, specs.WordsOf.zero_value}
-use Rattle.stack_build.{specs.Formals.{formals_in, shown_formals, shown_conditions}, specs.Image.slots_from, specs.Internal.Showing.shapes_in}
-use Rattle.stack_build.{proofs.ImageLimits.{each_fits, generated_shows, length-slots_from, names-slots_from, words_front}, proofs.Windows.shorter}
-use Rattle.stack_build.proofs.MainLaws.{main_is, zero_values}
+use Rattle.stack_build.{specs.Formals.{formals_in, shown_formals, shown_conditions}, specs.Internal.Showing.shapes_in, proofs.ImageLimits.each_fits}
+use Rattle.stack_build.{proofs.ImageLimits.{generated_shows, length-slots_from, names-slots_from, words_front}, proofs.Windows.shorter, proofs.MainLaws.main_is}
+use Rattle.stack_build.proofs.MainLaws.{zero_values}
 use Rattle.quick_gypsy.{specs.Numbers.numbers_of, specs.Quick.{quick, size}, proofs.NumbersLaws.numbers_length, proofs.QuickLaws.quick_length}
 use Rattle.quick_build.specs.QuickImage.{condition_cell, exit_numbers, exit_place, exits_code, final_of, first_values, layout_in, quick_image, quick_window}
 use Rattle.quick_build.{specs.QuickImage.{quick_words, start_of}, specs.QuickImplements.main_proc, proofs.ExitLaws.{exits_length, numbers_count}}

@@ -1,6 +1,6 @@
 -- What is stored of a source does what the source means.
-use Rattle.std.proofs.Common.{◌≡◌, ◌+◌, ◌≤◌, ◌<◌, ◌⊎◌, inl, inr, ⊎_elim, ℕ, suc, List, Some, Result, Ok, Err, length, refl, sym, ap, subst, ◌∙◌, arith}
-use Rattle.std.{specs.Prelude.{◌^◌, IfOk, option_map}, proofs.lemmas.Bool.cases_lt}
+use Rattle.std.{proofs.Common.{◌≡◌, ◌+◌, ◌≤◌, ◌<◌, ◌⊎◌, inl, inr, ⊎_elim, ℕ, List, Some, Ok, refl, sym, ap, subst, ◌∙◌, arith}, specs.Prelude.option_map}
+use Rattle.std.proofs.lemmas.Bool.{cases_lt}
 use Rattle.stack_text.specs.Values.{ValueOf}
 use Rattle.fm_machine.{specs.State.Fm, specs.Run.{fm_run, Avoids, IsFirst}, specs.Outcome.{IsOutcome, RunOutcome, outcome}, specs.declared.processor.Run.Run}
 use Rattle.fm_machine.proofs.RunLaws.{outcome_is, outcome_only}
@@ -9,16 +9,14 @@ use Rattle.fm_image.specs.Image.{ImageOf}
 use Rattle.fm_loader.specs.Loaded.{loaded}
 use Rattle.gypsy_syntax.{specs.Resolved.program_of, specs.Sources.SourceOf}
 use Rattle.gypsy_check.specs.Accepted.{IsAccepted}
-use Rattle.gypsy_space.{specs.Costs.Tally, specs.Needs.{StackSizes, stack_sizes}}
+use Rattle.gypsy_space.{specs.Costs.Tally, specs.Needs.StackSizes}
 use Rattle.gypsy_semantics.{specs.Calls.CurrentCondition, specs.Counted.{CountedOutcome, CountedDone, CountedUnfinished, counted_meaning, instruction_count}}
 use Rattle.gypsy_semantics.{specs.Counted.{uncounted, tally_of}, specs.Meaning.{MeaningOutcome, Done, Unfinished, meaning}, specs.Views.Moments.NeverEnds}
 use Rattle.gypsy_semantics.proofs.CountLaws.{meaning-uncounted}
-use Rattle.stack_build.{specs.Build.{BuiltOf, Builds, BuildsText, built}, specs.ComesTo.ComesTo, specs.Implements.{meaning_shown, FitsFormals, Finishes}}
-use Rattle.stack_build.{specs.Inside.BuiltAtBase, specs.Joined.BuiltImplements, specs.Meant.{KeptMeansOnly, NeverOutside}, proofs.KnownLaws.source_is_accepted}
-use Rattle.stack_build.proofs.MomentLaws.{run_up_to}
+use Rattle.stack_build.{specs.Build.{BuiltOf, Builds}, specs.Implements.FitsFormals, specs.Meant.{KeptMeansOnly, NeverOutside}, proofs.MomentLaws.run_up_to}
 use Rattle.quick_build.{specs.QuickImage.quick_image, specs.QuickImplements.{CanBeQuick, QuickImagesEndAsMeant, QuickImagesGoOn, QuickImagesImplement}}
 use Rattle.quick_build.specs.QuickImplements.{QuickProgramsAreNoSlower, program_cost}
-use Rattle.quick_generate.specs.DoesQuickly.{ComesWithin, DoesQuickly, IsMeantWithin}
+use Rattle.quick_generate.specs.DoesQuickly.{DoesQuickly, IsMeantWithin}
 
 -- 1. Counts and outcomes.
 

@@ -8,14 +8,14 @@ use Rattle.gypsy_syntax.{specs.Programs.{ConditionOf, Leave, Routine, Space, Dec
 use Rattle.gypsy_syntax.specs.Sources.{SourceOf}
 use Rattle.gypsy_check.specs.Accepted.{IsAccepted}
 use Rattle.stack_build.proofs.WordsLaws.{words-trimmed}
-use Rattle.quick_code.{specs.Access.{Held, Known}, specs.Pieces.set_area_code}
-use Rattle.quick_gypsy.{specs.Numbers.numbers_of, specs.Quick.quick}
-use Rattle.quick_build.specs.QuickImage.{access_from, condition_cell, declared_numbers, exit_code, exit_numbers, exit_of, exit_place, exits_code, final_of}
-use Rattle.quick_build.specs.QuickImage.{first_values, layout_in, quick_image, quick_registers, quick_window, quick_words, start_of, variable_address}
+use Rattle.quick_code.{specs.Access.Held, specs.Pieces.set_area_code}
+use Rattle.quick_gypsy.specs.Numbers.{numbers_of}
+use Rattle.quick_build.specs.QuickImage.{access_from, condition_cell, declared_numbers, exit_code, exit_numbers, exit_place, exits_code, final_of, first_values}
+use Rattle.quick_build.specs.QuickImage.{layout_in, quick_image, quick_registers, quick_window, quick_words, start_of, variable_address}
 use Rattle.quick_build.specs.QuickImplements.{main_proc}
 use Rattle.quick_generate.{specs.QuickOf.{image_size, window_end}, proofs.CodeWordsLaws.{AreWords, IsNear, IsReach, code_words, jump_words, number_word}}
 use Rattle.quick_generate.proofs.CodeWordsLaws.{set_area_words, values_words, words-append, no_words, words-replicate, words-reversed}
-use Rattle.quick_generate.{proofs.ImageLaws.{main_fit, quick_fits}, proofs.PlacedLaws.few_conds, proofs.QuickLaws.cell_is, proofs.SizeLaws.size_anywhere}
+use Rattle.quick_generate.{proofs.ImageLaws.{main_fit, quick_fits}, proofs.PlacedLaws.few_conds, proofs.SizeLaws.size_anywhere}
 
 -- 1. Exits.
 

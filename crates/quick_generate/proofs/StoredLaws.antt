@@ -1,22 +1,19 @@
 -- What is stored of a source: which image it is, what it does, and that a file spells it.
-use Rattle.stack_build.specs.declared.fault.BuildFault.{BuildFault}
+use Rattle.stack_build.{specs.declared.fault.BuildFault.BuildFault, specs.Build.{BuiltOf, Builds, BuildsText}, specs.ComesTo.ComesTo}
+use Rattle.stack_build.{specs.Implements.meaning_shown, specs.Inside.BuiltAtBase, specs.Joined.BuiltImplements, specs.Meant.KeptMeansOnly}
+use Rattle.stack_build.{proofs.ImageBytes.file_few, proofs.KnownLaws.source_is_accepted}
 use Rattle.std.{proofs.Common.{◌≡◌, ◌≤◌, ℕ, List, Result, Ok, Err, length, refl, sym, ap, subst, ◌∙◌, arith}, specs.Prelude.{◌^◌, IfOk}}
-use Rattle.stack_text.{specs.SharedLimits.{most_text, most_image_file}, specs.Values.ValueOf}
+use Rattle.stack_text.specs.SharedLimits.{most_text, most_image_file}
 use Rattle.fm_image.{specs.Image.ImageOf, specs.Spelling.{Spelled, spelling, tables_bytes}, specs.Limits.tables_of}
 use Rattle.gypsy_syntax.{specs.Resolved.program_of, specs.Sources.SourceOf}
 use Rattle.gypsy_check.specs.Accepted.{IsAccepted}
 use Rattle.gypsy_space.specs.Needs.{StackSizes, stack_sizes}
-use Rattle.gypsy_semantics.{specs.Calls.CurrentCondition, specs.Meaning.{Done, meaning}}
-use Rattle.stack_build.{specs.Build.{BuiltOf, Builds, BuildsText, built}, specs.ComesTo.ComesTo, specs.Implements.{FitsFormals, meaning_shown}}
-use Rattle.stack_build.{specs.Inside.BuiltAtBase, specs.Joined.BuiltImplements, specs.Meant.KeptMeansOnly, proofs.ImageBytes.file_few}
-use Rattle.stack_build.proofs.KnownLaws.{source_is_accepted}
 use Rattle.quick_build.{specs.QuickImage.quick_image, specs.QuickImplements.{QuickImagesEndAsMeant, QuickImagesGoOn, QuickImagesImplement}}
 use Rattle.quick_build.specs.QuickImplements.{QuickProgramsAreNoSlower, main_proc, program_cost}
-use Rattle.quick_generate.{specs.Choice.chosen_of, specs.DoesQuickly.{ComesAsCounted, DoesQuickly, Quickens, QuickensText, SourcesAreQuickened}}
-use Rattle.quick_generate.{specs.DoesQuickly.TextsAreQuickened, specs.QuickOf.{quick_of, window_end}, specs.Quickened.{counted_by, image_or, quick_count}}
-use Rattle.quick_generate.{specs.Quickened.quickened, specs.declared.fault.QuickFault.QuickFault, proofs.ChoiceLaws.chosen_few, proofs.GivenLaws.IsTaken}
-use Rattle.quick_generate.{proofs.GivenLaws.taken, proofs.QuickLaws.can_be, proofs.QuickenLaws.{counted, plain_does, quick_does}}
-use Rattle.quick_generate.proofs.SpelledLaws.{quick_spells}
+use Rattle.quick_generate.{specs.Choice.chosen_of, specs.DoesQuickly.{DoesQuickly, Quickens, SourcesAreQuickened, TextsAreQuickened}, specs.QuickOf.quick_of}
+use Rattle.quick_generate.{specs.QuickOf.window_end, specs.Quickened.{counted_by, image_or, quick_count, quickened}, specs.declared.fault.QuickFault.QuickFault}
+use Rattle.quick_generate.{proofs.ChoiceLaws.chosen_few, proofs.GivenLaws.{IsTaken, taken}, proofs.QuickLaws.can_be, proofs.QuickenLaws.{counted, plain_does}}
+use Rattle.quick_generate.{proofs.QuickenLaws.quick_does, proofs.SpelledLaws.quick_spells}
 
 module _ (means_only : KeptMeansOnly) (implements : QuickImagesImplement) (no_slower : QuickProgramsAreNoSlower) (end_as_meant : QuickImagesEndAsMeant)
     (go_on : QuickImagesGoOn) where
@@ -95,7 +92,8 @@ module _ (means_only : KeptMeansOnly) (implements : QuickImagesImplement) (no_sl
 
   pub texts_are_quickened : BuiltImplements → BuiltAtBase → TextsAreQuickened
   texts_are_quickened builds at_base text ctrl temp base made few low is =
-      let b : BuildsText text ctrl temp made = subst (λ (r : Result BuiltOf BuildFault). IfOk r (BuildsText text ctrl temp)) is (builds text ctrl temp base few low) in
+      let b : BuildsText text ctrl temp made =
+      subst (λ (r : Result BuiltOf BuildFault). IfOk r (BuildsText text ctrl temp)) is (builds text ctrl temp base few low) in
       let accepted = source_is_accepted text few b.source b.read in
       let at : made.image.base ≡ base = at_base text ctrl temp base made is in
       let there : made.image.base ≤ 2 ^ 31 = omega (arith, at, low) in

@@ -1,6 +1,6 @@
 -- What quick code doesn't have yet: calls.
 use Rattle.std.specs.Prelude.{Option, Some, None}
-use Rattle.gypsy_syntax.specs.{Programs.{Stmt, Skip, NoOp, Signal, Seq, Loop, If, Begin, Call, Apply}}
+use Rattle.gypsy_syntax.specs.Programs.{Stmt, Skip, NoOp, Signal, Seq, Loop, If, Begin, Call, Apply}
 use Rattle.quick_generate.specs.declared.fault.QuickFault.{QuickFault}
 use Rattle.quick_generate.specs.declared.fault.QuickFault.TheVariants as fault
 

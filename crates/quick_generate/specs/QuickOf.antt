@@ -1,14 +1,13 @@
 -- The quick image of a source in the smallest window that has room for it, or why there is none.
-use Rattle.std.specs.Prelude.{◌≡◌, ℕ, ◌+◌, ◌-◌, ◌*◌, ◌<◌, ◌≤◌, nat_le, if◌then◌else◌, List, [], ◌∷◌, ◌++◌, length, take, get_or, Option}
-use Rattle.std.specs.Prelude.{Some, None, Result, Ok, Err}
+use Rattle.std.specs.Prelude.{ℕ, ◌+◌, ◌-◌, ◌*◌, nat_le, if◌then◌else◌, List, [], ◌∷◌, ◌++◌, take, get_or, Option, Some, None, Result, Ok}
+use Rattle.std.specs.Prelude.{Err}
 use Rattle.stack_text.specs.declared.shape.Shape.{Shape}
 use Rattle.stack_text.specs.Gives as common
 use Rattle.fm_words.specs.WindowLimit.{most_window}
 use Rattle.fm_image.specs.Image.{ImageOf}
 use Rattle.gypsy_syntax.specs.{Programs.{Proc, Stmt, shapes_of, words_of}, Sources.{SourceOf}}
 use Rattle.quick_gypsy.specs.{Layout.{Layout}, Quick.{size, quick}}
-use Rattle.quick_build.specs.QuickImage.{exit_numbers, exit_place, exits_code, final_of, layout_in, quick_image}
-use Rattle.quick_build.specs.QuickImplements.{CanBeQuick, main_proc}
+use Rattle.quick_build.specs.{QuickImage.{exit_numbers, exit_place, exits_code, layout_in, quick_image}, QuickImplements.{main_proc}}
 use Rattle.quick_generate.specs.{Hurdles.{hurdle_of}, declared.fault.QuickFault.{QuickFault}}
 use Rattle.quick_generate.specs.declared.fault.QuickFault.TheVariants as fault
 

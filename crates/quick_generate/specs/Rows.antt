@@ -1,5 +1,5 @@
 -- Parts that rows of quick code have in common, and how many words each row has.
-use Rattle.std.specs.Prelude.{ℕ, zero, suc, ◌+◌, ◌-◌, List, ◌++◌, length}
+use Rattle.std.specs.Prelude.{ℕ, zero, suc, ◌+◌, ◌-◌, List, ◌++◌}
 use Rattle.fm_words.specs.{declared.operation.Op.{Op}, declared.operation.Op.TheVariants.{Move, Add, Sub}, declared.condition.Cc.{Cc}}
 use Rattle.fm_words.specs.{declared.condition.Cc.TheVariants.{Vs, Cs}, declared.condition.Flags.{Flags}, Code.{no_flags}}
 use Rattle.fm_words.specs.Word.{word_of_int}

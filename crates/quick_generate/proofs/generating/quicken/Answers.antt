@@ -1,6 +1,6 @@
-use Rattle.std.proofs.Common.{◌≡◌, ◌∙◌, ap, sym, List, ℕ, length, arith}
+use Rattle.std.proofs.Common.{◌≡◌, ◌∙◌, ap, List, ℕ, length, arith}
 use Rattle.fm_image.specs.Image.{ImageOf}
-use Rattle.gypsy_syntax.{specs.Programs.{Proc, shapes_of}, specs.Sources.SourceOf, specs.Views.SourceView.source_of}
+use Rattle.gypsy_syntax.{specs.Programs.shapes_of, specs.Sources.SourceOf, specs.Views.SourceView.source_of}
 use Rattle.gypsy_space.specs.Nodes.{seen_proc}
 use Rattle.quick_build.specs.QuickImplements.{main_proc}
 use Rattle.quick_generate.{specs.Choice.chosen_of, proofs.ChoiceLaws.chosen_few, proofs.GivenLaws.{kept_stored, quick_stored}, proofs.PlacedLaws.few_variables}
