@@ -233,6 +233,10 @@ class Rows:
                 ended = room.run("/dev/stdout", stdout=opened)
                 opened.seek(0)
                 self.note(ended.returncode == 10 and opened.read() == b"shelf fault /dev/stdout\n", "an output without a name", ended)
+            whole = room.stored("first")
+            Path(room.folder, "o").write_bytes(OLD)
+            ended = subprocess.run([*room.build, "2000", "2000", "o"], cwd=room.folder, preexec_fn=lambda: os.close(1), check=False)
+            self.note(ended.returncode == 11 and Path(room.folder, "o").read_bytes() == whole, "a closed output", ended)
             self.note(room.parts() == [], "nothing is left", room.parts())
 
     def unreadable(self):

@@ -52,8 +52,10 @@ pub fn store_at<R: Files>(
     path: Path<'_>,
     bytes: &[u8],
 ) -> Result<(), StoreFault> {
+    // Asked before the file is opened, which takes the place of a standard output that is closed.
+    let output = fs::metadata(rt, STANDARD_OUTPUT);
     let there = match OpenOptions::new().write(true).open(rt, path) {
-        Ok(file) if is_output(rt, &file) => return Err(StoreFault::Failed),
+        Ok(file) if is_output(&file, &output) => return Err(StoreFault::Failed),
         Ok(file) => Some(file),
         Err(e) if e.kind() == ErrorKind::NotFound => None,
         Err(_) => return Err(StoreFault::Failed),
@@ -69,9 +71,9 @@ pub fn store_at<R: Files>(
     store_into(&mut emptied(rt, path, there), bytes)
 }
 
-/// Whether an opened file is the ordinary file that standard output is open on, by whatever name it was reached.
-fn is_output<R: Files>(rt: &R, file: &R::File) -> bool {
-    match (file.metadata(), fs::metadata(rt, STANDARD_OUTPUT)) {
+/// Whether an opened file is the ordinary file that standard output was open on, by whatever name it was reached.
+fn is_output<F: OpenFile>(file: &F, output: &io::Result<Metadata>) -> bool {
+    match (file.metadata(), output) {
         (Ok(file), Ok(output)) => {
             file.is_file() && (file.dev(), file.ino()) == (output.dev(), output.ino())
         }
