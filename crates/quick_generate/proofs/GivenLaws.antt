@@ -82,5 +82,4 @@ module _ (vs : List ℕ) (s : SourceOf) (plain : ImageOf) (base : ℕ) (choice :
   kept_stored refused fault.Memory (Ok x) fails keeps = absurd cc
   kept_stored refused fault.Memory (Err e) fails keeps = fails
   kept_stored refused (fault.Call place) result fails keeps = kept_plain refused (fault.Call place) result fails keeps
-  kept_stored refused (fault.Product place) result fails keeps = kept_plain refused (fault.Product place) result fails keeps
   kept_stored refused fault.Words result fails keeps = kept_plain refused fault.Words result fails keeps
