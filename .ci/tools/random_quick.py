@@ -1,10 +1,10 @@
 #!/usr/bin/env python3
 """Random sources by `quick` and `run`, beside `go`: the same condition and values, in no more instructions.
 
-Each seed makes a source, values and sizes, as in random_sources.py; of an odd seed main calls no procedure and has no product, so that it has a
-quick image. `run` of what `quick` stored has to print what `go` prints, but for the number of instructions, which may be smaller; with one
-instruction less it has to be unfinished. At sizes of the stacks that are too small both `build` and `quick` have to say so. The files of the two
-have to differ exactly if the source has a quick image. A seed for which this isn't so is told in a line.
+Each seed makes a source, values and sizes, as in random_sources.py; of an odd seed main calls no procedure, so that it has a quick image. `run` of
+what `quick` stored has to print what `go` prints, but for the number of instructions, which may be smaller; with one instruction less it has to be
+unfinished. At sizes of the stacks that are too small both `build` and `quick` have to say so. The files of the two have to differ exactly if the
+source has a quick image. A seed for which this isn't so is told in a line.
 """
 import re
 import subprocess
@@ -16,15 +16,14 @@ from random import Random
 sys.path.append(str(Path(__file__).resolve().parents[2] / "tools"))
 
 from arguments import seeds_of  # noqa: E402
-from random_sources import ROWS, SECONDS, Case, Literal, Source, listed, random_case  # noqa: E402
+from random_sources import SECONDS, Case, Literal, Source, listed, random_case  # noqa: E402
 
-PRODUCT = ROWS["mg-integer-multiply"]
 FINISHED = re.compile(r"finished (\d+)\n(.*)", re.S)
 
 
 def has_quick(source: Source) -> bool:
     """Whether a source has a quick image."""
-    return not source.main.body.calls() and PRODUCT not in source.main.body.rows()
+    return not source.main.body.calls()
 
 
 def case_of(seed: int) -> Case:

@@ -61,8 +61,8 @@ abbrev pub product_takes : ℤ → ℤ → ℕ
 product_takes x y =
     program_cost (0 ∷ 1 ∷ 2 ∷ []) product hundred 32 (integer_value x ∷ integer_value y ∷ integer_value (pos 0) ∷ []) 2
 
--- its code in a window from 0 to 31; that 6 times -7 takes 22 instructions, where the plain image takes 2,604, and 65,536 times 32,768,
--- which has no 32 bits, 83, where the plain image takes 2,600
+-- its code in a window from 0 to 31; that 6 times -7 takes 22 instructions, and the plain image 2,604; and that 65,536 times 32,768,
+-- which doesn't fit in 32 signed bits, takes 83, and the plain image 2,600
 pub record ProductIsQuick : Type 0 where
   pub words : quick_words (0 ∷ 1 ∷ 2 ∷ []) product_main 0 32 ≡
       14683199 ∷ 28 ∷ 14699583 ∷ 1 ∷ 14695455 ∷ 27 ∷ 14683199 ∷ 28 ∷ 14699583 ∷ 3 ∷ 14695455 ∷ 27 ∷

@@ -143,7 +143,7 @@ module _ {P : Parts} {table : ℕ → ℕ} {ctrl : List ℕ} {n : ℕ} {s : Fm} 
       mid_of a x0 x4 c1 refl refl (λ j low high. other r 15 (r 15 + 1) j (omega (arith, high)) ∙ c.held j low high)
       c.r0_is c.r3_is c.r4_is (ap (λ v. v + 1) c.r15_is)
 
--- Wherever the code stands, k steps lead behind its words. Then z is in r3, or the overflow flag is set if z has no 32 bits.
+-- Wherever the code stands, k steps lead behind its words. Then z is in r3, or the overflow flag is set if z doesn't fit in 32 signed bits.
 record Leads (P : Parts) (table : ℕ → ℕ) (code : List ℕ) (words k : ℕ) (a : Now) (x0 x4 : ℕ) (z : ℤ) : Type 0 where
   y0 : ℕ
   y3 : ℕ

@@ -21,8 +21,8 @@ operated op set w a =
 abbrev pub with_var : ℕ → ℕ → Now → Now
 with_var i w a = record a { vars = slice_set a.vars i w }
 
--- From a moment the code leads behind it after k instructions. Then this integer is in r3, or the overflow flag is set if it has no 32
--- bits.
+-- From a moment the code leads behind it after k instructions. Then this integer is in r3, or the overflow flag is set if it doesn't fit in
+-- 32 signed bits.
 pub record Gives (P : Parts) (table : ℕ → ℕ) (code : List ℕ) (k : ℕ) (a : Now) (z : ℤ) : Type 0 where
   pub x3 : ℕ
   pub fl : Flags

@@ -43,7 +43,7 @@ jump_when_code cc target = when cc Move (reg 15) literal ∷ target ∷ []
 abbrev pub set_area_code : ℕ → ℕ → List ℕ
 set_area_code address w = mov (reg 3) literal ∷ address ∷ mov (at 3) literal ∷ w ∷ []
 
--- A product, r3 = (x) * (y), which sets the overflow flag if it has no 32 bits. Its jumps are relative to r15.
+-- A product, r3 = (x) * (y), which sets the overflow flag if it doesn't fit in 32 signed bits. Its jumps are relative to r15.
 
 abbrev pub flag_n : Flags
 flag_n = record { c = false; v = false; n = true; z = false }

@@ -7,8 +7,8 @@ abbrev pub digits : ℕ → ℕ → ℕ
 digits zero m = 0
 digits (suc n) m = if nat_le (2 ^ n) m then suc n else digits n m
 
--- how many of 31 binary digits an integer takes beside its sign, for example 3 for 7 and for -8: it can be doubled once for each of the
--- others
+-- how many of 31 binary digits an integer takes beside its sign, for example 3 for 7 and for -8; it can be doubled once for each other
+-- digit
 abbrev pub digits_of : ℤ → ℕ
 digits_of (pos n) = digits 32 n
 digits_of (negsuc n) = digits 32 n

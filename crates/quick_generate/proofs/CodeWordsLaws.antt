@@ -1,30 +1,29 @@
 -- The words of quick code are numbers of 32 bits.
-use Rattle.std.proofs.Common.{◌≡◌, ◌<◌, ◌≤◌, ◌+◌, ◌-◌, ◌*◌, ◌/◌, ◌%◌, ℕ, zero, suc, true, false, Bool, cond, List, [], ◌∷◌, ◌++◌, length, map, take, get_or}
-use Rattle.std.{proofs.Common.{refl, sym, ap, subst, ◌∙◌, arith}, proofs.lemmas.Int.ints, specs.Prelude.{◌^◌, ◌==◌, nat_lt, replicate, reverse, if◌then◌else◌}}
-use Rattle.std.{specs.Prelude.{ℤ, pos}, proofs.lemmas.Bool.{and_parts, and_from, lt-ltb}, proofs.lemmas.List.Folds.list_all-append, specs.List.list_all}
+use Rattle.std.proofs.Common.{◌≡◌, ◌<◌, ◌+◌, ◌-◌, ◌*◌, ◌/◌, ◌%◌, ℕ, zero, suc, true, false, Bool, cond, List, [], ◌∷◌, ◌++◌, length, map, get_or, refl, sym, ap}
+use Rattle.std.{proofs.Common.{subst, ◌∙◌, arith}, proofs.lemmas.Int.ints, specs.Prelude.{◌^◌, ◌==◌, nat_lt, replicate, reverse, if◌then◌else◌, ℤ, pos}}
+use Rattle.std.{proofs.lemmas.Bool.{and_parts, and_from, lt-ltb}, proofs.lemmas.List.Folds.list_all-append, specs.List.list_all}
 use mathlib.Core.List.{reverse_aux}
 use Rattle.fm_words.{specs.declared.operation.Op.Op, specs.declared.operation.Op.TheVariants.{Move, Neg, Add, Sub, Lsr, Xor, Or, And}}
 use Rattle.fm_words.{specs.declared.condition.Cc.Cc, specs.declared.condition.Cc.TheVariants.{Al, Vc, Vs, Nc, Zs, Ge, Cs}, specs.declared.condition.Flags.Flags}
-use Rattle.fm_words.{specs.declared.instruction.Instr.Instr, specs.Code.{decode_of, no_flags}, specs.Encoding.{encode_of, IsInstr, significant}}
+use Rattle.fm_words.{specs.declared.instruction.Instr.Instr, specs.Code.no_flags, specs.Encoding.{encode_of, IsInstr, significant}}
 use Rattle.fm_words.{specs.Word.word_of_int, proofs.FieldLaws.{decode_encode, encode_decode}, proofs.WordLaws.word_of_int_below}
 use Rattle.fm_machine.specs.Masks.{all_flags}
 use Rattle.fm_code.{specs.InstructionWords.{reg, at, immediate, literal, literal_at, instruction, flag_z, flag_c}, specs.Templates.jump_code}
 use Rattle.fm_image.specs.Spelling.{are_words}
-use Rattle.stack_text.{specs.declared.shape.Shape.Shape, specs.declared.shape.Kind.Kind, specs.declared.shape.Kind.TheVariants.Integer, specs.Values.ValueOf}
-use Rattle.stack_text.specs.Values.{item_count}
+use Rattle.stack_text.{specs.declared.shape.Shape.Shape, specs.declared.shape.Kind.Kind, specs.Values.ValueOf}
 use Rattle.gypsy_syntax.{specs.declared.predef.Predef.Predef, specs.declared.slot.Slot.Slot, specs.declared.slot.Form.Form}
 use Rattle.gypsy_syntax.{specs.declared.slot.Form.TheVariants.{Simple, Array, Literal}, specs.Programs.{Arg, Var, Lit, ConditionOf, Routine, Program, Stmt}}
-use Rattle.gypsy_syntax.{specs.Programs.{Skip, NoOp, Signal, Seq, Loop, If, Begin, Call, Apply, simple, words_of}, specs.Predefined.slots_of}
-use Rattle.gypsy_syntax.{specs.Effects.item_of_value, specs.ProgramFits.{ArgFits, ArgsFit, StmtFits, slot_kind}, specs.ValuesFit.{ValueFits, VarsFit}}
+use Rattle.gypsy_syntax.{specs.Programs.{Skip, NoOp, Signal, Seq, Loop, If, Begin, Call, Apply, words_of}, specs.Predefined.slots_of}
+use Rattle.gypsy_syntax.{specs.Effects.item_of_value, specs.ProgramFits.{ArgFits, ArgsFit, StmtFits, slot_kind}, specs.ValuesFit.VarsFit}
 use Rattle.gypsy_syntax.specs.Ranges.{is_in_range}
 use Rattle.gypsy_syntax.specs.declared.predef.Predef.TheVariants as row
 use Rattle.gypsy_semantics.specs.Calls.{has_cond, is_leave}
 use Rattle.quick_code.{specs.Access.{Access, Held, Known, register_of, find_code}, specs.Pieces.{by_word_code, by_literal_code, store_code, store_literal_code}}
-use Rattle.quick_code.specs.Pieces.{truth_code, move_code, put_code, jump_when_code, set_area_code, factors_code, flag_n, flag_v, flags_cz}
-use Rattle.quick_code.specs.Pieces.{product_code, rounds_code, signs_code}
-use Rattle.quick_gypsy.{specs.Layout.{Layout, count_of, last_address, first_of}, specs.RowCode.{arg_access, arg_number, arg_var, assign_code}}
-use Rattle.quick_gypsy.{specs.RowCode.{item_code, load, row_code}, specs.Quick.{Targets, begin_targets, loop_targets, quick, size, test_code}}
-use Rattle.quick_gypsy.{specs.Numbers.{numbers_of, value_numbers}, proofs.ItemLaws.item_is_int}
+use Rattle.quick_code.specs.Pieces.{truth_code, move_code, put_code, jump_when_code, set_area_code, factors_code, flag_n, flag_v, flags_cz, product_code}
+use Rattle.quick_code.specs.Pieces.{rounds_code, signs_code}
+use Rattle.quick_gypsy.{specs.Layout.{Layout, count_of, last_address}, specs.RowCode.{arg_access, arg_number, arg_var, assign_code, item_code, load}}
+use Rattle.quick_gypsy.{specs.RowCode.row_code, specs.Quick.{Targets, begin_targets, loop_targets, quick, size, test_code}, specs.Numbers.numbers_of}
+use Rattle.quick_gypsy.{specs.Numbers.value_numbers, proofs.ItemLaws.item_is_int}
 use Rattle.quick_generate.proofs.FrameLaws.{words_with}
 
 -- 1. Lists of words.

@@ -9,8 +9,7 @@ use Rattle.gypsy_syntax.{specs.declared.predef.Predef.Predef, specs.Programs.Arg
 use Rattle.gypsy_syntax.specs.declared.predef.Predef.TheVariants as row
 use Rattle.quick_code.{specs.Access.{Access, Held, Known, find_code}, specs.Pieces.{by_word_code, by_literal_code, store_code, store_literal_code, truth_code}}
 use Rattle.quick_code.specs.Pieces.{flag_v, factors_code, move_code, product_code, put_code, jump_when_code, rounds_code, signs_code}
-use Rattle.quick_gypsy.{specs.Layout.{Layout, count_of, last_address}, specs.RowCode.{arg_access, arg_number, arg_var, assign_code, item_code, load}}
-use Rattle.quick_gypsy.specs.RowCode.{row_code}
+use Rattle.quick_gypsy.{specs.Layout.{Layout, count_of, last_address}, specs.RowCode.{arg_access, arg_number, arg_var, assign_code, item_code, load, row_code}}
 use Rattle.quick_generate.specs.Rows.{copy_size, row_size}
 
 -- pieces

@@ -92,7 +92,7 @@ fn rounds<H: Heap>(heap: H, words: &mut Vec<u32>) -> Result<(), Memory>
     append(heap, words, &[halve, sum, out, double, again])
 }
 
-/// r3 the product of two variables. The overflow flag is set if it has no 32 bits.
+/// r3 the product of two variables. The overflow flag is set if it doesn't fit in 32 signed bits.
 pub(crate) fn product<H: Heap>(
     heap: H,
     words: &mut Vec<u32>,
