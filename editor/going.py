@@ -2,15 +2,14 @@
 import select
 from collections import namedtuple
 
-from frames import Memory, activations
 from moments import Interrupted
-from talks import MOVED, Stream, Talk, Target
+from talks import DEPTH, MOVED, Stream, Talk, Target
 from watching import Watching, reached
 
 # Where a run came to: a moment, why it stopped there, and the target that it is at, if it is at one.
 Stop = namedtuple("Stop", "moment reason target", defaults=(None,))
 
-# So many moments of the source are looked through before memory is asked where a call ends. They are asked for in portions, which grow from few to many.
+# So many moments of the source are looked through before the end of a call is waited for. They are asked for in portions, which grow from few to many.
 SCAN, FEW, MANY, MORE = 2000, 32, 20_000, 8
 # So many steps are looked through at first if a run goes back, and the most bytes of a script that looks.
 WINDOW, LONGEST = 256, 1_000_000
@@ -103,26 +102,8 @@ class Walk(Watching):
 
     def return_to(self, depth, stops):
         """To where the activation of this depth goes on, which waits for a call now or at the next steps; if there is none, to the end."""
-        if depth == 0:
-            return self.go(stops)
-        entered = self.moment
-        while self.run.trace_moment(entered.steps).depth <= depth:
-            entered = self.run.moment("gypsy", entered.steps + 1)
-        found = activations(self.run, entered.count)
-        called, caller = found[len(found) - depth - 1], found[len(found) - depth]
-        _, back = Memory(self.run, entered.count).read(called.frame + self.run.code.frames[called.procedure], 2)
-        # The same call may come back in an inner activation, whose frame is another one.
-        wanted = f"r0 {caller.frame:08x}"
-        target = Target("fm9001", back, lambda shown: shown[1] == wanted)
-        before, self.moment = self.moment, self.run.moment("fm9001", entered.count)
-        try:
-            stop = self.go([target, *stops])
-        except Interrupted:
-            self.moment = before
-            raise
-        if stop.target is not target:
-            return stop
-        return self.at("gypsy", self.run.steps_at("gypsy", stop.moment.count, entered.steps) + 1)
+        behind = Target("gypsy", f"{DEPTH}{depth}")
+        return stepped(self.go([behind, *stops] if depth > 0 else stops), behind)
 
     # ---- Going on until something ----
 
@@ -227,3 +208,8 @@ class Walk(Watching):
                 return found[-1]
             high, window = low, window * 8
         return None
+
+
+def stepped(stop, target):
+    """A stop, which was a step if it is at its own target."""
+    return stop._replace(reason="step", target=None) if stop.target is target else stop

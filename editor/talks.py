@@ -15,6 +15,8 @@ from program import Refused
 
 # A place at which a run stops: its level, what `until` calls it, and what has to hold there of what `show` says, if anything.
 Target = namedtuple("Target", "level place holds", defaults=(None,))
+# What `until` calls a place with at most so many activations or frames.
+DEPTH = "depth<="
 # Where a stream has come to: after how many steps, and whether it is at its target or at the end of the run.
 Come = namedtuple("Come", "steps reason")
 

@@ -2,8 +2,8 @@
 import re
 
 from frames import Activation, Memory, activations
-from going import Walk
-from talks import Target
+from going import Walk, stepped
+from talks import DEPTH, Target
 
 # So many instructions are made in no time. Farther on it takes a while to find out where a run stands at another level, or what the processor has there.
 NEAR, NEAR_MACHINE = 1_000_000, 10_000_000
@@ -71,14 +71,11 @@ class View(Walk):
 
     def over_call(self, targets):
         """Behind the call that an instruction of Piton is; elsewhere one step."""
-        if self.level == "piton":
-            here = self.instruction()
-            rows = self.run.code.programs[here.program] if here else []
-            if here and here.text.startswith(("(call ", "(pop-call")) and here.number + 1 < len(rows):
-                deep = f" frames {self.moment.shown[0].split()[-1]}"
-                behind = Target("piton", f"{here.program} {here.number + 1}", lambda shown: shown[0].endswith(deep))
-                return stepped(self.go([behind, *targets]), behind)
-        return self.step()
+        here = self.instruction() if self.level == "piton" else None
+        if here is None or not here.text.startswith(("(call ", "(pop-call")):
+            return self.step()
+        behind = Target("piton", f"{DEPTH}{self.moment.shown[0].split()[-1]}")
+        return stepped(self.go([behind, *targets]), behind)
 
     def out_of_program(self, targets):
         """Out of a program at a lower level: to the address that its frame has, which is whole where an instruction of Piton begins."""
@@ -90,8 +87,3 @@ class View(Walk):
         stop = stepped(self.go([behind, *targets]), behind)
         self.look_at(level)
         return stop
-
-
-def stepped(stop, target):
-    """A stop, which was a step if it is at its own target."""
-    return stop._replace(reason="step", target=None) if stop.target is target else stop
