@@ -99,6 +99,15 @@ def of_infix(program):
                 yield f"after {command}: {shown} is shown, and {printed[:2]} is printed"
         if lines != [4, 5, 3, 4, 3, 5, 5]:
             yield f"the lines are {lines}"
+    with tempfile.NamedTemporaryFile("w", suffix=".mini") as source:
+        source.write("int x;\n")
+        source.flush()
+        with Debugged(program, program=source.name, values={"x": "4"}, control=200, temporary=200) as editor:
+            editor.ask("configurationDone")
+            editor.stop()
+            seen = editor.stack()[0]["line"], editor.variables(100), editor.go("stepIn"), editor.variables(100)
+            if seen != (1, {"x": "4"}, "goto", {"x": "4"}):
+                yield f"of a program without statements {seen} is shown"
 
 
 def of_stops(program):
