@@ -3,10 +3,10 @@ level by the reader's browser.
 
     python3 guide/live.py OUT.html
 
-The program is proved and built by then (./stack prove), which leaves the libraries that this needs, and the object where the kit has it. The kit builds cli_stack once more, with a tool folder whose `clang` keeps the module
-that it is given and hands it on; the object that comes of it must be, byte for byte, the one that the built program was linked of. So the page's program
-is made of the module of the proved program, for another machine: a memory of 64 bits as the first one's, and live/shim.c for the few calls of the
-system. A browser needs WebAssembly with such memories: Chromium and Firefox have it.
+The program is proved and built by then (./stack prove), which leaves the libraries that this needs. The kit builds cli_stack once more, with a tool folder
+whose `clang` keeps the module that it is given and hands it on; what is linked of the object must be the built program, byte for byte. So the page's
+program is made of the module of the proved program, for another machine: a memory of 64 bits as the first one's, and live/shim.c for the few calls of
+the system. A browser needs WebAssembly with such memories: Chromium and Firefox have it.
 """
 import argparse
 import hashlib
@@ -40,8 +40,8 @@ HOST = ["read", "write", "close", "rattle_arg"]
 # The last lines whose sentences the editor shows, beside the rules.
 ENDS = (5, 12)
 CHECKED = """The program in this page is made of the module of the proved one: the kit built <code>cli_stack</code> once more, said <code>logic=proved</code>, \
-and for the computer it made of that module, byte for byte, the object of which the proved program was linked (SHA-256 <code>{digest}</code>). The same \
-module was compiled for WebAssembly."""
+and for the computer it made of that module, byte for byte, the proved program (SHA-256 <code>{digest}</code>). The same module was compiled for \
+WebAssembly."""
 UNCHECKED = "The program in this page was handed in as it is, for a trial: <strong>nothing is known of it</strong>."
 BELIEF = """{origin} Trusted beyond what the README of the repository lists under <em>What is trusted</em>: LLVM’s back end for WebAssembly, on a module that \
 was made for another machine; the {shim} lines of C and {host} of JavaScript that stand for the system’s memory, files and words; and the browser. Not proved \
@@ -76,16 +76,22 @@ def keeping_tools(kit, room, kept):
     return tools
 
 
+def linked(kit, room, made):
+    """The program that the kit links of an object, as it does in its gate."""
+    words = ["--target", "x86_64-unknown-linux-gnu", "--toolchain", kit / "toolchain", "-o", room / "program", made]
+    subprocess.run([kit / "bin/rattle-link", *words, kit / "c/libos_c.a", kit / "c/liblibc_c.a"], check=True, stdout=subprocess.DEVNULL)
+    return (room / "program").read_bytes()
+
+
 def keep_module(kit, room):
-    """The module of the whole program, as the kit hands it to its compiler, and what the proved program's object is known by."""
+    """The module of the whole program, as the kit hands it to its compiler, and what the proved program is known by."""
     kept, built, log = room / "module.bc", room / "program.o", room / "build.log"
     ours = rows_of_crates()
     rlib = {name: TOP / f"crates/{name}/out/rlib/{name}.rlib" for name in ours}
     missing = [name for name in ours["cli_stack"] if name in rlib and not rlib[name].exists()]
-    if missing:
-        raise Failed(f"the library of {missing[0]} isn't there: remove {PROGRAM / 'out/cli_stack'}, and ./stack prove leaves it")
-    if not (PROGRAM / "out/cli_stack.o").exists():
-        raise Failed(f"{PROGRAM / 'out/cli_stack.o'} isn't there: the kit leaves it where it builds the program, and not where it takes a proof that it kept")
+    if missing or not (PROGRAM / "out/cli_stack").exists():
+        what = f"the library of {missing[0]}" if missing else "the program"
+        raise Failed(f"{what} isn't there: remove {PROGRAM / 'out/cli_stack'}, and ./stack prove leaves it")
     words = ["--crate-name", "cli_stack", "src/main.rt", "--extern", f"std={kit}/rlibs/std.rlib", "-L", f"dependency={kit}/rlibs"]
     for name in ours["cli_stack"]:
         words += ["--extern", f"{name}={rlib.get(name, kit / f'rlibs/{name}.rlib')}"]
@@ -100,9 +106,10 @@ def keep_module(kit, room):
         status = subprocess.run([kit / "bin/rattle", "build", *map(str, words)], cwd=PROGRAM, stdout=said, stderr=said, check=False).returncode
     if status or not re.search(r"^logic=proved ", log.read_text(), re.M):
         raise Failed(f"the kit doesn't build cli_stack:\n{log.read_text()[-2000:]}")
-    if built.read_bytes() != (PROGRAM / "out/cli_stack.o").read_bytes():
-        raise Failed("the kit makes another object of cli_stack than it made before")
-    return kept, hashlib.sha256(built.read_bytes()).hexdigest()
+    program = linked(kit, room, built)
+    if program != (PROGRAM / "out/cli_stack").read_bytes():
+        raise Failed("the kit makes another program of cli_stack than it made before")
+    return kept, hashlib.sha256(program).hexdigest()
 
 
 def compile_module(kit, room, module, level):

@@ -398,11 +398,11 @@ ENDINGS = [
 NAMED = {"a name": "x", "a number": "3"}
 
 # Files for the next words. The assembly text stores behind its last label, and changes a word of its own code.
-ENDLESS = "(program main (proc main () () () () (loop (no-op))))"
+ROUNDS = "(program main (proc main () () () () (loop (no-op))))"
 HEAD = ".base 0\n.size 16\n.final end\n.start begin\nbegin: MOVE r1,(r15)+\n"
 LEFT = f"{HEAD}.word last\nMOVE (r1)+,#7\nMOVE r2,#0\nADD (r1)+,#0\nMOVE (r1),#-3\nMOVE (r2),#9\nend: DEC r15,r15\nkept: .word 5\nlast:\n"
 TRIED = {
-    "wrong.gypsy": "(())", "wrong.mini": "int x; x < 3;", "endless.gypsy": ENDLESS, "wrong.asm": "x: MOVE\n", "wrong.piton": "; no system\n(piton)",
+    "wrong.gypsy": "(())", "wrong.mini": "int x; x < 3;", "endless.gypsy": ROUNDS, "wrong.asm": "x: MOVE\n", "wrong.piton": "; no system\n(piton)",
     "left.asm": f"; an assembly text\n{LEFT}", "outside.asm": f"{HEAD}.word 500\nMOVE (r1),#3\nend: DEC r15,r15\n",
 }
 AREAS = "halted 2\ncounted 6\na (nat 1) (int -2)\nb (addr a 1) (subr main)\nstack (bool f) (nat 1)\n"

@@ -402,6 +402,9 @@ class Rows:
         (made / "cli_stack").chmod(0o755)
         ended = self.run(folder, [self.played, "check", "S"], shutil.which("bash"), more={"PATH": "/nowhere"})
         self.note("surroundings", ended[0] == 70 and ended[1] == b"", "a PATH without commands", ended)
+        for name in "find", "cd", "sort", "sha256sum":
+            ended = self.run(folder, ["check", "S"], explains="0", more={f"BASH_FUNC_{name}%%": "() { echo another; }"})
+            self.note("surroundings", ended == (0, b"ok\n", b""), ("a function", name), ended)
         for count, status, printed, told in (5, 70, b"", b"fewer than 8 descriptors"), (7, 70, b"", b"fewer than 8 descriptors"), (11, 0, b"ok\n", b""):
             for explains in "01":
                 few = lambda: resource.setrlimit(resource.RLIMIT_NOFILE, (count, count))  # noqa: B023, E731
