@@ -360,7 +360,7 @@ def needs_of(path):
         ran = subprocess.run([TOP / "stack", "need", path, Path(room) / "cert"], stdout=subprocess.PIPE, text=True, check=False)
     found = re.fullmatch(r"control (\d+)\ntemporary (\d+)\n", ran.stdout)
     if not found and not ran.stdout.startswith("recursive "):
-        sys.exit(f"{ran.stdout.strip()}: nothing was written")
+        sys.exit(f"{ran.stdout.strip() or f'./stack need ended with status {ran.returncode}'}: nothing was written")
     return found.groups() if found else None
 
 
@@ -388,6 +388,7 @@ def main():
     crates = TOP / "crates.txt"
     crates.write_text("\n".join(with_line(crates.read_text().split("\n"), chosen.name)))
     print(f"written crates.txt: the line of {chosen.name}")
+    print(f"next: python3 tools/quick_check.py {chosen.name} --allow-holes says what each ? must be")
 
 
 if __name__ == "__main__":
