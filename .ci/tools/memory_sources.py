@@ -332,10 +332,10 @@ MISTAKES = [
     Mistake("crates/fm_image/src/writing.rt", "    let name = name.bytes();", "    Err(AllocFailed { value: 1 })?;", "AllocFailed"),
     Mistake("crates/fm_image/src/writing.rt", "extend_from_slice(bytes, name)?", "extend_from_slice(bytes, name).map_err(|_| Memory)?", "Memory"),
     # A table that makes no room, and says that memory ran out.
-    Mistake("crates/name_tables/src/kept.rt", "        self.set.reserve(more)", "        Err(AllocError)", "AllocError"),
+    Mistake("crates/name_tables/src/kept.rt", "        self.map.reserve(more)", "        Err(AllocError)", "AllocError"),
     # One that asks for what no machine has, and a table and a heap of one's own.
-    Mistake("crates/name_tables/src/kept.rt", "        self.set.reserve(more)", "        self.set.reserve(usize::MAX)", "self.set"),
-    Mistake("crates/name_tables/src/kept.rt", "        self.set.reserve(more)", "        self.set.reserve(1)?; self.set.reserve(more)", "self.set"),
+    Mistake("crates/name_tables/src/kept.rt", "        self.map.reserve(more)", "        self.map.reserve(usize::MAX)", "self.map"),
+    Mistake("crates/name_tables/src/kept.rt", "        self.map.reserve(more)", "        self.map.reserve(1)?; self.map.reserve(more)", "self.map"),
     Mistake("crates/stack_text/src/reader.rt", "/// Puts a tree", "impl<'a> HasRoom for OpenList<'a> {}\n/// Puts a tree", "impl<'a>"),
     Mistake("crates/stack_text/src/reader.rt", "/// Puts a tree", "impl<'a> stack_heap::Heap for OpenList<'a> {}\n/// Puts a tree", "impl<'a>"),
     # A heap that is filled first, after which another error is made than that by which it refused.

@@ -1,46 +1,33 @@
--- A list of borrowed names: what is found, and what is entered.
-use Rattle.std.proofs.Common.{◌≡◌, Bor, ℕ, zero, suc, ◌+◌, ◌<◌, List, [], ◌∷◌, ◌++◌, map, length, get_or, take, Bool, true, false, cond, not, ◌||◌, bytes_eq}
-use Rattle.std.{proofs.Common.{refl, sym, ap, ◌∙◌, arith}, specs.List.{list_any, position, IsDistinct}, proofs.lemmas.List.{map_push, length-map, take_more}}
-use Rattle.std.proofs.lemmas.List.{take-map}
+-- A list of names: what is found, and what is entered.
+use Rattle.std.proofs.Common.{◌≡◌, ℕ, zero, suc, ◌+◌, ◌<◌, List, [], ◌∷◌, ◌++◌, map, length, get_or, take, Bool, true, false, cond, is_some, bytes_eq, refl}
+use Rattle.std.{proofs.Common.{sym, ap, ◌∙◌, arith}, specs.List.{position, IsDistinct}, specs.Map.keys_of, proofs.lemmas.List.{map_push, length-map, take_more}}
+use Rattle.std.{proofs.lemmas.List.take-map, proofs.lemmas.Map.Made.is_some-lookup}
 use Rattle.stack_text.{specs.Names.{is_among, place_among}, proofs.SharedLaws.{no_earlier, place_among-map}}
-use Rattle.name_tables.specs.Lists.{with_name}
+use Rattle.name_tables.{specs.Entries.{Entries, look_up, entries_now, with_entry}, specs.Lists.with_name, specs.declared.name_key.NameKey.NameKey}
 
-abbrev Keys : Type 0
-Keys = List (Bor (List ℕ))
+-- a name is listed exactly if it has an entry
+pub listed : {V : Type 0} (entries : Entries V) (name : List ℕ) → is_some (look_up entries name) ≡ is_among name (keys_of entries)
+listed entries name = is_some-lookup (bytes_eq name) entries
 
-abbrev pub names_now : Keys → List (List ℕ)
-names_now keys = map (λ key. key.now) keys
+-- the names of borrowed keys
+keys_now : {V : Type 0} (es : List (NameKey × V)) → map (λ key. key.bytes.now) (keys_of es) ≡ keys_of (entries_now es)
+keys_now [] = refl
+keys_now (e ∷ es) = ap (λ (names : List (List ℕ)). e.0.bytes.now ∷ names) (keys_now es)
 
--- a name is found through its borrow
-pub listed_now : (name : List ℕ) (keys : Keys) → list_any (λ key. bytes_eq name key.now) keys ≡ is_among name (names_now keys)
-listed_now name [] = refl
-listed_now name (key ∷ keys) = ap (λ (b : Bool). bytes_eq name key.now || b) (listed_now name keys)
+-- a name is found at its place
+pub place_now : {V : Type 0} (name : List ℕ) (es : List (NameKey × V))
+    → position (λ key. bytes_eq name key.bytes.now) (keys_of es) ≡ place_among name (keys_of (entries_now es))
+place_now name es = place_among-map name (λ (key : NameKey). key.bytes.now) (keys_of es) ∙ ap (place_among name) (keys_now es)
 
--- at its place
-pub place_now : (name : List ℕ) (keys : Keys) → position (λ key. bytes_eq name key.now) keys ≡ place_among name (names_now keys)
-place_now name = place_among-map name (λ (key : Bor (List ℕ)). key.now)
-
--- whether it is new, where making room left the names
-pub is_new : (keys room : Keys) (old : List (List ℕ)) (key : Bor (List ℕ)) (b : Bool) → b ≡ not (list_any (λ other. bytes_eq key.now other.now) room)
-    → room ≡ keys → names_now keys ≡ old → b ≡ not (is_among key.now old)
-is_new keys room old key b is same view =
-    is ∙ ap (λ (ks : Keys). not (list_any (λ other. bytes_eq key.now other.now) ks)) same
-    ∙ ap not (listed_now key.now keys) ∙ ap (λ (names : List (List ℕ)). not (is_among key.now names)) view
-
--- a borrowed name is entered
-pub with_now : (keys room new : Keys) (old : List (List ℕ)) (key : Bor (List ℕ))
-    → new ≡ cond (list_any (λ other. bytes_eq key.now other.now) room) room (room ++ key ∷ [])
-    → room ≡ keys → names_now keys ≡ old → names_now new ≡ with_name old key.now
-with_now keys room new old key is same view =
-    ap (λ (ks : Keys). names_now ks) is
-    ∙ ap (λ (ks : Keys). names_now (cond (list_any (λ other. bytes_eq key.now other.now) ks) ks (ks ++ key ∷ []))) same
-    ∙ by_test (list_any (λ other. bytes_eq key.now other.now) keys)
-    ∙ ap (λ (b : Bool). cond b (names_now keys) (names_now keys ++ key.now ∷ [])) (listed_now key.now keys)
-    ∙ ap (λ (names : List (List ℕ)). with_name names key.now) view
+-- the names after one was entered
+pub with_now : {V : Type 0} (old new : Entries V) (name : List ℕ) (v : V) → new ≡ with_entry old name v → keys_of new ≡ with_name (keys_of old) name
+with_now {V} old new name v is =
+    ap (λ (entries : Entries V). keys_of entries) is ∙ by_test (is_some (look_up old name))
+    ∙ ap (λ (b : Bool). cond b (keys_of old) (keys_of old ++ name ∷ [])) (listed old name)
   where
-    by_test : (b : Bool) → names_now (cond b keys (keys ++ key ∷ [])) ≡ cond b (names_now keys) (names_now keys ++ key.now ∷ [])
+    by_test : (b : Bool) → keys_of (cond b old (old ++ (name, v) ∷ [])) ≡ cond b (keys_of old) (keys_of old ++ name ∷ [])
     by_test true = refl
-    by_test false = map_push (λ (k : Bor (List ℕ)). k.now) keys key
+    by_test false = map_push (λ (e : List ℕ × V). e.0) old (name, v)
 
 -- ---- the names of items that differ
 

@@ -2,6 +2,7 @@
 #![tactic(auto)]
 
 mod kept;
+mod name_key;
 mod name_keys;
 mod name_list;
 mod name_table;

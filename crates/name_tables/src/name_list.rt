@@ -5,9 +5,10 @@ ghost use Rattle.stack_heap.specs.Heaps.{IfOkUnless};
 ghost use Rattle.stack_text.specs.Names.{is_among, place_among};
 ghost use Rattle.name_tables.specs.Lists.{with_name};
 
-use crate::kept::KeptNames;
+use crate::kept::KeptValues;
+use crate::name_key::NameKey;
 use crate::name_keys::NameKeys;
-use indexmap::IndexSet;
+use indexmap::IndexMap;
 use stack_heap::Heap;
 use stack_text::Memory;
 use std::alloc::Global;
@@ -18,15 +19,16 @@ use std::marker::Model;
 /// A name is found, and entered, in time proportional to its length. Contracts see the names.
 #[derive(Drop)]
 pub struct NameList<'a> {
-    names: KeptNames<'a>,
+    names: KeptValues<'a, ()>,
 }
 
 impl<'a> Model for NameList<'a> {
-    ghost use Rattle.std.specs.Prelude.{ℕ, List, map};
+    ghost use Rattle.std.specs.{Prelude.{ℕ, List}, Map.{keys_of}};
+    ghost use Rattle.name_tables.specs.Entries.{entries_now};
 
     ghost Value = { List (List ℕ) };
 
-    ghost view = { λ l. map (λ name. name.now) l.names.set.keys };
+    ghost view = { λ l. keys_of (entries_now l.names.map.entries) };
 }
 
 impl<'a> NameList<'a> {
@@ -35,8 +37,8 @@ impl<'a> NameList<'a> {
         ensures { result ≡ [] }
     {
         NameList {
-            names: KeptNames {
-                set: IndexSet::with_hasher(alloc, NameKeys::new()),
+            names: KeptValues {
+                map: IndexMap::with_hasher(alloc, NameKeys::new()),
             },
         }
     }
@@ -45,21 +47,21 @@ impl<'a> NameList<'a> {
     pub fn len(&self) -> usize
         ensures { result ≡ length self.now }
     {
-        self.names.set.len()
+        self.names.map.len()
     }
 
     /// The place of a name, from 0, or `None` for a name that wasn't entered.
     pub fn place(&self, name: &[u8]) -> Option<usize>
         ensures { result ≡ place_among name.now self.now }
     {
-        self.names.set.get_index_of(name)
+        self.names.map.get_index_of(NameKey { bytes: name })
     }
 
     /// Whether a name was entered.
     pub fn contains(&self, name: &[u8]) -> bool
         ensures { result ≡ is_among name.now self.now }
     {
-        self.names.set.contains(name)
+        self.names.map.contains_key(NameKey { bytes: name })
     }
 
     /// Enters a name behind the others, unless it is there; says whether it is new.
@@ -72,13 +74,7 @@ impl<'a> NameList<'a> {
         ensures names { OnOk result (self.new ≡ with_name self.old name.now) }
         ensures stays { OnErr result (self.new ≡ self.old) }
     {
-        if self.contains(name) {
-            return Ok(false);
-        }
-        heap.room_in(&mut self.names, 1)?;
-        match self.names.set.insert(name) {
-            Ok(is_new) => Ok(is_new),
-            Err(_) => unreachable!(),
-        }
+        let is_known = self.names.enter(heap, name, ())?;
+        Ok(!is_known)
     }
 }

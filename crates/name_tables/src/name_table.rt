@@ -3,15 +3,32 @@
 ghost use Rattle.std.specs.{Prelude.{◌≡◌, ℕ, List, [], OnOk, OnErr, is_some}, Str.{bytes_eq}};
 ghost use Rattle.stack_heap.specs.Heaps.{IfOkUnless, IsSmallItem};
 ghost use Rattle.stack_text.specs.Options.{first_or};
-ghost use Rattle.name_tables.specs.Entries.{look_up};
+ghost use Rattle.name_tables.specs.Entries.{entries_now, look_up};
 
 use crate::kept::KeptValues;
+use crate::name_key::NameKey;
 use crate::name_keys::NameKeys;
 use indexmap::IndexMap;
 use stack_heap::Heap;
 use stack_text::Memory;
 use std::alloc::Global;
 use std::marker::Model;
+
+/// Among so few names one is sought one by one, which takes less than its hash.
+const FEW: usize = 8;
+
+/// The value of a name's first entry, which is sought one by one.
+fn first_of<'a, V: Copy>(values: &KeptValues<'a, V>, name: &[u8]) -> Option<V>
+    ensures { result ≡ look_up (entries_now values.now.map.entries) name.now }
+{
+    for entry in values.map.iter() {
+        let (key, value) = entry;
+        if name == key.bytes {
+            return Some(*value);
+        }
+    }
+    None
+}
 
 /// The value with which each name was entered first.
 ///
@@ -54,7 +71,10 @@ impl<'a, V: Copy> NameTable<'a, V> {
     pub fn get(&self, name: &[u8]) -> Option<V>
         ensures { result ≡ look_up self.now name.now }
     {
-        self.values.map.get(name).copied()
+        if self.values.map.len() > FEW {
+            return self.values.map.get(NameKey { bytes: name }).copied();
+        }
+        first_of(&self.values, name)
     }
 
     /// Enters a name with its value, unless the name has one; says whether it had.
@@ -70,13 +90,6 @@ impl<'a, V: Copy> NameTable<'a, V> {
             look_up self.new other ≡ first_or (look_up self.old other) (bytes_eq other name.now) value) }
         ensures stays { OnErr result (self.new ≡ self.old) }
     {
-        if self.values.map.contains_key(name) {
-            return Ok(true);
-        }
-        heap.room_in(&mut self.values, 1)?;
-        match self.values.map.insert(name, value) {
-            Ok(_) => Ok(false),
-            Err(_) => unreachable!(),
-        }
+        self.values.enter(heap, name, value)
     }
 }

@@ -1,12 +1,14 @@
-use Rattle.name_tables.proofs.ListLaws.{is_new, with_now}
+use Rattle.std.{proofs.Common.{not, ap, ◌∙◌}, specs.Prelude.{List, ℕ}}
+use Rattle.stack_text.specs.Names.{is_among}
+use Rattle.name_tables.{specs.Entries.entries_now, specs.Lists.with_name, proofs.ListLaws.{listed, with_now}}
 use Rattle.name_tables.proofs.name_list.NameList.enter.Goals as goal
 
 pub returns-clause-new : goal.returns-clause-new
 returns-clause-new g c =
-    is_new c.self.inside.names.set.keys c.room_in.new.table.set.keys c.args.self.now c.args.name c.in-Ok.is_new c.in-Ok.ensures.added
-    c.in_ok-room_in.ensures.stays c.self.view_is
+    ap not (c.in_ok-is_known.ensures.known ∙ listed (entries_now c.self.inside.names.map.entries) c.args.name.now
+    ∙ ap (is_among c.args.name.now) c.self.view_is)
 
 pub returns-clause-names : goal.returns-clause-names
 returns-clause-names g c =
-    with_now c.self.inside.names.set.keys c.room_in.new.table.set.keys c.insert.new.self.keys c.args.self.now c.args.name c.in-Ok.ensures.keys
-    c.in_ok-room_in.ensures.stays c.self.view_is
+    with_now (entries_now c.self.inside.names.map.entries) (entries_now c.enter.new.self.map.entries) c.args.name.now _ c.in_ok-is_known.ensures.entered
+    ∙ ap (λ (names : List (List ℕ)). with_name names c.args.name.now) c.self.view_is
