@@ -1,10 +1,10 @@
 -- Words of a line, one after the other.
 use Rattle.std.proofs.Common.{◌≡◌, Bor, ◌+◌, ◌-◌, ◌<◌, ◌≤◌, ◌==◌, ℕ, suc, List, [], ◌∷◌, ◌++◌, length, take, drop, map, Bool, true, false, cond, Option, Some}
 use Rattle.std.{proofs.Common.{None, refl, sym, ap, subst, ◌∙◌, append-nil, append_assoc, arith}, specs.Prelude.{IfSome, MatchOption, codes}}
-use Rattle.std.{specs.List.{position, position_or_len}, specs.Str.bytes_eq, specs.Option.option_copied, proofs.lemmas.Bool.ltb-false}
-use Rattle.std.{proofs.lemmas.List.{length-drop, map-append, take_all}, proofs.lemmas.List.Quantifiers.position-Some}
+use Rattle.std.{specs.List.{onto_first, position, position_or_len, slice_split}, specs.Str.bytes_eq, specs.Option.option_copied, proofs.lemmas.Bool.ltb-false}
+use Rattle.std.{proofs.lemmas.List.{drop-drop, length-drop, map-append, take_all, take_rest}, proofs.lemmas.List.Quantifiers.position-Some}
 use Rattle.std.{proofs.lemmas.List.Splits.{slice_split_none, slice_split_first}, proofs.lemmas.List.Sums.{position_or_len_is, fails_before_first}}
-use Rattle.debug_script.specs.Commands.{depth_behind, words_left, words_of}
+use Rattle.debug_script.specs.Commands.{SplitsAtOr, depth_behind, is_or, words_left, words_of}
 
 abbrev is_space : ℕ → Bool
 is_space byte = byte == 32
@@ -76,3 +76,62 @@ all_words words left all none so_far =
     sym (append-nil (map (λ (w : Bor (List ℕ)). w.now) words))
     ∙ ap (λ (l : Option (Bor (List ℕ))). map (λ (w : Bor (List ℕ)). w.now) words ++ words_left (option_copied l)) (sym none)
     ∙ so_far
+
+-- ---- words between which `or` stands
+
+abbrev pub words_seen : List (Bor (List ℕ)) → List (List ℕ)
+words_seen words = map (λ word. word.now) words
+
+abbrev or_in : Bor (List ℕ) → Bool
+or_in word = is_or word.now
+
+-- parts of words, as they are seen
+split_seen : (words : List (Bor (List ℕ))) → slice_split is_or (words_seen words) ≡ map words_seen (slice_split or_in words)
+split_seen [] = refl
+split_seen (word ∷ words) = by_test (or_in word) (slice_split or_in words) (slice_split is_or (words_seen words)) (split_seen words)
+  where
+    by_test : (b : Bool) (parts : List (List (Bor (List ℕ)))) (seen : List (List (List ℕ))) → seen ≡ map words_seen parts
+        → cond b ([] ∷ seen) (onto_first word.now seen) ≡ map words_seen (cond b ([] ∷ parts) (onto_first word parts))
+    by_test true parts seen e = ap (λ (s : List (List (List ℕ))). [] ∷ s) e
+    by_test false [] seen e = ap (onto_first word.now) e
+    by_test false (part ∷ parts) seen e = ap (onto_first word.now) e
+
+split_at : (d : Bor (List ℕ)) (words : List (Bor (List ℕ))) (at : ℕ) → Some at ≡ position or_in words
+    → SplitsAtOr (words_seen words) (Some (words_seen (take at words), words_seen (drop (at + 1) words)))
+split_at d words at found =
+    let there = position-Some or_in words at d (sym found) in
+    let inside : at < length words = there.0 in
+    let place : position_or_len or_in words ≡ at = position_or_len_is or_in words at d (omega arith) there.2 (λ _. there.1) in
+    split_seen words
+    ∙ ap (map words_seen) (slice_split_first or_in words d (omega arith))
+    ∙ ap (λ n. words_seen (take n words) ∷ map words_seen (slice_split or_in (drop (n + 1) words))) place
+    ∙ ap (λ (parts : List (List (List ℕ))). words_seen (take at words) ∷ parts) (sym (split_seen (drop (at + 1) words)))
+
+split_somewhere : (words : List (Bor (List ℕ))) (at : ℕ) → Some at ≡ position or_in words
+    → SplitsAtOr (words_seen words) (Some (words_seen (take at words), words_seen (drop (at + 1) words)))
+split_somewhere [] at found = absurd cc
+split_somewhere (word ∷ words) at found = split_at word (word ∷ words) at found
+
+no_split : (words : List (Bor (List ℕ))) → None ≡ position or_in words → SplitsAtOr (words_seen words) None
+no_split words none =
+    let past : length words ≤ position_or_len or_in words = ltb-false (position_or_len or_in words) (length words) (none_past _ _ none) in
+    split_seen words
+    ∙ ap (map words_seen) (slice_split_none or_in words (λ k d lt. fails_before_first or_in words k d (omega arith)))
+
+-- of the words from a place on, which are seen as a slice
+abbrev rest_from : ℕ → List (Bor (List ℕ)) → List (Bor (List ℕ))
+rest_from start words = take (length words - start) (drop start words)
+
+pub split_found : (words : List (Bor (List ℕ))) (start at : ℕ) → Some at ≡ position or_in (rest_from start words)
+    → SplitsAtOr (words_seen (drop start words)) (Some (words_seen (take (start + at - start) (drop start words)), words_seen (drop (start + at + 1) words)))
+split_found words start at found =
+    let left : List (Bor (List ℕ)) = drop start words in
+    let far : drop (at + 1) left ≡ drop (start + at + 1) words = drop-drop (at + 1) start words ∙ ap (λ n. drop n words) (omega arith) in
+    let near : at ≡ start + at - start = omega arith in
+    split_somewhere left at (found ∙ ap (position or_in) (take_rest words start))
+    ∙ ap (λ n. words_seen (take n left) ∷ slice_split is_or (words_seen (drop (at + 1) left))) near
+    ∙ ap (λ (rest : List (Bor (List ℕ))). words_seen (take (start + at - start) left) ∷ slice_split is_or (words_seen rest)) far
+
+pub split_none : (words : List (Bor (List ℕ))) (start : ℕ) → None ≡ position or_in (rest_from start words)
+    → SplitsAtOr (words_seen (drop start words)) None
+split_none words start none = no_split (drop start words) (none ∙ ap (position or_in) (take_rest words start))

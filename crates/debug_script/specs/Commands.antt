@@ -1,6 +1,6 @@
 -- Commands, by their words.
-use Rattle.std.specs.Prelude.{ℕ, ℤ, pos, negsuc, ◌^◌, ◌-◌, ◌==◌, List, [], ◌∷◌, take, drop, Option, Some, None, Result, Ok, Err, nat_le}
-use Rattle.std.specs.{Prelude.{codes, if◌then◌else◌}, List.{slice_split}, Str.{bytes_eq}}
+use Rattle.std.specs.Prelude.{ℕ, ℤ, pos, negsuc, ◌^◌, ◌-◌, ◌==◌, Bool, List, [], ◌∷◌, ◌++◌, take, drop, Option, Some, None, Result, Ok, Err}
+use Rattle.std.specs.{Prelude.{◌≡◌, length, nat_le, nat_lt, codes, if◌then◌else◌}, List.{slice_split}, Str.{bytes_eq}}
 use Rattle.stack_text.specs.{SharedLimits.{most_steps}, Names.{name_of}, Numerals.{is_digits, numeral_value}, Results.{◌>>=◌}}
 use Rattle.stack_text.specs.Gives as common
 use Rattle.debug_script.specs.{declared.fault.LineFault.{LineFault}, declared.command.Place.{Place}, declared.fault.ScriptRule.{ScriptRule}}
@@ -92,6 +92,49 @@ abbrev pub until_instruction : List ℕ → List ℕ → List ℕ → Result Com
 until_instruction program number limit =
     place_of program number >>= λ there. count_of limit >>= λ most. Ok (command.Until there most)
 
+abbrev pub until_one : List (List ℕ) → Result Command ScriptRule
+until_one (word ∷ limit ∷ []) = until_word word limit
+until_one (program ∷ number ∷ limit ∷ []) = until_instruction program number limit
+until_one words = Err rules.WordCount
+
+-- the words of several places stand between words `or`
+abbrev pub is_or : List ℕ → Bool
+is_or word = bytes_eq word (codes "or")
+
+-- how words are split at the first `or`, if there is one
+abbrev pub SplitsAtOr : List (List ℕ) → Option (List (List ℕ) × List (List ℕ)) → Type 0
+SplitsAtOr words None = slice_split is_or words ≡ words ∷ []
+SplitsAtOr words (Some parts) = slice_split is_or words ≡ parts.0 ∷ slice_split is_or parts.1
+
+-- a place by its words
+abbrev pub place_from : List (List ℕ) → Result Place ScriptRule
+place_from (word ∷ []) = place_in word
+place_from (program ∷ number ∷ []) = place_of program number
+place_from words = Err rules.WordCount
+
+-- the last place has the number of steps behind it
+abbrev pub last_instruction : List ℕ → List ℕ → List ℕ → Result (Place × ℕ) ScriptRule
+last_instruction program number limit =
+    place_of program number >>= λ there. count_of limit >>= λ most. Ok (there, most)
+
+abbrev pub last_place : List (List ℕ) → Result (Place × ℕ) ScriptRule
+last_place (word ∷ limit ∷ []) = place_in word >>= λ there. count_of limit >>= λ most. Ok (there, most)
+last_place (program ∷ number ∷ limit ∷ []) = last_instruction program number limit
+last_place words = Err rules.WordCount
+
+-- the places of these parts behind some that were read
+unfoldable pub until_parts : List Place → List (List (List ℕ)) → Result Command ScriptRule
+until_parts places [] = Err rules.WordCount
+until_parts places (last ∷ []) = last_place last >>= λ found. Ok (command.UntilAny (places ++ found.0 ∷ []) found.1)
+until_parts places (part ∷ next ∷ parts) = place_from part >>= λ there. until_parts (places ++ there ∷ []) (next ∷ parts)
+
+abbrev pub until_any : List (List ℕ) → Result Command ScriptRule
+until_any words = until_parts [] (slice_split is_or words)
+
+-- one place, of at most two words, or several
+abbrev pub until_command : List (List ℕ) → Result Command ScriptRule
+until_command words = if nat_lt 3 (length words) then until_any words else until_one words
+
 -- the command of a verb and the words behind it, or the rule that they break
 abbrev pub command_by : Verb → List (List ℕ) → Result Command ScriptRule
 command_by verb.Step (count ∷ []) = count_of count >>= λ n. Ok (command.Step n)
@@ -101,8 +144,7 @@ command_by verb.Attach (watch ∷ []) = watch_of watch >>= λ w. Ok (command.Att
 command_by verb.Detach (watch ∷ []) = watch_of watch >>= λ w. Ok (command.Detach w)
 command_by verb.Tally (watch ∷ []) = watch_of watch >>= λ w. Ok (command.Tally w)
 command_by verb.Words (address ∷ count ∷ []) = words_command address count
-command_by verb.Until (word ∷ limit ∷ []) = until_word word limit
-command_by verb.Until (program ∷ number ∷ limit ∷ []) = until_instruction program number limit
+command_by verb.Until words = until_command words
 command_by verb words = Err rules.WordCount
 
 abbrev pub command_with : Option Verb → List (List ℕ) → Result Command ScriptRule
@@ -121,6 +163,9 @@ rule_of fault.Memory = None
 -- exactly what the definition gives, unless memory was refused
 abbrev pub GivesCommandUnless : Type 0 → Result Command LineFault → Result Command ScriptRule → Type 0
 GivesCommandUnless refused result value = common.GivesUnless refused rule_of (λ (c : Command). c) result value
+
+abbrev pub GivesLastUnless : Type 0 → Result (Place × ℕ) LineFault → Result (Place × ℕ) ScriptRule → Type 0
+GivesLastUnless refused result value = common.GivesUnless refused rule_of (λ (p : Place × ℕ). p) result value
 
 abbrev pub GivesPlaceUnless : Type 0 → Result Place LineFault → Result Place ScriptRule → Type 0
 GivesPlaceUnless refused result value = common.GivesUnless refused rule_of (λ (p : Place). p) result value

@@ -1,13 +1,15 @@
 //! Commands.
 
-ghost use Rattle.std.specs.{Prelude.{◌≡◌, ◌∷◌, map}, Option.{option_copied}};
+ghost use Rattle.std.specs.{Prelude.{◌≡◌, ◌∷◌, ◌<◌, ◌≤◌, IfSome, drop, length, map}, List.{position}, Option.{option_copied, option_map}};
 ghost use Rattle.debug_script.specs.Commands.{GivesCommandUnless, GivesPlaceUnless, command_by, command_of, count_of, depth_behind, number_of, place_in};
-ghost use Rattle.debug_script.specs.Commands.{place_of, until_instruction, until_word, verb_of, watch_of, words_command};
+ghost use Rattle.debug_script.specs.Commands.{place_of, until_instruction, until_word, verb_of, watch_of, words_command, GivesLastUnless, SplitsAtOr, is_or};
+ghost use Rattle.debug_script.specs.Commands.{last_instruction, last_place, place_from, until_any, until_command, until_one};
 ghost use Rattle.debug_script.specs.declared.command.Verb.TheVariants as verb;
 
 use crate::fault::{LineFault, ScriptRule};
 use stack_heap::Heap;
 use stack_text::{MOST_STEPS, Name, is_digits, read_name, read_numeral};
+use std::marker::Model;
 
 /// The most words of memory that a line asks for.
 const MOST_WORDS: u32 = 4_096;
@@ -36,8 +38,34 @@ pub enum Place {
     Depth { most: u32 },
 }
 
+/// Several places of a run. Contracts see them as a list.
+#[derive(Debug, Drop)]
+pub struct Places {
+    places: Vec<Place>,
+}
+
+impl Model for Places {
+    ghost use Rattle.std.specs.Prelude.{List};
+    ghost use Rattle.debug_script.specs.declared.command.Place.{Place};
+
+    ghost Value = { List Place };
+
+    ghost view = { λ p. p.places.items };
+}
+
+impl Places {
+    ghost use Rattle.std.specs.Prelude.{◌≡◌};
+
+    /// The places, in the order of the script.
+    pub fn as_slice(&self) -> &[Place]
+        ensures { result.now ≡ self.now }
+    {
+        self.places.as_slice()
+    }
+}
+
 /// A command of a script.
-#[derive(Debug, Drop, PartialEq, Eq)]
+#[derive(Debug, Drop)]
 pub enum Command {
     /// Makes at most so many steps: 0 to 2^40.
     Step { count: u64 },
@@ -55,6 +83,8 @@ pub enum Command {
     Words { address: u32, count: u32 },
     /// Goes on to where the run first stands at a place, in at most so many steps: 0 to 2^40.
     Until { place: Place, limit: u64 },
+    /// Goes on to where the run first stands at one of these places, in at most so many steps: 0 to 2^40.
+    UntilAny { places: Places, limit: u64 },
 }
 
 /// The first word of a command.
@@ -222,7 +252,103 @@ fn words_from(address: &[u8], rest: &[&[u8]]) -> Result<Command, ScriptRule>
     }
 }
 
-/// The command of `until`, by its first two words and what stands behind those.
+/// Whether a word stands between two places.
+fn is_or(word: &[u8]) -> bool
+    ensures { result ≡ is_or word.now }
+{
+    word == b"or".as_slice()
+}
+
+/// The place of the first word `or`.
+fn first_or(words: &[&[u8]]) -> Option<usize>
+    ensures place { result ≡ position (λ word. is_or word.now) words.now }
+    ensures within { IfSome result (λ place. place < length words.now) }
+{
+    words.iter().position(|word| is_or(word))
+}
+
+/// The words from a place to the next `or`, and the place behind that, if there is one.
+fn part_from<'a, 'b>(words: &'a [&'b [u8]], start: usize) -> Option<(&'a [&'b [u8]], usize)>
+    requires { start ≤ length words.now }
+    ensures parts { SplitsAtOr (map (λ word. word.now) (drop start words.now)) (option_map (λ found.
+        (map (λ word. word.now) found.0.now, map (λ word. word.now) (drop found.1 words.now))) result) }
+    ensures within { IfSome result (λ found. (start < found.1) × (found.1 ≤ length words.now)) }
+{
+    match first_or(&words[start..]) {
+        Some(end) => Some((&words[start..start + end], start + end + 1)),
+        None => None,
+    }
+}
+
+/// The place that words name.
+fn place_from<H: Heap>(heap: H, words: &[&[u8]]) -> Result<Place, LineFault>
+    ensures { GivesPlaceUnless (H.may_refuse heap) result (place_from (map (λ word. word.now) words.now)) }
+{
+    match words {
+        [word] => Ok(place_in(word)?),
+        [program, number] => place_of(heap, program, number),
+        _ => Err(LineFault::Rule(ScriptRule::WordCount)),
+    }
+}
+
+/// An instruction with the number of steps behind it.
+fn last_instruction<H: Heap>(
+    heap: H,
+    program: &[u8],
+    number: &[u8],
+    limit: &[u8],
+) -> Result<(Place, u64), LineFault>
+    ensures { GivesLastUnless (H.may_refuse heap) result (last_instruction program.now number.now limit.now) }
+{
+    Ok((place_of(heap, program, number)?, count_of(limit)?))
+}
+
+/// The same, by the first two of the words and what stands behind those.
+fn last_place_by<H: Heap>(
+    heap: H,
+    first: &[u8],
+    second: &[u8],
+    rest: &[&[u8]],
+) -> Result<(Place, u64), LineFault>
+    ensures { GivesLastUnless (H.may_refuse heap) result
+        (last_place (first.now ∷ second.now ∷ map (λ word. word.now) rest.now)) }
+{
+    match rest {
+        [] => Ok((place_in(first)?, count_of(second)?)),
+        [limit] => last_instruction(heap, first, second, limit),
+        _ => Err(LineFault::Rule(ScriptRule::WordCount)),
+    }
+}
+
+/// The place that words name, with the number of steps behind it.
+fn last_place<H: Heap>(heap: H, words: &[&[u8]]) -> Result<(Place, u64), LineFault>
+    ensures { GivesLastUnless (H.may_refuse heap) result (last_place (map (λ word. word.now) words.now)) }
+{
+    match words {
+        [first, second, rest @ ..] => last_place_by(heap, first, second, rest),
+        _ => Err(LineFault::Rule(ScriptRule::WordCount)),
+    }
+}
+
+/// The command of `until` with several places.
+fn until_any<H: Heap>(heap: H, words: &[&[u8]]) -> Result<Command, LineFault>
+    ensures { GivesCommandUnless (H.may_refuse heap) result (until_any (map (λ word. word.now) words.now)) }
+{
+    let mut places = Vec::new(heap.handle());
+    let mut start = 0;
+    while let Some((part, behind)) = part_from(words, start) {
+        heap.push(&mut places, place_from(heap, part)?)?;
+        start = behind;
+    }
+    let (place, limit) = last_place(heap, &words[start..])?;
+    heap.push(&mut places, place)?;
+    Ok(Command::UntilAny {
+        places: Places { places },
+        limit,
+    })
+}
+
+/// The command of `until` with one place, by its first two words and what stands behind those.
 fn until_both<H: Heap>(
     heap: H,
     first: &[u8],
@@ -230,7 +356,7 @@ fn until_both<H: Heap>(
     rest: &[&[u8]],
 ) -> Result<Command, LineFault>
     ensures { GivesCommandUnless (H.may_refuse heap) result
-        (command_by verb.Until (first.now ∷ second.now ∷ map (λ word. word.now) rest.now)) }
+        (until_one (first.now ∷ second.now ∷ map (λ word. word.now) rest.now)) }
 {
     match rest {
         [] => Ok(until_word(first, second)?),
@@ -239,14 +365,24 @@ fn until_both<H: Heap>(
     }
 }
 
-/// The command of `until`, by its first word and what stands behind that.
-fn until_from<H: Heap>(heap: H, first: &[u8], rest: &[&[u8]]) -> Result<Command, LineFault>
-    ensures { GivesCommandUnless (H.may_refuse heap) result
-        (command_by verb.Until (first.now ∷ map (λ word. word.now) rest.now)) }
+/// The command of `until` with one place.
+fn until_one<H: Heap>(heap: H, words: &[&[u8]]) -> Result<Command, LineFault>
+    ensures { GivesCommandUnless (H.may_refuse heap) result (until_one (map (λ word. word.now) words.now)) }
 {
-    match rest {
-        [second, rest @ ..] => until_both(heap, first, second, rest),
-        [] => Err(LineFault::Rule(ScriptRule::WordCount)),
+    match words {
+        [first, second, rest @ ..] => until_both(heap, first, second, rest),
+        _ => Err(LineFault::Rule(ScriptRule::WordCount)),
+    }
+}
+
+/// The command of `until`: one place has at most two words.
+fn until_from<H: Heap>(heap: H, words: &[&[u8]]) -> Result<Command, LineFault>
+    ensures { GivesCommandUnless (H.may_refuse heap) result (until_command (map (λ word. word.now) words.now)) }
+{
+    if words.len() > 3 {
+        until_any(heap, words)
+    } else {
+        until_one(heap, words)
     }
 }
 
@@ -283,7 +419,7 @@ fn command_by<H: Heap>(heap: H, verb: Verb, arguments: &[&[u8]]) -> Result<Comma
             watch: watch_of(watch)?,
         }),
         (Verb::Words, [address, rest @ ..]) => Ok(words_from(address, rest)?),
-        (Verb::Until, [first, rest @ ..]) => until_from(heap, first, rest),
+        (Verb::Until, words) => until_from(heap, words),
         _ => Err(LineFault::Rule(ScriptRule::WordCount)),
     }
 }

@@ -60,6 +60,17 @@ impl From<AllocError> for LineFault {
     }
 }
 
+impl<T: Drop> From<AllocFailed<T>> for LineFault {
+    ghost use Rattle.std.specs.Prelude.{◌≡◌};
+    ghost use Rattle.debug_script.specs.declared.fault.LineFault.TheVariants as fault;
+
+    ghost from_gives = { λ _ e. e ≡ fault.Memory };
+
+    fn from(_error: AllocFailed<T>) -> LineFault {
+        LineFault::Memory
+    }
+}
+
 impl ScriptRule {
     /// The number by which the rule is known: 1 for D1.
     pub fn number(self) -> u8

@@ -10,6 +10,6 @@ mod fault;
 mod line;
 mod reading;
 
-pub use command::{Command, Place, WatchWord};
+pub use command::{Command, Place, Places, WatchWord};
 pub use fault::ScriptFault;
 pub use reading::{Line, read_script};

@@ -10,7 +10,7 @@ use bstr::ByteSlice;
 use stack_heap::Heap;
 
 /// A line of a script that is not empty.
-#[derive(Debug, Drop, PartialEq, Eq)]
+#[derive(Debug, Drop)]
 pub struct Line {
     /// Its number in the script, from 1; empty lines count too.
     pub line: u32,

@@ -14,17 +14,18 @@ use Rattle.display_maps.{specs.declared.shown.Shown.Shown, specs.Report.{Variabl
 use Rattle.display_maps.{specs.Report.variable_line, specs.Reading.{reading, word_in}, specs.ReadingAt.{ReadingAtOf, read_from, read_variable, reading_at}}
 use Rattle.display_maps.specs.Running.{condition_shown, run_lines, variables_shown}
 use Rattle.gypsy_semantics.{specs.Views.RunView.{depth_at, place_at, values_at}, specs.Views.Shown.{condition_at, names_at}}
-use Rattle.debug_script.{specs.declared.command.Command.Command, specs.declared.command.Place.Place, specs.declared.command.WatchWord.WatchWord}
+use Rattle.debug_script.{specs.declared.command.Command.Command, specs.declared.command.WatchWord.WatchWord}
 use Rattle.debug_script.specs.declared.command.Command.TheVariants as command
 use Rattle.level_debuggers.{specs.declared.session.SessionRun.SessionRun, specs.declared.watch.Rule.Rule, specs.declared.watch.Tally.Tally}
 use Rattle.level_debuggers.{specs.GypsyLevels.{GypsyLevelOf, gypsy_listing, gypsy_over, gypsy_place_line}, specs.PitonLevels.{PitonLevelOf, local_line}}
 use Rattle.level_debuggers.{specs.PitonLevels.{local_lines, names_of, piton_listing, piton_over, place_line}, specs.PitonReadings.{is_covered, piton_at}}
-use Rattle.level_debuggers.{specs.PitonReadings.{piton_end, piton_reading_of, piton_up}, specs.declared.arrival.Arrival.Arrival, specs.Arrivals.arrived}
-use Rattle.level_debuggers.{specs.FmLevels.{FmLevelOf, fm_over, fm_up, word_line, word_lines}, specs.Levels.{LevelOf, Gypsy, Piton, Fm, has_places, show_text}}
-use Rattle.level_debuggers.{specs.Levels.{up_text, words_text}, specs.Texts.{mark_text, no_mark}, specs.declared.script_end.ScriptEnd.ScriptEnd}
-use Rattle.level_debuggers.specs.Transcripts.{Followed, Said, arrival_text, arrived_said, attach_with, detach_with, ends_with, follow_on, followed, places_said}
-use Rattle.level_debuggers.{specs.Transcripts.{run_text, said_by, said_to, tally_said, tally_with, watch_name, words_said}, specs.Walks.{SessionOf, stepped}}
-use Rattle.level_debuggers.specs.WholeLines.{AreLines, AnswersAreLines, TranscriptsAreLines}
+use Rattle.level_debuggers.{specs.PitonReadings.{piton_end, piton_reading_of, piton_up}, specs.declared.arrival.Arrival.Arrival, specs.Arrivals.Arrived}
+use Rattle.level_debuggers.{specs.Arrivals.{arrived, arrived_at_one}, specs.FmLevels.{FmLevelOf, fm_over, fm_up, word_line, word_lines}, specs.Levels.LevelOf}
+use Rattle.level_debuggers.{specs.Levels.{Gypsy, Piton, Fm, has_all, has_places, show_text, up_text, words_text}, specs.Texts.{mark_text, no_mark}}
+use Rattle.level_debuggers.{specs.declared.script_end.ScriptEnd.ScriptEnd, specs.Transcripts.{Followed, Said, arrival_text, arrived_said, attach_with}}
+use Rattle.level_debuggers.specs.Transcripts.{detach_with, ends_with, follow_on, followed, places_said, run_text, said_by, said_to, tally_said, tally_with}
+use Rattle.level_debuggers.{specs.Transcripts.{watch_name, words_said}, specs.Walks.{SessionOf, stepped}, specs.WholeLines.{AreLines, AnswersAreLines}}
+use Rattle.level_debuggers.specs.WholeLines.{TranscriptsAreLines}
 use Rattle.level_debuggers.specs.declared.session.SessionRun.TheVariants as run
 use Rattle.level_debuggers.specs.declared.watch.Rule.TheVariants as rule
 use Rattle.level_debuggers.specs.declared.arrival.Arrival.TheVariants as arrival
@@ -184,10 +185,10 @@ arrival_is_lines : (a : Arrival) → AreLines (arrival_text a)
 arrival_is_lines (arrival.There count) = one (codes "arrived " ++ decimal count)
 arrival_is_lines (arrival.Elsewhere ran) = run_is_lines ran
 
-until_is_lines : (number : ℕ) (there : Place) (n : ℕ) (s : SessionOf) (b : Bool)
-    → AreLines (if b then arrived_said (arrived there n s) else ends_with (end.OtherLevel number) s).text
-until_is_lines number there n s true = arrival_is_lines (arrived there n s).arrival
-until_is_lines number there n s false = inl refl
+until_is_lines : (number : ℕ) (made : Arrived) (s : SessionOf) (b : Bool)
+    → AreLines (if b then arrived_said made else ends_with (end.OtherLevel number) s).text
+until_is_lines number made s true = arrival_is_lines made.arrival
+until_is_lines number made s false = inl refl
 
 said_is_lines : (number : ℕ) (c : Command) (s : SessionOf) → AreLines (said_by number c s).text
 said_is_lines number (command.Step count) s = run_is_lines (stepped count s).run
@@ -197,7 +198,8 @@ said_is_lines number (command.Attach word) s = attach_is_lines number word s _
 said_is_lines number (command.Detach word) s = detach_is_lines number _ s _
 said_is_lines number (command.Tally word) s = kept_is_lines number _ s _
 said_is_lines number (command.Words address count) s = words_are_lines number s s.level address count
-said_is_lines number (command.Until there limit) s = until_is_lines number there limit s (has_places s.level there)
+said_is_lines number (command.Until there limit) s = until_is_lines number (arrived there limit s) s (has_places s.level there)
+said_is_lines number (command.UntilAny places limit) s = until_is_lines number (arrived_at_one places limit s) s (has_all s.level places)
 
 pub answer_is_lines : AnswersAreLines
 answer_is_lines asked s = said_is_lines asked.line asked.command s

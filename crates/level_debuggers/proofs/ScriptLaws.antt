@@ -5,14 +5,15 @@ use Rattle.debug_script.{specs.declared.command.Command.Command, specs.declared.
 use Rattle.debug_script.specs.declared.reading.Line.{Line}
 use Rattle.debug_script.specs.declared.command.Command.TheVariants as command
 use Rattle.level_debuggers.{specs.declared.script_end.ScriptEnd.ScriptEnd, specs.declared.session.SessionRun.SessionRun, specs.declared.watch.Rule.Rule}
-use Rattle.level_debuggers.{specs.declared.watch.Tally.Tally, specs.declared.arrival.Arrival.Arrival, specs.Arrivals.{Arrived, IsFirstArrival, arrived}}
-use Rattle.level_debuggers.{specs.Arrivals.{arrived_by, first_arrival}, specs.FmLevels.{FmLevelOf, word_lines}, specs.Levels.{LevelOf, Fm, has_places, next_of}}
-use Rattle.level_debuggers.{specs.Levels.{up_text, words_text}, specs.Steps.{Next, Over, Stops, Makes, is_over}, specs.Tallies.Watching, specs.Taken.taken}
-use Rattle.level_debuggers.{specs.Taken.{attached_with, detached_with, tally_by}, specs.Walks.{SessionOf, walk, walk_on, ends_by, refused_after, stepped}}
-use Rattle.level_debuggers.specs.Transcripts.{Said, Followed, arrival_end, arrival_text, arrived_said, attach_with, detach_with, ends_with, follow_on, followed}
-use Rattle.level_debuggers.{specs.Transcripts.{rule_of_word, run_end, run_text, said_by, said_to, tally_with, words_said}, specs.ScriptSteps.AskForSteps}
-use Rattle.level_debuggers.specs.ScriptSteps.{all_asked, steps_asked, steps_led, steps_of_lines, stepped_lines, until_line, up_line, line_of_words}
-use Rattle.level_debuggers.specs.ScriptSteps.{ArrivalsAreSaid, GoesOn, ScriptsWalk, UpIsSaid, WordsAreSaid, StepsAreSaid, UpSaysMoment, TextStays}
+use Rattle.level_debuggers.{specs.declared.watch.Tally.Tally, specs.declared.arrival.Arrival.Arrival, specs.Arrivals.{Arrived, IsFirstArrival, IsFirstOfAny}}
+use Rattle.level_debuggers.{specs.Arrivals.{arrived, arrived_at_one, arrived_by, first_arrival, first_where}, specs.FmLevels.{FmLevelOf, word_lines}}
+use Rattle.level_debuggers.{specs.Levels.{LevelOf, Fm, has_all, has_places, next_of, stands_at, stands_at_one, up_text, words_text}, specs.Steps.{Next, Over}}
+use Rattle.level_debuggers.{specs.Steps.{Stops, Makes, is_over}, specs.Tallies.Watching, specs.Taken.{taken, attached_with, detached_with, tally_by}}
+use Rattle.level_debuggers.{specs.Walks.{SessionOf, walk, walk_on, ends_by, refused_after, stepped}, specs.Transcripts.{Said, Followed, arrival_end}}
+use Rattle.level_debuggers.specs.Transcripts.{arrival_text, arrived_said, attach_with, detach_with, ends_with, follow_on, followed, rule_of_word, run_end}
+use Rattle.level_debuggers.{specs.Transcripts.{run_text, said_by, said_to, tally_with, words_said}, specs.ScriptSteps.{AskForSteps, all_asked, steps_asked}}
+use Rattle.level_debuggers.specs.ScriptSteps.{steps_led, steps_of_lines, stepped_lines, until_any_line, until_line, up_line, line_of_words, ArrivalsAreSaid}
+use Rattle.level_debuggers.specs.ScriptSteps.{ArrivalsAtAnyAreSaid, GoesOn, ScriptsWalk, UpIsSaid, WordsAreSaid, StepsAreSaid, UpSaysMoment, TextStays}
 use Rattle.level_debuggers.{proofs.ArrivalLaws.is_first, proofs.WalkLaws.walk_level}
 use Rattle.level_debuggers.specs.declared.script_end.ScriptEnd.TheVariants as end
 use Rattle.level_debuggers.specs.declared.session.SessionRun.TheVariants as run
@@ -62,6 +63,7 @@ never_done number (command.Detach word) s e = detach_goes_on number word s (deta
 never_done number (command.Tally word) s e = tally_goes_on number (rule_of_word word) s (tally_by (rule_of_word word) s) e
 never_done number (command.Words address count) s e = words_go_on number s (words_text s.level address count) e
 never_done number (command.Until there limit) s e = until_goes_on number (has_places s.level there) (arrived there limit s) s e
+never_done number (command.UntilAny places limit) s e = until_goes_on number (has_all s.level places) (arrived_at_one places limit s) s e
 
 -- it leads the run as far as the steps that it asks for
 attach_stays : (number : ℕ) (word : WatchWord) (s : SessionOf) (o : Option (Watching × List Watching))
@@ -104,6 +106,8 @@ line_walks number (command.Tally word) s = tally_stays number (rule_of_word word
 line_walks number (command.Words address count) s = words_stay number s (words_text s.level address count)
 line_walks number (command.Until there limit) s =
     until_walks number limit (has_places s.level there) (first_arrival there limit s.level) s
+line_walks number (command.UntilAny places limit) s =
+    until_walks number limit (has_all s.level places) (first_where (stands_at_one places) limit s.level) s
 
 -- ---- all lines
 
@@ -186,7 +190,16 @@ until_there : (text : List ℕ) (after : List Line) (number limit k : ℕ) (ther
     followed text (until_line number there limit ∷ after) s ≡ followed (text ++ arrival_text (arrival.There k)) after (stepped k s).session
 unfolding followed
 until_there text after number limit k there s has first le =
-    until_is text after number limit k s (has_places s.level there) (first_arrival there limit s.level) has (is_first there limit k s.level le first)
+    until_is text after number limit k s (has_places s.level there) (first_arrival there limit s.level) has
+    (is_first (stands_at there) limit k s.level le first)
+
+until_any_there : (text : List ℕ) (after : List Line) (number limit k : ℕ) (places : List Place) (s : SessionOf) →
+    has_all s.level places ≡ true → IsFirstOfAny places k s.level → k ≤ limit →
+    followed text (until_any_line number places limit ∷ after) s ≡ followed (text ++ arrival_text (arrival.There k)) after (stepped k s).session
+unfolding followed
+until_any_there text after number limit k places s has first le =
+    until_is text after number limit k s (has_all s.level places) (first_where (stands_at_one places) limit s.level) has
+    (is_first (stands_at_one places) limit k s.level le first)
 
 pub arrivals_are_said : ArrivalsAreSaid
 arrivals_are_said text before after number limit k there s here done leads has first le =
@@ -195,6 +208,14 @@ arrivals_are_said text before after number limit k there s here done leads has f
     followed_both text before (until_line number there limit ∷ after) s done
     ∙ until_there made.text after number limit k there made.session (ap (λ (l : LevelOf). has_places l there) same ∙ has)
     (subst (λ (l : LevelOf). IsFirstArrival there k l) (sym same) first) le
+
+pub arrivals_at_any_are_said : ArrivalsAtAnyAreSaid
+arrivals_at_any_are_said text before after number limit k places s here done leads has first le =
+    let made : Followed = followed text before s in
+    let same : made.session.level ≡ here = scripts_walk text before s done ∙ leads in
+    followed_both text before (until_any_line number places limit ∷ after) s done
+    ∙ until_any_there made.text after number limit k places made.session (ap (λ (l : LevelOf). has_all l places) same ∙ has)
+    (subst (λ (l : LevelOf). IsFirstOfAny places k l) (sym same) first) le
 
 -- ---- lines that ask for steps
 

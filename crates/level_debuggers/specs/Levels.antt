@@ -1,5 +1,5 @@
 -- Runs at each level.
-use Rattle.std.specs.Prelude.{ℕ, ◌≤◌, List, Option, Some, None, Bool, true, false}
+use Rattle.std.specs.{Prelude.{ℕ, ◌≤◌, List, Option, Some, None, Bool, true, false}, List.{list_all, list_any}}
 use Rattle.debug_script.specs.declared.command.Place.{Place}
 use Rattle.debug_script.specs.declared.command.Place.TheVariants as place
 use Rattle.fm_words.specs.WindowLimit.{most_window}
@@ -84,3 +84,10 @@ stands_at (place.Number number) (Fm run) = fm_stands run number
 stands_at (place.Depth most) (Gypsy run) = gypsy_within run most
 stands_at (place.Depth most) (Piton run) = piton_within run most
 stands_at there level = false
+
+-- of several places
+abbrev pub has_all : LevelOf → List Place → Bool
+has_all level places = list_all (has_places level) places
+
+abbrev pub stands_at_one : List Place → LevelOf → Bool
+stands_at_one places level = list_any (λ there. stands_at there level) places

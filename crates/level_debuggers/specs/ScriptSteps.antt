@@ -5,13 +5,16 @@ use Rattle.debug_script.specs.declared.command.Command.TheVariants as command
 use Rattle.level_debuggers.specs.declared.arrival.Arrival.TheVariants as arrival
 use Rattle.level_debuggers.specs.declared.script_end.ScriptEnd.TheVariants as end
 use Rattle.level_debuggers.specs.declared.session.SessionRun.TheVariants as run
-use Rattle.level_debuggers.specs.{Arrivals.{IsFirstArrival, first_arrival}, FmLevels.{FmLevelOf, word_lines}, Levels.{LevelOf, Fm}}
-use Rattle.level_debuggers.specs.{Levels.{has_places, next_of, up_text}, Steps.{is_over}, Walks.{SessionOf, stepped, walk}}
-use Rattle.level_debuggers.specs.Transcripts.{arrival_text, followed, run_text}
+use Rattle.level_debuggers.specs.{Arrivals.{IsFirstArrival, IsFirstOfAny, first_arrival, first_where}, FmLevels.{FmLevelOf, word_lines}}
+use Rattle.level_debuggers.specs.{Levels.{LevelOf, Fm, has_all, has_places, next_of, stands_at_one, up_text}, Steps.{is_over}}
+use Rattle.level_debuggers.specs.{Walks.{SessionOf, stepped, walk}, Transcripts.{arrival_text, followed, run_text}}
 
 -- the steps to the first arrival at a place, or as many as are asked for
 abbrev pub until_steps : Place → ℕ → LevelOf → ℕ
 until_steps there n level = if has_places level there then unwrap_or (first_arrival there n level) n else 0
+
+abbrev pub until_any_steps : List Place → ℕ → LevelOf → ℕ
+until_any_steps places n level = if has_all level places then unwrap_or (first_where (stands_at_one places) n level) n else 0
 
 -- how many steps a command leads a run
 abbrev pub steps_led : Command → LevelOf → ℕ
@@ -23,6 +26,7 @@ steps_led (command.Detach word) level = 0
 steps_led (command.Tally word) level = 0
 steps_led (command.Words address count) level = 0
 steps_led (command.Until there limit) level = until_steps there limit level
+steps_led (command.UntilAny places limit) level = until_any_steps places limit level
 
 -- how many lines lead it together, each from where the one before has led it
 abbrev pub steps_of_lines : List Line → LevelOf → ℕ
@@ -69,6 +73,19 @@ ArrivalsAreSaid = (text : List ℕ) (before after : List Line) (number limit k :
     has_places here there ≡ true → IsFirstArrival there k here → k ≤ limit →
     let made = followed text before s in
     followed text (before ++ until_line number there limit ∷ after) s
+    ≡ followed (made.text ++ arrival_text (arrival.There k)) after (stepped k made.session).session
+
+-- So it is at a line of `until` with several places, where the run can stand at each of them.
+abbrev pub until_any_line : ℕ → List Place → ℕ → Line
+until_any_line number places limit = record { line = number; command = command.UntilAny places limit }
+
+abbrev pub ArrivalsAtAnyAreSaid : Type 0
+ArrivalsAtAnyAreSaid =
+    (text : List ℕ) (before after : List Line) (number limit k : ℕ) (places : List Place) (s : SessionOf) (here : LevelOf) →
+    (followed text before s).end ≡ end.Done → (walk (steps_of_lines before s.level) s.level).level ≡ here →
+    has_all here places ≡ true → IsFirstOfAny places k here → k ≤ limit →
+    let made = followed text before s in
+    followed text (before ++ until_any_line number places limit ∷ after) s
     ≡ followed (made.text ++ arrival_text (arrival.There k)) after (stepped k made.session).session
 
 -- the steps that a command asks for by their number, and those of lines together

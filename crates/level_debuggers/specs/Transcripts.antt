@@ -6,9 +6,9 @@ use Rattle.debug_script.specs.declared.reading.Line.{Line}
 use Rattle.debug_script.specs.declared.command.Command.TheVariants as command
 use Rattle.debug_script.specs.declared.command.WatchWord.TheVariants as word
 use Rattle.level_debuggers.specs.{declared.session.SessionRun.{SessionRun}, declared.watch.Rule.{Rule}, declared.watch.Tally.{Tally}}
-use Rattle.level_debuggers.specs.{declared.arrival.Arrival.{Arrival}, Arrivals.{Arrived, arrived}, Levels.{has_places, show_text, up_text}}
-use Rattle.level_debuggers.specs.{Levels.{words_text}, Taken.{attached_by, detached_by, tally_by}, Walks.{SessionOf, Stepped, stepped}}
-use Rattle.level_debuggers.specs.{Walks.{HasMadeSome}, declared.script_end.ScriptEnd.{ScriptEnd}}
+use Rattle.level_debuggers.specs.{declared.arrival.Arrival.{Arrival}, Arrivals.{Arrived, arrived, arrived_at_one}, Levels.{has_all}}
+use Rattle.level_debuggers.specs.{Levels.{has_places, show_text, up_text, words_text}, Taken.{attached_by, detached_by, tally_by}}
+use Rattle.level_debuggers.specs.{Walks.{SessionOf, Stepped, stepped, HasMadeSome}, declared.script_end.ScriptEnd.{ScriptEnd}}
 use Rattle.level_debuggers.specs.declared.session.SessionRun.TheVariants as run
 use Rattle.level_debuggers.specs.declared.watch.Rule.TheVariants as rule
 use Rattle.level_debuggers.specs.declared.arrival.Arrival.TheVariants as arrival
@@ -115,6 +115,10 @@ abbrev pub until_said : ℕ → Place → ℕ → SessionOf → Said
 until_said number there n s =
     if has_places s.level there then arrived_said (arrived there n s) else ends_with (end.OtherLevel number) s
 
+abbrev pub until_any_said : ℕ → List Place → ℕ → SessionOf → Said
+until_any_said number places n s =
+    if has_all s.level places then arrived_said (arrived_at_one places n s) else ends_with (end.OtherLevel number) s
+
 -- what a session says to the command of a line
 abbrev pub said_by : ℕ → Command → SessionOf → Said
 said_by number (command.Step count) s = step_said (stepped count s)
@@ -125,6 +129,7 @@ said_by number (command.Detach word) s = detach_said number word s
 said_by number (command.Tally word) s = tally_asked number word s
 said_by number (command.Words address count) s = words_said number s (words_text s.level address count)
 said_by number (command.Until there limit) s = until_said number there limit s
+said_by number (command.UntilAny places limit) s = until_any_said number places limit s
 
 abbrev pub said_to : Line → SessionOf → Said
 said_to line s = said_by line.line line.command s
@@ -161,6 +166,7 @@ IsLeftBy number (command.Detach word) old new = new ≡ (detach_said number word
 IsLeftBy number (command.Tally word) old new = new ≡ old
 IsLeftBy number (command.Words address count) old new = new ≡ old
 IsLeftBy number (command.Until there limit) old new = HasMadeSome limit old new
+IsLeftBy number (command.UntilAny places limit) old new = HasMadeSome limit old new
 
 -- the session that is left where memory ran out at one of these lines: those before it were carried out, and none of them ended
 -- the script

@@ -20,8 +20,8 @@ pub(crate) enum Level {
 impl Level {
     ghost use Rattle.std.specs.{Prelude.{◌≡◌, IfOk, OnErr}, Option.{option_map}};
     ghost use Rattle.stack_heap.specs.Heaps.{IfOkUnless};
-    ghost use Rattle.level_debuggers.specs.Levels.{IsRunner, level_of, next_of, program_named, has_places, show_text, stands_at, up_text, words_text};
-    ghost use Rattle.level_debuggers.specs.{Views.Belonging.{IsLevel, level_seen}, Steps.{IsAdvance, is_over}};
+    ghost use Rattle.level_debuggers.specs.Levels.{IsRunner, level_of, next_of, has_all, has_places, program_named, show_text, stands_at, stands_at_one};
+    ghost use Rattle.level_debuggers.specs.{Levels.{up_text, words_text}, Views.Belonging.{IsLevel, level_seen}, Steps.{IsAdvance, is_over}};
 
     /// The level of a runner. The only error is out of memory.
     pub(crate) fn new<H: Heap>(heap: H, runner: Runner) -> Result<Level, Memory>
@@ -156,6 +156,26 @@ impl Level {
             (Level::Piton(level), Place::Depth { most }) => level.is_within(*most),
             _ => false,
         }
+    }
+
+    /// Whether runs of the level stand at such places, all of them.
+    pub(crate) fn has_all(&self, places: &[Place]) -> bool
+        ensures { result ≡ has_all (level_seen self.now) places.now }
+    {
+        places.iter().all(|place| self.has_places(place))
+    }
+
+    /// Whether the run stands at one of these places.
+    pub(crate) fn stands_at_one(&self, places: &[Place]) -> bool
+        requires { IsLevel self.now }
+        ensures { result ≡ stands_at_one places.now (level_seen self.now) }
+    {
+        for place in places {
+            if self.stands_at(place) {
+                return true;
+            }
+        }
+        false
     }
 
     /// So many words of memory from an address on, as lines, of a run that has one.

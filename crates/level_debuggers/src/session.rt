@@ -12,6 +12,7 @@ use debug_script::Place;
 use piton_semantics::ErrorKind;
 use stack_heap::Heap;
 use stack_text::{Memory, Name};
+use std::slice::from_ref;
 use thiserror::Error;
 
 /// How a call of `step` ended.
@@ -62,9 +63,9 @@ pub struct Session {
 impl Session {
     ghost use Rattle.std.specs.{Prelude.{◌≡◌, [], map, IfOk, OnOk, OnErr, Some, None}, Option.{option_map}};
     ghost use Rattle.stack_heap.specs.Heaps.{IfOkUnless};
-    ghost use Rattle.level_debuggers.specs.{Levels.{IsRunner, has_places, level_of, program_named, show_text, up_text, words_text}, Arrivals.{arrived}};
-    ghost use Rattle.level_debuggers.specs.{Tallies.{noted}, Walks.{after_event, stepped, HasMadeSome}, Taken.{attached_by, detached_by, tally_by}};
-    ghost use Rattle.level_debuggers.specs.Views.Sessions.{IsSession, session_of};
+    ghost use Rattle.level_debuggers.specs.Levels.{IsRunner, has_all, has_places, level_of, program_named, show_text, up_text, words_text};
+    ghost use Rattle.level_debuggers.specs.{Arrivals.{arrived, arrived_at_one}, Tallies.{noted}, Walks.{after_event, stepped, HasMadeSome}};
+    ghost use Rattle.level_debuggers.specs.{Taken.{attached_by, detached_by, tally_by}, Views.Sessions.{IsSession, session_of}};
 
     /// A session of a runner that has made no step, with these watches waiting. Room for all of them to be attached is
     /// taken here, and that of the addresses of a system of Piton.
@@ -192,6 +193,14 @@ impl Session {
         self.level.has_places(place)
     }
 
+    /// Whether runs of the session's level stand at such places, all of them.
+    pub fn has_all(&self, places: &[Place]) -> bool
+        ensures { let session = session_of (λ w. watching w) self.now in
+            result ≡ has_all session.level places.now }
+    {
+        self.level.has_all(places)
+    }
+
     /// Makes as many steps as lead the run to a place for the first time, none where it stands there already. Where it does
     /// not come there in `limit` steps, it makes those, as `step` does.
     ///
@@ -207,8 +216,31 @@ impl Session {
             (session_of (λ w. watching w) self.new)) }
         ensures is { IsSession self.new }
     {
+        self.until_any(heap, from_ref(place), limit)
+    }
+
+    /// Makes as many steps as lead the run to one of several places for the first time, none where it stands at one already.
+    /// Where it does not come to one in `limit` steps, it makes those, as `step` does.
+    ///
+    /// # Errors
+    ///
+    /// Out of memory: the steps that were made stand.
+    pub fn until_any<H: Heap>(
+        &mut self,
+        heap: H,
+        places: &[Place],
+        limit: u64,
+    ) -> Result<Arrival, Memory>
+        requires { IsSession self.old }
+        ensures ran { IfOkUnless (H.may_refuse heap) result (λ arrival.
+            arrived_at_one places.now limit (session_of (λ w. watching w) self.old)
+            ≡ record { arrival = arrival; session = session_of (λ w. watching w) self.new }) }
+        ensures memory { OnErr result (HasMadeSome limit (session_of (λ w. watching w) self.old)
+            (session_of (λ w. watching w) self.new)) }
+        ensures is { IsSession self.new }
+    {
         for made in 0..limit {
-            if self.level.stands_at(place) {
+            if self.level.stands_at_one(places) {
                 return Ok(Arrival::There { count: made });
             }
             match self.level.advance(heap)? {
@@ -217,7 +249,7 @@ impl Session {
                 Advance::Makes(event) => self.note(&event),
             }
         }
-        if self.level.stands_at(place) {
+        if self.level.stands_at_one(places) {
             Ok(Arrival::There { count: limit })
         } else if self.level.is_over() {
             Ok(Arrival::Elsewhere(SessionRun::Ended { count: limit }))

@@ -4,7 +4,7 @@ ghost use Rattle.std.specs.Prelude.{◌≡◌, ◌++◌, IfOk, None, OnErr};
 ghost use Rattle.stack_heap.specs.Heaps.{IfOkUnless};
 ghost use Rattle.level_debuggers.specs.{Views.Sessions.{IsSession, session_of}, Transcripts.{IsLeftBy, IsLeftIn, IsSaid, arrival_end, arrival_text}};
 ghost use Rattle.level_debuggers.specs.Transcripts.{attach_said, attached_word, detach_said, followed, rule_of_word, run_end, run_text, said_to, step_said};
-ghost use Rattle.level_debuggers.specs.{Transcripts.{tally_asked, until_said, words_said}, Levels.{words_text}, Walks.{HasMadeSome, stepped}};
+ghost use Rattle.level_debuggers.specs.{Transcripts.{tally_asked, until_any_said, until_said, words_said}, Levels.{words_text}, Walks.{HasMadeSome, stepped}};
 
 use crate::arrival::Arrival;
 use crate::script_end::ScriptEnd;
@@ -241,6 +241,30 @@ fn push_until<H: Heap>(
     push_arrival(heap, text, arrival)
 }
 
+/// Goes on to one of several places, by the command of a line.
+fn push_until_any<H: Heap>(
+    heap: H,
+    session: &mut Session,
+    line: u32,
+    places: &[Place],
+    limit: u64,
+    text: &mut Vec<u8>,
+) -> Result<Option<ScriptEnd>, Memory>
+    requires { IsSession session.old }
+    ensures said { IfOkUnless (H.may_refuse heap) result (λ end.
+        IsSaid (until_any_said line places.now limit (session_of (λ w. watching w) session.old))
+        text.old.items text.new.items end (session_of (λ w. watching w) session.new)) }
+    ensures memory { OnErr result (HasMadeSome limit
+        (session_of (λ w. watching w) session.old) (session_of (λ w. watching w) session.new)) }
+    ensures is { IsSession session.new }
+{
+    if !session.has_all(places) {
+        return Ok(Some(ScriptEnd::OtherLevel { line }));
+    }
+    let arrival = session.until_any(heap, places, limit)?;
+    push_arrival(heap, text, arrival)
+}
+
 /// Carries out the command of a line, and appends what the session says; and how the script ends, where it ends here.
 pub fn push_answer<H: Heap>(
     heap: H,
@@ -268,6 +292,9 @@ pub fn push_answer<H: Heap>(
         }
         Command::Until { place, limit } => {
             push_until(heap, session, line.line, place, *limit, text)
+        }
+        Command::UntilAny { places, limit } => {
+            push_until_any(heap, session, line.line, places.as_slice(), *limit, text)
         }
     }
 }

@@ -1,4 +1,5 @@
-use Rattle.level_debuggers.proofs.ScriptLaws.{arrivals_are_said, scripts_walk, steps_are_said, text_stays, up_is_said, up_says_moment, words_are_said}
+use Rattle.level_debuggers.proofs.ScriptLaws.{arrivals_are_said, arrivals_at_any_are_said, scripts_walk, steps_are_said, text_stays, up_is_said, up_says_moment}
+use Rattle.level_debuggers.proofs.ScriptLaws.{words_are_said}
 use Rattle.level_debuggers.proofs.laws.scripts_walk.Goals as goal
 
 pub returns-clause-walk : goal.returns-clause-walk
@@ -12,6 +13,9 @@ returns-clause-words c = words_are_said
 
 pub returns-clause-arrivals : goal.returns-clause-arrivals
 returns-clause-arrivals c = arrivals_are_said
+
+pub returns-clause-any : goal.returns-clause-any
+returns-clause-any c = arrivals_at_any_are_said
 
 pub returns-clause-steps : goal.returns-clause-steps
 returns-clause-steps c = steps_are_said

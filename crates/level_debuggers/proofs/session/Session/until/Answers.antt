@@ -1,86 +1,15 @@
-use Rattle.std.{proofs.Common.{◌≡◌, ℕ, true, false, arith, ap, sym, ◌∙◌}, proofs.lemmas.Result.err_from_is_err_and}
-use Rattle.level_debuggers.specs.declared.arrival.Arrival.TheVariants as arrival
-use Rattle.level_debuggers.{specs.Views.Belonging.level_seen, specs.Views.Sessions.session_of, proofs.ArrivalLaws.{arrives, never_there, passed, until_over}}
-use Rattle.level_debuggers.{proofs.ArrivalLaws.until_refused, proofs.WalkLaws.{made_none, step_made, step_failed}}
+use Rattle.std.proofs.Common.{◌≡◌, List, ap, subst, sym, ◌∙◌}
+use Rattle.stack_heap.specs.Heaps.{IfOkUnless}
+use Rattle.debug_script.specs.declared.command.Place.{Place}
+use Rattle.level_debuggers.{specs.Arrivals.{Arrived, arrived_at_one}, specs.Views.Sessions.session_of, proofs.ArrivalLaws.one_place}
 use Rattle.level_debuggers.proofs.session.Session.until.Goals as goal
 
-pub loop-made-init : goal.loop-made-init
-loop-made-init g c = record { made = made_none _ c.args.self.now.in_range; before = λ j lt. absurd (omega (arith, lt)); is = c.requires }
-
-pub loop-made-preserved : goal.loop-made-preserved
-loop-made-preserved g c = record {
-  made =
-      step_made c.loop-made.made c.args.limit
-      (session_of (λ w. (goal.Watch-dyn g (w.vtable, w.value)).watching w.value) c.args.self.now)
-      (session_of (λ w. (goal.Watch-dyn g (w.vtable, w.value)).watching w.value) c.loop-made.self)
-      (level_seen c.advance.new.self) c.in_ok-advance.field-0 c.loop-made.invariant.made
-      c.in_ok-advance.ensures.step _ c.in-Makes.event c.in-Makes.is c.note.ensures.noted;
-  before =
-      passed c.args.place.now c.loop-made.made c.args.limit
-      (session_of (λ w. (goal.Watch-dyn g (w.vtable, w.value)).watching w.value) c.args.self.now)
-      (session_of (λ w. (goal.Watch-dyn g (w.vtable, w.value)).watching w.value) c.loop-made.self)
-      c.loop-made.invariant.made c.loop-made.invariant.before (sym c.stands_at.ensures ∙ c.if-stands_at.false);
-  is = c.note.ensures.is c.advance.ensures.is;
-}
-
-pub returns-in_err-advance-clause-memory : goal.returns-in_err-advance-clause-memory
-returns-in_err-advance-clause-memory g c =
-    let p = err_from_is_err_and c.from_residual.result c.from_residual.ensures.1 in
-    rw p.1
-    (step_failed c.loop-made.made c.args.limit
-    (session_of (λ w. (goal.Watch-dyn g (w.vtable, w.value)).watching w.value) c.args.self.now)
-    (session_of (λ w. (goal.Watch-dyn g (w.vtable, w.value)).watching w.value) c.loop-made.self)
-    (level_seen c.advance.new.self) c.loop-made.invariant.made (omega arith) c.in_err-advance.ensures.unchanged)
-
-pub returns-in-Over-clause-ran : goal.returns-in-Over-clause-ran
-returns-in-Over-clause-ran g c =
-    until_over c.args.place.now c.loop-made.made c.args.limit
-    (session_of (λ w. (goal.Watch-dyn g (w.vtable, w.value)).watching w.value) c.args.self.now)
-    (session_of (λ w. (goal.Watch-dyn g (w.vtable, w.value)).watching w.value) c.loop-made.self)
-    (level_seen c.advance.new.self) c.in_ok-advance.field-0 c.loop-made.invariant.made c.loop-made.invariant.before
-    (sym c.stands_at.ensures ∙ c.if-stands_at.false)
-    c.in_ok-advance.ensures.step (omega arith) c.in-Over.is
-
-pub returns-in-Stops-clause-ran : goal.returns-in-Stops-clause-ran
-returns-in-Stops-clause-ran g c =
-    until_refused c.args.place.now c.loop-made.made c.args.limit
-    (session_of (λ w. (goal.Watch-dyn g (w.vtable, w.value)).watching w.value) c.args.self.now)
-    (session_of (λ w. (goal.Watch-dyn g (w.vtable, w.value)).watching w.value) c.loop-made.self)
-    (level_seen c.advance.new.self) c.in_ok-advance.field-0 c.loop-made.invariant.made c.loop-made.invariant.before
-    (sym c.stands_at.ensures ∙ c.if-stands_at.false)
-    c.in_ok-advance.ensures.step c.in-Stops.stop c.after.result (omega arith) c.in-Stops.is c.after.ensures
-
-pub returns-then-stands_at-clause-ran : goal.returns-then-stands_at-clause-ran
-returns-then-stands_at-clause-ran g c =
-    arrives c.args.place.now c.loop-made.made c.args.limit
-    (session_of (λ w. (goal.Watch-dyn g (w.vtable, w.value)).watching w.value) c.args.self.now)
-    (session_of (λ w. (goal.Watch-dyn g (w.vtable, w.value)).watching w.value) c.loop-made.self)
-    c.loop-made.invariant.made c.loop-made.invariant.before (omega arith) (sym c.stands_at.ensures ∙ c.if-stands_at.true)
-
-pub returns-then-stands_at-2-clause-ran : goal.returns-then-stands_at-2-clause-ran
-returns-then-stands_at-2-clause-ran g c =
-    let same : c.loop-made.made ≡ c.args.limit = omega arith in
-    arrives c.args.place.now c.loop-made.made c.args.limit
-    (session_of (λ w. (goal.Watch-dyn g (w.vtable, w.value)).watching w.value) c.args.self.now)
-    (session_of (λ w. (goal.Watch-dyn g (w.vtable, w.value)).watching w.value) c.loop-made.self)
-    c.loop-made.invariant.made c.loop-made.invariant.before (omega arith) (sym c.stands_at-2.ensures ∙ c.if-stands_at-2.true)
-    ∙ ap (λ (k : ℕ). record {
-      arrival = arrival.There k;
-      session = (session_of (λ w. (goal.Watch-dyn g (w.vtable, w.value)).watching w.value) c.loop-made.self);
-    }) same
-
-pub returns-then-is_over-clause-ran : goal.returns-then-is_over-clause-ran
-returns-then-is_over-clause-ran g c =
-    never_there c.args.place.now c.loop-made.made c.args.limit
-    (session_of (λ w. (goal.Watch-dyn g (w.vtable, w.value)).watching w.value) c.args.self.now)
-    (session_of (λ w. (goal.Watch-dyn g (w.vtable, w.value)).watching w.value) c.loop-made.self)
-    true c.loop-made.invariant.made c.loop-made.invariant.before (sym c.stands_at-2.ensures ∙ c.if-stands_at-2.false)
-    (omega arith) (sym c.is_over.ensures ∙ c.if-is_over.true)
-
-pub returns-else-is_over-clause-ran : goal.returns-else-is_over-clause-ran
-returns-else-is_over-clause-ran g c =
-    never_there c.args.place.now c.loop-made.made c.args.limit
-    (session_of (λ w. (goal.Watch-dyn g (w.vtable, w.value)).watching w.value) c.args.self.now)
-    (session_of (λ w. (goal.Watch-dyn g (w.vtable, w.value)).watching w.value) c.loop-made.self)
-    false c.loop-made.invariant.made c.loop-made.invariant.before (sym c.stands_at-2.ensures ∙ c.if-stands_at-2.false)
-    (omega arith) (sym c.is_over.ensures ∙ c.if-is_over.false)
+pub returns-clause-ran : goal.returns-clause-ran
+returns-clause-ran g c =
+    let old = session_of (λ w. (goal.Watch-dyn g (w.vtable, w.value)).watching w.value) c.args.self.now in
+    subst (λ (made : Arrived). IfOkUnless (g.H.Heap.may_refuse c.args.heap) c.until_any.result (λ arrival. made ≡ record {
+      arrival = arrival;
+      session = session_of (λ w. (goal.Watch-dyn g (w.vtable, w.value)).watching w.value) c.until_any.new.self;
+    }))
+    (ap (λ (places : List Place). arrived_at_one places c.args.limit old) c.from_ref.ensures.value ∙ sym (one_place c.args.place.now c.args.limit old))
+    c.until_any.ensures.ran
