@@ -1,6 +1,6 @@
 -- The bytes of a log that ends: the beginning of a text, and bytes of its own.
-use Rattle.std.proofs.Common.{◌≡◌, ◌≤◌, ◌+◌, ◌-◌, ◌++◌, ◌∙◌, ℕ, List, [], ◌∷◌, length, take, drop, refl, sym, ap, arith, append_assoc, append-nil, take-add}
-use Rattle.std.proofs.Math.Seq.{take-append-add, take-append_seam}
+use Rattle.std.proofs.Common.{◌≡◌, ◌≤◌, ◌<◌, ◌+◌, ◌-◌, ◌++◌, ◌∙◌, ℕ, List, [], ◌∷◌, length, take, drop, refl, sym, ap, arith, append_assoc, append-nil}
+use Rattle.std.{proofs.Common.{take-add, length-append, take_all}, proofs.Math.Seq.{take-append-add, take-append_seam}}
 
 pub none_there : (xs : List ℕ) → length xs ≡ 0 → xs ≡ []
 none_there [] none = refl
@@ -42,3 +42,12 @@ pub goes_on : (text bytes rest : List ℕ) (place : ℕ) → drop place text ≡
 goes_on text bytes rest place is =
     take-add place (length bytes) text
     ∙ ap (λ (l : List ℕ). take place text ++ l) (ap (λ (l : List ℕ). take (length bytes) l) is ∙ take-append_seam bytes rest)
+
+-- One more is noted if there is room, and else the first ones stay.
+pub fits_one : (most : ℕ) (xs : List ℕ) (x : ℕ) → length xs < most → xs ++ x ∷ [] ≡ take most (xs ++ x ∷ [])
+fits_one most xs x lt = sym (take_all most (xs ++ x ∷ []) (omega (arith, lt, length-append xs (x ∷ []))))
+
+pub full_already : (most : ℕ) (xs : List ℕ) (x : ℕ) → most ≤ length xs → length xs ≤ most → xs ≡ take most (xs ++ x ∷ [])
+full_already most xs x full le =
+    let count : most ≡ length xs = omega (arith, full, le) in
+    sym (ap (λ (n : ℕ). take n (xs ++ x ∷ [])) count ∙ take-append_seam xs (x ∷ []))

@@ -1,6 +1,6 @@
 -- Devices with a log of the calls that went well.
-use Rattle.std.specs.{Prelude.{ℕ, Bool, true, ◌^◌, ◌⊎◌, List, [], ◌∷◌, ◌++◌, Option, Some, None, String, map, take}, Global.{Global, Vec}}
-use Rattle.std.specs.{String.{string_bytes}, declared.rc.Rc.{Rc}}
+use Rattle.std.specs.Prelude.{ℕ, Bool, true, ◌^◌, ◌⊎◌, List, [], ◌∷◌, ◌++◌, Option, Some, None, String, length, map, take}
+use Rattle.std.specs.{Global.{Global, Vec}, String.{string_bytes}, declared.rc.Rc.{Rc}}
 use Rattle.stack_shelf.specs.Files.{Files}
 
 -- a shelf, the files that it gave, and those that it got, in the order of the calls
@@ -40,19 +40,28 @@ pub record LoggedSinkOf (K : Type 0) : Type 0 where
 abbrev pub logged_took : {K : Type 0} → (K → List ℕ → K) → LoggedSinkOf K → List ℕ → LoggedSinkOf K
 logged_took took s bytes = record { sink = took s.sink bytes; printed = take log_limit (s.printed ++ bytes) }
 
--- lines, the first bytes of those that came, and whether their end was seen
+-- lines, the first bytes of those that came, how many bytes the sink's log had when each of them was asked for, and whether their end
+-- was seen
 pub record LoggedLinesOf (L : Type 0) : Type 0 where
   pub lines : L
   pub came : List ℕ
+  pub printed_before : List ℕ
   pub over : Bool
 
--- the logged lines after a call that gave this line, by what the lines are then
-abbrev pub logged_came : {L : Type 0} → (L → List ℕ → L) → LoggedLinesOf L → List ℕ → LoggedLinesOf L
-logged_came came s line = record { lines = came s.lines line; came = take log_limit (s.came ++ line); over = s.over }
+-- the logged lines after a call that saw this sink and gave this line, by what the lines are then
+abbrev pub logged_came : {L K : Type 0} → (L → K → List ℕ → L) → LoggedLinesOf L → LoggedSinkOf K → List ℕ → LoggedLinesOf L
+logged_came came s sink line =
+    record {
+      lines = came s.lines sink.sink line;
+      came = take log_limit (s.came ++ line);
+      printed_before = take log_limit (s.printed_before ++ length sink.printed ∷ []);
+      over = s.over;
+    }
 
--- and after one that said that none is left
-abbrev pub logged_ended : {L : Type 0} → (L → L) → LoggedLinesOf L → LoggedLinesOf L
-logged_ended ended s = record { lines = ended s.lines; came = s.came; over = true }
+-- and after one that saw this sink and said that none is left
+abbrev pub logged_ended : {L K : Type 0} → (L → K → L) → LoggedLinesOf L → LoggedSinkOf K → LoggedLinesOf L
+logged_ended ended s sink =
+    record { lines = ended s.lines sink.sink; came = s.came; printed_before = s.printed_before; over = true }
 
 -- the bytes of a text that was offered, if one was
 abbrev pub offered_text : Option (Rc (Vec ℕ) Global) → List ℕ

@@ -1,5 +1,5 @@
 //! A sink that keeps a log.
-ghost use Rattle.std.specs.Prelude.{◌≡◌, ◌++◌, []};
+ghost use Rattle.std.specs.Prelude.{◌≡◌, ◌++◌, [], length};
 
 use crate::printed::Printed;
 use stack_heap::Heap;
@@ -43,6 +43,20 @@ impl<H: Heap, K: Sink + Drop> LoggedSink<H, K> {
         ensures { result.0.now ++ result.1.now ≡ self.now.printed }
     {
         self.printed.pieces()
+    }
+
+    /// The sink without its log.
+    pub(crate) fn sink(&self) -> &K
+        ensures { result.now ≡ self.now.sink }
+    {
+        &self.sink
+    }
+
+    /// How many bytes its log has.
+    pub(crate) fn count(&self) -> usize
+        ensures { result ≡ length self.now.printed }
+    {
+        self.printed.len()
     }
 }
 

@@ -9,7 +9,7 @@ use std::marker::Model;
 use std::rc::Rc;
 
 /// How many bytes a log has at most: more than any report has, and less than a session may print.
-const LOG_LIMIT: usize = 1 << 24;
+pub(crate) const LOG_LIMIT: usize = 1 << 24;
 
 /// For how many bytes of its own a log first has room. A vector doubles its room, so a log never has room for more than `LOG_LIMIT` if no piece
 /// has more bytes than this.

@@ -9,7 +9,7 @@ abbrev pub IsLine : List ℕ → Type 0
 IsLine line =
     (text : List ℕ) × All (λ byte. byte ≢ 10) text × ((line ≡ text ++ 10 ∷ []) ⊎ ((line ≡ text) × (line ≢ [])))
 
--- What a call gives where the text that is still to come is known: its first line, which it loses, and at its end nothing. A line may be
+-- What a call gives if the text that is still to come is known: its first line, which it loses, and at its end nothing. A line may be
 -- over the limit; the call may also fail, or run out of memory, which is left open.
 abbrev pub Comes : ℕ → Option (List ℕ) → Option (List ℕ) → Result (Option (Vec ℕ)) LineFault → Type 0
 Comes limit old new (Ok (Some line)) =
@@ -29,7 +29,7 @@ abbrev pub ReadsByte : Option (List ℕ) → Option (List ℕ) → Option ℕ �
 ReadsByte old new (Some byte) = Consumes old new (byte ∷ [])
 ReadsByte old new None = Consumes old new [] × IsAtEnd new
 
--- What is read of a stream: a line, which its bytes begin with, and where that has no line feed, its end; or its end at once.
+-- What is read of a stream: a line, which its bytes begin with, and its end if the line has no line feed; or its end at once.
 abbrev pub ReadsLine : ℕ → Option (List ℕ) → Option (List ℕ) → Result (Option (Vec ℕ)) LineFault → Type 0
 ReadsLine limit old new (Ok (Some line)) = Consumes old new line.items × (((text : List ℕ) × (line.items ≡ text ++ 10 ∷ [])) ⊎ IsAtEnd new)
 ReadsLine limit old new (Ok None) = IsAtEnd old

@@ -15,7 +15,8 @@
 //! a call, so a count that rose is evidence that a call of the shelf raised it.
 //!
 //! `gave`, `got`, `took`, `came` and `ended` say what a device is after a call that went well. By them a caller's clause tells which calls it
-//! made, in which order and with what, over every device.
+//! made, in which order and with what, over every device. `came` and `ended` are told the sink as it is when a line is asked for, so a clause can
+//! say what was printed before that.
 //!
 //! `may_refuse` says whether a device may have no memory for a call. It is told of the type, so no clause has to say that a call
 //! leaves it. Standard output takes none, and of the other five devices nothing is known.

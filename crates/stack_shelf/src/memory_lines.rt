@@ -78,7 +78,7 @@ fn first_line(text: &[u8]) -> (&[u8], &[u8])
     }
 }
 
-impl Lines for MemoryLines {
+impl<K> Lines<K> for MemoryLines {
     ghost use Rattle.std.specs.Prelude.{Some};
     ghost use Rattle.stack_shelf.specs.InMemory.{line_given_by, line_call};
 
@@ -88,13 +88,13 @@ impl Lines for MemoryLines {
 
     ghost overruns = { λ s. s.overruns };
 
-    ghost came = { line_given_by };
+    ghost came = { λ s _. line_given_by s };
 
-    ghost ended = { line_call };
+    ghost ended = { λ s _. line_call s };
 
     ghost may_refuse = { Unit {0} };
 
-    fn next_line(&mut self, alloc: Global, limit: u64) -> Result<Option<Vec<u8>>, LineFault>
+    fn next_line(&mut self, _: &K, alloc: Global, limit: u64) -> Result<Option<Vec<u8>>, LineFault>
         ensures comes { Comes limit (Some self.old.ahead) (Some self.new.ahead) result }
         ensures line { IfOk result (λ next. IfSome next (λ line. IsLine line.items)) }
         ensures length { IfOk result (λ next. IfSome next (λ line. length line.items ≤ limit)) }

@@ -45,7 +45,7 @@ impl<R: Read + Drop> StdinLines<R> {
     }
 }
 
-impl<R: Read + Drop> Lines for StdinLines<R> {
+impl<R: Read + Drop, K> Lines<K> for StdinLines<R> {
     ghost use Rattle.std.specs.Prelude.{None};
     ghost use Rattle.stack_shelf.specs.System.{input_over};
 
@@ -55,13 +55,13 @@ impl<R: Read + Drop> Lines for StdinLines<R> {
 
     ghost overruns = { λ s. s.overruns };
 
-    ghost came = { λ s _. s };
+    ghost came = { λ s _ _. s };
 
-    ghost ended = { input_over };
+    ghost ended = { λ s _. input_over s };
 
     ghost may_refuse = { Unit {0} };
 
-    fn next_line(&mut self, alloc: Global, limit: u64) -> Result<Option<Vec<u8>>, LineFault>
+    fn next_line(&mut self, _: &K, alloc: Global, limit: u64) -> Result<Option<Vec<u8>>, LineFault>
         ensures line { IfOk result (λ next. IfSome next (λ line. IsLine line.items)) }
         ensures length { IfOk result (λ next. IfSome next (λ line. length line.items ≤ limit)) }
         ensures faults { self.old.faults ≤ self.new.faults }

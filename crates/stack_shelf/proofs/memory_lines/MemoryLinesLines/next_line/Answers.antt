@@ -3,7 +3,7 @@ use Rattle.stack_shelf.proofs.LineLaws.{first_is, line_behind, rest_of}
 use Rattle.stack_shelf.proofs.memory_lines.MemoryLinesLines.next_line.Goals as goal
 
 pub returns-then-line-limit-clause-comes : goal.returns-then-line-limit-clause-comes
-returns-then-line-limit-clause-comes c =
+returns-then-line-limit-clause-comes g c =
     let all = c.self.inside.text.items in
     let place = c.self.inside.place in
     let ahead : drop place all ≡ c.args.self.now.ahead = ap (λ s. s.ahead) c.self.view_is in
@@ -14,7 +14,7 @@ returns-then-line-limit-clause-comes c =
     subst (λ (l : List ℕ). c.args.limit < length l) is.0 c.if-line-limit.true
 
 pub returns-clause-comes : goal.returns-clause-comes
-returns-clause-comes c =
+returns-clause-comes g c =
     let all = c.self.inside.text.items in
     let place = c.self.inside.place in
     let ahead : drop place all ≡ c.args.self.now.ahead = ap (λ s. s.ahead) c.self.view_is in
