@@ -65,9 +65,11 @@ fn push_variable<H: Heap>(
     push_lines(heap, text, None, &[variable])
 }
 
-/// Appends the line of each variable.
+/// Appends a line for each variable of a run of a source: `NAME = VALUE`.
+///
+/// The only error is out of memory; no clause says what the text holds then.
 #[tactic(auto, unfolding(crate::specs::Running::variables_shown))]
-fn push_variables<H: Heap>(
+pub fn push_variables<H: Heap>(
     heap: H,
     text: &mut Vec<u8>,
     variables: &[(Name, Value)],

@@ -12,5 +12,7 @@ pub mod ReadyLaws
 mod StepLaws
 mod NamedLaws
 mod ShownLaws
+mod StackLaws
+mod WaitingLaws
 mod StartLaws
 mod FittingLaws

@@ -7,3 +7,4 @@ pub mod Entering
 pub mod Finishing
 pub mod Within
 pub mod Stepping
+pub mod Stacking

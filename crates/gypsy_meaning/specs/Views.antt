@@ -4,3 +4,4 @@ pub mod Named
 pub mod Running
 pub mod Held
 pub mod Belongs
+pub mod Stacks

@@ -3,6 +3,7 @@
 //! What it follows is defined in `gypsy_semantics`; `specs/Views` says how a run is seen, and what belongs together.
 #![tactic(auto)]
 
+mod activations;
 mod applying;
 mod calling;
 mod copying;
@@ -22,6 +23,7 @@ mod turn;
 mod work;
 mod writing;
 
+pub use activations::Activation;
 pub use gypsy_semantics::{Current, MeanRun, Moved};
-pub use laws::runs_keep_their_source;
+pub use laws::{activations_go_on_as_shown, runs_keep_their_source};
 pub use running::Meaning;

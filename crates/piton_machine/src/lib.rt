@@ -14,5 +14,6 @@ mod stack;
 mod state;
 mod view;
 
+pub use frames::FrameAt;
 pub use piton_semantics::{ErrorKind, PitonRun, Stepped};
 pub use state::State;

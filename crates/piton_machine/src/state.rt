@@ -1,13 +1,14 @@
 //! The state of a run.
 
-ghost use Rattle.std.specs.Prelude.{◌≡◌, ◌≤◌, [], IfOk, length, reverse, slice_index_or};
+ghost use Rattle.std.specs.{Prelude.{◌≡◌, ◌≤◌, [], IfOk, length, reverse, slice_get, slice_index_or}, Option.{option_map}};
 ghost use Rattle.stack_heap.specs.Heaps.{IfOkUnless};
 ghost use Rattle.piton_semantics.specs.{Fits.{Each, IsWellFormed, IsWordOf, system_in, IsInitialStack}, StateView.{IsSeen, seen_step, answer_of, left_of}};
 ghost use Rattle.piton_semantics.specs.{StateView.{state_run, opening}, State.{locals_of}, Step.{step_cost}};
 ghost use Rattle.piton_check.specs.Instruction.{system_view};
+ghost use Rattle.piton_machine.specs.Stacked.{frame_seen};
 
 use crate::areas::Areas;
-use crate::frames::Frames;
+use crate::frames::{FrameAt, Frames};
 use crate::stack::Stack;
 use piton_check::{Checked, Resolved};
 use piton_semantics::{ErrorKind, PitonInstr, PitonRun, Stepped, instruction};
@@ -224,6 +225,13 @@ impl State {
         ensures { result.now ≡ locals_of self.now.state.frames }
     {
         self.frames.locals()
+    }
+
+    /// A frame by its number, where the newest has 0; `None` exactly where there are no more frames.
+    pub fn frame(&self, number: u32) -> Option<FrameAt<'_>>
+        ensures { option_map frame_seen result ≡ slice_get self.now.state.frames number }
+    {
+        self.frames.frame(number as usize)
     }
 
     /// The words of an area.
