@@ -69,8 +69,13 @@ same_on : (a b : ℕ) (ds : List Decl) (r : Result Node (TextRule × ℕ)) → v
 same_on a b ds (Err fault) = refl
 same_on a b ds (Ok tree) = same_at a b ds tree
 
+-- slots take the same values wherever they begin
+pub same_values : (a b : ℕ) (ds : List Decl) (text : List ℕ) → values_in (slots_from a ds) text ≡ values_in (slots_from b ds) text
+unfolding values_in
+same_values a b ds text = same_on a b ds (tree_in text)
+
 -- the image's slots take the values that main's formals take
 pub image_takes : (source : SourceOf) (sizes : StackSizes) (base : ℕ) (text : List ℕ)
     → values_in (image_of source sizes base).slots text ≡ values_in (formal_slots source) text
-unfolding values_in image_of
-image_takes source sizes base text = same_on _ 0 (shown_formals source) (tree_in text)
+unfolding image_of
+image_takes source sizes base text = same_values _ 0 (shown_formals source) text

@@ -10,10 +10,10 @@ use crate::source_text::refused;
 use command_line::StackSize;
 use command_replies::Plan;
 use command_replies::run::begin;
-use fm_image::Image;
-use stack_build::{Built, build};
+use stack_build::{Built, Origins, build_with_origins};
 use stack_heap::Heap;
 use stack_text::{Memory, Seq};
+use std::mem::forget;
 
 /// What `go` stores, and what is left to do.
 ///
@@ -33,34 +33,33 @@ pub fn prepare<H: Heap>(
     ensures reply { IfOk result (λ plan.
         pending_reply plan.pending ≡ go_reply (built source.now control.now temporary.now 0) values.now budget) }
 {
-    match build(heap, source, control.words(), temporary.words(), 0) {
-        Ok(
-            Built {
-                image,
-                bytes,
-                piton,
-            },
-        ) => {
-            drop(piton);
-            store_and_begin(heap, bytes, image, values, budget)
-        }
+    match build_with_origins(heap, source, control.words(), temporary.words(), 0) {
+        Ok((built, origins)) => store_and_begin(heap, built, origins, values, budget),
         Err(fault) => refused(heap.handle(), fault),
     }
 }
 
-/// Stores an image's file, and begins the image's run on the values of a text.
+/// Stores an image's file, and begins the image's run on the values of a text. What the image was made of stays until the process
+/// ends: to give it back takes longer than most runs.
 fn store_and_begin<H: Heap>(
     heap: H,
-    bytes: Vec<u8>,
-    image: Image,
+    built: Built,
+    origins: Origins,
     values: &[u8],
     budget: u64,
 ) -> Result<Plan, Memory>
     requires { length values.now ≤ 2 ^ 31 }
-    ensures stored { IfOkUnless (H.may_refuse heap) result (λ plan. plan.stored ≡ Some bytes.items) }
+    ensures stored { IfOkUnless (H.may_refuse heap) result (λ plan. plan.stored ≡ Some built.bytes) }
     ensures reply { IfOk result (λ plan.
-        pending_reply plan.pending ≡ values_reply image budget (values_in image.slots values.now)) }
+        pending_reply plan.pending ≡ values_reply built.image budget (values_in built.image.slots values.now)) }
 {
+    let Built {
+        image,
+        bytes,
+        piton,
+    } = built;
+    forget(piton);
+    forget(origins);
     let pending = begin(heap, image, values, budget)?;
     Ok(Plan {
         stored: Some(Seq::from_vec(bytes)),
