@@ -14,3 +14,4 @@ pub mod CodeWordsLaws
 pub mod SpelledLaws
 pub mod QuickenLaws
 pub mod StoredLaws
+pub mod ExampleLaws

@@ -31,9 +31,9 @@ pub record IsMeantWithin (source : SourceOf) (sizes : StackSizes) (image : Image
   pub few : steps ≤ count
   pub reads : reading image state ≡ meaning_shown source finals way
 
--- On all values that fit main's formals: where the meaning is done, the loaded machine comes to the end within the counted
--- instructions, and memory shows the meaning there; the other way round, where the machine first comes to its end, the meaning is done,
--- and memory shows it; no run needs an address outside the window; and where the source never ends, no run comes to an end.
+-- On all values that fit main's formals: if the meaning is done, the loaded machine comes to the end within the counted
+-- instructions, and memory shows the meaning there; the other way round, if the machine comes to its end, the meaning is done,
+-- and memory shows it there; no run needs an address outside the window; and if the source never ends, no run comes to an end.
 pub record DoesQuickly (image : ImageOf) (source : SourceOf) (sizes : StackSizes) : Type 0 where
   pub comes : (values finals : List ValueOf) (way : CurrentCondition) (count : ℕ) → FitsFormals source values →
       Finishes source sizes values finals way count → ComesWithin image values count (meaning_shown source finals way)
@@ -61,7 +61,7 @@ pub record Quickens (source : SourceOf) (sizes : StackSizes) (plain : ImageOf) :
       ComesAsCounted source sizes plain values bound (meaning_shown source finals way)
   pub spells : Spelled (spelling (quickened source plain)) (quickened source plain)
 
--- The same of the source in a text. Where that has at most 2^20 bytes, the file has at most 2^25 bytes.
+-- The same of the source in a text. If that has at most 2^20 bytes, the file has at most 2^25 bytes.
 pub record QuickensText (text : List ℕ) (ctrl temp : ℕ) (plain : ImageOf) : Type 0 where
   pub source : SourceOf
   pub read : accepted_source text ≡ Ok source

@@ -7,3 +7,4 @@ pub mod Weighing
 pub mod QuickOf
 pub mod Quickened
 pub mod DoesQuickly
+pub mod Example

@@ -13,21 +13,21 @@ use Rattle.quick_generate.specs.declared.fault.QuickFault.TheVariants as fault
 
 -- 1. Parts, by what the code has at hand.
 
--- the registers, where the chosen variables are of these shapes and the code begins at start
+-- the registers, if the chosen variables are of these shapes and the code begins at start
 abbrev pub registers_by : List ℕ → List Shape → ℕ → ℕ → List ℕ
 registers_by vs shapes end start =
     let top = end - words_of shapes in
     let at : ℕ → ℕ = λ j. end - 1 - words_of (take (get_or vs j 0) shapes) in
     0 ∷ top ∷ top ∷ 0 ∷ 0 ∷ at 0 ∷ at 1 ∷ at 2 ∷ at 3 ∷ at 4 ∷ at 5 ∷ at 6 ∷ at 7 ∷ at 8 ∷ at 9 ∷ start ∷ []
 
--- where main's body begins, and the place behind it, where the exits have so many formal conditions
+-- where main's body begins, and the place behind it, if there are exits for so many formal conditions
 abbrev pub start_by : ℕ → ℕ → ℕ
 start_by base conds = base + 6 * (2 + conds)
 
 abbrev pub final_by : Layout → ℕ → ℕ → Stmt → ℕ
 final_by L base conds s = start_by base conds + size L s
 
--- the exits and the body, where the condition's word stands behind the word that ends the code
+-- the exits and the body, if the condition's word stands behind the word that ends the code
 abbrev pub words_by : Layout → ℕ → ℕ → Stmt → List ℕ
 words_by L base conds s =
     let final = final_by L base conds s in
@@ -58,6 +58,6 @@ abbrev pub fault_of : QuickFault → Option QuickFault
 fault_of fault.Memory = None
 fault_of found = Some found
 
--- the call returned exactly what the definition gives, seen through the view; memory runs out only where it was refused
+-- the call returned exactly what the definition gives, seen through the view; memory runs out only if it was refused
 abbrev pub GivesQuickUnless : {X Y : Type 0} → Type 0 → (X → Y) → Result X QuickFault → Result Y QuickFault → Type 0
 GivesQuickUnless refused view result value = common.GivesUnless refused fault_of view result value

@@ -13,12 +13,12 @@ abbrev pub image_or : ImageOf → Result ImageOf QuickFault → ImageOf
 image_or plain (Ok image) = image
 image_or plain (Err found) = plain
 
--- the quick image of a source, where registers hold the addresses of the variables that are named most, in the smallest window from the
--- plain image's base on; and where there is none, the plain image that was built of the source
+-- the quick image of a source, in which registers hold the addresses of the variables that are named most, in the smallest window from the
+-- plain image's base on; and if there is none, the plain image that was built of the source
 unfoldable pub quickened : SourceOf → ImageOf → ImageOf
 quickened s plain = image_or plain (quick_of (chosen_of (main_proc s)) s plain.base)
 
--- what is left where there is no quick image: out of memory is an error, and else the plain image is kept
+-- what is left if there is no quick image: out of memory is an error, and else the plain image is kept
 abbrev pub KeepsPlain : {X E : Type 0} → QuickFault → X → Result X E → Type 0
 KeepsPlain fault.Memory plain result = IsErr result
 KeepsPlain found plain result = result ≡ Ok plain

@@ -39,12 +39,12 @@ front_code L f args n =
     by_literal_code Move no_flags (count_of L (arg_var args n) - 1) ++ (by_word_code Sub flag_c (arg_access L args (n + 1)) ++
     (jump_when_code Cs f ++ by_literal_code Add no_flags (last_address L (arg_var args n))))
 
--- a copy, where finding the target takes x words, and finding the source y
+-- a copy, if finding the target takes x words, and finding the source y
 abbrev pub copy_size : ℕ → ℕ → ℕ
 copy_size x zero = x + 1
 copy_size x (suc y) = suc y + 1 + (x + 1)
 
--- how many words a row has, where finding its variables takes x, y and z words
+-- how many words a row has, if finding its variables takes x, y and z words
 abbrev pub row_size : ℕ → ℕ → ℕ → Predef → ℕ
 row_size x y z row.MgSimpleVariableAssignment = copy_size x y
 row_size x y z row.MgSimpleConstantAssignment = x + 2
