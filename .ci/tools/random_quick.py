@@ -13,10 +13,7 @@ import tempfile
 from pathlib import Path
 from random import Random
 
-sys.path.append(str(Path(__file__).resolve().parents[2] / "tools"))
-
-from arguments import seeds_of  # noqa: E402
-from random_sources import SECONDS, Case, Literal, Source, listed, random_case  # noqa: E402
+from random_sources import SECONDS, Case, Literal, Source, listed, random_case, try_seeds
 
 FINISHED = re.compile(r"finished (\d+)\n(.*)", re.S)
 
@@ -78,17 +75,11 @@ def difference(program: str, seed: int) -> str:
     return ""
 
 
-def main() -> int:
-    words, agreeing = seeds_of(__doc__), 0
-    for seed in range(words.first, words.first + words.how_many):
-        found = difference(str(words.program), seed)
-        if found:
-            print(f"seed {seed}: {found}; source {case_of(seed).run.source.text!r}", flush=True)
-        else:
-            agreeing += 1
-    print(f"{agreeing} sources agree")
-    return 0 if agreeing == words.how_many else 1
+def told_difference(program: str, seed: int) -> str:
+    """The same, with the seed and its source."""
+    found = difference(program, seed)
+    return f"seed {seed}: {found}; source {case_of(seed).run.source.text!r}" if found else ""
 
 
 if __name__ == "__main__":
-    sys.exit(main())
+    sys.exit(try_seeds(__doc__, told_difference))

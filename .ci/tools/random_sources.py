@@ -619,8 +619,9 @@ def difference(program: str, seed: int) -> str:
     return ""
 
 
-def main() -> int:
-    words, agreeing = seeds_of(__doc__), 0
+def try_seeds(document: str, difference: Callable[[str, int], str]) -> int:
+    """Tries the seeds that the command line asks for, prints each difference and how many agree, and is the exit status."""
+    words, agreeing = seeds_of(document), 0
     for seed in range(words.first, words.first + words.how_many):
         found = difference(str(words.program), seed)
         if found:
@@ -632,4 +633,4 @@ def main() -> int:
 
 
 if __name__ == "__main__":
-    sys.exit(main())
+    sys.exit(try_seeds(__doc__, difference))
