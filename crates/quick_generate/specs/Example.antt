@@ -1,11 +1,11 @@
--- An example: a source that has a quick image, so that what is promised of those is promised of something.
+-- An example, computed: of sources with this program the quick image is what is stored, not the plain one.
 use Rattle.std.specs.Prelude.{◌≡◌, ◌+◌, pos, [], ◌∷◌, Some}
 use Rattle.fm_image.specs.Image.{ImageOf}
 use Rattle.gypsy_syntax.specs.{Effects.{integer_value}, Resolved.{program_of}, Sources.{SourceOf}}
 use Rattle.quick_build.specs.{QuickExamples.{hundred, upto, upto_main}, QuickImage.{quick_image}}
 use Rattle.quick_generate.specs.{Choice.{chosen_of}, Quickened.{quickened, quick_count}}
 
--- of a source whose program is that of `examples/counting/upto.gypsy`
+-- of a source whose program is that of `examples/counting/upto.gypsy`, but with 0 for each place in the text
 pub record UptoIsQuickened : Type 0 where
   -- it names i most, then is-over, n and one
   pub chosen : chosen_of upto_main ≡ 1 ∷ 2 ∷ 0 ∷ 3 ∷ []
