@@ -1,1 +1,2 @@
 pub mod UnlessLaws
+mod HeldLaws

@@ -8,6 +8,9 @@ use std::alloc::AllocError;
 ///
 /// So a method of `Heap` makes room in a table whose type it doesn't name.
 pub trait HasRoom {
+    /// How many items it has.
+    ghost size: { Self → ℕ };
+
     /// For how many items more it has room.
     ghost room: { Self → ℕ };
 
