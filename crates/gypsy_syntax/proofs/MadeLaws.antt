@@ -4,34 +4,28 @@ use Rattle.std.proofs.Common.{◌∙◌, ◌≡◌, ℕ, suc, ◌+◌, ◌<◌, 
 use Rattle.std.{proofs.Common.{ap, subst, arith}, specs.Prelude.{ℤ, ◌&&◌}, proofs.lemmas.Bool.{le-leb, and_from}}
 use Rattle.stack_text.{specs.declared.name.Named.Named, specs.Trees.{Node, Nodes, list, none, more, depth, depths, node_count, AtomsAreRuns, AllAtomsAreRuns}}
 use Rattle.stack_text.{specs.Views.TreeView.nodes, specs.Grammar.Judged.{front, each_of}, specs.Grammar.Parts.count_of, specs.Grammar.Printed.list_tree}
-use Rattle.stack_text.{specs.Grammar.Printed.{name_tree, unplaced_name}, proofs.AtomLaws.name_is_run, proofs.NumeralTextLaws.natural_written}
-use Rattle.stack_text.{proofs.MadeLaws.{Made, made_each, made_names}, proofs.KeepsLaws.{named_again, ok_one, ok_two, ok_three, ok_six, passes}}
+use Rattle.stack_text.{specs.Grammar.Printed.name_tree, proofs.AtomLaws.name_is_run, proofs.MadeLaws.{Made, made_each, made_names, named_again, ok, ◌◂◌}}
+use Rattle.stack_text.proofs.MadeLaws.{passes}
 use Rattle.gypsy_syntax.{specs.declared.keyword.Keyword.Keyword, specs.declared.literal.Decl.Decl, specs.declared.literal.TypeText.TypeText}
-use Rattle.gypsy_syntax.{specs.GypsyReading.KeepsForm, specs.Fits.{FitsLength, FitsSimple, AllSimple, FitsLiteral, FitsArgument, FitsDecl, FitsLocal}}
-use Rattle.gypsy_syntax.{specs.Fits.{FitsStatement, FitsStatements, FitsProcedure, FitsForm}, specs.Grammar.{simple_type, type_in, simple_in, literal_in}}
-use Rattle.gypsy_syntax.specs.Grammar.{decl_in, local_in, arg_in, is_empty_list, statement_in, form_in, statements_in, are_few, procedure_in, source_in}
-use Rattle.gypsy_syntax.specs.Made.{literals, statements, new_decl, new_local, new_list, new_seq, new_branch, new_begin, new_call, new_predef, new_proc}
-use Rattle.gypsy_syntax.{specs.Made.new_source, specs.Places.{unplaced_type, unplaced_literal, unplaced_literals, unplaced_arg, unplaced_decl, unplaced_local}}
-use Rattle.gypsy_syntax.{specs.Places.{unplaced_stmt, unplaced_stmts, unplaced_proc, without_places}, specs.Printed.{type_tree, literal_tree, literal_trees}}
-use Rattle.gypsy_syntax.{specs.Printed.{arg_tree, decl_tree, local_tree, keyword_tree, stmt_tree, stmt_trees, proc_tree, tree_of}, specs.Sizes.nesting}
-use Rattle.gypsy_syntax.{specs.Sizes.deepest, specs.Sources.{LiteralOf, LiteralsOf, integer, truth, character, array, no_items, item, ArgOf, variable}}
-use Rattle.gypsy_syntax.specs.Sources.{constant, StmtOf, StmtsOf, no_op, signal, seq, loop, branch, begin, call, predef, no_parts, part, LocalOf, ProcOf}
-use Rattle.gypsy_syntax.{specs.Sources.SourceOf, proofs.KeepsLaws.{KeepsSimple, argument_again, array_again, begin_again, character_kept, integer_kept}}
-use Rattle.gypsy_syntax.proofs.KeepsLaws.{keyword_run, kind_again, kind_run, number_run, statement_again, truth_kept, variable_again}
+use Rattle.gypsy_syntax.{specs.GypsyReading.KeepsForm, specs.Fits.{FitsLength, AllSimple, FitsLiteral, FitsArgument, FitsDecl, FitsLocal, FitsStatement}}
+use Rattle.gypsy_syntax.{specs.Fits.{FitsStatements, FitsProcedure, FitsForm}, specs.Grammar.{simple_type, type_in, simple_in, literal_in, decl_in, local_in}}
+use Rattle.gypsy_syntax.{specs.Grammar.{arg_in, is_empty_list, statement_in, form_in, statements_in, are_few, procedure_in, source_in}, specs.Made.literals}
+use Rattle.gypsy_syntax.specs.Made.{statements, new_decl, new_local, new_list, new_seq, new_branch, new_begin, new_call, new_predef, new_proc, new_source}
+use Rattle.gypsy_syntax.specs.Places.{unplaced_type, unplaced_literal, unplaced_literals, unplaced_arg, unplaced_decl, unplaced_local, unplaced_stmt}
+use Rattle.gypsy_syntax.{specs.Places.{unplaced_stmts, unplaced_proc, without_places}, specs.Printed.{type_tree, literal_tree, literal_trees, arg_tree}}
+use Rattle.gypsy_syntax.{specs.Printed.{decl_tree, local_tree, keyword_tree, stmt_tree, stmt_trees, proc_tree, tree_of}, specs.Sizes.{nesting, deepest}}
+use Rattle.gypsy_syntax.specs.Sources.{LiteralOf, LiteralsOf, integer, truth, character, array, no_items, item, ArgOf, variable, constant, StmtOf, StmtsOf}
+use Rattle.gypsy_syntax.specs.Sources.{no_op, signal, seq, loop, branch, begin, call, predef, no_parts, part, LocalOf, ProcOf, SourceOf}
+use Rattle.gypsy_syntax.proofs.AgainLaws.{SimpleAgain, simple_again, argument_again, array_again, begin_again, keyword_run, kind_again, kind_run, number_run}
+use Rattle.gypsy_syntax.proofs.AgainLaws.{statement_again, variable_again}
 use Rattle.gypsy_syntax.specs.declared.keyword.Keyword.TheVariants as word
 
 -- ---- values
 
-made_simple : (l : LiteralOf) → FitsSimple l → KeepsSimple l
-made_simple (integer p z) h = integer_kept p z h
-made_simple (truth p b) h = truth_kept p b
-made_simple (character p z) h = let k = natural_written z h in character_kept p z (record { digits = k.1; fits = k.0 })
-made_simple (array p ls) h = absurd h
-
-simple_runs : (l : LiteralOf) → KeepsSimple l → AtomsAreRuns (literal_tree l)
+simple_runs : (l : LiteralOf) → SimpleAgain l → AtomsAreRuns (literal_tree l)
 simple_runs l k = subst AtomsAreRuns (sym k.tree_is) k.run
 
-simple_low : (l : LiteralOf) → KeepsSimple l → depth (literal_tree l) ≡ 0
+simple_low : (l : LiteralOf) → SimpleAgain l → depth (literal_tree l) ≡ 0
 simple_low l k = ap depth k.tree_is
 
 record MadeItems (ls : LiteralsOf) : Type 0 where
@@ -44,17 +38,17 @@ record MadeItems (ls : LiteralsOf) : Type 0 where
 made_items : (ls : LiteralsOf) → AllSimple ls → MadeItems ls
 made_items no_items h = record { items = []; reads = refl; same = refl; runs = tt; low = refl }
 made_items (item l ls) h =
-    let k = made_simple l h.0 in
+    let k = simple_again l h.0 in
     let others = made_items ls h.1 in
     record {
       items = unplaced_literal l ∷ others.items;
-      reads = ok_two front _ _ (unplaced_literal l) others.items (ap simple_in k.tree_is ∙ k.reads) others.reads;
+      reads = ok front ◂ (ap simple_in k.tree_is ∙ k.reads) ◂ others.reads;
       same = ap (item (unplaced_literal l)) others.same;
       runs = (simple_runs l k, others.runs);
       low = let one_ : depth (literal_tree l) ≡ 0 = simple_low l k in let two_ : depths (literal_trees ls) ≡ 0 = others.low in omega (arith, one_, two_);
     }
 
-simple_literal : (l : LiteralOf) → KeepsSimple l → Made literal_in literal_tree unplaced_literal 1 l
+simple_literal : (l : LiteralOf) → SimpleAgain l → Made literal_in literal_tree unplaced_literal 1 l
 simple_literal l k = record {
   reads = ap literal_in k.tree_is ∙ k.reads;
   runs = simple_runs l k;
@@ -62,13 +56,13 @@ simple_literal l k = record {
 }
 
 made_literal : (l : LiteralOf) → FitsLiteral l → Made literal_in literal_tree unplaced_literal 1 l
-made_literal (integer p z) h = simple_literal (integer p z) (made_simple (integer p z) h)
-made_literal (truth p b) h = simple_literal (truth p b) (made_simple (truth p b) h)
-made_literal (character p z) h = simple_literal (character p z) (made_simple (character p z) h)
+made_literal (integer p z) h = simple_literal (integer p z) (simple_again (integer p z) h)
+made_literal (truth p b) h = simple_literal (truth p b) (simple_again (truth p b) h)
+made_literal (character p z) h = simple_literal (character p z) (simple_again (character p z) h)
 made_literal (array p ls) h =
     let m = made_items ls h in
     record {
-      reads = ok_one (new_list 0) _ m.items m.reads ∙ ap (λ items. Ok (array 0 items)) m.same;
+      reads = (ok (new_list 0) ◂ m.reads) ∙ ap (λ items. Ok (array 0 items)) m.same;
       runs = m.runs;
       low = let none_ : depths (literal_trees ls) ≡ 0 = m.low in omega (arith, none_);
     }
@@ -91,7 +85,7 @@ made_decl : (d : Decl) → FitsDecl d → Made decl_in decl_tree unplaced_decl 2
 made_decl d h =
     let m = made_type d.shape h.length in
     record {
-      reads = ok_two new_decl _ _ (unplaced_name d.name) (unplaced_type d.shape) (named_again 3 d.name h.name) m.reads;
+      reads = ok new_decl ◂ named_again 3 d.name h.name ◂ m.reads;
       runs = (name_is_run d.name.name h.name, (m.runs, tt));
       low = omega (arith, m.low);
     }
@@ -101,8 +95,7 @@ made_local l h =
     let m = made_type l.decl.shape h.decl.length in
     let v = made_literal l.value h.value in
     record {
-      reads = ok_three new_local _ _ _ (unplaced_name l.decl.name) (unplaced_type l.decl.shape) (unplaced_literal l.value)
-          (named_again 3 l.decl.name h.decl.name) m.reads v.reads;
+      reads = ok new_local ◂ named_again 3 l.decl.name h.decl.name ◂ m.reads ◂ v.reads;
       runs = (name_is_run l.decl.name.name h.decl.name, (m.runs, (v.runs, tt)));
       low = omega (arith, m.low, v.low);
     }
@@ -112,7 +105,7 @@ made_local l h =
 made_argument : (a : ArgOf) → FitsArgument a → Made arg_in arg_tree unplaced_arg 0 a
 made_argument (variable n) h = record { reads = variable_again n.name h; runs = name_is_run n.name h; low = omega arith }
 made_argument (constant l) h =
-    let k = made_simple l h in
+    let k = simple_again l h in
     record { reads = argument_again l k; runs = simple_runs l k; low = let one_ : depth (literal_tree l) ≡ 0 = simple_low l k in omega (arith, one_) }
 
 abbrev MadeStatement : StmtOf → Type 0
@@ -152,43 +145,42 @@ mutual
   made_statement : (s : StmtOf) → FitsStatement s → MadeStatement s
   made_statement (no_op p) h = made_form word.NoOp (no_op p) none refl refl tt (omega arith)
   made_statement (signal p c) h =
-      made_form word.Signal (signal p c) (more (name_tree c) none) refl (ok_one (signal 0) _ (unplaced_name c) (named_again 3 c h))
+      made_form word.Signal (signal p c) (more (name_tree c) none) refl (ok (signal 0) ◂ named_again 3 c h)
       (name_is_run c.name h, tt) (omega arith)
   made_statement (seq p no_parts) h = absurd h
   made_statement (seq p (part s ss)) h =
       let one_ = made_statement s h.0 in
       let others = made_parts ss h.1 in
       made_form word.Seq (seq p (part s ss)) (stmt_trees (part s ss)) refl
-      (ok_one (new_seq 0) _ (unplaced_stmt s ∷ others.parts) (ok_two front _ _ (unplaced_stmt s) others.parts one_.reads others.reads)
+      ((ok (new_seq 0) ◂ (ok front ◂ one_.reads ◂ others.reads))
       ∙ ap (λ parts. Ok (seq 0 (part (unplaced_stmt s) parts))) others.same)
       (one_.runs, others.runs) (omega (arith, one_.low, others.low))
   made_statement (loop p s) h =
       let one_ = made_statement s h in
-      made_form word.Loop (loop p s) (more (stmt_tree s) none) refl (ok_one (loop 0) _ (unplaced_stmt s) one_.reads) (one_.runs, tt) (omega (arith, one_.low))
+      made_form word.Loop (loop p s) (more (stmt_tree s) none) refl (ok (loop 0) ◂ one_.reads) (one_.runs, tt) (omega (arith, one_.low))
   made_statement (branch p b s t) h =
       let one_ = made_statement s h.1 in
       let two_ = made_statement t h.2 in
       made_form word.If (branch p b s t) (more (name_tree b) (more (stmt_tree s) (more (stmt_tree t) none))) refl
-      (ok_three (new_branch 0) _ _ _ (unplaced_name b) (unplaced_stmt s) (unplaced_stmt t) (named_again 3 b h.0) one_.reads two_.reads)
+      (ok (new_branch 0) ◂ named_again 3 b h.0 ◂ one_.reads ◂ two_.reads)
       (name_is_run b.name h.0, (one_.runs, (two_.runs, tt))) (omega (arith, one_.low, two_.low))
   made_statement (begin p s cs t) h =
       let one_ = made_statement s h.0 in
       let names = made_names 3 cs h.2 in
       let two_ = made_statement t h.3 in
       made_form word.Begin (begin p s cs t) (more (stmt_tree s) (more (list_tree name_tree cs) (more (stmt_tree t) none))) refl
-      (begin_again (list_tree name_tree cs) _ _ (some_names cs h.1)
-      (ok_three (new_begin 0) _ _ _ (unplaced_stmt s) (map unplaced_name cs) (unplaced_stmt t) one_.reads names.reads two_.reads))
+      (begin_again (list_tree name_tree cs) _ _ (some_names cs h.1) (ok (new_begin 0) ◂ one_.reads ◂ names.reads ◂ two_.reads))
       (one_.runs, (names.runs, (two_.runs, tt))) (omega (arith, one_.low, names.low, two_.low, nested s))
   made_statement (call p f q xs r cs) h =
       let actuals = made_names 3 xs h.1 in
       let conds = made_names 3 cs h.2 in
       made_form word.Call (call p f q xs r cs) (more (name_tree f) (more (list_tree name_tree xs) (more (list_tree name_tree cs) none))) refl
-      (ok_three (new_call 0 0 0) _ _ _ (unplaced_name f) (map unplaced_name xs) (map unplaced_name cs) (named_again 3 f h.0) actuals.reads conds.reads)
+      (ok (new_call 0 0 0) ◂ named_again 3 f h.0 ◂ actuals.reads ◂ conds.reads)
       (name_is_run f.name h.0, (actuals.runs, (conds.runs, tt))) (omega (arith, actuals.low, conds.low))
   made_statement (predef p which args) h =
       let each = made_each FitsArgument arg_in arg_tree unplaced_arg 0 made_argument args h in
       made_form (word.Predef which) (predef p which args) (nodes (map arg_tree args)) refl
-      (ok_one (new_predef 0 which) _ (map unplaced_arg args) each.reads) each.runs (omega (arith, each.low))
+      (ok (new_predef 0 which) ◂ each.reads) each.runs (omega (arith, each.low))
 
   made_parts : (ss : StmtsOf) → FitsStatements ss → MadeParts ss
   made_parts no_parts h = record { parts = []; reads = refl; same = refl; runs = tt; low = omega arith }
@@ -197,7 +189,7 @@ mutual
       let others = made_parts ss h.1 in
       record {
         parts = unplaced_stmt s ∷ others.parts;
-        reads = ok_two front _ _ (unplaced_stmt s) others.parts one_.reads others.reads;
+        reads = ok front ◂ one_.reads ◂ others.reads;
         same = ap (part (unplaced_stmt s)) others.same;
         runs = (one_.runs, others.runs);
         low = omega (arith, one_.low, others.low);
@@ -225,9 +217,7 @@ made_procedure p h =
     record {
       reads = passes 0 12 (are_few (list_tree decl_tree p.formals) (list_tree local_tree p.locals)
           && are_few (list_tree name_tree p.conds) (list_tree name_tree p.local_conds)) _ _ few
-          (ok_six (new_proc 0) _ _ _ _ _ _ (unplaced_name p.name) (map unplaced_decl p.formals) (map unplaced_name p.conds)
-          (map unplaced_local p.locals) (map unplaced_name p.local_conds) (unplaced_stmt p.body)
-          (named_again 3 p.name h.name) formals.reads conds.reads locals.reads local_conds.reads body.reads);
+          (ok (new_proc 0) ◂ named_again 3 p.name h.name ◂ formals.reads ◂ conds.reads ◂ locals.reads ◂ local_conds.reads ◂ body.reads);
       runs = ((omega arith, refl), (name_is_run p.name.name h.name, (formals.runs, (conds.runs, (locals.runs, (local_conds.runs, (body.runs, tt)))))));
       low = omega (arith, formals.low, conds.low, locals.low, local_conds.low, body.low, h.shallow);
     }
@@ -243,7 +233,7 @@ made_source s h = by_procs s.procs h.procs h.some_procs h.few_procs
         let count : count_of (nodes (map proc_tree (p ∷ ps))) ≤ 1000 = subst (λ (n : ℕ). n ≤ 1000) (sym procs.count) few in
         record {
           reads = passes 0 12 (leb (count_of (nodes (map proc_tree (p ∷ ps)))) 1000) _ _ (le-leb _ 1000 count)
-              (ok_two (new_source 0) _ _ (unplaced_name s.main) (map unplaced_proc (p ∷ ps)) (named_again 3 s.main h.main) procs.reads);
+              (ok (new_source 0) ◂ named_again 3 s.main h.main ◂ procs.reads);
           runs = ((omega arith, refl), (name_is_run s.main.name h.main, procs.runs));
           low = omega (arith, procs.low);
         }

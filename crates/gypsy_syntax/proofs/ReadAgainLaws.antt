@@ -7,7 +7,7 @@ use Rattle.gypsy_syntax.{specs.declared.literal.Decl.Decl, specs.GypsyReading.{K
 use Rattle.gypsy_syntax.specs.Printed.{literal_tree, literal_trees, arg_tree, decl_tree, local_tree, stmt_tree, stmt_trees, proc_tree, proc_text, source_head}
 use Rattle.gypsy_syntax.{specs.Printed.{tree_of, gypsy_text}, specs.Sources.{LiteralOf, LiteralsOf, integer, truth, character, array, no_items, item, ArgOf}}
 use Rattle.gypsy_syntax.specs.Sources.{variable, constant, StmtOf, StmtsOf, no_op, signal, seq, loop, branch, begin, call, predef, no_parts, part, LocalOf}
-use Rattle.gypsy_syntax.{specs.Sources.{ProcOf, SourceOf}, proofs.PlacesLaws.same_source}
+use Rattle.gypsy_syntax.{specs.Sources.{ProcOf, SourceOf}, proofs.WalkLaws.source_part}
 
 spells_source : (s : SourceOf) → Spells (tree_of s) (lines_text proc_text (source_head s) s.procs)
 spells_source s = spells_list proc_tree proc_text (λ p. Spells-tree_text (proc_tree p)) (atom 0 (codes "program")) (drop 1 (source_head s)) s.procs
@@ -77,4 +77,4 @@ pub gypsy_text_reads : (s : SourceOf) → KeepsForm s → ReadsAs (gypsy_text s)
 gypsy_text_reads s form =
     let text : List ℕ = lines_text proc_text (source_head s) s.procs in
     let read = spelled_is_read (tree_of s) text (10 ∷ []) form.well_formed (spells_source s) (tt, tt) in
-    read_back gypsy_reader same_source (gypsy_text s) s read (plain_source s) form.reads
+    read_back gypsy_reader source_part (gypsy_text s) s read (plain_source s) form.reads

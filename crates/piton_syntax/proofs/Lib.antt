@@ -2,9 +2,9 @@ pub mod WordLaws
 pub mod ArgumentLaws
 pub mod InstructionLaws
 pub mod ProgramLaws
-pub mod RiseLaws
-pub mod PlacesLaws
+pub mod WalkLaws
 pub mod PrintingLaws
+pub mod AgainLaws
 pub mod KeepsLaws
 pub mod FitsLaws
 pub mod MadeLaws

@@ -6,8 +6,7 @@ use Rattle.std.proofs.lemmas.List.Elements.{All-head, All-tail}
 use Rattle.stack_text.{specs.declared.name.Named.Named, specs.Names.is_name, specs.Numerals.{is_digits, is_numeral, fits_128_bits}, specs.Trees.{depth, depths}}
 use Rattle.stack_text.{specs.Trees.{node_count, AtomsAreRuns, AllAtomsAreRuns}, specs.Views.TreeView.nodes, proofs.AtomLaws.{name_is_run, numeral_is_run}}
 use Rattle.stack_text.{specs.Grammar.Printed.{name_tree, tree_of_all, unplaced_name}, specs.Grammar.Judged.◌⊛◌, specs.Grammar.Parts.count_of}
-use Rattle.stack_text.{proofs.NumeralTextLaws.{natural_written, numeral-signed_decimal}, proofs.MadeLaws.{Made, made_each, made_names}, proofs.KeepsLaws.passes}
-use Rattle.stack_text.proofs.KeepsLaws.{ok_one, ok_two, ok_four, ok_seven}
+use Rattle.stack_text.{proofs.NumeralTextLaws.{natural_written, numeral-signed_decimal}, proofs.MadeLaws.{Made, made_each, made_names, ok, ◌◂◌, passes}}
 use Rattle.piton_syntax.{specs.declared.argument.ArgKind.ArgKind, specs.declared.argument.ArgText.ArgText, specs.declared.argument.Arguments.Arguments}
 use Rattle.piton_syntax.{specs.declared.argument.Arguments.TheVariants.{Zero, One, TestAndLabel, OneOrMore}, specs.declared.test_kind.TestFamily.TestFamily}
 use Rattle.piton_syntax.{specs.declared.test_kind.TestKind.TestKind, specs.declared.word_text.Number.Number, specs.declared.word_text.WordText.WordText}
@@ -19,8 +18,8 @@ use Rattle.piton_syntax.{specs.Printed.{instruction_tree, temporary_tree, progra
 use Rattle.piton_syntax.specs.Systems.{SystemOf, new_word, new_program, new_area, new_system, unplaced_number, unplaced_item, unplaced_word, unplaced_argument}
 use Rattle.piton_syntax.{specs.Systems.{unplaced_instruction, unplaced_temporary, unplaced_program, unplaced_area, without_places}, specs.Fits.IsSigned}
 use Rattle.piton_syntax.specs.Fits.{IsUnsigned, FitsItem, FitsWord, FitsArgument, FitsArguments, FitsLabel, FitsInstruction, FitsTemporary, FitsProgram}
-use Rattle.piton_syntax.{specs.Fits.{FitsArea, FitsForm}, proofs.KeepsLaws.{named_again, number_again, word_again, truth_again, named_and_numbered}}
-use Rattle.piton_syntax.proofs.KeepsLaws.{called_again, unlabelled_again, op_run}
+use Rattle.piton_syntax.{specs.Fits.{FitsArea, FitsForm}, proofs.AgainLaws.{named_again, number_again, word_again, truth_again, named_and_numbered}}
+use Rattle.piton_syntax.proofs.AgainLaws.{called_again, unlabelled_again, op_run}
 use Rattle.piton_syntax.specs.declared.argument.ArgKind.TheVariants as kind
 use Rattle.piton_syntax.specs.declared.argument.ArgText.TheVariants as arg
 use Rattle.piton_syntax.specs.declared.test_kind.TestFamily.TheVariants as family
@@ -62,7 +61,7 @@ made_item (item.Int n) h =
     let m = made_signed n h in
     record {
       reads = word_again (item.Int (unplaced_number n)) _
-          (passes 0 5 (is_numeral (signed_decimal n.number)) _ _ m.is_written (ok_one item.Int _ (unplaced_number n) m.reads));
+          (passes 0 5 (is_numeral (signed_decimal n.number)) _ _ m.is_written (ok item.Int ◂ m.reads));
       runs =
           ((omega arith, refl), (m.runs, tt));
       low = omega arith;
@@ -71,7 +70,7 @@ made_item (item.Nat n) h =
     let m = made_unsigned n h in
     record {
       reads = word_again (item.Nat (unplaced_number n)) _
-          (passes 0 5 (is_digits (signed_decimal n.number)) _ _ m.is_written (ok_one item.Nat _ (unplaced_number n) m.reads));
+          (passes 0 5 (is_digits (signed_decimal n.number)) _ _ m.is_written (ok item.Nat ◂ m.reads));
       runs =
           ((omega arith, refl), (m.runs, tt));
       low = omega arith;
@@ -80,7 +79,7 @@ made_item (item.Bitv n) h =
     let m = made_unsigned n h in
     record {
       reads = word_again (item.Bitv (unplaced_number n)) _
-          (passes 0 5 (is_digits (signed_decimal n.number)) _ _ m.is_written (ok_one item.Bitv _ (unplaced_number n) m.reads));
+          (passes 0 5 (is_digits (signed_decimal n.number)) _ _ m.is_written (ok item.Bitv ◂ m.reads));
       runs =
           ((omega arith, refl), (m.runs, tt));
       low = omega arith;
@@ -102,7 +101,7 @@ made_item (item.Pc program n) h =
     }
 made_item (item.Subr program) h = record {
   reads = word_again (item.Subr (unplaced_name program)) _
-      (passes 0 5 (is_name program.name) _ _ h (ok_one item.Subr _ (unplaced_name program) (named_again program h)));
+      (passes 0 5 (is_name program.name) _ _ h (ok item.Subr ◂ named_again program h));
   runs = ((omega arith, refl), (name_is_run program.name h, tt));
   low = omega arith;
 }
@@ -155,17 +154,17 @@ record MadeArgument (k : ArgKind) (a : ArgText) : Type 0 where
 
 made_argument : (k : ArgKind) (a : ArgText) → FitsArgument k a → MadeArgument k a
 made_argument kind.Word (arg.Word w) h =
-    let m = made_word w h in record { reads = ok_one arg.Word _ (unplaced_word w) m.reads; is_kind = refl; runs = m.runs; low = m.low }
+    let m = made_word w h in record { reads = ok arg.Word ◂ m.reads; is_kind = refl; runs = m.runs; low = m.low }
 made_argument kind.Count (arg.Number n) h = let m = made_unsigned n h in
-    record { reads = ok_one arg.Number _ (unplaced_number n) m.reads; is_kind = m.is_written; runs = m.runs; low = omega arith }
+    record { reads = ok arg.Number ◂ m.reads; is_kind = m.is_written; runs = m.runs; low = omega arith }
 made_argument kind.Local (arg.Name n) h =
-    record { reads = ok_one arg.Name _ (unplaced_name n) (named_again n h); is_kind = h; runs = name_is_run n.name h; low = omega arith }
+    record { reads = ok arg.Name ◂ named_again n h; is_kind = h; runs = name_is_run n.name h; low = omega arith }
 made_argument kind.Area (arg.Name n) h =
-    record { reads = ok_one arg.Name _ (unplaced_name n) (named_again n h); is_kind = h; runs = name_is_run n.name h; low = omega arith }
+    record { reads = ok arg.Name ◂ named_again n h; is_kind = h; runs = name_is_run n.name h; low = omega arith }
 made_argument kind.Label (arg.Name n) h =
-    record { reads = ok_one arg.Name _ (unplaced_name n) (named_again n h); is_kind = h; runs = name_is_run n.name h; low = omega arith }
+    record { reads = ok arg.Name ◂ named_again n h; is_kind = h; runs = name_is_run n.name h; low = omega arith }
 made_argument kind.Program (arg.Name n) h =
-    record { reads = ok_one arg.Name _ (unplaced_name n) (named_again n h); is_kind = h; runs = name_is_run n.name h; low = omega arith }
+    record { reads = ok arg.Name ◂ named_again n h; is_kind = h; runs = name_is_run n.name h; low = omega arith }
 made_argument k a h = absurd h
 
 are_kind : (k : ArgKind) (xs : List ArgText) → All (FitsArgument k) xs → are_of_kind k (nodes (map argument_tree xs)) ≡ true
@@ -185,7 +184,7 @@ made_arguments (One k) [] h = absurd h
 made_arguments (One k) (x ∷ []) h =
     let m = made_argument k x h in
     record {
-      reads = passes 0 7 (is_of_kind k (argument_tree x)) _ _ m.is_kind (ok_one one _ (unplaced_argument x) m.reads);
+      reads = passes 0 7 (is_of_kind k (argument_tree x)) _ _ m.is_kind (ok one ◂ m.reads);
       runs = (m.runs, tt);
       low = omega (arith, m.low);
     }
@@ -194,7 +193,7 @@ made_arguments (TestAndLabel f) (arg.Test k ∷ arg.Name n ∷ []) h =
     let again : test_named f (test_name k) ≡ Some k = test_of_family f k h.0 in
     record {
       reads = ap (λ (o : Option TestKind). tested_of 0 o (name_tree n)) again
-          ∙ passes 0 7 (is_name n.name) _ _ h.1 (ok_one (test_and_label k) _ (unplaced_name n) (named_again n h.1));
+          ∙ passes 0 7 (is_name n.name) _ _ h.1 (ok (test_and_label k) ◂ named_again n h.1);
       runs = (name_is_run (test_name k) (test_word k), (name_is_run n.name h.1, tt));
       low = omega arith;
     }
@@ -221,7 +220,7 @@ made_instruction i h = by_label i.label h.label
     }
     by_label (Some n) fits = record {
       reads = called_again (Ok Some ⊛ named_of (name_tree n)) i.op (Some (unplaced_name n)) (nodes (map argument_tree i.args))
-          (map unplaced_argument i.args) (ok_one Some _ (unplaced_name n) (named_again n fits)) args.reads;
+          (map unplaced_argument i.args) (ok Some ◂ named_again n fits) args.reads;
       runs = ((omega arith, refl), (name_is_run n.name fits, (tt, ((op_run i.op, args.runs), tt))));
       low = omega (arith, args.low);
     }
@@ -230,7 +229,7 @@ made_temporary : (t : Named × WordText) → FitsTemporary t → Made temporary_
 made_temporary t h =
     let w = made_word t.1 h.1 in
     record {
-      reads = ok_two pair _ _ (unplaced_name t.0) (unplaced_word t.1) (named_again t.0 h.0) w.reads;
+      reads = ok pair ◂ named_again t.0 h.0 ◂ w.reads;
       runs = (name_is_run t.0.name h.0, (w.runs, tt));
       low = omega (arith, w.low);
     }
@@ -255,8 +254,7 @@ made_program p h = by_instrs p.instrs h.instrs h.some_instrs h.few_instrs
         (le-leb _ 1048576 count) in
         record {
           reads = passes 0 9 (is_small_program formals_tree temporaries_tree (nodes (map instruction_tree (i ∷ is)))) _ _ small
-              (ok_four (new_program 0 0) _ _ _ _ (unplaced_name p.name) (map unplaced_name p.formals) (map unplaced_temporary p.temporaries)
-              (map unplaced_instruction (i ∷ is)) (named_again p.name h.name) formals.reads temporaries.reads instrs.reads);
+              (ok (new_program 0 0) ◂ named_again p.name h.name ◂ formals.reads ◂ temporaries.reads ◂ instrs.reads);
           runs = (name_is_run p.name.name h.name, (formals.runs, (temporaries.runs, instrs.runs)));
           low = omega (arith, formals.low, temporaries.low, instrs.low);
         }
@@ -269,7 +267,7 @@ made_area a h = by_words a.words h.words h.some_words
     by_words (w ∷ ws) fits some_ =
         let words = made_each FitsWord word_of word_tree unplaced_word 1 made_word (w ∷ ws) fits in
         record {
-          reads = ok_two (new_area 0) _ _ (unplaced_name a.name) (map unplaced_word (w ∷ ws)) (named_again a.name h.name) words.reads;
+          reads = ok (new_area 0) ◂ named_again a.name h.name ◂ words.reads;
           runs = (name_is_run a.name.name h.name, words.runs);
           low = omega (arith, words.low);
         }
@@ -298,9 +296,7 @@ made_system s h = by_programs s.programs h.programs h.some_programs h.few_progra
           reads = passes 0 1 (is_digits (signed_decimal s.ctrl.number) && is_digits (signed_decimal s.temp.number)
               && is_digits (signed_decimal s.base.number)) _ _ numbers
               (passes 0 9 (is_small_system (nodes (map area_tree s.areas)) (nodes (map program_tree (p ∷ ps)))) _ _ small
-              (ok_seven (new_system 0) _ _ _ _ _ _ _ (unplaced_name s.main) (unplaced_number s.ctrl) (unplaced_number s.temp) (unplaced_number s.base)
-              (map unplaced_area s.areas) (map unplaced_word s.stack) (map unplaced_program (p ∷ ps))
-              (named_again s.main h.main) ctrl.reads temp.reads base.reads areas.reads stack.reads programs.reads));
+              (ok (new_system 0) ◂ named_again s.main h.main ◂ ctrl.reads ◂ temp.reads ◂ base.reads ◂ areas.reads ◂ stack.reads ◂ programs.reads));
           runs = ((omega arith, refl), (name_is_run s.main.name h.main, (ctrl.runs, (temp.runs, (base.runs, (areas.runs, (stack.runs, programs.runs)))))));
           low = omega (arith, areas.low, stack.low, programs.low);
         }

@@ -6,7 +6,7 @@ use Rattle.stack_text.{proofs.PartTextLaws.{spells_list, unplaced_all}, proofs.P
 use Rattle.piton_syntax.{specs.declared.argument.ArgText.ArgText, specs.declared.word_text.WordItem.WordItem, specs.declared.word_text.WordText.WordText}
 use Rattle.piton_syntax.{specs.PitonReading.{KeepsForm, ReadsAs, piton_reader}, specs.Systems.{InstrOf, ProgramOf, AreaOf, SystemOf}, specs.Printed.item_tree}
 use Rattle.piton_syntax.specs.Printed.{word_tree, argument_tree, labelled_tree, instruction_tree, temporary_tree, program_tree, area_tree, system_head, tree_of}
-use Rattle.piton_syntax.{specs.Printed.{program_text, piton_text}, proofs.PlacesLaws.same_system}
+use Rattle.piton_syntax.{specs.Printed.{program_text, piton_text}, proofs.WalkLaws.system_part}
 use Rattle.piton_syntax.specs.declared.argument.ArgText.TheVariants as arg
 use Rattle.piton_syntax.specs.declared.word_text.WordItem.TheVariants as item
 
@@ -72,4 +72,4 @@ pub piton_text_reads : (s : SystemOf) → KeepsForm s → ReadsAs (piton_text s)
 piton_text_reads s form =
     let text : List ℕ = lines_text program_text (system_head s) s.programs in
     let read = spelled_is_read (tree_of s) text (10 ∷ []) form.well_formed (spells_system s) (tt, tt) in
-    read_back piton_reader same_system (piton_text s) s read (unplaced_system s) form.reads
+    read_back piton_reader system_part (piton_text s) s read (unplaced_system s) form.reads

@@ -11,6 +11,7 @@ pub mod TreeLaws
 pub mod FaultLaws
 pub mod ReadLaws
 pub mod HeapLaws
+pub mod LengthLaws
 pub mod TreeInLaws
 pub mod SpellingLaws
 pub mod PrintLaws
@@ -28,6 +29,7 @@ pub mod FitsLaws
 pub mod MadeLaws
 pub mod SizeLaws
 pub mod PlacesLaws
+pub mod WalkLaws
 pub mod PartTextLaws
 pub mod SharedLaws
 pub mod ReaderLaws

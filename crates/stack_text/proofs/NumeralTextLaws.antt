@@ -25,12 +25,6 @@ value-digits ds h = rw (no_minus ds h) refl
 pub digits-pos : (n : ℕ) → fits_128_bits (pos n) ≡ true → is_digits (signed_decimal (pos n)) ≡ true
 digits-pos n fits = let h = ltb-true n (2 ^ 127) fits in numeral_passes (decimal n) (decimal_is_IsNumeral_wide n (omega (arith, h))).0
 
--- what was read from digits alone is printed with digits alone
-pub digits-signed_decimal : (ds : List ℕ) → is_digits ds ≡ true → fits_128_bits (numeral_value ds) ≡ true → is_digits (signed_decimal (numeral_value ds)) ≡ true
-digits-signed_decimal ds h fits =
-    let value : numeral_value ds ≡ pos (digits_value 10 (without_leading_plus ds)) = value-digits ds h in
-    subst (λ (z : ℤ). is_digits (signed_decimal z) ≡ true) (sym value) (digits-pos _ (subst (λ (z : ℤ). fits_128_bits z ≡ true) value fits))
-
 -- the number of digits alone is not negative
 pub natural_digits : (ds : List ℕ) → is_digits ds ≡ true → fits_128_bits (numeral_value ds) ≡ true → IsNatural (numeral_value ds)
 natural_digits ds h fits =

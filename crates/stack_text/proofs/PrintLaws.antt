@@ -1,11 +1,12 @@
 -- What is printed spells the tree, so that it is read again.
-use Rattle.std.proofs.Common.{◌≡◌, Vec, Global, ℕ, suc, ◌+◌, ◌<◌, ◌≤◌, List, [], ◌∷◌, ◌++◌, map, length, get_or, take, cond, eqb, refl, sym, ap, subst, ◌∙◌}
-use Rattle.std.{proofs.Common.{append_assoc, arith}, specs.Prelude.{Bool, true, false, if◌then◌else◌}, proofs.lemmas.List.{append-nil, map_push, take_more}}
-use Rattle.std.{proofs.lemmas.List.{length-take, length-map, take_all}, proofs.lemmas.Bool.ne_eqb}
+use Rattle.std.proofs.Common.{◌≡◌, Vec, Global, ℕ, zero, suc, ◌+◌, ◌<◌, ◌≤◌, List, [], ◌∷◌, ◌++◌, map, length, get_or, take, cond, eqb, refl, sym, ap, subst}
+use Rattle.std.{proofs.Common.{◌∙◌, append_assoc, arith}, specs.Prelude.{Bool, true, false, if◌then◌else◌}, proofs.lemmas.List.{append-nil, map_push}}
+use Rattle.std.{proofs.lemmas.List.{take_more, length-append, length-take, length-map, take_all}, proofs.lemmas.Bool.ne_eqb}
 use Rattle.stack_text.{specs.Trees.{Node, Nodes, atom, list, none, more, IsWellFormed, ReadsAs}, specs.Views.TreeView.{nodes, owned_node, owned_nodes}}
 use Rattle.stack_text.{specs.TreeText.{tree_text, items_text, spaced_text}, specs.Internal.Spellings.{Spells, SpellsAll, SpellsRest}}
 use Rattle.stack_text.{specs.declared.tree.Tree.Tree, specs.declared.tree.Tree.TheViews.List as MadeList, proofs.TreeViewLaws.owned_node-list}
 use Rattle.stack_text.proofs.SpellingLaws.{spelled_is_read}
+use Rattle.stack_heap.specs.Heaps.{FitsBound}
 
 -- ---- printing in a loop
 
@@ -45,6 +46,58 @@ printed_all old out new p v t i le is out_is new_is =
     new_is ∙ ap (λ (w : List ℕ). w ++ 41 ∷ []) (out_is ∙ ap (λ (us : List Tree). old ++ 40 ∷ items_text (owned_nodes us)) (take_all i v.items le))
     ∙ append_assoc old (40 ∷ items_text (owned_nodes v.items)) (41 ∷ [])
     ∙ ap (λ (n : Node). old ++ tree_text n) (sym (ap owned_node is ∙ owned_node-list p v))
+
+-- the text of the first ones is no longer than that of all
+spaced_front : (i : ℕ) (ts : List Tree) → length (spaced_text (owned_nodes (take i ts))) ≤ length (spaced_text (owned_nodes ts))
+spaced_front zero ts = omega arith
+spaced_front (suc i) [] = omega arith
+spaced_front (suc i) (t ∷ ts) =
+    let others = spaced_front i ts in
+    omega (
+      arith,
+      others,
+      length-append (tree_text (owned_node t)) (spaced_text (owned_nodes (take i ts))),
+      length-append (tree_text (owned_node t)) (spaced_text (owned_nodes ts)),
+    )
+
+items_front : (i : ℕ) (ts : List Tree) → length (items_text (owned_nodes (take i ts))) ≤ length (items_text (owned_nodes ts))
+items_front zero ts = omega arith
+items_front (suc i) [] = omega arith
+items_front (suc i) (t ∷ ts) =
+    let others = spaced_front i ts in
+    omega (
+      arith,
+      others,
+      length-append (tree_text (owned_node t)) (spaced_text (owned_nodes (take i ts))),
+      length-append (tree_text (owned_node t)) (spaced_text (owned_nodes ts)),
+    )
+
+-- so what is printed of a list so far is within the bound of all
+pub printed_front : (bound : ℕ) (old out : List ℕ) (p : ℕ) (v : Vec Tree Global) (t : Tree) (i : ℕ) → t ≡ MadeList p v
+    → FitsBound bound (length (old ++ tree_text (owned_node t))) → out ≡ old ++ 40 ∷ items_text (owned_nodes (take i v.items))
+    → FitsBound bound (length out)
+printed_front bound old out p v t i is fits out_is = λ bounded.
+    let all : length (old ++ tree_text (owned_node t)) ≡ length (old ++ 40 ∷ (items_text (owned_nodes v.items) ++ 41 ∷ []))
+    = ap (λ (n : Node). length (old ++ tree_text n)) (ap owned_node is ∙ owned_node-list p v) in
+    omega (
+      arith,
+      fits bounded,
+      all,
+      ap length out_is,
+      items_front i v.items,
+      length-append old (40 ∷ items_text (owned_nodes (take i v.items))),
+      length-append old (40 ∷ (items_text (owned_nodes v.items) ++ 41 ∷ [])),
+      length-append (items_text (owned_nodes v.items)) (41 ∷ []),
+    )
+
+-- and so it is with the next item
+pub printed_item : (bound : ℕ) (old out apart : List ℕ) (p : ℕ) (v : Vec Tree Global) (t : Tree) (i : ℕ) (u : Tree) → t ≡ MadeList p v
+    → FitsBound bound (length (old ++ tree_text (owned_node t))) → i < length v.items → u ≡ get_or v.items i u
+    → out ≡ old ++ 40 ∷ items_text (owned_nodes (take i v.items)) → apart ≡ out ++ cond (eqb i 0) [] (32 ∷ [])
+    → FitsBound bound (length (apart ++ tree_text (owned_node u)))
+printed_item bound old out apart p v t i u is fits lt u_is out_is apart_is =
+    let printed = apart ++ tree_text (owned_node u) in
+    printed_front bound old printed p v t (i + 1) is fits (printed_more old out apart printed v.items i u lt u_is out_is apart_is refl)
 
 -- ---- reading what was printed
 

@@ -6,8 +6,8 @@ use Rattle.stack_text.{specs.Gives.FailsUnless, specs.PlaceOrder.IsInOrder, spec
 use Rattle.stack_text.{specs.TextFaults.text_fault, specs.Tokens.{between, tokens}, specs.TreeIn.{GivesTreeUnless, first_item, items_of, tree_in}}
 use Rattle.stack_text.{specs.Trees.{Node, TreeOf, ReadsAs, IsWellFormed, without_places}, specs.Grammar.Judged.Judged, specs.Grammar.Reading.IsFirstFault}
 use Rattle.stack_text.specs.Grammar.TextReaders.{TextReader, fault_of_breach, fault_of_form, fault_of_text, judgement, value_by, value_in, KeepsFormOf}
-use Rattle.stack_text.{specs.Grammar.TextReaders.ReadsBack, proofs.FaultLaws.no_fault_has_tree, proofs.PlacesLaws.{IsSame, same_lifted}}
-use Rattle.stack_text.{proofs.ReadLaws.text_is_well_formed, proofs.RiseLaws.{Rising, first_is_judged}, proofs.TreeInLaws.tree_in-TreeOf}
+use Rattle.stack_text.{specs.Grammar.TextReaders.ReadsBack, proofs.FaultLaws.no_fault_has_tree, proofs.PlacesLaws.same_lifted}
+use Rattle.stack_text.{proofs.ReadLaws.text_is_well_formed, proofs.RiseLaws.first_is_judged, proofs.TreeInLaws.tree_in-TreeOf, proofs.WalkLaws.Part}
 use Rattle.stack_text.specs.declared.text_fault.TextFault.TheVariants as text
 
 -- ---- faults
@@ -25,13 +25,14 @@ text_at_fault r fault_of tells R (text.Fault rule place) bytes h = rw (tells.of_
 text_at_fault r fault_of tells R text.Memory bytes h = rw tells.of_memory h
 
 -- the first fault in reading order, which is what the reader of a tree returns, is the least
-pub tree_at_fault : {X F : Type 0} → (r : TextReader X F) (fault_of : F → Option F) → TellsFaults r fault_of → Rising r.judge
+pub tree_at_fault : {X F : Type 0} {P : Node → X → Type 0} → (r : TextReader X F) (fault_of : F → Option F) → TellsFaults r fault_of
+    → ((t : Node) → Part r.judge r.unplaced P t)
     → (R : Type 0) (e : FormFault) (bytes : List ℕ) (t : Node) → tree_in bytes ≡ Ok t → IsInOrder t
     → IsFirstFault R e (r.judge t) → FailsUnless R (fault_of (fault_of_form r e)) (value_in r bytes)
-tree_at_fault r fault_of tells up R (Form rule place) bytes t is order h =
+tree_at_fault r fault_of tells part R (Form rule place) bytes t is order h =
     rw (tells.of_form rule place, is, h.1)
-    (ap (λ f. Err (fault_of_breach r f)) (first_is_judged up t order (record { place = place; rule = rule }) h.0 h.1))
-tree_at_fault r fault_of tells up R Memory bytes t is order h = rw tells.of_memory h
+    (ap (λ f. Err (fault_of_breach r f)) (first_is_judged t (part t).rises order (record { place = place; rule = rule }) h.0 h.1))
+tree_at_fault r fault_of tells part R Memory bytes t is order h = rw tells.of_memory h
 
 -- ---- values
 
@@ -74,10 +75,10 @@ text_keeps_form r keeps text short x is =
     keeps found.0 x found.2 (text_is_well_formed text short found.0 (TreeOf-tree_in text found.0 found.1))
 
 -- a text that is a value's tree but for places is read as that value, where a tree is judged to be the same without places
-pub read_back : {X F : Type 0} → (r : TextReader X F)
-    → ((t : Node) → IsSame r.unplaced (r.judge t) (r.judge (without_places t))) → (text : List ℕ) (x : X)
+pub read_back : {X F : Type 0} {P : Node → X → Type 0} → (r : TextReader X F)
+    → ((t : Node) → Part r.judge r.unplaced P t) → (text : List ℕ) (x : X)
     → ReadsAs text (r.tree x) → without_places (r.tree x) ≡ r.tree x → r.judge (r.tree x) ≡ Ok (r.unplaced x) → ReadsBack r text x
-read_back r alike text x h plain reads =
+read_back r part text x h plain reads =
     let same : r.judge (without_places h.0) ≡ Ok (r.unplaced x) = ap r.judge (h.2 ∙ plain) ∙ reads in
-    let found = same_lifted r.unplaced (r.judge h.0) (r.judge (without_places h.0)) (r.unplaced x) (alike h.0) same in
+    let found = same_lifted r.unplaced (r.judge h.0) (r.judge (without_places h.0)) (r.unplaced x) (part h.0).same same in
     (found.0, ap (value_by r) (tree_in-TreeOf text h.0 h.1) ∙ ap (judgement r) found.1, found.2)

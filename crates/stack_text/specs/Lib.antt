@@ -4,6 +4,7 @@ pub mod Trees
 pub mod TextFaults
 pub mod TreeIn
 pub mod TreeText
+pub mod Lengths
 pub mod PlaceOrder
 pub mod Names
 pub mod TreeNames

@@ -1,13 +1,13 @@
 //! Names.
 
-ghost use Rattle.std.specs.{Prelude.{◌≡◌, IfOk, IsTrue}, List.{list_all}};
+ghost use Rattle.std.specs.{Prelude.{◌≡◌, ◌≤◌, length, IfOk, IsTrue}, List.{list_all}};
 ghost use Rattle.stack_heap.specs.Heaps.{IfOkUnless};
 ghost use Rattle.stack_text.specs.{Gives.{ReturnsUnless}, Grammar.Printed.{unplaced}, Names.{begins_with_letter, is_mark, is_name, is_name_byte}};
 ghost use Rattle.stack_text.specs.{Names.{is_truth_word, name_of}, Views.NameView.{kept_bytes, FitsInPlace}};
 
 use crate::Memory;
 use crate::limits::MOST_NAME_BYTES;
-use stack_heap::Heap;
+use stack_heap::BoundedHeap;
 use std::alloc::AllocError;
 use std::fmt;
 use std::hash::{Hash, Hasher};
@@ -72,7 +72,7 @@ impl Name {
     }
 
     /// The same name again.
-    pub fn copied<H: Heap>(&self, heap: H) -> Result<Name, Memory>
+    pub fn copied<H: BoundedHeap>(&self, heap: H) -> Result<Name, Memory>
         ensures { IfOkUnless (H.may_refuse heap) result (λ name. name ≡ self.now) }
     {
         let kept = match &self.kept {
@@ -86,7 +86,7 @@ impl Name {
     }
 
     /// The name, with 0 for its place.
-    pub fn unplaced<H: Heap>(&self, heap: H) -> Result<Named, Memory>
+    pub fn unplaced<H: BoundedHeap>(&self, heap: H) -> Result<Named, Memory>
         ensures { IfOkUnless (H.may_refuse heap) result (λ named. named ≡ unplaced self.now) }
     {
         Ok(Named {
@@ -168,7 +168,7 @@ pub struct Named {
 
 impl Named {
     /// The name that the bytes are, with 0 for its place.
-    pub fn unplaced<H: Heap>(heap: H, bytes: &[u8]) -> Result<Named, Memory>
+    pub fn unplaced<H: BoundedHeap>(heap: H, bytes: &[u8]) -> Result<Named, Memory>
         requires { IsTrue (is_name bytes.now) }
         ensures { IfOkUnless (H.may_refuse heap) result (λ named. named ≡ unplaced bytes.now) }
     {
@@ -181,7 +181,8 @@ impl Named {
 }
 
 /// The bytes, in place where there is room for them.
-fn keep_bytes<H: Heap>(heap: H, bytes: &[u8]) -> Result<NameBytes, Memory>
+fn keep_bytes<H: BoundedHeap>(heap: H, bytes: &[u8]) -> Result<NameBytes, Memory>
+    requires { length bytes.now ≤ 256 }
     ensures bytes { IfOkUnless (H.may_refuse heap) result (λ kept. kept_bytes kept ≡ bytes.now) }
     ensures fits { IfOk result FitsInPlace }
 {
@@ -247,7 +248,7 @@ pub fn is_name(bytes: &[u8]) -> bool
 }
 
 /// The name that the bytes are: `None` exactly where they are not one.
-pub fn read_name<H: Heap>(heap: H, bytes: &[u8]) -> Result<Option<Name>, Memory>
+pub fn read_name<H: BoundedHeap>(heap: H, bytes: &[u8]) -> Result<Option<Name>, Memory>
     ensures { ReturnsUnless (H.may_refuse heap) (λ name. name) result (name_of bytes.now) }
 {
     if !is_name(bytes) {

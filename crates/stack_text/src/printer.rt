@@ -1,15 +1,16 @@
 //! Printing a tree.
 
-ghost use Rattle.std.specs.Prelude.{◌≡◌, ◌++◌, ◌==◌, ◌∷◌, [], if◌then◌else◌, IfOk};
-ghost use Rattle.stack_heap.specs.Heaps.{IfOkUnless, OnOkUnless};
+ghost use Rattle.std.specs.Prelude.{◌≡◌, ◌++◌, ◌==◌, ◌∷◌, [], if◌then◌else◌, length, IfOk};
+ghost use Rattle.stack_heap.specs.Heaps.{IfOkUnless, FitsBound, OnOkUnless};
 ghost use Rattle.stack_text.specs.{Trees.{IsWellFormed, ReadsAs}, TreeText.{tree_text}, Views.TreeView.{owned_node}};
 
 use crate::memory::Memory;
 use crate::tree::Tree;
-use stack_heap::Heap;
+use stack_heap::BoundedHeap;
 
 /// A space before each item but the first.
-pub fn separate<H: Heap>(heap: H, out: &mut Vec<u8>, index: usize) -> Result<(), Memory>
+pub fn separate<H: BoundedHeap>(heap: H, out: &mut Vec<u8>, index: usize) -> Result<(), Memory>
+    requires { FitsBound (H.bound heap) (length out.old.items) }
     ensures { OnOkUnless (H.may_refuse heap) result
         (out.new.items ≡ out.old.items ++ (if index == 0 then [] else 32 ∷ [])) }
 {
@@ -20,7 +21,8 @@ pub fn separate<H: Heap>(heap: H, out: &mut Vec<u8>, index: usize) -> Result<(),
 }
 
 /// Appends the tree's text.
-fn print_into<H: Heap>(heap: H, out: &mut Vec<u8>, tree: &Tree) -> Result<(), Memory>
+fn print_into<H: BoundedHeap>(heap: H, out: &mut Vec<u8>, tree: &Tree) -> Result<(), Memory>
+    requires { FitsBound (H.bound heap) (length (out.old.items ++ tree_text (owned_node tree.now))) }
     ensures { OnOkUnless (H.may_refuse heap) result (out.new.items ≡ out.old.items ++ tree_text (owned_node tree.now)) }
 {
     match tree {
@@ -46,8 +48,9 @@ fn print_into<H: Heap>(heap: H, out: &mut Vec<u8>, tree: &Tree) -> Result<(), Me
 /// read: atoms that are words, no more than 200 levels, no more than 2^31 atoms and lists. Printers that write line ends
 /// in place of some spaces rest on the law `spelled_is_read` of `proofs/SpellingLaws.antt`, which holds for any
 /// separators.
-pub fn print_tree<H: Heap>(heap: H, tree: &Tree) -> Result<Vec<u8>, Memory>
-    requires { IsWellFormed (owned_node tree.now) }
+pub fn print_tree<H: BoundedHeap>(heap: H, tree: &Tree) -> Result<Vec<u8>, Memory>
+    requires form { IsWellFormed (owned_node tree.now) }
+    requires short { FitsBound (H.bound heap) (length (tree_text (owned_node tree.now))) }
     ensures exact { IfOkUnless (H.may_refuse heap) result (λ text. text.items ≡ tree_text (owned_node tree.now)) }
     ensures again { IfOk result (λ text. ReadsAs text.items (owned_node tree.now)) }
 {

@@ -5,12 +5,12 @@ ghost use Rattle.stack_text.specs.{Tokens.{tokens, between}, Trees.{Node, TreeOf
 ghost use Rattle.stack_text.specs.{TextFaults.{ReportsFault}, TreeIn.{tree_in, GivesTreeUnless, ReadsExactly}, PlaceOrder.{IsInOrder}};
 ghost use Rattle.stack_text.specs.{Internal.TokenSpans.{token_in}, Internal.OpenLists.{opened, Puts, Steps, ReturnsAlone, ReadsText}};
 ghost use Rattle.stack_text.specs.declared.text_fault.TextFault.TheVariants.{Fault, Memory};
-ghost use Rattle.stack_heap.specs.Heaps.{RefusesWithin, room_after};
+ghost use Rattle.stack_heap.specs.Heaps.{FitsBound, RefusesWithin, room_after};
 
 use crate::lexer::{TokenKind, TokenSpan, next_token};
 use crate::text_fault::{TextFault, TextRule};
 use crate::tree::{TextTree, Tree};
-use stack_heap::Heap;
+use stack_heap::BoundedHeap;
 
 /// How many lists may lie in one another.
 const MOST_NESTING: usize = 200;
@@ -25,11 +25,12 @@ pub struct OpenList<'a> {
 }
 
 /// Puts a tree into the innermost list, or gives it back where none is open.
-fn put<'a, H: Heap>(
+fn put<'a, H: BoundedHeap>(
     heap: H,
     stack: &mut Vec<OpenList<'a>>,
     tree: TextTree<'a>,
 ) -> Result<Option<TextTree<'a>>, TextFault>
+    requires { FitsBound (H.bound heap) (length (opened stack.old.items)) }
     ensures value { Puts (H.may_refuse heap) stack.old.items tree.entry result stack.new.items }
     ensures room { IfErr result (λ e. e ≡ Memory →
         RefusesWithin (H.may_refuse_room heap) (room_after (length (opened stack.old.items)))) }
@@ -55,7 +56,7 @@ fn fault_at(rule: TextRule, byte: usize) -> TextFault
 }
 
 /// Takes in the next token: the whole tree where it ends there, or the token's fault.
-fn step<'a, H: Heap>(
+fn step<'a, H: BoundedHeap>(
     heap: H,
     stack: &mut Vec<OpenList<'a>>,
     text: &'a [u8],
@@ -64,6 +65,7 @@ fn step<'a, H: Heap>(
     requires small { length text.now ≤ 2 ^ 31 }
     requires order { found.start < found.end }
     requires within { found.end ≤ length text.now }
+    requires short { FitsBound (H.bound heap) (length (opened stack.old.items)) }
     ensures value { Steps (H.may_refuse heap) stack.old.items (token_in text.now found) result stack.new.items }
     ensures room { IfErr result (λ e. e ≡ Memory →
         RefusesWithin (H.may_refuse_room heap) (room_after (length (opened stack.old.items)))) }
@@ -106,8 +108,9 @@ fn finish<'a>(text: &[u8], from: usize, tree: TextTree<'a>) -> Result<TextTree<'
 }
 
 /// Reads token by token, with the open lists on a stack.
-fn read<'a, H: Heap>(heap: H, text: &'a [u8]) -> Result<TextTree<'a>, TextFault>
-    requires { length text.now ≤ 2 ^ 31 }
+fn read<'a, H: BoundedHeap>(heap: H, text: &'a [u8]) -> Result<TextTree<'a>, TextFault>
+    requires small { length text.now ≤ 2 ^ 31 }
+    requires short { FitsBound (H.bound heap) (length text.now) }
     ensures value { ReadsText (H.may_refuse heap) node_of text.now result }
     ensures room { IfErr result (λ e. e ≡ Memory →
         RefusesWithin (H.may_refuse_room heap) (room_after (length text.now))) }
@@ -130,8 +133,9 @@ fn read<'a, H: Heap>(heap: H, text: &'a [u8]) -> Result<TextTree<'a>, TextFault>
 }
 
 /// Reads a tree with bytes of its own.
-fn read_owned<H: Heap>(heap: H, text: &[u8]) -> Result<Tree, TextFault>
-    requires { length text.now ≤ 2 ^ 31 }
+fn read_owned<H: BoundedHeap>(heap: H, text: &[u8]) -> Result<Tree, TextFault>
+    requires small { length text.now ≤ 2 ^ 31 }
+    requires short { FitsBound (H.bound heap) (length text.now) }
     ensures { ReadsText (H.may_refuse heap) owned_node text.now result }
 {
     let tree = read(heap, text)?;
@@ -146,8 +150,9 @@ fn read_owned<H: Heap>(heap: H, text: &[u8]) -> Result<Tree, TextFault>
 ///
 /// The first thing from the left that is wrong with the text, and where; or out of memory. The time is linear in the
 /// text.
-pub fn read_tree<H: Heap>(heap: H, text: &[u8]) -> Result<Tree, TextFault>
-    requires { length text.now ≤ 2 ^ 31 }
+pub fn read_tree<H: BoundedHeap>(heap: H, text: &[u8]) -> Result<Tree, TextFault>
+    requires small { length text.now ≤ 2 ^ 31 }
+    requires short { FitsBound (H.bound heap) (length text.now) }
     // What is read is the tree of the text.
     ensures found { IfOk result (λ t. TreeOf text.now (owned_node t)) }
     // Where the text is a tree's, that tree is read, unless memory runs out.
@@ -169,8 +174,12 @@ pub fn read_tree<H: Heap>(heap: H, text: &[u8]) -> Result<Tree, TextFault>
 /// # Errors
 ///
 /// As `read_tree`.
-pub fn read_text_tree<'a, H: Heap>(heap: H, text: &'a [u8]) -> Result<TextTree<'a>, TextFault>
-    requires { length text.now ≤ 2 ^ 31 }
+pub fn read_text_tree<'a, H: BoundedHeap>(
+    heap: H,
+    text: &'a [u8],
+) -> Result<TextTree<'a>, TextFault>
+    requires small { length text.now ≤ 2 ^ 31 }
+    requires short { FitsBound (H.bound heap) (length text.now) }
     ensures value { GivesTreeUnless (H.may_refuse heap) node_of result (tree_in text.now) }
     ensures well_formed { IfOk result (λ t. IsWellFormed (node_of t)) }
     ensures order { IfOk result (λ t. IsInOrder (node_of t)) }
@@ -182,8 +191,12 @@ pub fn read_text_tree<'a, H: Heap>(heap: H, text: &'a [u8]) -> Result<TextTree<'
 
 /// Where the heap refuses no room for two items for each byte of the text and 8 more, reading gives the tree of the
 /// text or its first fault, and never runs out of memory.
-pub fn read_in_plenty<'a, H: Heap>(heap: H, text: &'a [u8]) -> Result<TextTree<'a>, TextFault>
+pub fn read_in_plenty<'a, H: BoundedHeap>(
+    heap: H,
+    text: &'a [u8],
+) -> Result<TextTree<'a>, TextFault>
     requires small { length text.now ≤ 2 ^ 31 }
+    requires short { FitsBound (H.bound heap) (length text.now) }
     requires plenty { ¬ (RefusesWithin (H.may_refuse_room heap) (room_after (length text.now))) }
     ensures { ReadsExactly node_of result (tree_in text.now) }
 {

@@ -1,9 +1,9 @@
 //! A vector that contracts see as a list.
 
 ghost use Rattle.std.specs.Prelude.{◌≡◌, ◌==◌, ◌∷◌, [], ◌++◌, length, OnErr};
-ghost use Rattle.stack_heap.specs.Heaps.{IsSmallItem, OnOkUnless};
+ghost use Rattle.stack_heap.specs.Heaps.{IsSmallItem, FitsBound, OnOkUnless};
 
-use stack_heap::Heap;
+use stack_heap::BoundedHeap;
 use std::alloc::{AllocFailed, Global};
 use std::marker::Model;
 
@@ -74,8 +74,9 @@ impl<T> Seq<T> {
     }
 
     /// Appends an element. Where memory runs out the list is unchanged, and the error has the element.
-    pub fn push<H: Heap>(&mut self, heap: H, item: T) -> Result<(), AllocFailed<T>>
-        requires { IsSmallItem T.row }
+    pub fn push<H: BoundedHeap>(&mut self, heap: H, item: T) -> Result<(), AllocFailed<T>>
+        requires short { FitsBound (H.bound heap) (length self.old) }
+        requires small { IsSmallItem T.row }
         ensures ok { OnOkUnless (H.may_refuse heap) result (self.new ≡ self.old ++ item ∷ []) }
         ensures err { OnErr result (self.new ≡ self.old) }
     {

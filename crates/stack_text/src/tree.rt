@@ -1,10 +1,10 @@
 //! Trees.
 
 ghost use Rattle.std.specs.Prelude.{◌≡◌};
-ghost use Rattle.stack_heap.specs.Heaps.{IfOkUnless};
-ghost use Rattle.stack_text.specs.{Trees.{place_of}, Views.TreeView.{node_of, owned_node}};
+ghost use Rattle.stack_heap.specs.Heaps.{IfOkUnless, FitsBound};
+ghost use Rattle.stack_text.specs.{Lengths.{longest_in}, Trees.{place_of}, Views.TreeView.{node_of, owned_node}};
 
-use stack_heap::Heap;
+use stack_heap::BoundedHeap;
 use std::alloc::AllocError;
 
 /// What a text is: an atom, or a list of trees. Contracts see it through `owned_node`, which puts lists in place of the
@@ -59,7 +59,8 @@ impl<'a> TextTree<'a> {
     }
 
     /// The same tree, with bytes of its own.
-    pub(crate) fn to_owned<H: Heap>(&self, heap: H) -> Result<Tree, AllocError>
+    pub(crate) fn to_owned<H: BoundedHeap>(&self, heap: H) -> Result<Tree, AllocError>
+        requires { FitsBound (H.bound heap) (longest_in (node_of self.now)) }
         ensures { IfOkUnless (H.may_refuse heap) result (λ tree. owned_node tree ≡ node_of self.now) }
     {
         match self {

@@ -1,12 +1,12 @@
 //! Values of a shape.
 
-ghost use Rattle.std.specs.{Prelude.{◌≡◌, IsTrue, IfSome, ◌↔◌, IsSome}, List.{list_all}};
-ghost use Rattle.stack_heap.specs.Heaps.{IfOkUnless};
+ghost use Rattle.std.specs.{Prelude.{◌≡◌, IsTrue, IfSome, ◌↔◌, IsSome, length}, List.{list_all}};
+ghost use Rattle.stack_heap.specs.Heaps.{IfOkUnless, FitsBound};
 ghost use Rattle.stack_text.specs.Values.{is_item, is_value, ValueOf};
 
 use crate::Memory;
 use crate::shape::{Kind, Shape};
-use stack_heap::Heap;
+use stack_heap::BoundedHeap;
 use std::alloc::AllocError;
 use std::marker::Model;
 
@@ -62,7 +62,8 @@ impl Value {
 
 impl Value {
     /// The same value again.
-    pub fn copied<H: Heap>(&self, heap: H) -> Result<Value, Memory>
+    pub fn copied<H: BoundedHeap>(&self, heap: H) -> Result<Value, Memory>
+        requires { FitsBound (H.bound heap) (length self.now.items) }
         ensures { IfOkUnless (H.may_refuse heap) result (λ value. value ≡ self.now) }
     {
         let items = heap.copied(self.items.as_slice())?;

@@ -1,14 +1,16 @@
 //! Names.
 
-ghost use Rattle.stack_text.specs.{Views.TreeView.{node_of, nodes_of}, Grammar.Judged.{each_of}, Grammar.Parts.{list_or, name_or}};
+ghost use Rattle.std.specs.Prelude.{length};
+ghost use Rattle.stack_heap.specs.Heaps.{FitsBound};
+ghost use Rattle.stack_text.specs.{Views.TreeView.{node_of, nodes_of}, Grammar.Judged.{each_of}, Grammar.Parts.{list_length, list_or, name_or}};
 ghost use Rattle.stack_text.specs.Grammar.Reading.{ReadsUnless};
 
 use crate::grammar::fault::FormFault;
 use crate::{Named, TextTree, read_name};
-use stack_heap::Heap;
+use stack_heap::BoundedHeap;
 
 /// The name that a tree is; where it is none, it breaks the rule.
-pub fn named<H: Heap>(heap: H, rule: u8, tree: &TextTree) -> Result<Named, FormFault>
+pub fn named<H: BoundedHeap>(heap: H, rule: u8, tree: &TextTree) -> Result<Named, FormFault>
     ensures { ReadsUnless (H.may_refuse heap) (λ name. name) result (name_or rule (node_of tree.now)) }
 {
     match tree {
@@ -31,12 +33,13 @@ pub fn named<H: Heap>(heap: H, rule: u8, tree: &TextTree) -> Result<Named, FormF
 
 /// The name that each item of a list is. A tree that is no list breaks the first rule, and an item that is no name the
 /// other.
-pub fn names<H: Heap>(
+pub fn names<H: BoundedHeap>(
     heap: H,
     list_rule: u8,
     name_rule: u8,
     tree: &TextTree,
 ) -> Result<Vec<Named>, FormFault>
+    requires { FitsBound (H.bound heap) (list_length (node_of tree.now)) }
     ensures { ReadsUnless (H.may_refuse heap) (λ names. names.items) result
         (list_or list_rule (name_or name_rule) (node_of tree.now)) }
 {
@@ -50,7 +53,8 @@ pub fn names<H: Heap>(
 }
 
 /// The name that each tree is.
-fn each_name<H: Heap>(heap: H, rule: u8, trees: &[TextTree]) -> Result<Vec<Named>, FormFault>
+fn each_name<H: BoundedHeap>(heap: H, rule: u8, trees: &[TextTree]) -> Result<Vec<Named>, FormFault>
+    requires { FitsBound (H.bound heap) (length trees.now) }
     ensures { ReadsUnless (H.may_refuse heap) (λ names. names.items) result
         (each_of (name_or rule) (nodes_of trees.now)) }
 {

@@ -1,12 +1,12 @@
 //! Parts, printed as the items of lists.
 
-ghost use Rattle.std.specs.Prelude.{◌≡◌, ◌++◌, ◌∷◌, map};
-ghost use Rattle.stack_heap.specs.Heaps.{OnOkUnless};
+ghost use Rattle.std.specs.Prelude.{◌≡◌, ◌++◌, ◌∷◌, length, map};
+ghost use Rattle.stack_heap.specs.Heaps.{FitsBound, OnOkUnless};
 ghost use Rattle.stack_text.specs.{Trees.{Node}, TreeText.{items_text, spaced_text, tree_text}, Views.TreeView.{nodes}};
 
 use crate::printer::separate;
 use crate::{Memory, Named};
-use stack_heap::Heap;
+use stack_heap::{BoundedHeap, Heap};
 
 /// What is printed as a tree.
 pub trait Print {
@@ -47,7 +47,8 @@ pub fn spaced_items<T: Print, H: Heap>(
 }
 
 /// Appends a name.
-pub fn print_name<H: Heap>(heap: H, out: &mut Vec<u8>, name: &Named) -> Result<(), Memory>
+pub fn print_name<H: BoundedHeap>(heap: H, out: &mut Vec<u8>, name: &Named) -> Result<(), Memory>
+    requires { FitsBound (H.bound heap) (length (out.old.items ++ name.now.name)) }
     ensures { OnOkUnless (H.may_refuse heap) result (out.new.items ≡ out.old.items ++ name.now.name) }
 {
     heap.extend_from_slice(out, name.name.bytes())?;
@@ -55,7 +56,8 @@ pub fn print_name<H: Heap>(heap: H, out: &mut Vec<u8>, name: &Named) -> Result<(
 }
 
 /// Appends a space and a name.
-pub fn spaced_name<H: Heap>(heap: H, out: &mut Vec<u8>, name: &Named) -> Result<(), Memory>
+pub fn spaced_name<H: BoundedHeap>(heap: H, out: &mut Vec<u8>, name: &Named) -> Result<(), Memory>
+    requires { FitsBound (H.bound heap) (length (out.old.items ++ 32 ∷ name.now.name)) }
     ensures { OnOkUnless (H.may_refuse heap) result (out.new.items ≡ out.old.items ++ 32 ∷ name.now.name) }
 {
     heap.push(out, b' ')?;

@@ -1,6 +1,7 @@
 use Rattle.std.{proofs.Common.refl, proofs.lemmas.Result.err_from_is_err_and}
 use Rattle.stack_text.{specs.Views.TreeView.node_of, proofs.ReaderLaws.{TellsFaults, text_at_fault, tree_at_fault}}
-use Rattle.gypsy_syntax.{specs.Views.SourceView.source_of, specs.GypsyReading.{fault_of, gypsy_reader}, proofs.KeepsLaws.read_keeps, proofs.RiseLaws.source_up}
+use Rattle.gypsy_syntax.{specs.Views.SourceView.source_of, specs.GypsyReading.{fault_of, gypsy_reader}, proofs.KeepsLaws.read_keeps}
+use Rattle.gypsy_syntax.proofs.WalkLaws.{source_part}
 use Rattle.gypsy_syntax.proofs.reading.read_gypsy.Goals as goal
 
 tells : TellsFaults gypsy_reader fault_of
@@ -19,7 +20,7 @@ pub returns-in_err-source : goal.returns-in_err-source
 returns-in_err-source g c =
     let p = err_from_is_err_and c.from_residual-in_err-source.result c.from_residual-in_err-source.ensures.1 in
     record {
-      value = rw (p.1, p.2) (tree_at_fault gypsy_reader fault_of tells source_up (g.H.Heap.may_refuse c.args.heap) c.in_err-source.field-0.0
+      value = rw (p.1, p.2) (tree_at_fault gypsy_reader fault_of tells source_part (g.H.Heap.may_refuse c.args.heap) c.in_err-source.field-0.0
           c.args.text.now (node_of c.in_ok-tree.tree) c.in_ok-tree.ensures.value c.in_ok-tree.ensures.order c.in_err-source.ensures);
       keeps = rw p.1 tt;
     }

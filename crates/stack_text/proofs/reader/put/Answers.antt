@@ -13,6 +13,16 @@ pub returns-in_err-push-in-Some-clause-room : goal.returns-in_err-push-in-Some-c
 returns-in_err-push-in-Some-clause-room g c =
     let nonempty : 0 < vec_len c.args.stack.now = search rules in
     let p = err_from_is_err_and c.from_residual.result c.from_residual.ensures.1 in
-    rw p.1 (λ _. refuses_less (g.H.Heap.may_refuse_room c.args.heap) (length c.in-Some.innermost.now.items.items) (length (opened c.args.stack.now.items))
+    rw p.1 (λ _. refuses_less (g.H.BoundedHeap.may_refuse_room c.args.heap) (length c.in-Some.innermost.now.items.items)
+    (length (opened c.args.stack.now.items))
     (few_items c.args.stack.now.items (vec_len c.args.stack.now - 1) c.in-Some.innermost.now (omega (arith, nonempty)) c.in-Some.ensures.value)
     c.in_err-push-in-Some.ensures.room)
+
+pub push-requires-clause-short : goal.push-requires-clause-short
+push-requires-clause-short g c = λ bounded.
+    let nonempty : 0 < vec_len c.args.stack.now = search rules in
+    omega (
+      arith,
+      c.requires bounded,
+      few_items c.args.stack.now.items (vec_len c.args.stack.now - 1) c.in-Some.innermost.now (omega (arith, nonempty)) c.in-Some.ensures.value,
+    )

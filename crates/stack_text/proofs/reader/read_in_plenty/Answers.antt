@@ -5,6 +5,6 @@ use Rattle.stack_text.proofs.reader.read_in_plenty.Goals as goal
 
 pub returns : goal.returns
 returns g c =
-    let why : Type 0 = RefusesWithin (g.H.Heap.may_refuse_room c.args.heap) (room_after (length c.args.text.now)) in
-    reads_exactly (g.H.Heap.may_refuse c.args.heap) node_of why c.read_text_tree.result _
+    let why : Type 0 = RefusesWithin (g.H.BoundedHeap.may_refuse_room c.args.heap) (room_after (length c.args.text.now)) in
+    reads_exactly (g.H.BoundedHeap.may_refuse c.args.heap) node_of why c.read_text_tree.result _
     c.requires.plenty c.read_text_tree.ensures.value c.read_text_tree.ensures.room
