@@ -11,7 +11,8 @@ lets that body pass, and its status is 0 where there are none.
 With `--asking` each of these functions stands there four times more, under other names, and gives up after a request that no machine needs to
 grant: all of memory is reserved, or asked for as a new list, or items of 8,000 bytes are, or more items of no size than can be counted. The
 prover has to leave open what the request owes: that it is modest, that its items are small. Then it is no evidence that the heap may refuse.
-A body that fills the memory first, by modest requests, isn't tried: the prover takes it.
+A function whose heap has a bound (`BoundedHeap`) stands there once more, and asks for a list of a million items first: what
+is open then is that so many are within the bound. Of a function whose heap has none this isn't tried, because the prover takes it.
 """
 import re
 import shutil
@@ -24,7 +25,7 @@ from arguments import folder, parser_of
 from edits import owner_at
 
 TOP = Path(__file__).resolve().parents[1]
-HEAD = re.compile(r"^( *)pub fn (\w+)<[^()]*\bH: Heap\b", re.M)
+HEAD = re.compile(r"^( *)pub fn (\w+)<[^()]*\bH: (?:Bounded)?Heap\b", re.M)
 # out of memory as an error of a type, where it isn't the type's variant Memory
 OUT_OF_MEMORY = {
     "Memory": "Memory",
@@ -41,6 +42,8 @@ REQUESTS = [
     ("_large", "asked for items of 8,000 bytes", "match heap.with_room::<[u64; 1000]>(1)", "with_room-requires"),
     ("_no_size", "asked for items of no size", "match heap.with_room::<()>(usize::MAX)", "with_room-requires"),
 ]
+# the same of a function whose heap has a bound
+LONGER = ("_longer", "asked for a million items", "let mut room: Vec<u8> = Vec::new(heap.handle()); match heap.resize(&mut room, 1_000_000, 0)", "resize-requires")
 RESULT = re.compile(r"\) -> Result<")
 # a function, the answers that it wants if it isn't proved, and what is open then
 JUDGED = re.compile(r"^fn (\S+): (?:no holes|no proof: expected answers in \./(\S+);(.*))$", re.M)
@@ -61,10 +64,15 @@ def error_of(signature):
     return signature[comma + 1 : at - 1].split("<")[0].strip(" ,\n")
 
 
+def requests_of(header):
+    """The requests after which a copy of a function of this header gives up."""
+    return [*REQUESTS, LONGER] if "H: BoundedHeap" in header else REQUESTS
+
+
 def asking(header, indent, name, error):
     """The copies of a function that give up after a request, each with an end of its own to its name."""
     made = ""
-    for ending, _, request, _ in REQUESTS:
+    for ending, _, request, _ in requests_of(header):
         head = header.replace(f"pub fn {name}<", f"pub fn {name}{ending}<", 1)
         lines = [f"    {request} {{", f"        Ok(_) => Err({error}),", f"        Err(_) => Err({error}),", "    }", "}"]
         made += f"\n{head}" + "".join(f"{indent}{line}\n" for line in lines)
@@ -72,8 +80,11 @@ def asking(header, indent, name, error):
 
 
 def given_up(text, is_asking):
-    """A file's text in which each public function over a heap gives up, and their names; with copies that ask first, if that is wanted."""
-    names, end = [], 0
+    """A file's text in which each public function over a heap gives up, and their names; with copies that ask first, if that is wanted.
+
+    To each name it says what the names of its copies end with.
+    """
+    names, end = {}, 0
     made = []
     for head in HEAD.finditer(text):
         indent, name = head[1], head[2]
@@ -85,12 +96,13 @@ def given_up(text, is_asking):
         error, header = OUT_OF_MEMORY.get(error, error + "::Memory"), text[head.start() : opening.end()]
         made += [text[end : opening.end()], f"{indent}    Err({error})\n{indent}}}\n", asking(header, indent, name, error) if is_asking else ""]
         end = closing + len(f"\n{indent}}}\n")
-        names.append("::".join([*(owner_at(text, head.start()) if indent else []), name]))
+        path = "::".join([*(owner_at(text, head.start()) if indent else []), name])
+        names[path] = [ending for ending, *_ in requests_of(header)] if is_asking else []
     return "".join([*made, text[end:]]), names
 
 
 def spoil(copy, crate, is_asking):
-    """Makes the public functions of a crate's copy give up, without answers of their own, and returns their paths."""
+    """Makes the public functions of a crate's copy give up, without answers of their own, and returns the paths of them and their copies."""
     paths, sources = set(), copy / "crates" / crate / "src"
     files = {file: given_up(file.read_text(), is_asking) for file in sorted(sources.rglob("*.rt"))}
     ended = {name.split("::")[-1] for text, names in files.values() for name in names}
@@ -100,7 +112,7 @@ def spoil(copy, crate, is_asking):
         file.write_text(CYCLE.sub(lambda mark: "" if mark[1] in broken else mark[0], text))
         path = file.relative_to(sources).with_suffix("")
         module = [crate, *(part for part in path.parts if part not in ("lib", "mod"))]
-        paths |= {name if "::" in name else "::".join([*module, name]) for name in names}
+        paths |= {(name if "::" in name else "::".join([*module, name])) + ending for name, endings in names.items() for ending in ["", *endings]}
         for name in names:
             for answers in (copy / "crates" / crate / "proofs" / path).rglob(name.split("::")[-1]):
                 shutil.rmtree(answers)
@@ -115,7 +127,6 @@ def give_up_in(crate, libraries, is_asking):
         shutil.copytree(TOP / "tools", copy / "tools")
         shutil.copytree(TOP / "crates", copy / "crates", symlinks=True, ignore=shutil.ignore_patterns("must-fail", "out"))
         paths = spoil(copy, crate, is_asking)
-        paths |= {path + ending for path in paths for ending, *_ in REQUESTS if is_asking}
         words = [sys.executable, copy / "tools" / "quick_check.py", *(["--libraries", str(libraries)] if libraries else []), crate, "--allow-holes"]
         for path in sorted(paths):
             words += ["--only", path]
@@ -140,7 +151,7 @@ def tell(crate, judged, ending, how, is_refused):
 
 def ending_of(path):
     """What the name of a copy ends with, or nothing."""
-    return next((ending for ending, *_ in REQUESTS if path.endswith(ending)), "")
+    return next((ending for ending, *_ in [*REQUESTS, LONGER] if path.endswith(ending)), "")
 
 
 def main():
@@ -153,7 +164,7 @@ def main():
     for crate in chosen.crates:
         judged, by_heap = give_up_in(crate, chosen.libraries, chosen.asking)
         failed |= tell(crate, judged, "", "", lambda found: found[2] in by_heap)
-        for ending, told, _, owed in REQUESTS if chosen.asking else []:
+        for ending, told, _, owed in [*REQUESTS, LONGER] if chosen.asking else []:
             failed |= tell(crate, judged, ending, f" after they {told}", lambda found: f"`{owed}" in found[3])
     return 1 if failed else 0
 

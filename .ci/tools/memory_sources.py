@@ -14,7 +14,7 @@ This script prints a line for each expression that names the library's errors, a
 - an arm of a `match` each of whose patterns is out of memory, or whose guard asks for it;
 - the `else` of a `let Ok(..) = f(..)` where out of memory is all that `f` may fail with.
 
-It prints one too for an `impl` of `Heap` or `HasRoom` outside the file that has them, for a `make_room` there that isn't one call of the
+It prints one too for an `impl` of `Heap`, `BoundedHeap` or `HasRoom` outside the file that has them, for a `make_room` there that isn't one call of the
 library's `reserve`, for another name of what it looks for, and for a conversion from out of memory to what has another name.
 
 Tests may make it. Then it makes each of the mistakes at its end in the text that it has read, and prints a line where one isn't found. The exit
@@ -36,7 +36,11 @@ OWN = {"Memory", "OutOfMemory"}
 LIBRARY = {"AllocError", "AllocFailed"}
 EVERY = OWN | LIBRARY
 # The traits by which a refusal could be made, and the one file that implements each.
-IMPLEMENTED = {"Heap": "crates/stack_heap/src/heap.rt", "HasRoom": "crates/name_tables/src/kept.rt"}
+IMPLEMENTED = {
+    "Heap": "crates/stack_heap/src/heap.rt",
+    "BoundedHeap": "crates/stack_heap/src/within.rt",
+    "HasRoom": "crates/name_tables/src/kept.rt",
+}
 # All that a `make_room` does.
 MAKES_ROOM = re.compile(r"self \. \w+ \. reserve \( more")
 CLOSING = {"(": ")", "[": "]", "{": "}"}
@@ -341,9 +345,9 @@ MISTAKES = [
     # A heap that is filled first, after which another error is made than that by which it refused.
     Mistake("crates/stack_text/src/printer.rt", "        heap.push(out, b' ')?;", "while heap.push(out, b' ').is_ok() {}\nreturn Err(Memory);", "Memory"),
     # Another name for what is looked for.
-    Mistake("crates/stack_text/src/reader.rt", "use stack_heap::Heap;", "use std::alloc::{AllocError as Full};", "use std"),
-    Mistake("crates/stack_text/src/reader.rt", "use stack_heap::Heap;", "use stack_heap::HasRoom as Table;", "use stack_heap"),
-    Mistake("crates/stack_text/src/reader.rt", "use stack_heap::Heap;", "type Full = std::alloc::AllocError;", "type Full"),
+    Mistake("crates/stack_text/src/reader.rt", "use stack_heap::BoundedHeap;", "use std::alloc::{AllocError as Full};", "use std"),
+    Mistake("crates/stack_text/src/reader.rt", "use stack_heap::BoundedHeap;", "use stack_heap::HasRoom as Table;", "use stack_heap"),
+    Mistake("crates/stack_text/src/reader.rt", "use stack_heap::BoundedHeap;", "type Full = std::alloc::AllocError;", "type Full"),
     # An arm of another fault, of any fault, of out of memory or another fault, and of a test of something else.
     Mistake("crates/command_replies/src/show.rt", "Ok(Plan::verdict_alone(heap.handle(), Verdict::Image { rule, place }))", "Err(Memory)", "Memory"),
     Mistake("crates/command_replies/src/show.rt", "Err(ImageFault::Memory) =>", "Err(_) =>", "Err(Memory)"),

@@ -1,6 +1,7 @@
 -- Entries of borrowed names: what is found, and what is entered.
 use Rattle.std.proofs.Common.{◌≡◌, ℕ, List, [], ◌∷◌, ◌++◌, Option, Some, None, Bool, true, false, cond, is_some, bytes_eq, Result, Ok, refl, sym, subst, ap}
-use Rattle.std.{proofs.Common.◌∙◌, specs.Map.lookup, specs.Result.OnOk, proofs.lemmas.Bool.true≢false, proofs.lemmas.Slice.Eq.bytes_eq-Decides}
+use Rattle.std.{proofs.Common.{◌+◌, ◌≤◌, length, arith, ◌∙◌}, proofs.lemmas.List.{length-append, length-map}, specs.Map.lookup, specs.Result.OnOk}
+use Rattle.std.{proofs.lemmas.Bool.true≢false, proofs.lemmas.Slice.Eq.bytes_eq-Decides}
 use Rattle.indexmap.specs.IndexMap.{insert_entry}
 use Rattle.stack_text.specs.Options.{first_or}
 use Rattle.name_tables.{specs.Entries.{Entries, look_up, entries_now, with_entry}, specs.declared.name_key.NameKey.NameKey}
@@ -24,6 +25,10 @@ known_is {V} es name b t is test = sym test ∙ is ∙ ap (λ (o : Option V). is
 -- a name that is known is not entered
 pub none_more : {V : Type 0} (entries : Entries V) (name : List ℕ) (v : V) → true ≡ is_some (look_up entries name) → entries ≡ with_entry entries name v
 none_more entries name v known = ap (λ (b : Bool). cond b entries (entries ++ (name, v) ∷ [])) known
+
+-- an entry is there for each that is borrowed
+pub entries_length : {V : Type 0} (es : List (Key × V)) → length (entries_now es) ≡ length es
+entries_length {V} es = length-map es (λ (e : Key × V). (e.0.bytes.now, e.1))
 
 -- what follows from a result that was unwrapped
 unwrapped : {X F P : Type 0} (r : Result X F) (x : X) → r ≡ Ok x → OnOk r P → P

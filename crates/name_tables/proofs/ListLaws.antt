@@ -1,7 +1,7 @@
 -- A list of names: what is found, and what is entered.
-use Rattle.std.proofs.Common.{◌≡◌, ℕ, zero, suc, ◌+◌, ◌<◌, List, [], ◌∷◌, ◌++◌, map, length, get_or, take, Bool, true, false, cond, is_some, bytes_eq, refl}
-use Rattle.std.{proofs.Common.{sym, ap, ◌∙◌, arith}, specs.List.{position, IsDistinct}, specs.Map.keys_of, proofs.lemmas.List.{map_push, length-map, take_more}}
-use Rattle.std.{proofs.lemmas.List.take-map, proofs.lemmas.Map.Made.is_some-lookup}
+use Rattle.std.proofs.Common.{◌≡◌, ℕ, zero, suc, ◌+◌, ◌<◌, ◌≤◌, List, [], ◌∷◌, ◌++◌, map, length, get_or, take, Bool, true, false, cond, is_some, bytes_eq}
+use Rattle.std.{proofs.Common.{refl, sym, ap, ◌∙◌, arith}, specs.List.{position, IsDistinct}, specs.Map.keys_of, proofs.lemmas.List.{map_push, length-append}}
+use Rattle.std.{proofs.lemmas.List.{length-map, take_more, take-map}, proofs.lemmas.Map.Made.is_some-lookup}
 use Rattle.stack_text.{specs.Names.{is_among, place_among}, proofs.SharedLaws.{no_earlier, place_among-map}}
 use Rattle.name_tables.{specs.Entries.{Entries, look_up, entries_now, with_entry}, specs.Lists.with_name, specs.declared.name_key.NameKey.NameKey}
 
@@ -13,6 +13,11 @@ listed entries name = is_some-lookup (bytes_eq name) entries
 keys_now : {V : Type 0} (es : List (NameKey × V)) → map (λ key. key.bytes.now) (keys_of es) ≡ keys_of (entries_now es)
 keys_now [] = refl
 keys_now (e ∷ es) = ap (λ (names : List (List ℕ)). e.0.bytes.now ∷ names) (keys_now es)
+
+-- there is a name for each borrowed key
+pub names_length : {V : Type 0} (es : List (NameKey × V)) → length (keys_of (entries_now es)) ≡ length es
+names_length [] = refl
+names_length (e ∷ es) = omega (arith, names_length es)
 
 -- a name is found at its place
 pub place_now : {V : Type 0} (name : List ℕ) (es : List (NameKey × V))

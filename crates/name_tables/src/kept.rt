@@ -1,13 +1,13 @@
 //! The table of `indexmap` that this crate keeps names in. No other crate names it.
 
-ghost use Rattle.std.specs.Prelude.{◌≡◌, OnOk, OnErr, is_some};
-ghost use Rattle.stack_heap.specs.Heaps.{IfOkUnless};
+ghost use Rattle.std.specs.Prelude.{◌≡◌, length, OnOk, OnErr, is_some};
+ghost use Rattle.stack_heap.specs.Heaps.{IfOkUnless, FitsBound};
 ghost use Rattle.name_tables.specs.Entries.{entries_now, look_up, with_entry};
 
 use crate::name_key::NameKey;
 use crate::name_keys::NameKeys;
 use indexmap::IndexMap;
-use stack_heap::{HasRoom, Heap};
+use stack_heap::{BoundedHeap, HasRoom};
 use stack_text::Memory;
 use std::alloc::AllocError;
 
@@ -18,8 +18,10 @@ pub(crate) struct KeptValues<'a, V> {
 }
 
 impl<'a, V> HasRoom for KeptValues<'a, V> {
-    ghost use Rattle.std.specs.Prelude.{◌≡◌};
+    ghost use Rattle.std.specs.Prelude.{◌≡◌, length};
     ghost use Rattle.indexmap.specs.IndexMap.{spare};
+
+    ghost size = { λ v. length v.map.entries };
 
     ghost room = { λ v. spare v.map };
 
@@ -36,7 +38,13 @@ impl<'a, V: Copy> KeptValues<'a, V> {
     /// # Errors
     ///
     /// `Memory` where the heap refuses it for a new name; the entries are then as they were.
-    pub fn enter<H: Heap>(&mut self, heap: H, name: &'a [u8], value: V) -> Result<bool, Memory>
+    pub fn enter<H: BoundedHeap>(
+        &mut self,
+        heap: H,
+        name: &'a [u8],
+        value: V,
+    ) -> Result<bool, Memory>
+        requires { FitsBound (H.bound heap) (length self.old.map.entries) }
         ensures known { IfOkUnless (H.may_refuse heap) result
             (λ is_known. is_known ≡ is_some (look_up (entries_now self.old.map.entries) name.now)) }
         ensures entered { OnOk result (entries_now self.new.map.entries

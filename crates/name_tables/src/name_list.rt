@@ -1,7 +1,7 @@
 //! A list of names, each once.
 
 ghost use Rattle.std.specs.Prelude.{◌≡◌, [], length, not, OnOk, OnErr};
-ghost use Rattle.stack_heap.specs.Heaps.{IfOkUnless};
+ghost use Rattle.stack_heap.specs.Heaps.{IfOkUnless, FitsBound};
 ghost use Rattle.stack_text.specs.Names.{is_among, place_among};
 ghost use Rattle.name_tables.specs.Lists.{with_name};
 
@@ -9,7 +9,7 @@ use crate::kept::KeptValues;
 use crate::name_key::NameKey;
 use crate::name_keys::NameKeys;
 use indexmap::IndexMap;
-use stack_heap::Heap;
+use stack_heap::BoundedHeap;
 use stack_text::Memory;
 use std::alloc::Global;
 use std::marker::Model;
@@ -69,7 +69,8 @@ impl<'a> NameList<'a> {
     /// # Errors
     ///
     /// `Memory` where the heap refuses it; the list is then as it was.
-    pub fn enter<H: Heap>(&mut self, heap: H, name: &'a [u8]) -> Result<bool, Memory>
+    pub fn enter<H: BoundedHeap>(&mut self, heap: H, name: &'a [u8]) -> Result<bool, Memory>
+        requires { FitsBound (H.bound heap) (length self.old) }
         ensures new { IfOkUnless (H.may_refuse heap) result (λ is_new. is_new ≡ not (is_among name.now self.old)) }
         ensures names { OnOk result (self.new ≡ with_name self.old name.now) }
         ensures stays { OnErr result (self.new ≡ self.old) }

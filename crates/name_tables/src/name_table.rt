@@ -1,15 +1,15 @@
 //! A table of names.
 
-ghost use Rattle.std.specs.{Prelude.{◌≡◌, ℕ, List, [], OnOk, OnErr, is_some}, Str.{bytes_eq}};
-ghost use Rattle.stack_heap.specs.Heaps.{IfOkUnless, IsSmallItem};
+ghost use Rattle.std.specs.{Prelude.{◌≡◌, ℕ, List, [], length, OnOk, OnErr, is_some}, Str.{bytes_eq}};
+ghost use Rattle.stack_heap.specs.Heaps.{IfOkUnless, IsSmallItem, FitsBound};
 ghost use Rattle.stack_text.specs.Options.{first_or};
-ghost use Rattle.name_tables.specs.Entries.{entries_now, look_up};
+ghost use Rattle.name_tables.specs.Entries.{entries_now, look_up, with_entry};
 
 use crate::kept::KeptValues;
 use crate::name_key::NameKey;
 use crate::name_keys::NameKeys;
 use indexmap::IndexMap;
-use stack_heap::Heap;
+use stack_heap::BoundedHeap;
 use stack_text::Memory;
 use std::alloc::Global;
 use std::marker::Model;
@@ -82,12 +82,19 @@ impl<'a, V: Copy> NameTable<'a, V> {
     /// # Errors
     ///
     /// `Memory` where the heap refuses it for a new name; the table is then as it was.
-    pub fn enter<H: Heap>(&mut self, heap: H, name: &'a [u8], value: V) -> Result<bool, Memory>
-        requires { IsSmallItem V.row }
+    pub fn enter<H: BoundedHeap>(
+        &mut self,
+        heap: H,
+        name: &'a [u8],
+        value: V,
+    ) -> Result<bool, Memory>
+        requires short { FitsBound (H.bound heap) (length self.old) }
+        requires small { IsSmallItem V.row }
         ensures known { IfOkUnless (H.may_refuse heap) result
             (λ is_known. is_known ≡ is_some (look_up self.old name.now)) }
         ensures entered { OnOk result ((other : List ℕ) →
             look_up self.new other ≡ first_or (look_up self.old other) (bytes_eq other name.now) value) }
+        ensures entries { OnOk result (self.new ≡ with_entry self.old name.now value) }
         ensures stays { OnErr result (self.new ≡ self.old) }
     {
         self.values.enter(heap, name, value)
