@@ -63,6 +63,14 @@ abbrev pub logged_ended : {L K : Type 0} → (L → K → L) → LoggedLinesOf L
 logged_ended ended s sink =
     record { lines = ended s.lines sink.sink; came = s.came; printed_before = s.printed_before; over = true }
 
+-- after one that saw this sink and whose line was over the limit, which has nothing in the logs
+abbrev pub logged_overran : {L K : Type 0} → (L → K → L) → LoggedLinesOf L → LoggedSinkOf K → LoggedLinesOf L
+logged_overran overran s sink = record s { lines = overran s.lines sink.sink }
+
+-- and after one that saw this sink and failed, which has nothing there either
+abbrev pub logged_broke : {L K : Type 0} → (L → K → L) → LoggedLinesOf L → LoggedSinkOf K → LoggedLinesOf L
+logged_broke broke s sink = record s { lines = broke s.lines sink.sink }
+
 -- the bytes of a text that was offered, if one was
 abbrev pub offered_text : Option (Rc (Vec ℕ) Global) → List ℕ
 offered_text None = []

@@ -82,7 +82,7 @@ fn note_count<H: Heap>(heap: H, counts: &mut Vec<usize>, count: usize) -> Result
 }
 
 impl<H: Heap, K: Sink + Drop, L: Lines<K> + Drop> Lines<LoggedSink<H, K>> for LoggedLines<H, L> {
-    ghost use Rattle.device_logs.specs.Logged.{logged_came, logged_ended, may_refuse_logged};
+    ghost use Rattle.device_logs.specs.Logged.{logged_broke, logged_came, logged_ended, logged_overran, may_refuse_logged};
 
     ghost ahead = { λ s. L.ahead s.lines };
 
@@ -93,6 +93,10 @@ impl<H: Heap, K: Sink + Drop, L: Lines<K> + Drop> Lines<LoggedSink<H, K>> for Lo
     ghost came = { logged_came L.came };
 
     ghost ended = { logged_ended L.ended };
+
+    ghost overran = { logged_overran L.overran };
+
+    ghost broke = { logged_broke L.broke };
 
     ghost may_refuse = { may_refuse_logged (λ heap. H.may_refuse heap) L.may_refuse };
 

@@ -106,12 +106,18 @@ line_call lines = record lines { calls = saturating_increment lines.calls }
 abbrev pub line_given_by : MemoryLinesOf → List ℕ → MemoryLinesOf
 line_given_by lines line = record lines { ahead = drop (length line) lines.ahead; calls = saturating_increment lines.calls }
 
+-- lines after a call whose line was over the limit
+abbrev pub line_overrun : MemoryLinesOf → MemoryLinesOf
+line_overrun lines = record lines { calls = saturating_increment lines.calls; overruns = saturating_increment lines.overruns }
+
+-- lines after a call that failed
+abbrev pub line_fault : MemoryLinesOf → MemoryLinesOf
+line_fault lines = record lines { calls = saturating_increment lines.calls; faults = saturating_increment lines.faults }
+
 -- lines after a call with this result
 abbrev pub lines_after : MemoryLinesOf → Result (Option (Vec ℕ)) LineFault → MemoryLinesOf
 lines_after lines (Ok (Some line)) = line_given_by lines line.items
 lines_after lines (Ok None) = line_call lines
-lines_after lines (Err asking.TooLong) =
-    record lines { calls = saturating_increment lines.calls; overruns = saturating_increment lines.overruns }
-lines_after lines (Err asking.Failed) =
-    record lines { calls = saturating_increment lines.calls; faults = saturating_increment lines.faults }
+lines_after lines (Err asking.TooLong) = line_overrun lines
+lines_after lines (Err asking.Failed) = line_fault lines
 lines_after lines (Err asking.Memory) = line_call lines

@@ -49,10 +49,18 @@ pub record StdinLinesOf : Type 0 where
 abbrev pub input_over : StdinLinesOf → StdinLinesOf
 input_over lines = record { over = true; faults = lines.faults; overruns = lines.overruns }
 
+-- the lines after a call whose line was over the limit
+abbrev pub input_overrun : StdinLinesOf → StdinLinesOf
+input_overrun lines = record lines { overruns = saturating_increment lines.overruns }
+
+-- the lines after a call that failed
+abbrev pub input_fault : StdinLinesOf → StdinLinesOf
+input_fault lines = record lines { faults = saturating_increment lines.faults }
+
 -- the lines after a call with this result
 abbrev pub input_after : StdinLinesOf → Result (Option (Vec ℕ)) LineFault → StdinLinesOf
 input_after lines (Ok (Some _)) = lines
 input_after lines (Ok None) = input_over lines
-input_after lines (Err asking.TooLong) = record lines { overruns = saturating_increment lines.overruns }
-input_after lines (Err asking.Failed) = record lines { faults = saturating_increment lines.faults }
+input_after lines (Err asking.TooLong) = input_overrun lines
+input_after lines (Err asking.Failed) = input_fault lines
 input_after lines (Err asking.Memory) = lines

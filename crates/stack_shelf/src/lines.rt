@@ -26,6 +26,12 @@ pub trait Lines<K> {
     /// What it is after a call that was given this sink, and said that no line is left.
     ghost ended: { Self → K → Self };
 
+    /// What it is after a call that was given this sink, and whose line was over its limit.
+    ghost overran: { Self → K → Self };
+
+    /// What it is after a call that was given this sink, and failed.
+    ghost broke: { Self → K → Self };
+
     /// It may have no memory for a call.
     ghost may_refuse: { Type 0 };
 
@@ -46,6 +52,8 @@ pub trait Lines<K> {
         ensures length { IfOk result (λ next. IfSome next (λ line. length line.items ≤ limit)) }
         ensures came { IfOk result (λ next. IfSome next (λ line. self.new ≡ came self.old sink.now line.items)) }
         ensures ended { IfOk result (λ next. IsNone next → self.new ≡ ended self.old sink.now) }
+        ensures overran { IsErrOf result LineFault.TooLong → self.new ≡ overran self.old sink.now }
+        ensures broke { IsErrOf result LineFault.Failed → self.new ≡ broke self.old sink.now }
         ensures refused { IsErrOf result LineFault.Memory → may_refuse }
 
         // The cause of each fault.

@@ -80,7 +80,7 @@ fn first_line(text: &[u8]) -> (&[u8], &[u8])
 
 impl<K> Lines<K> for MemoryLines {
     ghost use Rattle.std.specs.Prelude.{Some};
-    ghost use Rattle.stack_shelf.specs.InMemory.{line_given_by, line_call};
+    ghost use Rattle.stack_shelf.specs.InMemory.{line_call, line_fault, line_given_by, line_overrun};
 
     ghost ahead = { λ s. Some s.ahead };
 
@@ -91,6 +91,10 @@ impl<K> Lines<K> for MemoryLines {
     ghost came = { λ s _. line_given_by s };
 
     ghost ended = { λ s _. line_call s };
+
+    ghost overran = { λ s _. line_overrun s };
+
+    ghost broke = { λ s _. line_fault s };
 
     ghost may_refuse = { Unit {0} };
 

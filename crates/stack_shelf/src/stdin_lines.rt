@@ -47,7 +47,7 @@ impl<R: Read + Drop> StdinLines<R> {
 
 impl<R: Read + Drop, K> Lines<K> for StdinLines<R> {
     ghost use Rattle.std.specs.Prelude.{None};
-    ghost use Rattle.stack_shelf.specs.System.{input_over};
+    ghost use Rattle.stack_shelf.specs.System.{input_fault, input_over, input_overrun};
 
     ghost ahead = { λ _. None };
 
@@ -58,6 +58,10 @@ impl<R: Read + Drop, K> Lines<K> for StdinLines<R> {
     ghost came = { λ s _ _. s };
 
     ghost ended = { λ s _. input_over s };
+
+    ghost overran = { λ s _. input_overrun s };
+
+    ghost broke = { λ s _. input_fault s };
 
     ghost may_refuse = { Unit {0} };
 
