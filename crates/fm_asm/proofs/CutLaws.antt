@@ -35,8 +35,10 @@ cut-cons byte b bytes false e = rw e refl
 pub cut-append : (byte : ℕ) (front rest : List ℕ) → lacks byte front ≡ true → cut byte (front ++ byte ∷ rest) ≡ (front, Some rest)
 unfolding chosen
 cut-append byte [] rest h = cut-cons byte byte rest true (eq-eqb byte byte refl)
-cut-append byte (b ∷ front) rest h =
-    cut-cons byte b (front ++ byte ∷ rest) false (lacks_first byte b front h) ∙ ap (in_front b) (cut-append byte front rest (lacks_rest byte b front h))
+cut-append byte (b ∷ front) rest h = cc (
+  cut-cons byte b (front ++ byte ∷ rest) false (lacks_first byte b front h),
+  cut-append byte front rest (lacks_rest byte b front h),
+)
 
 pub cut-lacks : (byte : ℕ) (bytes : List ℕ) → lacks byte bytes ≡ true → cut byte bytes ≡ (bytes, None)
 unfolding cut chosen
@@ -129,17 +131,15 @@ pub cut_at : (byte : ℕ) (bytes : List ℕ) (k : ℕ) → k < length bytes → 
 unfolding chosen
 cut_at byte [] k lt none here = absurd (omega arith)
 cut_at byte (b ∷ bytes) zero lt none here = cut-cons byte b bytes true here
-cut_at byte (b ∷ bytes) (suc k) lt none here =
-    cut-cons byte b bytes false (none 0 (omega arith))
+cut_at byte (b ∷ bytes) (suc k) lt none here = cut-cons byte b bytes false (none 0 (omega arith))
     ∙ ap (in_front b) (cut_at byte bytes k (omega arith) (λ j h. none (suc j) (omega arith)) here)
-    ∙ (let count : suc (k + 1) ≡ suc k + 1 = omega arith in ap (λ (n : ℕ). let parts : Cut = (b ∷ take k bytes, Some (drop n (b ∷ bytes))) in parts) count)
+    ∙ (let count : suc (k + 1) ≡ suc k + 1 = omega arith in ap (λ n. let parts : Cut = (b ∷ take k bytes, Some (drop n (b ∷ bytes))) in parts) count)
 
 -- no byte is this one
 pub cut_nowhere : (byte : ℕ) (bytes : List ℕ) → ((j : ℕ) → j < length bytes → (get_or bytes j 0 == byte) ≡ false) → cut byte bytes ≡ (bytes, None)
 unfolding cut chosen
 cut_nowhere byte [] none = refl
-cut_nowhere byte (b ∷ bytes) none =
-    cut-cons byte b bytes false (none 0 (omega arith)) ∙ ap (in_front b) (cut_nowhere byte bytes (λ j h. none (suc j) (omega arith)))
+cut_nowhere byte (b ∷ bytes) none = cc (cut-cons byte b bytes false (none 0 (omega arith)), cut_nowhere byte bytes (λ j h. none (suc j) (omega arith)))
 
 tail_all : (k : ℕ) (bytes : List ℕ) → take (length bytes - k) (drop k bytes) ≡ drop k bytes
 tail_all k bytes = take_all (length bytes - k) (drop k bytes) (omega (arith, length-drop k bytes))
@@ -221,6 +221,4 @@ pub same_next : (item : ℕ) (xs : List ℕ) (used k d : ℕ) → take used xs �
 same_next item xs used k d h is lt = h ∙ sym (same_last item (take k xs) (get_or xs k d) is) ∙ ap (without_trailing item) (sym (take_more xs k d lt))
 
 pub other_next : (item : ℕ) (xs : List ℕ) (k d : ℕ) → get_or xs k d ≢ item → k < length xs → take (k + 1) xs ≡ without_trailing item (take (k + 1) xs)
-other_next item xs k d other lt =
-    take_more xs k d lt ∙ sym (last-other item (take k xs) (get_or xs k d) (differs (get_or xs k d) item other))
-    ∙ ap (without_trailing item) (sym (take_more xs k d lt))
+other_next item xs k d other lt = cc (take_more xs k d lt, last-other item (take k xs) (get_or xs k d) (differs (get_or xs k d) item other))

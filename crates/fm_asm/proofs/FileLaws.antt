@@ -46,6 +46,6 @@ plain_fits base size final_pc start ws sized inside few begins fit = record {
 pub assembled_fits : (text : List ℕ) (image : ImageOf) → IsAssembly text image → Spelled (spelling image) image
 assembled_fits text image a =
     let fits = and_parts (nat_lt a.start_pc (2 ^ 32)) (are_words a.words) a.fit in
-    let few : length (without_trailing 0 a.words) ≤ image.size = omega (arith, shorter 0 a.words, a.few) in
+    let few : length (without_trailing 0 a.words) ≤ image.size = omega (arith, shorter) in
     subst (λ (i : ImageOf). Spelled (spelling i) i) (sym a.image_is)
     (plain_fits image.base image.size image.final_pc a.start_pc (without_trailing 0 a.words) a.sized a.inside few fits.0 (fit_trimmed a.words fits.1))

@@ -98,8 +98,7 @@ significant_below w = by_test (w / 2 ^ 9 % 2 == 1)
     by_test false = omega arith
 
 encoded_below : (i : Instr) → IsInstr i → encode_of i < 2 ^ 28
-encoded_below i h = subst (λ (w : ℕ). w < 2 ^ 28) (sym (encode_decode (encode_of i)) ∙ ap (λ (j : Instr). encode_of j) (decode_encode i h))
-    (significant_below (encode_of i))
+encoded_below i h = subst (λ w. w < 2 ^ 28) (sym (encode_decode (encode_of i)) ∙ ap (λ (j : Instr). encode_of j) (decode_encode i h)) (significant_below _)
 
 instruction_fits : (text : List ℕ) (w : Option ℕ) → SpellsInstruction text w → number_fits w ≡ true
 unfolding number_fits
@@ -109,14 +108,12 @@ instruction_fits text w i = by_operand i.a refl
     wider n h = omega arith
 
     by_operand : (o : Option OperandA) → i.a ≡ o → number_fits w ≡ true
-    by_operand None is = ap number_fits (i.word_is ∙ ap
-        (option_map (λ a. encode_of (record { op = i.op; cc = i.condition; set = i.set; mode_b = i.mode; reg_b = i.reg; a = a }))) is)
+    by_operand None is = cc
     by_operand (Some a) is =
         let it : Instr = record { op = i.op; cc = i.condition; set = i.set; mode_b = i.mode; reg_b = i.reg; a = a } in
         let bound = encoded_below it (i.register, operand_small i.operand i.a a i.operand_is is) in
         ap number_fits (i.word_is ∙ ap (option_map
-        (λ a. encode_of (record { op = i.op; cc = i.condition; set = i.set; mode_b = i.mode; reg_b = i.reg; a = a }))) is)
-        ∙ below-small (encode_of it) (wider (encode_of it) bound)
+        (λ a. encode_of (record { op = i.op; cc = i.condition; set = i.set; mode_b = i.mode; reg_b = i.reg; a = a }))) is) ∙ below-small _ (wider _ bound)
 
 written_statement_fits : (text : List ℕ) (s : Statement) → SpellsStatement text s → statement_fits s ≡ true
 unfolding statement_fits
@@ -136,10 +133,11 @@ said_fits _ _ (label_and_statement name gap text s named spaces h) = and_from (s
 pub lines_fit : (place offset : ℕ) (texts : List (List ℕ)) (lines : List Line) → AreLines place offset texts lines
     → list_all statement_fits (statements_of lines) ≡ true
 lines_fit _ _ _ _ (no_line place offset) = refl
-lines_fit _ _ _ _ (one_line place offset bytes said rest lines is_line are) =
-    ap (list_all statement_fits) (statements-kept place offset said lines)
-    ∙ all-append statement_fits (option_to_list said.statement) (statements_of lines) (said_fits _ said is_line.written)
-    (lines_fit (place + length bytes + 1) (offset + word_count said.statement) rest lines are)
+lines_fit _ _ _ _ (one_line place offset bytes said rest lines is_line are) = cc (
+  statements-kept place offset said lines,
+  all-append statement_fits (option_to_list said.statement) (statements_of lines) (said_fits _ said is_line.written) (lines_fit (place + length bytes + 1)
+      (offset + word_count said.statement) rest lines are),
+)
 
 -- ---- a label is no further than the words
 
@@ -169,4 +167,4 @@ valued_fits b n lines (label name) w offsets few limit fits is =
     let m = mapped (λ (o : ℕ). b + o) (offset_of lines name) w is in
     let within : m.value ≤ 0 + word_total (statements_of lines) = offset_within 0 lines name m.value offsets m.is in
     let same = m.image in
-    omega (arith, within, same)
+    omega arith

@@ -1,6 +1,6 @@
 -- The fault of a text's form is the least of all breaches of rules 1 to 3.
 use Rattle.std.proofs.Common.{◌≡◌, ℕ, suc, ◌+◌, ◌<◌, ◌==◌, ◌&&◌, ◌||◌, Bool, true, false, cond, not, List, [], ◌∷◌, length, Option, Some, None, Result, Ok, Err}
-use Rattle.std.{proofs.Common.{refl, sym, ap, subst, ◌∙◌, arith, nat_lt}, specs.List.{slice_split, onto_first}, proofs.lemmas.Bool.Decides.nat_tests}
+use Rattle.std.{proofs.Common.{refl, sym, subst, ◌∙◌, arith, nat_lt}, specs.List.{slice_split, onto_first}, proofs.lemmas.Bool.Decides.nat_tests}
 use Rattle.stack_text.{specs.Breaches.{when, lesser_of, least}, specs.Results.◌>>=◌, specs.declared.breach.Breach.Breach, proofs.BreachLaws.least-append}
 use Rattle.stack_text.specs.Lines.{is_plain_line}
 use Rattle.fm_asm.{specs.declared.due.Due.Due, specs.Cuts.{cut, without_leading_spaces, without_trailing, trimmed}, specs.Values.{Value, number, label}}
@@ -55,8 +55,7 @@ when_after p place rule false h = tt
 form_after : (p place : ℕ) (d : Due) (bytes : List ℕ) → p < place → IsAfter p (least (form_breaches d place bytes))
 unfolding form_breaches
 form_after p place d bytes h =
-    subst (IsAfter p) (sym (least-append (when (not (is_plain_line bytes)) place 1) (said_breaches d place (said_in (text_of bytes)))))
-    (lesser_after p (least (when (not (is_plain_line bytes)) place 1)) (least (said_breaches d place (said_in (text_of bytes))))
+    subst (IsAfter p) (sym (least-append (when (not (is_plain_line bytes)) place 1) (said_breaches d place (said_in (text_of bytes))))) (lesser_after p _ _
     (when_after p place 1 (not (is_plain_line bytes)) h) (said_after p place d (said_in (text_of bytes)) h))
 
 end_after : (p end : ℕ) (o : Option (ℕ × ℕ)) → p < end → IsAfter p (least (end_breaches end o))
@@ -67,11 +66,8 @@ end_after p end (Some w) h = tt
 lines_after : (p end place : ℕ) (d : Due) (texts : List (List ℕ)) → p < place → p < end → IsAfter p (least (lines_breaches end place d texts))
 unfolding lines_breaches
 lines_after p end place d [] h k = end_after p end (window_of d) k
-lines_after p end place d (bytes ∷ rest) h k =
-    subst (IsAfter p) (sym (least-append (form_breaches d place bytes)
-    (lines_breaches end (place + length bytes + 1) (due_after_read d (line_read d bytes)) rest)))
-    (lesser_after p (least (form_breaches d place bytes))
-    (least (lines_breaches end (place + length bytes + 1) (due_after_read d (line_read d bytes)) rest)) (form_after p place d bytes h)
+lines_after p end place d (bytes ∷ rest) h k = subst (IsAfter p) (sym (least-append (form_breaches d place bytes)
+    (lines_breaches end (place + length bytes + 1) (due_after_read d (line_read d bytes)) rest))) (lesser_after p _ _ (form_after p place d bytes h)
     (lines_after p end (place + length bytes + 1) (due_after_read d (line_read d bytes)) rest (omega arith) k))
 
 -- the fault of a line is the least of its breaches
@@ -197,8 +193,7 @@ said_rule place d (Some said) = by_due (due_after_line d said.statement)
 
 line_rule : (place : ℕ) (d : Due) (bytes : List ℕ) → least (form_breaches d place bytes) ≡ rule_at place (line_read d bytes)
 unfolding form_breaches line_read said_of_line
-line_rule place d bytes =
-    least-append (when (not (is_plain_line bytes)) place 1) (said_breaches d place (said_in (text_of bytes))) ∙ by_plain (is_plain_line bytes)
+line_rule place d bytes = least-append (when (not (is_plain_line bytes)) place 1) _ ∙ by_plain _
   where
     by_plain : (t : Bool) → lesser_of (least (when (not t) place 1)) (least (said_breaches d place (said_in (text_of bytes))))
         ≡ rule_at place (cond t (if_of_form (said_in (text_of bytes))) (Err 1) >>= λ said. due_after_line d said.statement >>= λ next. paired said next)
@@ -238,11 +233,13 @@ all_lines end place offset (due.Size b) [] long = refl
 all_lines end place offset (due.Final b n) [] long = refl
 all_lines end place offset (due.Start b n) [] long = refl
 all_lines end place offset (due.Words b n) [] long = refl
-all_lines end place offset d (bytes ∷ rest) long =
-    least-append (form_breaches d place bytes) (lines_breaches end (place + length bytes + 1) (due_after_read d (line_read d bytes)) rest)
-    ∙ ap (λ (o : Option Breach). lesser_of o (least (lines_breaches end (place + length bytes + 1) (due_after_read d (line_read d bytes)) rest)))
-    (line_rule place d bytes)
-    ∙ one_line end place offset d bytes rest (line_read d bytes) refl long (λ o e. all_lines end (place + length bytes + 1) o e rest (omega arith))
+all_lines end place offset d (bytes ∷ rest) long = cc (
+  least-append (form_breaches d place bytes) (lines_breaches end (place + length bytes + 1)
+      (due_after_read d (line_read d bytes)) rest),
+  line_rule place d bytes,
+  one_line end place offset d bytes rest (line_read d bytes) refl long
+      (λ o e. all_lines end (place + length bytes + 1) o e rest (omega arith)),
+)
 
 -- the fault of a text's form is the least of them
 pub form_least : (text : List ℕ) → least (text_breaches text) ≡ fault_in (source_in text)

@@ -1,6 +1,6 @@
 -- Instructions are read from what they are written as.
-use Rattle.std.proofs.Common.{◌≡◌, ℕ, ◌+◌, ◌-◌, ◌/◌, ◌%◌, ◌<◌, ◌≤◌, ◌==◌, ◌&&◌, Bool, true, false, not, List, [], ◌∷◌, ◌++◌, length, Option, Some, None}
-use Rattle.std.{proofs.Common.{option_map, refl, sym, ap, ◌∙◌, arith, codes, append-nil, append_assoc, ⊎_elim, eqb-true, nat_le}, specs.Fmt.{decimal, digits}}
+use Rattle.std.proofs.Common.{◌≡◌, ℕ, ◌+◌, ◌-◌, ◌/◌, ◌%◌, ◌<◌, ◌≤◌, ◌==◌, ◌&&◌, Bool, true, false, not, List, [], ◌∷◌, ◌++◌, length, Option, Some, None, refl}
+use Rattle.std.{proofs.Common.{sym, ap, ◌∙◌, arith, codes, append-nil, append_assoc, ⊎_elim, eqb-true, nat_le}, specs.Fmt.{decimal, digits}}
 use Rattle.std.{specs.List.list_all, specs.Char.is_ascii_digit, proofs.lemmas.Bool.{and_parts, and_from, cases_lt, cond-true}}
 use Rattle.std.{proofs.lemmas.Bool.Decides.nat_tests, proofs.lemmas.Fmt.{decimal_digit, decimal_step}}
 use Rattle.stack_text.{specs.Numerals.{is_digits, is_numeral}, specs.Options.◌>>=◌}
@@ -12,8 +12,8 @@ use Rattle.fm_words.specs.declared.condition.Cc.TheVariants as cc
 use Rattle.fm_show.specs.Disassembly.{operation_name, condition_text, flags_text, register_name, place_text}
 use Rattle.fm_asm.{specs.Cuts.{cut, split_once, after_prefix}, specs.Instructions.{operation_in, condition_named, condition_in, letter_in, flag_letters_in}}
 use Rattle.fm_asm.specs.Instructions.{flags_in, named_in, head_in, register_in, closing_mode, indirect_in, decrement_in, direct_in, place_in, immediate_in}
-use Rattle.fm_asm.{specs.Instructions.{as_operand, operand_by, operand_in, instruction_in}, specs.Assembly.{SpellsOperand, immediate, place, SpellsInstruction}}
-use Rattle.fm_asm.{proofs.CutLaws.{lacks, lacks-append, cut-append, cut-lacks, split_once-append}, proofs.ValueLaws.digits_lack, proofs.TextLaws.is_text_byte}
+use Rattle.fm_asm.{specs.Instructions.{operand_in, instruction_in}, specs.Assembly.{SpellsOperand, immediate, place, SpellsInstruction}, proofs.CutLaws.lacks}
+use Rattle.fm_asm.{proofs.CutLaws.{lacks-append, cut-append, cut-lacks, split_once-append}, proofs.ValueLaws.digits_lack, proofs.TextLaws.is_text_byte}
 
 -- what stands after a byte, with it, and nothing where it isn't there
 pub tail : ℕ → Option (List ℕ) → List ℕ
@@ -148,8 +148,7 @@ named_read op k =
     let n = operation_named op in
     let b = condition_bracketed k in
     let text : operation_name op ++ condition_text k ≡ operation_name op ++ tail 91 b.rest = ap (λ t. operation_name op ++ t) b.text in
-    let parts : cut 91 (operation_name op ++ condition_text k) ≡ (operation_name op, b.rest) =
-    ap (cut 91) text ∙ cut-tail 91 (operation_name op) b.rest n.bracketless in
+    let parts : cut 91 (operation_name op ++ condition_text k) ≡ (operation_name op, b.rest) = ap (cut 91) text ∙ cut-tail 91 _ b.rest n.bracketless in
     rw parts (rw (n.read, b.read) refl)
 
 pub head_read : (op : Op) (k : Cc) (f : Flags) → head_in (head_text op k f) ≡ Some (op, k, f)
@@ -158,23 +157,19 @@ head_read op k f =
     let n = operation_named op in
     let b = condition_bracketed k in
     let g = flags_braced f in
-    let front = operation_name op ++ condition_text k in
-    let braceless : lacks 123 (operation_name op ++ condition_text k) ≡ true =
-    lacks-append 123 (operation_name op) (condition_text k) n.braceless b.braceless in
+    let braceless : lacks 123 (operation_name op ++ condition_text k) ≡ true = lacks-append 123 (operation_name op) _ n.braceless b.braceless in
     let parts : cut 123 ((operation_name op ++ condition_text k) ++ flags_text f) ≡ (operation_name op ++ condition_text k, g.rest) =
-    ap (λ t. cut 123 ((operation_name op ++ condition_text k) ++ t)) g.text ∙ cut-tail 123 (operation_name op ++ condition_text k) g.rest braceless in
+    ap (λ t. cut 123 ((operation_name op ++ condition_text k) ++ t)) g.text ∙ cut-tail 123 _ g.rest braceless in
     rw parts (rw (named_read op k, g.read) refl)
 
 pub head_spaceless : (op : Op) (k : Cc) (f : Flags) → lacks 32 (head_text op k f) ≡ true
 unfolding head_text
-head_spaceless op k f =
-    lacks-append 32 (operation_name op ++ condition_text k) (flags_text f)
+head_spaceless op k f = lacks-append 32 (operation_name op ++ condition_text k) _
     (lacks-append 32 (operation_name op) (condition_text k) (operation_named op).spaceless (condition_bracketed k).spaceless) (flags_braced f).spaceless
 
 pub head_colonless : (op : Op) (k : Cc) (f : Flags) → lacks 58 (head_text op k f) ≡ true
 unfolding head_text
-head_colonless op k f =
-    lacks-append 58 (operation_name op ++ condition_text k) (flags_text f)
+head_colonless op k f = lacks-append 58 (operation_name op ++ condition_text k) _
     (lacks-append 58 (operation_name op) (condition_text k) (operation_named op).colonless (condition_bracketed k).colonless) (flags_braced f).colonless
 
 -- ---- registers and places
@@ -201,19 +196,15 @@ digit_is : (d : ℕ) → d < 10 → is_ascii_digit (48 + d) ≡ true
 digit_is d h = grind (arith, nat_tests)
 
 pub register_text : (r : ℕ) → r < 16 → IsRegisterText r
-register_text r h =
-    ⊎_elim
-    (λ small.
+register_text r h = ⊎_elim (λ small.
     let text : decimal r ≡ (48 + r) ∷ [] = decimal_digit r small in
     let shown : is_digits ((48 + r) ∷ []) ≡ true = rw (digit_is r small) refl in
-    record { read = ap register_in text ∙ one_digit r small; are_digits = ap is_digits text ∙ shown })
-    (λ big.
+    record { read = cc (text, one_digit r small); are_digits = ap is_digits text ∙ shown }) (λ big.
     let tens : r / 10 ≡ 1 = omega arith in
     let text : decimal r ≡ 49 ∷ (48 + r % 10) ∷ [] = decimal_step r big (omega arith) ∙ ap (λ n. decimal n ++ ((48 + r % 10) ∷ [])) tens
     ∙ ap (λ ds. ds ++ ((48 + r % 10) ∷ [])) (decimal_digit 1 (omega arith)) in
     let shown : is_digits (49 ∷ (48 + r % 10) ∷ []) ≡ true = rw (digit_is (r % 10) (omega arith)) refl in
-    record { read = ap register_in text ∙ two_digits r big h; are_digits = ap is_digits text ∙ shown })
-    (cases_lt r 10)
+    record { read = cc (text, two_digits r big h); are_digits = ap is_digits text ∙ shown }) (cases_lt r 10)
 
 pub register_lacks : (byte r : ℕ) → is_ascii_digit byte ≡ false → r < 16 → lacks byte (decimal r) ≡ true
 register_lacks byte r fails h = digits_lack byte (decimal r) fails (register_text r h).are_digits
@@ -228,18 +219,17 @@ place_read PreDecrement r h =
     let parts : split_once 41 (decimal r ++ 41 ∷ []) ≡ Some (decimal r, []) = split_once-append 41 (decimal r) [] (register_lacks 41 r refl h) in
     rw parts (rw (register_text r h).read refl)
 place_read PostIncrement r h =
-    let parts : split_once 41 (decimal r ++ 41 ∷ 43 ∷ []) ≡ Some (decimal r, 43 ∷ []) =
-    split_once-append 41 (decimal r) (43 ∷ []) (register_lacks 41 r refl h) in
+    let parts : split_once 41 (decimal r ++ 41 ∷ 43 ∷ []) ≡ Some (decimal r, 43 ∷ []) = split_once-append 41 (decimal r) (43 ∷ [])
+    (register_lacks 41 r refl h) in
     rw parts (rw (register_text r h).read refl)
 
 pub place_lacks : (byte : ℕ) (m : Mode) (r : ℕ) → is_ascii_digit byte ≡ false → lacks byte (codes "r()-+") ≡ true → r < 16 → lacks byte (place_text m r) ≡ true
 place_lacks byte m r fails marks h =
-    let a = and_parts (not (114 == byte)) (lacks byte (40 ∷ 41 ∷ 45 ∷ 43 ∷ [])) marks in
-    let b = and_parts (not (40 == byte)) (lacks byte (41 ∷ 45 ∷ 43 ∷ [])) a.1 in
-    let c = and_parts (not (41 == byte)) (lacks byte (45 ∷ 43 ∷ [])) b.1 in
-    let d = and_parts (not (45 == byte)) (lacks byte (43 ∷ [])) c.1 in
-    by_mode m (and_from (not (114 == byte)) true a.0 refl) (and_from (not (40 == byte)) true b.0 refl) (and_from (not (41 == byte)) true c.0 refl)
-    (and_from (not (45 == byte)) true d.0 refl) d.1
+    let a = and_parts _ _ marks in
+    let b = and_parts _ _ a.1 in
+    let c = and_parts _ _ b.1 in
+    let d = and_parts _ _ c.1 in
+    by_mode m (and_from (not (114 == byte)) true a.0 refl) (and_from _ true b.0 refl) (and_from _ true c.0 refl) (and_from _ true d.0 refl) d.1
   where
     name : lacks byte (114 ∷ []) ≡ true → lacks byte (register_name r) ≡ true
     name k = lacks-append byte (codes "r") (decimal r) k (register_lacks byte r fails h)
@@ -249,11 +239,10 @@ place_lacks byte m r fails marks h =
     by_mode Register k opens closes minus plus = name k
     by_mode Indirect k opens closes minus plus =
         lacks-append byte (codes "(" ++ register_name r) (codes ")") (lacks-append byte (codes "(") (register_name r) opens (name k)) closes
-    by_mode PreDecrement k opens closes minus plus =
-        lacks-append byte (codes "-(" ++ register_name r) (codes ")")
+    by_mode PreDecrement k opens closes minus plus = lacks-append byte (codes "-(" ++ register_name r) (codes ")")
         (lacks-append byte (codes "-(") (register_name r) (lacks-append byte (45 ∷ []) (40 ∷ []) minus opens) (name k)) closes
     by_mode PostIncrement k opens closes minus plus =
-        lacks-append byte (codes "(" ++ register_name r) (codes ")+") (lacks-append byte (codes "(") (register_name r) opens (name k))
+        lacks-append byte (codes "(" ++ register_name r) _ (lacks-append byte (codes "(") (register_name r) opens (name k))
         (lacks-append byte (41 ∷ []) (43 ∷ []) closes plus)
 
 -- ---- operand A
@@ -268,8 +257,7 @@ no_hash PostIncrement r = refl
 pub operand_read : (text : List ℕ) (a : Option OperandA) → SpellsOperand text a → operand_in text ≡ Some a
 unfolding operand_in immediate_in after_prefix
 operand_read _ _ (immediate digits h) = cond-true (is_numeral digits) _ _ h
-operand_read _ _ (place mode reg h) =
-    ap (λ o. operand_by o (place_text mode reg)) (no_hash mode reg) ∙ ap (option_map as_operand) (place_read mode reg h)
+operand_read _ _ (place mode reg h) = cc (no_hash mode reg, place_read mode reg h)
 
 -- a numeral has no byte that is neither a digit nor `-`
 pub numeral_lacks : (byte : ℕ) (digits : List ℕ) → is_ascii_digit byte ≡ false → (45 == byte) ≡ false → is_numeral digits ≡ true → lacks byte digits ≡ true
@@ -279,7 +267,7 @@ numeral_lacks byte (b ∷ digits) fails other h = by_sign (b == 45) refl
     by_sign : (t : Bool) → (b == 45) ≡ t → lacks byte (b ∷ digits) ≡ true
     by_sign true e =
         let same : b ≡ 45 = eqb-true b 45 e in
-        let minus : (b == byte) ≡ false = ap (λ x. x == byte) same ∙ other in
+        let minus : (b == byte) ≡ false = cc (same, other) in
         let rest : is_digits digits ≡ true = rw e at h in
         and_from _ _ (ap not minus) (digits_lack byte digits fails rest)
     by_sign false e =

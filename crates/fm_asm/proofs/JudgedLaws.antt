@@ -1,6 +1,6 @@
 -- What judging a source gives, from what its parts give.
-use Rattle.std.proofs.Common.{◌≡◌, ℕ, suc, ◌≤◌, ◌==◌, Bool, true, false, cond, arith, List, [], ◌∷◌, ◌++◌, length, map, Option, Some, None, Result, Ok, Err}
-use Rattle.std.{proofs.Common.{unwrap_or, refl, sym, ap, ◌∙◌}, specs.List.flat_map}
+use Rattle.std.proofs.Common.{◌≡◌, ℕ, suc, ◌≤◌, ◌==◌, Bool, true, false, cond, arith, List, [], ◌∷◌, ◌++◌, length, map, Option, Some, None, Ok, Err, unwrap_or}
+use Rattle.std.{proofs.Common.{refl, sym, ap, ◌∙◌}, specs.List.flat_map}
 use Rattle.stack_text.{specs.Breaches.{least, Notes}, specs.declared.breach.Breach.Breach, proofs.BreachLaws.{notes_more, none_least}}
 use Rattle.fm_image.specs.Image.{ImageOf}
 use Rattle.fm_asm.specs.declared.line.Line as declared
@@ -28,35 +28,34 @@ module _ (s : Source) (lines : List declared.Line) (known : List ℕ → Option 
       → Notes noted (flat_map (λ (line : declared.Line). line_breaches s.base s.size known (line_of line)) lines) best
       → least (breaches (source_of s)) ≡ best
   unfolding breaches
-  least_is noted best h k =
-      ap (λ (bs : List Breach). least (repeats [] (source_of s).lines ++ bs))
-      (flat_map-map line_of (line_breaches s.base s.size (offset_of (source_of s).lines)) s.lines.items)
-      ∙ ap (λ (f : List ℕ → Option ℕ). least (repeats [] (map line_of s.lines.items)
-      ++ flat_map (λ (line : declared.Line). line_breaches s.base s.size f (line_of line)) s.lines.items)) (sym known_is)
-      ∙ ap (λ (ls : List declared.Line). least
+  least_is noted best h k = ap (λ (bs : List Breach). least (repeats [] (source_of s).lines ++ bs)) (flat_map-map line_of _ s.lines.items)
+      ∙ ap (λ f. least (repeats [] (map line_of s.lines.items)
+      ++ flat_map (λ (line : declared.Line). line_breaches s.base s.size f (line_of line)) s.lines.items)) (sym known_is) ∙ ap (λ ls. least
       (repeats [] (map line_of ls) ++ flat_map (λ (line : declared.Line). line_breaches s.base s.size known (line_of line)) ls)) (sym same)
-      ∙ sym (notes_more None noted best (repeats [] (map line_of lines))
-      (flat_map (λ (line : declared.Line). line_breaches s.base s.size known (line_of line)) lines) h k)
+      ∙ sym (notes_more None noted best (repeats [] (map line_of lines)) _ h k)
 
   pub final_is : (f : ℕ) → f ≡ first_value (λ (line : declared.Line). final_word s.base known (line_of line).said.statement) lines
       → f ≡ final_in s.base (offset_of (source_of s).lines) (source_of s).lines
-  final_is f h =
-      h ∙ ap (λ (ls : List declared.Line). first_value (λ (line : declared.Line). final_word s.base known (line_of line).said.statement) ls) same
-      ∙ ap (λ (k : List ℕ → Option ℕ). first_value (λ (line : declared.Line). final_word s.base k (line_of line).said.statement) s.lines.items) known_is
-      ∙ sym (first_value-map line_of (λ (line : Line). final_word s.base (offset_of (source_of s).lines) line.said.statement) s.lines.items)
+  final_is f h = rw (
+    h,
+    same,
+    known_is,
+    first_value-map line_of (λ (line : Line). final_word s.base (offset_of
+        (source_of s).lines) line.said.statement) s.lines.items,
+  )
 
   pub start_is : (f : ℕ) → f ≡ first_value (λ (line : declared.Line). start_word s.base known (line_of line).said.statement) lines
       → f ≡ start_in s.base (offset_of (source_of s).lines) (source_of s).lines
-  start_is f h =
-      h ∙ ap (λ (ls : List declared.Line). first_value (λ (line : declared.Line). start_word s.base known (line_of line).said.statement) ls) same
-      ∙ ap (λ (k : List ℕ → Option ℕ). first_value (λ (line : declared.Line). start_word s.base k (line_of line).said.statement) s.lines.items) known_is
-      ∙ sym (first_value-map line_of (λ (line : Line). start_word s.base (offset_of (source_of s).lines) line.said.statement) s.lines.items)
+  start_is f h = rw (
+    h,
+    same,
+    known_is,
+    first_value-map line_of (λ (line : Line). start_word s.base (offset_of
+        (source_of s).lines) line.said.statement) s.lines.items,
+  )
 
   pub words_are : (ws : List ℕ) → ws ≡ flat_map (λ (line : declared.Line). line_words s.base known (line_of line)) lines → ws ≡ words_of (source_of s)
-  words_are ws h =
-      h ∙ ap (λ (ls : List declared.Line). flat_map (λ (line : declared.Line). line_words s.base known (line_of line)) ls) same
-      ∙ ap (λ (k : List ℕ → Option ℕ). flat_map (λ (line : declared.Line). line_words s.base k (line_of line)) s.lines.items) known_is
-      ∙ sym (flat_map-map line_of (line_words s.base (offset_of (source_of s).lines)) s.lines.items)
+  words_are ws h = rw (h, same, known_is, flat_map-map line_of (line_words s.base (offset_of (source_of s).lines)) s.lines.items)
 
 -- the least breach is the fault
 pub is_refused : (s : SourceOf) (best : Option Breach) (breach : Breach) → best ≡ Some breach → least (breaches s) ≡ best
@@ -70,14 +69,7 @@ is_fit s best read none e = source_fits s read (none_least (breaches s) (e ∙ n
 pub is_built : (s : SourceOf) (best : Option Breach) (f x : ℕ) (ws trimmed : List ℕ) (image : ImageOf) → best ≡ None → least (breaches s) ≡ best
     → f ≡ final_in s.base (offset_of s.lines) s.lines → x ≡ start_in s.base (offset_of s.lines) s.lines → ws ≡ words_of s → trimmed ≡ without_trailing 0 ws
     → image ≡ plain_image s.base s.size f x trimmed → image_unless s (least (breaches s)) ≡ Ok image
-is_built s best f x ws trimmed image none e ends begins words short is =
-    let found : ImageOf → Result ImageOf Breach = λ i. Ok i in
-    ap (image_unless s) (e ∙ none)
-    ∙ ap found (ap (λ (w : ℕ). plain_image s.base s.size w (start_in s.base (offset_of s.lines) s.lines) (without_trailing 0 (words_of s))) (sym ends)
-    ∙ ap (λ (w : ℕ). plain_image s.base s.size f w (without_trailing 0 (words_of s))) (sym begins)
-    ∙ ap (λ (vs : List ℕ). plain_image s.base s.size f x (without_trailing 0 vs)) (sym words)
-    ∙ ap (λ (vs : List ℕ). plain_image s.base s.size f x vs) (sym short)
-    ∙ sym is)
+is_built s best f x ws trimmed image none e ends begins words short is = cc
 
 one_shorter : (item x : ℕ) (ys : List ℕ) → length (unless_trailing item x ys) ≤ suc (length ys)
 one_shorter item x (y ∷ ys) = omega arith
@@ -97,4 +89,4 @@ few_words s ws trimmed fit words short =
     let few = fit.few in
     let same : length ws ≡ length (words_of s) = ap length words in
     let cut : length trimmed ≡ length (without_trailing 0 ws) = ap length short in
-    omega (arith, shorter 0 ws)
+    omega (arith, shorter)

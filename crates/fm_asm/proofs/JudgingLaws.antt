@@ -1,8 +1,7 @@
 -- Where a text spells an image, nothing breaks a rule.
 use Rattle.std.proofs.Common.{◌≡◌, ℕ, ◌+◌, ◌%◌, ◌^◌, ◌<◌, ◌≤◌, ◌&&◌, ◌||◌, Bool, true, false, cond, not, List, [], ◌∷◌, ◌++◌, length, map, Option, Some, None}
-use Rattle.std.{proofs.Common.{is_some, unwrap_or, refl, sym, ap, subst, ◌∙◌, arith, nat_lt, nat_le, ltb-true}, specs.Prelude.option_to_list}
-use Rattle.std.{specs.List.{flat_map, list_all, list_any}, specs.Str.bytes_eq, proofs.lemmas.Bool.{and_parts, and_from, not-true}}
-use Rattle.std.proofs.lemmas.Bool.Decides.{nat_tests}
+use Rattle.std.{proofs.Common.{is_some, unwrap_or, refl, sym, ap, subst, ◌∙◌, arith, nat_le, ltb-true}, specs.Prelude.option_to_list, specs.List.flat_map}
+use Rattle.std.{specs.List.{list_all, list_any}, specs.Str.bytes_eq, proofs.lemmas.Bool.{and_parts, and_from, not-true}, proofs.lemmas.Bool.Decides.nat_tests}
 use Rattle.stack_text.{specs.Breaches.when, proofs.SharedLaws.bytes_apart}
 use Rattle.fm_image.specs.Spelling.{are_words}
 use Rattle.fm_asm.{specs.Statements.{Statement, base, size, final, start, word, instruction}, specs.Lines.Line, specs.Sources.{word_count, kept}}
@@ -82,16 +81,15 @@ words-statements b known (start v ∷ ss) (w ∷ ws) h fit = absurd cc
 words-statements b known (word v ∷ ss) (w ∷ ws) h fit =
     let first : number_of b known v ≡ Some w = cc in
     let rest : map (statement_word b known) ss ≡ map (λ w. Some w) ws = cc in
-    let parts = and_parts (nat_lt w (2 ^ 32)) (are_words ws) fit in
+    let parts = and_parts _ _ fit in
     ap (λ x. x ∷ flat_map (λ s. statement_words b known (Some s)) ss) (as_word-fits (number_of b known v) w first (ltb-true w (2 ^ 32) parts.0))
     ∙ ap (λ xs. w ∷ xs) (words-statements b known ss ws rest parts.1)
 words-statements b known (instruction None ∷ ss) (w ∷ ws) h fit = absurd cc
 words-statements b known (instruction (Some x) ∷ ss) (w ∷ ws) h fit =
     let first : x ≡ w = cc in
     let rest : map (statement_word b known) ss ≡ map (λ w. Some w) ws = cc in
-    let parts = and_parts (nat_lt w (2 ^ 32)) (are_words ws) fit in
-    ap (λ y. y ∷ flat_map (λ s. statement_words b known (Some s)) ss) first
-    ∙ ap (λ xs. w ∷ xs) (words-statements b known ss ws rest parts.1)
+    let parts = and_parts _ _ fit in
+    ap (λ y. y ∷ flat_map (λ s. statement_words b known (Some s)) ss) first ∙ ap (λ xs. w ∷ xs) (words-statements b known ss ws rest parts.1)
 
 -- ---- no breach
 
@@ -187,10 +185,9 @@ fresh-push : (earlier : List Line) (line : Line) (names : List (List ℕ)) → l
     → list_all (is_fresh (earlier ++ line ∷ [])) names ≡ true
 fresh-push earlier line [] h k = refl
 fresh-push earlier line (name ∷ names) h k =
-    let a = and_parts (is_fresh earlier name) (list_all (is_fresh earlier) names) h in
-    let b = and_parts (not (is_labelled name line.said.label)) (list_all (λ m. not (is_labelled m line.said.label)) names) k in
-    and_from (is_fresh (earlier ++ line ∷ []) name) (list_all (is_fresh (earlier ++ line ∷ [])) names)
-    (offset-push earlier line name a.0 (not-true (is_labelled name line.said.label) b.0)) (fresh-push earlier line names a.1 b.1)
+    let a = and_parts _ _ h in
+    let b = and_parts _ _ k in
+    and_from _ _ (offset-push earlier line name a.0 (not-true (is_labelled name line.said.label) b.0)) (fresh-push earlier line names a.1 b.1)
 
 no_label_all : (names : List (List ℕ)) → list_all (λ name. not (is_labelled name None)) names ≡ true
 no_label_all [] = refl
@@ -215,8 +212,7 @@ pub none_repeats : (earlier lines : List Line) → are_distinct (labels_of lines
     → repeats earlier lines ≡ []
 unfolding repeats are_distinct is_fresh
 none_repeats earlier [] differ fresh = refl
-none_repeats earlier (line ∷ lines) differ fresh =
-    by_label line.said.label refl differ fresh (none_repeats (earlier ++ line ∷ []) lines)
+none_repeats earlier (line ∷ lines) differ fresh = by_label _ refl differ fresh (none_repeats (earlier ++ line ∷ []) lines)
   where
     by_label : (l : Option (List ℕ)) → line.said.label ≡ l → are_distinct (option_to_list l ++ labels_of lines) ≡ true
         → list_all (is_fresh earlier) (option_to_list l ++ labels_of lines) ≡ true
@@ -224,12 +220,11 @@ none_repeats earlier (line ∷ lines) differ fresh =
         → repeats (earlier ++ line ∷ []) lines ≡ [])
         → repeated (offset_of earlier) line.place l ++ repeats (earlier ++ line ∷ []) lines ≡ []
     by_label None e d f later = later d (fresh-push earlier line (labels_of lines) f
-        (subst (λ (o : Option (List ℕ)). list_all (λ name. not (is_labelled name o)) (labels_of lines) ≡ true) (sym e)
-        (no_label_all (labels_of lines))))
+        (subst (λ (o : Option (List ℕ)). list_all (λ name. not (is_labelled name o)) (labels_of lines) ≡ true) (sym e) (no_label_all (labels_of lines))))
     by_label (Some own) e d f later =
-        let apart = and_parts (not (list_any (bytes_eq own) (labels_of lines))) (are_distinct (labels_of lines)) d in
-        let new = and_parts (is_fresh earlier own) (list_all (is_fresh earlier) (labels_of lines)) f in
-        let now : repeated (offset_of earlier) line.place (Some own) ≡ [] = new_is line.place (is_some (offset_of earlier own)) new.0 in
+        let apart = and_parts _ _ d in
+        let new = and_parts _ _ f in
+        let now : repeated (offset_of earlier) line.place (Some own) ≡ [] = new_is line.place _ new.0 in
         rw now (later apart.1 (fresh-push earlier line (labels_of lines) new.1
         (subst (λ (o : Option (List ℕ)). list_all (λ name. not (is_labelled name o)) (labels_of lines) ≡ true) (sym e)
         (others_differ own (labels_of lines) apart.0))))

@@ -1,10 +1,10 @@
 -- Lines are read from what they are written as.
-use Rattle.std.proofs.Common.{◌≡◌, ℕ, ◌==◌, ◌&&◌, true, List, [], ◌∷◌, ◌++◌, length, nat_lt, Option, Some, None, Ok, option_map, refl, sym, ap, ◌∙◌, codes}
+use Rattle.std.proofs.Common.{◌≡◌, ℕ, ◌==◌, true, List, [], ◌∷◌, ◌++◌, length, nat_lt, Option, Some, None, Ok, option_map, refl, sym, ap, ◌∙◌, codes}
 use Rattle.std.{proofs.Common.append_assoc, specs.List.list_all, proofs.lemmas.Bool.{and_parts, and_from, cond-true}}
 use Rattle.stack_text.{specs.Names.is_name, specs.Lines.is_plain_line}
 use Rattle.fm_asm.{specs.Cuts.{cut, without_leading_spaces}, specs.Statements.{Statement, statement_in}, specs.Lines.{Said, text_of, statement_or_none}}
-use Rattle.fm_asm.{specs.Lines.{is_apart, labelled, said_by, said_in}, specs.Sources.{if_of_form, said_of_line}, specs.Assembly.{says, is_gap, SpellsStatement}}
-use Rattle.fm_asm.{specs.Assembly.{SpellsSaid, nothing, statement_alone, label_alone, label_and_statement, IsLine}, proofs.CutLaws.{cut-append, cut-lacks}}
+use Rattle.fm_asm.{specs.Lines.{is_apart, labelled, said_by, said_in}, specs.Sources.said_of_line, specs.Assembly.{says, is_gap, SpellsStatement, SpellsSaid}}
+use Rattle.fm_asm.{specs.Assembly.{nothing, statement_alone, label_alone, label_and_statement, IsLine}, proofs.CutLaws.{cut-append, cut-lacks}}
 use Rattle.fm_asm.{proofs.ValueLaws.name_lacks, proofs.StatementLaws.{statement_read, IsStatementText, statement_text}}
 
 -- a statement that is there
@@ -36,10 +36,8 @@ label_read : (name rest : List ℕ) (s : Option Statement) → is_name name ≡ 
 unfolding said_in said_by labelled
 label_read name rest s named apart reads =
     let parts : cut 58 (name ++ 58 ∷ rest) ≡ (name, Some rest) = cut-append 58 name rest (name_lacks 58 name refl named) in
-    let chosen : labelled name rest ≡ option_map (λ (x : Option Statement). says (Some name) x) (statement_or_none (without_leading_spaces rest)) =
-    cond-true (is_name name && is_apart rest)
-    (option_map (λ (x : Option Statement). says (Some name) x) (statement_or_none (without_leading_spaces rest))) None
-    (and_from (is_name name) (is_apart rest) named apart) in
+    let chosen : labelled name rest ≡ option_map (λ (x : Option Statement). says (Some name) x) (statement_or_none
+    (without_leading_spaces rest)) = cond-true _ _ None (and_from (is_name name) (is_apart rest) named apart) in
     rw parts (chosen ∙ ap (option_map (λ (x : Option Statement). says (Some name) x)) reads)
 
 alone : (text : List ℕ) (s : Statement) → SpellsStatement text s → said_in text ≡ Some (says None (Some s))
@@ -61,5 +59,4 @@ said_read _ _ (label_and_statement name gap text s named spaces h) =
 
 pub line_said : (bytes : List ℕ) (said : Said) → IsLine bytes said → said_of_line bytes ≡ Ok said
 unfolding said_of_line
-line_said bytes said h =
-    cond-true (is_plain_line bytes) _ _ h.plain ∙ ap if_of_form (said_read (text_of bytes) said h.written)
+line_said bytes said h = cc (cond-true (is_plain_line bytes) _ _ h.plain, said_read (text_of bytes) said h.written)

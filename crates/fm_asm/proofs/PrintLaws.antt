@@ -1,6 +1,6 @@
 -- The assembly text of a plain image spells that image.
-use Rattle.std.proofs.Common.{◌≡◌, ℕ, zero, suc, ◌+◌, ◌-◌, ◌^◌, ◌<◌, ◌≤◌, ◌==◌, ◌&&◌, ◌||◌, Bool, true, false, cond, not, List, [], ◌∷◌, ◌++◌, length, map}
-use Rattle.std.proofs.Common.{take, get_or, Option, Some, None, Ok, is_none, refl, sym, ap, subst, ◌∙◌, arith, codes, append_assoc, nat_lt, leb-true, lt-ltb}
+use Rattle.std.proofs.Common.{◌≡◌, ℕ, zero, suc, ◌+◌, ◌-◌, ◌^◌, ◌<◌, ◌≤◌, ◌==◌, ◌||◌, Bool, true, false, cond, not, List, [], ◌∷◌, ◌++◌, length, map, take}
+use Rattle.std.proofs.Common.{get_or, Option, Some, None, Ok, is_none, refl, sym, ap, subst, ◌∙◌, arith, codes, append_assoc, nat_lt, leb-true, lt-ltb}
 use Rattle.std.{proofs.Common.{ltb-true, eqb-true}, specs.Prelude.{pos, replicate, slice_index, slice_get, IsTrue, IsOk, Result, Err, IfOk, OnOk}}
 use Rattle.std.{specs.Fmt.decimal, specs.Int.{w32, to_be_bytes}, specs.List.{flat_map, list_all, slice_split}, specs.Char.is_ascii_digit}
 use Rattle.std.{proofs.lemmas.Bool.{and_parts, and_from, cond-true}, proofs.lemmas.Bool.Decides.nat_tests, proofs.lemmas.Fmt.length-decimal-le}
@@ -13,13 +13,13 @@ use Rattle.fm_image.{specs.Image.ImageOf, specs.Limits.{marked_version, is_size,
 use Rattle.fm_show.{specs.Digits.hex_digits, specs.Disassembly.disassembly_text}
 use Rattle.fm_asm.{specs.Cuts.{cut, without_leading_spaces, without_trailing, unless_trailing, trimmed}, specs.Values.{number, decimal_value}}
 use Rattle.fm_asm.{specs.Statements.{Statement, base, size, final, start, word, instruction}, specs.Lines.{Line, text_of}, specs.Sources.word_count}
-use Rattle.fm_asm.{specs.Labels.{offset_of, number_of}, specs.Printing.{are_clear, has_no_names, has_no_tables, are_zero_but_last, is_zero, ends_in_zero}}
-use Rattle.fm_asm.{specs.Printing.{is_plain, plain_image, start_of, is_exact, word_text, word_line, assembly_text}, specs.Assembly.{says, SpellsValue}}
-use Rattle.fm_asm.specs.Assembly.{decimal as in_decimal, hexadecimal, SpellsStatement, says_base, says_size, says_final, says_start, says_word}
-use Rattle.fm_asm.specs.Assembly.{says_instruction, SpellsSaid, nothing, statement_alone, IsLine, AreLines, no_line, one_line, statements_of, labels_of}
-use Rattle.fm_asm.{specs.Assembly.{are_distinct, statement_word, IsAssembly}, specs.Assembling.assembly_of, proofs.CutLaws.lacks, proofs.ValueLaws.lacks_from}
-use Rattle.fm_asm.proofs.TextLaws.{is_text_byte, all-append, all_weaker, IsTidy, tidy_text, tidy_plain, lines_text, split-lines}
-use Rattle.fm_asm.{proofs.PrintedLaws.{decimal_bytes, decimal_text, instruction_written, instruction_tidy}, proofs.AssemblyLaws.spelled_is_assembled}
+use Rattle.fm_asm.{specs.Labels.{offset_of, number_of}, specs.Printing.{is_zero, ends_in_zero, is_plain, plain_image, start_of, is_exact, word_text, word_line}}
+use Rattle.fm_asm.{specs.Printing.assembly_text, specs.Assembly.{says, SpellsValue, decimal as in_decimal, hexadecimal, SpellsStatement, says_base, says_size}}
+use Rattle.fm_asm.specs.Assembly.{says_final, says_start, says_word, says_instruction, SpellsSaid, nothing, statement_alone, IsLine, AreLines, no_line}
+use Rattle.fm_asm.{specs.Assembly.{one_line, statements_of, labels_of, are_distinct, statement_word, IsAssembly}, specs.Assembling.assembly_of}
+use Rattle.fm_asm.{proofs.CutLaws.lacks, proofs.ValueLaws.lacks_from, proofs.TextLaws.{is_text_byte, all-append, all_weaker, IsTidy, tidy_text, tidy_plain}}
+use Rattle.fm_asm.{proofs.TextLaws.{lines_text, split-lines}, proofs.PrintedLaws.{decimal_bytes, decimal_text, instruction_written, instruction_tidy}}
+use Rattle.fm_asm.proofs.AssemblyLaws.{spelled_is_assembled}
 
 -- a line that is printed for a statement
 record Prints (text : List ℕ) (s : Statement) : Type 0 where
@@ -29,15 +29,13 @@ record Prints (text : List ℕ) (s : Statement) : Type 0 where
 -- ---- the header
 
 decimal_number : (n : ℕ) → n < 2 ^ 32 → decimal_value (decimal n) ≡ Some n
-decimal_number n small =
-    ap unsigned_32 (value-signed_decimal (pos n) (grind (arith, nat_tests))) ∙ fits
+decimal_number n small = cc (value-signed_decimal (pos n) (grind (arith, nat_tests)), fits)
   where
     fits : unsigned_32 (pos n) ≡ Some n
     fits = let yes : Option ℕ = Some n in cond-true (nat_lt n (2 ^ 32)) yes None (lt-ltb n (2 ^ 32) small)
 
 value_of_decimal : (n : ℕ) → n < 2 ^ 32 → SpellsValue (decimal n) (number (Some n))
-value_of_decimal n small =
-    subst (λ (o : Option ℕ). SpellsValue (decimal n) (number o)) (decimal_number n small) (in_decimal (decimal n) (decimal_bytes n small))
+value_of_decimal n small = subst (λ o. SpellsValue (decimal n) (number o)) (decimal_number n small) (in_decimal (decimal n) (decimal_bytes n small))
 
 record IsMore (text : List ℕ) : Type 0 where
   first : ℕ
@@ -55,7 +53,7 @@ header_tidy front n small all few =
     let short : length (decimal n) ≤ 10 = length-decimal-le 10 n (omega arith) (omega arith) (omega arith) in
     record {
       bytes = all-append is_text_byte (46 ∷ front) (decimal n) all (decimal_text n small);
-      short = omega (arith, few, short, length-append front (decimal n));
+      short = omega (arith, length-append front (decimal n));
       front = 46 ∷ front;
       first = 46;
       rest = front ++ decimal n;
@@ -64,35 +62,30 @@ header_tidy front n small all few =
       begins = refl;
       no_space = refl;
       ends = ap (λ (ds : List ℕ). 46 ∷ front ++ ds) more.is;
-      spaceless = ap (lacks 32) (sym more.is) ∙ lacks_from is_ascii_digit 32 (decimal n) refl
-          (and_parts (nat_lt 0 (length (decimal n))) (list_all is_ascii_digit (decimal n)) digits).1;
+      spaceless = cc (
+        more.is,
+        lacks_from is_ascii_digit 32 (decimal n) refl (and_parts (nat_lt 0 (length (decimal n))) (list_all is_ascii_digit
+            (decimal n)) digits).1,
+      );
     }
 
 prints_base : (n : ℕ) → n < 2 ^ 32 → Prints (codes ".base " ++ decimal n) (base (Some n))
 prints_base n small = record {
-  written = subst (λ (o : Option ℕ). SpellsStatement (codes ".base " ++ decimal n) (base o)) (decimal_number n small)
-      (says_base (decimal n) (decimal_bytes n small));
+  written = subst (λ o. SpellsStatement (codes ".base " ++ decimal n) (base o)) (decimal_number n small) (says_base (decimal n) (decimal_bytes n small));
   tidy = header_tidy (codes "base ") n small refl (omega arith);
 }
 
 prints_size : (n : ℕ) → n < 2 ^ 32 → Prints (codes ".size " ++ decimal n) (size (Some n))
 prints_size n small = record {
-  written = subst (λ (o : Option ℕ). SpellsStatement (codes ".size " ++ decimal n) (size o)) (decimal_number n small)
-      (says_size (decimal n) (decimal_bytes n small));
+  written = subst (λ o. SpellsStatement (codes ".size " ++ decimal n) (size o)) (decimal_number n small) (says_size (decimal n) (decimal_bytes n small));
   tidy = header_tidy (codes "size ") n small refl (omega arith);
 }
 
 prints_final : (n : ℕ) → n < 2 ^ 32 → Prints (codes ".final " ++ decimal n) (final (number (Some n)))
-prints_final n small = record {
-  written = says_final (decimal n) (number (Some n)) (value_of_decimal n small);
-  tidy = header_tidy (codes "final ") n small refl (omega arith);
-}
+prints_final n small = record { written = says_final (decimal n) _ (value_of_decimal n small); tidy = header_tidy (codes "final ") n small refl (omega arith) }
 
 prints_start : (n : ℕ) → n < 2 ^ 32 → Prints (codes ".start " ++ decimal n) (start (number (Some n)))
-prints_start n small = record {
-  written = says_start (decimal n) (number (Some n)) (value_of_decimal n small);
-  tidy = header_tidy (codes "start ") n small refl (omega arith);
-}
+prints_start n small = record { written = says_start (decimal n) _ (value_of_decimal n small); tidy = header_tidy (codes "start ") n small refl (omega arith) }
 
 -- ---- words
 
@@ -121,15 +114,11 @@ hex_all w =
 
 prints_hex : (w : ℕ) → w < 2 ^ 32 → Prints (codes ".word 0x" ++ hex_digits w) (word (number (Some w)))
 prints_hex w small = record {
-  written = says_word (codes "0x" ++ hex_digits w) (number (Some w))
-      (hexadecimal (hex_digits w) w (record {
-        bytes = to_be_bytes w32 w;
-        digits_are = hex_decodes w;
-        number_is = sym (from_be_bytes-to_be_bytes_4 w small);
-      }));
+  written = says_word _ _
+      (hexadecimal (hex_digits w) w (record { bytes = to_be_bytes w32 w; digits_are = hex_decodes w; number_is = sym (from_be_bytes-to_be_bytes_4 w small) }));
   tidy = record {
     bytes = all-append is_text_byte (codes ".word 0x") (hex_digits w) refl (all_weaker is_hex_digit is_text_byte (hex_digits w) hex_is_text (hex_all w));
-    short = omega (arith, decode_sized-ok (hex_digits w) 4 (to_be_bytes w32 w) (hex_decodes w));
+    short = omega (arith, decode_sized-ok (hex_digits w) 4 _ (hex_decodes w));
     front = codes ".word ";
     first = 46;
     rest = codes "word 0x" ++ hex_digits w;
@@ -144,8 +133,7 @@ prints_hex w small = record {
 
 prints_instruction : (w : ℕ) → is_exact w ≡ true → Prints (disassembly_text w) (instruction (Some w))
 prints_instruction w exact = record {
-  written = says_instruction (disassembly_text w) (Some w)
-      (instruction_written w (eqb-true (encode_of (decode_of w)) w exact));
+  written = says_instruction _ (Some w) (instruction_written w (eqb-true (encode_of (decode_of w)) w exact));
   tidy = instruction_tidy w;
 }
 
@@ -186,9 +174,7 @@ empty_line = record { plain = refl; written = nothing }
 are_made : (place offset : ℕ) (ps : List PrintedLine) → AllPrint ps → AreLines place offset (map (λ p. p.text) ps ++ [] ∷ []) (made place offset ps)
 unfolding AllPrint made
 are_made place offset [] all = one_line place offset [] (says None None) [] [] empty_line (no_line (place + 0 + 1) (offset + 0))
-are_made place offset (p ∷ ps) all =
-    one_line place offset p.text (says None (Some p.says_so)) (map (λ q. q.text) ps ++ [] ∷ [])
-    (made (place + length p.text + 1) (offset + word_count (Some p.says_so)) ps)
+are_made place offset (p ∷ ps) all = one_line place offset p.text _ _ _
     (line_is p.text p.says_so all.0) (are_made (place + length p.text + 1) (offset + word_count (Some p.says_so)) ps all.1)
 
 statements-made : (place offset : ℕ) (ps : List PrintedLine) → statements_of (made place offset ps) ≡ map (λ p. p.says_so) ps
@@ -204,8 +190,7 @@ labels-made place offset (p ∷ ps) = labels-made (place + length p.text + 1) (o
 print_lacks : (ps : List PrintedLine) → AllPrint ps → list_all (lacks 10) (map (λ p. p.text) ps) ≡ true
 unfolding AllPrint
 print_lacks [] all = refl
-print_lacks (p ∷ ps) all = and_from (lacks 10 p.text) (list_all (lacks 10) (map (λ q. q.text) ps))
-    (lacks_from is_text_byte 10 p.text refl all.0.tidy.bytes) (print_lacks ps all.1)
+print_lacks (p ∷ ps) all = and_from _ _ (lacks_from is_text_byte 10 p.text refl all.0.tidy.bytes) (print_lacks ps all.1)
 
 -- ---- the lines of an image
 
@@ -239,12 +224,11 @@ regrouped_header a b c d rest = simp append_assoc
 
 text_is : (image : ImageOf) → assembly_text image ≡ lines_text (map (λ p. p.text) (image_prints image))
 unfolding assembly_text lines_text image_prints
-text_is image =
-    regrouped_header (decimal image.base) (decimal image.size) (decimal image.final_pc) (decimal (start_of image)) (flat_map word_line image.words)
-    ∙ ap (λ (t : List ℕ). (codes ".base " ++ decimal image.base) ++ 10
-    ∷ ((codes ".size " ++ decimal image.size) ++ 10
-    ∷ ((codes ".final " ++ decimal image.final_pc) ++ 10 ∷ ((codes ".start " ++ decimal (start_of image)) ++ 10 ∷ t))))
-    (words-printed image.words)
+text_is image = cc (
+  regrouped_header (decimal image.base) (decimal image.size) (decimal image.final_pc) (decimal (start_of image))
+      (flat_map word_line image.words),
+  words-printed image.words,
+)
 
 -- ---- a plain image
 
@@ -254,7 +238,7 @@ zeros zero (r ∷ []) h k = refl
 zeros zero (r ∷ s ∷ rs) h k = absurd (omega (arith, h))
 zeros (suc n) (r ∷ rs) h k =
     let parts = and_parts (r == 0) (list_all (λ s. s == 0) (take n rs)) k in
-    ap (λ x. x ∷ rs) (eqb-true r 0 parts.0) ∙ ap (λ xs. 0 ∷ xs) (zeros n rs (omega (arith, h)) parts.1)
+    ap (λ x. x ∷ rs) (eqb-true r 0 parts.0) ∙ ap (λ xs. 0 ∷ xs) (zeros n rs (omega arith) parts.1)
 
 clear : (c v n z : Bool) → not (c || v || n || z) ≡ true → (let f : Flags = record { c = c; v = v; n = n; z = z } in f) ≡ no_flags
 clear false false false false h = refl
@@ -290,17 +274,16 @@ plain_is : (image : ImageOf) → IsTrue (is_plain image) → length image.regist
 unfolding is_plain
 plain_is image h sixteen =
     let versioned = image.version == marked_version in
-    let a = and_parts (versioned && has_no_names image && has_no_tables image && are_clear image.flags && are_zero_but_last image.registers)
-    (not (ends_in_zero image.words)) h in
-    let b = and_parts (versioned && has_no_names image && has_no_tables image && are_clear image.flags) (are_zero_but_last image.registers) a.0 in
-    let c = and_parts (versioned && has_no_names image && has_no_tables image) (are_clear image.flags) b.0 in
-    let f = and_parts (versioned && has_no_names image) (has_no_tables image) c.0 in
-    let g = and_parts versioned (has_no_names image) f.0 in
-    let t = and_parts (length image.procedures == 0) (length image.marks == 0) f.1 in
-    let d = and_parts (is_none image.condition_address && length image.conditions == 0) (length image.slots == 0) g.1 in
-    let e = and_parts (is_none image.condition_address) (length image.conditions == 0) d.0 in
-    let registers : image.registers ≡ replicate 15 0 ++ slice_index image.registers 15 ∷ [] = zeros 15 image.registers (omega (arith, sixteen)) b.1 in
-    let flags : image.flags ≡ no_flags = clear image.flags.c image.flags.v image.flags.n image.flags.z c.1 in
+    let a = and_parts _ _ h in
+    let b = and_parts _ _ a.0 in
+    let c = and_parts _ _ b.0 in
+    let f = and_parts _ _ c.0 in
+    let g = and_parts versioned _ f.0 in
+    let t = and_parts (length image.procedures == 0) _ f.1 in
+    let d = and_parts _ _ g.1 in
+    let e = and_parts (is_none image.condition_address) _ d.0 in
+    let registers : image.registers ≡ replicate 15 0 ++ slice_index image.registers 15 ∷ [] = zeros 15 image.registers (omega arith) b.1 in
+    let flags : image.flags ≡ no_flags = clear _ _ _ _ c.1 in
     let address = none_there image.condition_address e.0 in
     let conditions = nothing_there image.conditions e.1 in
     let slots = nothing_there image.slots d.1 in

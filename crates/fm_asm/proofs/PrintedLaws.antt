@@ -114,8 +114,7 @@ operand_spaceless (Place m r) h = place_lacks 32 m r refl refl h
 
 head_bytes : (op : Op) (k : Cc) (f : Flags) → list_all is_text_byte (head_text op k f) ≡ true
 unfolding head_text
-head_bytes op k f =
-    all-append is_text_byte (operation_name op ++ condition_text k) (flags_text f)
+head_bytes op k f = all-append is_text_byte (operation_name op ++ condition_text k) _
     (all-append is_text_byte (operation_name op) (condition_text k) (operation_named op).bytes (condition_bracketed k).bytes) (flags_braced f).bytes
 
 head_short : (op : Op) (k : Cc) (f : Flags) → length (head_text op k f) ≤ 14
@@ -124,7 +123,7 @@ head_short op k f =
     let a = leb-true (length (operation_name op)) 4 (operation_named op).short in
     let b = leb-true (length (condition_text k)) 4 (condition_bracketed k).short in
     let c = leb-true (length (flags_text f)) 6 (flags_braced f).short in
-    omega (arith, a, b, c, length-append (operation_name op ++ condition_text k) (flags_text f), length-append (operation_name op) (condition_text k))
+    omega (arith, length-append (operation_name op ++ condition_text k) (flags_text f), length-append (operation_name op) (condition_text k))
 
 pub instruction_short : (w : ℕ) → length (disassembly_text w) ≤ 28
 unfolding instruction_text operands_text
@@ -147,30 +146,24 @@ instruction_short w =
 pub instruction_tidy : (w : ℕ) → IsTidy (disassembly_text w)
 unfolding instruction_text operands_text
 instruction_tidy w =
-    let i = decode_of w in
-    let head = head_text (decode_of w).op (decode_of w).cc (decode_of w).set in
-    let split : disassembly_text w ≡ head_text (decode_of w).op (decode_of w).cc (decode_of w).set ++ 32
-    ∷ operands_text (decode_of w).mode_b (decode_of w).reg_b (operand_text (decode_of w).a) =
-    regrouped (decode_of w).op (decode_of w).cc (decode_of w).set (decode_of w).mode_b (decode_of w).reg_b (operand_text (decode_of w).a) in
-    let start = head_begins (decode_of w).op (decode_of w).cc (decode_of w).set
-    (32 ∷ operands_text (decode_of w).mode_b (decode_of w).reg_b (operand_text (decode_of w).a)) in
+    let split : disassembly_text w ≡ head_text (decode_of w).op (decode_of w).cc (decode_of w).set ++ 32 ∷ operands_text (decode_of w).mode_b
+    (decode_of w).reg_b (operand_text (decode_of w).a) =
+    regrouped (decode_of w).op (decode_of w).cc (decode_of w).set (decode_of w).mode_b (decode_of w).reg_b _ in
+    let start = head_begins (decode_of w).op (decode_of w).cc (decode_of w).set _ in
     let last = operand_some (decode_of w).a in
     let ops : list_all is_text_byte (place_text (decode_of w).mode_b (decode_of w).reg_b ++ 44 ∷ operand_text (decode_of w).a) ≡ true =
-    all-append is_text_byte (place_text (decode_of w).mode_b (decode_of w).reg_b) (44 ∷ operand_text (decode_of w).a)
+    all-append is_text_byte (place_text (decode_of w).mode_b (decode_of w).reg_b) _
     (place_bytes (decode_of w).mode_b (decode_of w).reg_b (limits w).0) (and_from true _ refl (operand_bytes (decode_of w).a (limits w).1)) in
     let all : list_all is_text_byte (head_text (decode_of w).op (decode_of w).cc (decode_of w).set ++ 32
     ∷ operands_text (decode_of w).mode_b (decode_of w).reg_b (operand_text (decode_of w).a)) ≡ true =
-    all-append is_text_byte (head_text (decode_of w).op (decode_of w).cc (decode_of w).set)
-    (32 ∷ operands_text (decode_of w).mode_b (decode_of w).reg_b (operand_text (decode_of w).a))
+    all-append is_text_byte (head_text (decode_of w).op (decode_of w).cc (decode_of w).set) _
     (head_bytes (decode_of w).op (decode_of w).cc (decode_of w).set) (and_from true _ refl ops) in
     let front = head_text (decode_of w).op (decode_of w).cc (decode_of w).set ++ 32 ∷ (place_text (decode_of w).mode_b (decode_of w).reg_b ++ 44 ∷ []) in
     let ending : disassembly_text w ≡ (head_text (decode_of w).op (decode_of w).cc (decode_of w).set ++ 32
-    ∷ (place_text (decode_of w).mode_b (decode_of w).reg_b ++ 44 ∷ [])) ++ operand_text (decode_of w).a =
-    split ∙ front_moved (head_text (decode_of w).op (decode_of w).cc (decode_of w).set) (place_text (decode_of w).mode_b (decode_of w).reg_b)
-    (operand_text (decode_of w).a) in
+    ∷ (place_text (decode_of w).mode_b (decode_of w).reg_b ++ 44 ∷ [])) ++ operand_text (decode_of w).a = split ∙ front_moved _ _ _ in
     record {
-      bytes = ap (list_all is_text_byte) split ∙ all;
-      short = omega (arith, instruction_short w);
+      bytes = cc (split, all);
+      short = omega (arith, instruction_short);
       front = head_text (decode_of w).op (decode_of w).cc (decode_of w).set ++ 32 ∷ (place_text (decode_of w).mode_b (decode_of w).reg_b ++ 44 ∷ []);
       first = start.first;
       rest = start.rest;
@@ -178,9 +171,8 @@ instruction_tidy w =
       more = last.rest;
       begins = split ∙ start.begins;
       no_space = start.spaceless;
-      ends = ending ∙ ap (λ (t : List ℕ). (head_text (decode_of w).op (decode_of w).cc (decode_of w).set ++ 32
-          ∷ (place_text (decode_of w).mode_b (decode_of w).reg_b ++ 44 ∷ [])) ++ t) last.is;
-      spaceless = ap (lacks 32) (sym last.is) ∙ operand_spaceless (decode_of w).a (limits w).1;
+      ends = cc (ending, last.is);
+      spaceless = cc (last.is, operand_spaceless (decode_of w).a (limits w).1);
     }
   where
     front_moved : (h p o : List ℕ) → h ++ 32 ∷ (p ++ 44 ∷ o) ≡ (h ++ 32 ∷ (p ++ 44 ∷ [])) ++ o

@@ -1,19 +1,19 @@
 -- A text spells the image that it is assembled to.
-use Rattle.std.proofs.Common.{◌≡◌, ◌↔◌, ℕ, ◌+◌, ◌-◌, ◌%◌, ◌^◌, ◌<◌, ◌≤◌, ◌==◌, ◌&&◌, Bool, true, false, cond, not, List, [], ◌∷◌, ◌++◌, map, Option, Some, None}
-use Rattle.std.{proofs.Common.{Result, Ok, Err, is_some, unwrap_or, refl, sym, ap, subst, ◌∙◌, arith, nat_lt, leb-true}, specs.Prelude.{option_to_list, IfOk}}
-use Rattle.std.{specs.List.{flat_map, list_all, list_any, slice_split}, specs.Str.bytes_eq, specs.Result.result_unwrap_or, proofs.lemmas.Bool.and_parts}
-use Rattle.std.{proofs.lemmas.Bool.{and_from, not-true}, proofs.lemmas.Bool.Decides.nat_tests}
+use Rattle.std.proofs.Common.{◌≡◌, ◌↔◌, ℕ, ◌+◌, ◌-◌, ◌%◌, ◌^◌, ◌<◌, ◌≤◌, Bool, true, false, cond, not, List, [], ◌∷◌, ◌++◌, map, Option, Some, None, Result, Ok}
+use Rattle.std.{proofs.Common.{Err, is_some, unwrap_or, refl, sym, ap, subst, ◌∙◌, arith, nat_lt, leb-true}, specs.Prelude.{option_to_list, IfOk}}
+use Rattle.std.{specs.List.{flat_map, list_all, list_any}, specs.Str.bytes_eq, specs.Result.result_unwrap_or, proofs.lemmas.Bool.{and_parts, and_from}}
+use Rattle.std.{proofs.lemmas.Bool.not-true, proofs.lemmas.Bool.Decides.nat_tests}
 use Rattle.stack_text.{specs.Breaches.least, specs.Results.◌>>=◌, specs.declared.breach.Breach.Breach, proofs.BreachLaws.none_least}
 use Rattle.stack_text.proofs.SharedLaws.{rule_fails, append_none, bytes_apart}
 use Rattle.fm_image.{specs.Image.ImageOf, specs.Spelling.are_words}
 use Rattle.fm_asm.{specs.declared.fault.AsmFault.AsmFault, specs.Values.{Value, number, label}, specs.Statements.{Statement, base, size, final, start, word}}
 use Rattle.fm_asm.{specs.Statements.instruction, specs.Lines.Line, specs.Sources.{due_after, SourceOf, source_in, IsOfText}, specs.Labels.is_labelled}
-use Rattle.fm_asm.specs.Labels.{offset_of, repeated, repeats, number_of, line_breaches, breaches, as_word, statement_words, words_of, final_in, start_in}
-use Rattle.fm_asm.{specs.Labels.is_outside, specs.Assembling.{GivesAssemblyUnless, image_of, image_unless, assembly_of}, specs.Assembly.statements_of}
-use Rattle.fm_asm.{specs.Assembly.{labels_of, are_distinct, statement_word, IsAssembly}, proofs.SourceLaws.dues, proofs.JudgingLaws.{words-lines, final_by}}
-use Rattle.fm_asm.{proofs.JudgingLaws.{final-lines, start_by, start-lines, as_word-fits, word_total, is_good, is_fresh}, proofs.SoundLaws.{read_is, header_of}}
-use Rattle.fm_asm.{proofs.SoundLaws.{lines_good, source_fits}, proofs.AssemblyLaws.spelled_is_assembled, proofs.FitLaws.{small, number_fits, value_fits}}
-use Rattle.fm_asm.{proofs.FitLaws.{statement_fits, lines_fit, valued_fits}, proofs.SpelledLineLaws.lines_spelled}
+use Rattle.fm_asm.specs.Labels.{offset_of, repeated, repeats, number_of, breaches, as_word, statement_words, words_of, final_in, start_in}
+use Rattle.fm_asm.{specs.Assembling.{GivesAssemblyUnless, image_of, image_unless, assembly_of}, specs.Assembly.{statements_of, labels_of, are_distinct}}
+use Rattle.fm_asm.{specs.Assembly.{statement_word, IsAssembly}, proofs.SourceLaws.dues, proofs.JudgingLaws.{words-lines, final_by, final-lines, start_by}}
+use Rattle.fm_asm.{proofs.JudgingLaws.{start-lines, as_word-fits, word_total, is_good, is_fresh}, proofs.SoundLaws.{read_is, header_of, lines_good}}
+use Rattle.fm_asm.{proofs.SoundLaws.source_fits, proofs.AssemblyLaws.spelled_is_assembled, proofs.FitLaws.{small, number_fits, value_fits, statement_fits}}
+use Rattle.fm_asm.{proofs.FitLaws.{lines_fit, valued_fits}, proofs.SpelledLineLaws.lines_spelled}
 use Rattle.fm_asm.specs.declared.due.Due.TheVariants as due
 
 -- ---- labels differ where none repeats
@@ -39,12 +39,9 @@ all_pull : (earlier : List Line) (line : Line) (names : List (List ℕ)) → lis
     → (list_all (is_fresh earlier) names ≡ true) × (list_all (λ name. not (is_labelled name line.said.label)) names ≡ true)
 all_pull earlier line [] h = (refl, refl)
 all_pull earlier line (name ∷ names) h =
-    let parts = and_parts (is_fresh (earlier ++ line ∷ []) name) (list_all (is_fresh (earlier ++ line ∷ [])) names) h in
+    let parts = and_parts _ _ h in
     let first = fresh-pull earlier line name parts.0 in
-    let later = all_pull earlier line names parts.1 in (
-      and_from (is_fresh earlier name) (list_all (is_fresh earlier) names) first.0 later.0,
-      and_from (not (is_labelled name line.said.label)) (list_all (λ m. not (is_labelled m line.said.label)) names) (ap not first.1) later.1,
-    )
+    let later = all_pull earlier line names parts.1 in (and_from _ _ first.0 later.0, and_from _ _ (ap not first.1) later.1)
 
 none_same : (own : List ℕ) (names : List (List ℕ)) → list_all (λ name. not (is_labelled name (Some own))) names ≡ true → list_any (bytes_eq own) names ≡ false
 none_same own [] h = refl
@@ -62,10 +59,10 @@ repeats_none : (earlier lines : List Line) → repeats earlier lines ≡ [] → 
 unfolding repeats are_distinct is_fresh
 repeats_none earlier [] h = record { fresh = refl; distinct = refl }
 repeats_none earlier (line ∷ lines) h =
-    let parts = append_none (repeated (offset_of earlier) line.place line.said.label) (repeats (earlier ++ line ∷ []) lines) h in
+    let parts = append_none _ _ h in
     let later = repeats_none (earlier ++ line ∷ []) lines parts.1 in
-    let pulled = all_pull earlier line (labels_of lines) later.fresh in
-    let both = by_label line.said.label parts.0 pulled.1 (record { fresh = pulled.0; distinct = later.distinct }) in
+    let pulled = all_pull earlier line _ later.fresh in
+    let both = by_label _ parts.0 pulled.1 (record { fresh = pulled.0; distinct = later.distinct }) in
     record { fresh = both.0; distinct = both.1 }
   where
     by_label : (l : Option (List ℕ)) → repeated (offset_of earlier) line.place l ≡ []
@@ -73,10 +70,9 @@ repeats_none earlier (line ∷ lines) h =
         → (list_all (is_fresh earlier) (option_to_list l ++ labels_of lines) ≡ true) × (are_distinct (option_to_list l ++ labels_of lines) ≡ true)
     by_label None r o later = (later.fresh, later.distinct)
     by_label (Some own) r o later =
-        let new : is_some (offset_of earlier own) ≡ false = rule_fails (is_some (offset_of earlier own)) line.place 4 r in (
-          and_from (is_fresh earlier own) (list_all (is_fresh earlier) (labels_of lines)) (ap not new) later.fresh,
-          and_from (not (list_any (bytes_eq own) (labels_of lines))) (are_distinct (labels_of lines)) (ap not (none_same own (labels_of lines) o))
-              later.distinct,
+        let new : is_some (offset_of earlier own) ≡ false = rule_fails _ line.place 4 r in (
+          and_from _ _ (ap not new) later.fresh,
+          and_from _ _ (ap not (none_same own (labels_of lines) o)) later.distinct,
         )
 
 -- ---- what is assembled
@@ -102,13 +98,11 @@ one_there : {b : ℕ} {known : List ℕ → Option ℕ} (s : Statement) (ss : Li
     → AreThere b known ss → AreThere b known (s ∷ ss)
 unfolding small
 one_there {b} {known} s ss w is words fits later =
-    let all = flat_map (λ t. statement_words b known (Some t)) ss in
     let whole : flat_map (λ t. statement_words b known (Some t)) (s ∷ ss) ≡ w ∷ flat_map (λ t. statement_words b known (Some t)) ss =
     ap (λ (ws : List ℕ). ws ++ flat_map (λ t. statement_words b known (Some t)) ss) words in
     record {
-      words = ap (λ (o : Option ℕ). o ∷ map (statement_word b known) ss) is ∙ ap (λ (os : List (Option ℕ)). Some w ∷ os) later.words
-          ∙ ap (map (λ (x : ℕ). let o : Option ℕ = Some x in o)) (sym whole);
-      fit = ap are_words whole ∙ and_from (nat_lt w (2 ^ 32)) (are_words (flat_map (λ t. statement_words b known (Some t)) ss)) fits later.fit;
+      words = ap (λ o. o ∷ map (statement_word b known) ss) is ∙ ap (λ os. Some w ∷ os) later.words ∙ ap (map _) (sym whole);
+      fit = ap are_words whole ∙ and_from _ _ fits later.fit;
     }
 
 -- the statements after the header, where nothing but words is due
@@ -123,22 +117,19 @@ words_there b n known (final v ∷ ss) bound h good fits = absurd cc
 words_there b n known (start v ∷ ss) bound h good fits = absurd cc
 words_there b n known (word (number None) ∷ ss) bound h good fits = absurd cc
 words_there b n known (word (number (Some z)) ∷ ss) bound h good fits =
-    let g = and_parts (is_some (number_of b known (number (Some z)))) (list_all (is_good b n known) ss) good in
-    let f = and_parts (value_fits (number (Some z))) (list_all statement_fits ss) fits in
-    one_there (word (number (Some z))) ss (as_word (number_of b known (number (Some z))))
-    (word_there (number_of b known (number (Some z))) g.0 (λ w is. bound (number (Some z)) w f.0 is)) refl
-    (word_small (number_of b known (number (Some z))))
-    (words_there b n known ss bound h g.1 f.1)
+    let g = and_parts _ _ good in
+    let f = and_parts _ _ fits in
+    one_there _ ss _ (word_there (number_of b known (number (Some z))) g.0 (λ w is. bound (number (Some z)) w f.0 is)) refl
+    (word_small (number_of b known (number (Some z)))) (words_there b n known ss bound h g.1 f.1)
 words_there b n known (word (label name) ∷ ss) bound h good fits =
-    let g = and_parts (is_some (number_of b known (label name))) (list_all (is_good b n known) ss) good in
-    let f = and_parts (value_fits (label name)) (list_all statement_fits ss) fits in
-    one_there (word (label name)) ss (as_word (number_of b known (label name)))
-    (word_there (number_of b known (label name)) g.0 (λ w is. bound (label name) w f.0 is)) refl (word_small (number_of b known (label name)))
+    let g = and_parts _ _ good in
+    let f = and_parts _ _ fits in
+    one_there _ ss _ (word_there (number_of b known (label name)) g.0 (λ w is. bound (label name) w f.0 is)) refl (word_small (number_of b known (label name)))
     (words_there b n known ss bound h g.1 f.1)
 words_there b n known (instruction None ∷ ss) bound h good fits = absurd cc
 words_there b n known (instruction (Some z) ∷ ss) bound h good fits =
-    let f = and_parts (number_fits (Some z)) (list_all statement_fits ss) fits in
-    one_there (instruction (Some z)) ss z refl refl f.0 (words_there b n known ss bound h good f.1)
+    let f = and_parts _ _ fits in
+    one_there _ ss z refl refl f.0 (words_there b n known ss bound h good f.1)
 
 good_source : (text : List ℕ) (s : SourceOf) → source_in text ≡ Ok s → breaches s ≡ [] → IsAssembly text (image_of s)
 unfolding breaches is_good statement_fits final_by start_by statement_words small
@@ -147,35 +138,29 @@ good_source text s is none =
     let r = read_is s read in
     let fit = source_fits s read none in
     let lines = lines_spelled text s is in
-    let known = offset_of s.lines in
-    let h = header_of s.base s.size (statements_of s.lines) r.in_order in
-    let parts = append_none (repeats [] s.lines) (flat_map (line_breaches s.base s.size (offset_of s.lines)) s.lines) none in
-    let g = lines_good s.base s.size (offset_of s.lines) 0 s.lines r.offsets parts.1 (omega arith) in
-    let total = g.few in
-    let few : word_total (statements_of s.lines) ≤ s.size = omega (arith, total) in
-    let limit : s.base + s.size ≤ 2 ^ 32 - 1 = leb-true (s.base + s.size) (2 ^ 32 - 1) (and_parts _ _ h.sized).1 in
+    let h = header_of s.base s.size _ r.in_order in
+    let parts = append_none (repeats [] s.lines) _ none in
+    let g = lines_good s.base s.size _ 0 s.lines r.offsets parts.1 (omega arith) in
+    let few : word_total (statements_of s.lines) ≤ s.size = omega arith in
+    let limit : s.base + s.size ≤ 2 ^ 32 - 1 = leb-true _ _ (and_parts _ _ h.sized).1 in
     let good : list_all (is_good s.base s.size (offset_of s.lines))
     (base (Some s.base) ∷ size (Some s.size) ∷ final h.end_value ∷ start h.start_value ∷ h.words) ≡ true =
     ap (list_all (is_good s.base s.size (offset_of s.lines))) (sym h.is) ∙ g.good in
     let fits : list_all statement_fits (base (Some s.base) ∷ size (Some s.size) ∷ final h.end_value ∷ start h.start_value ∷ h.words) ≡ true =
-    ap (list_all statement_fits) (sym h.is) ∙ lines_fit 0 0 (slice_split (λ b. b == 10) text) s.lines lines in
-    let good_end = and_parts (is_some (number_of s.base (offset_of s.lines) h.end_value)
-    && not (is_outside s.base s.size (number_of s.base (offset_of s.lines) h.end_value)))
-    (is_some (number_of s.base (offset_of s.lines) h.start_value) && list_all (is_good s.base s.size (offset_of s.lines)) h.words) good in
-    let good_start = and_parts (is_some (number_of s.base (offset_of s.lines) h.start_value))
-    (list_all (is_good s.base s.size (offset_of s.lines)) h.words) good_end.1 in
-    let end_there = and_parts (is_some (number_of s.base (offset_of s.lines) h.end_value))
-    (not (is_outside s.base s.size (number_of s.base (offset_of s.lines) h.end_value))) good_end.0 in
-    let fits_end = and_parts (value_fits h.end_value) (value_fits h.start_value && list_all statement_fits h.words) fits in
-    let fits_start = and_parts (value_fits h.start_value) (list_all statement_fits h.words) fits_end.1 in
+    ap (list_all statement_fits) (sym h.is) ∙ lines_fit 0 0 _ s.lines lines in
+    let good_end = and_parts _ _ good in
+    let good_start = and_parts _ _ good_end.1 in
+    let end_there = and_parts _ _ good_end.0 in
+    let fits_end = and_parts _ _ fits in
+    let fits_start = and_parts _ _ fits_end.1 in
     let bound : (v : Value) (w : ℕ) → value_fits v ≡ true → number_of s.base (offset_of s.lines) v ≡ Some w → w < 2 ^ 32 =
     λ v w f e. valued_fits s.base s.size s.lines v w r.offsets few limit f e in
     let last : final_in s.base (offset_of s.lines) s.lines ≡ as_word (number_of s.base (offset_of s.lines) h.end_value) =
-    final-lines s.base (offset_of s.lines) s.lines ∙ ap (final_by s.base (offset_of s.lines)) h.is in
+    final-lines s.base _ s.lines ∙ ap (final_by s.base (offset_of s.lines)) h.is in
     let first : start_in s.base (offset_of s.lines) s.lines ≡ as_word (number_of s.base (offset_of s.lines) h.start_value) =
-    start-lines s.base (offset_of s.lines) s.lines ∙ ap (start_by s.base (offset_of s.lines)) h.is in
-    let words : words_of s ≡ flat_map (λ t. statement_words s.base (offset_of s.lines) (Some t)) h.words =
-    words-lines s.base (offset_of s.lines) s.lines ∙ ap (flat_map (λ t. statement_words s.base (offset_of s.lines) (Some t))) h.is in
+    start-lines s.base _ s.lines ∙ ap (start_by s.base _) h.is in
+    let words : words_of s ≡ flat_map (λ t. statement_words s.base (offset_of s.lines) (Some t)) h.words = words-lines s.base _ s.lines
+    ∙ ap (flat_map _) h.is in
     let there = words_there s.base s.size (offset_of s.lines) h.words bound h.words_due good_start.1 fits_start.1 in
     let new = repeats_none [] s.lines parts.0 in
     record {
@@ -189,12 +174,10 @@ good_source text s is none =
       in_order = h.is;
       sized = h.sized;
       labels_differ = new.distinct;
-      end_is = word_there (number_of s.base (offset_of s.lines) h.end_value) end_there.0 (λ w e. bound h.end_value w fits_end.0 e)
-          ∙ ap (λ (x : ℕ). Some x) (sym last);
-      start_is = word_there (number_of s.base (offset_of s.lines) h.start_value) good_start.0 (λ w e. bound h.start_value w fits_start.0 e)
-          ∙ ap (λ (x : ℕ). Some x) (sym first);
-      words_are = there.words ∙ ap (map (λ (x : ℕ). let o : Option ℕ = Some x in o)) (sym words);
-      fit = and_from (nat_lt (start_in s.base (offset_of s.lines) s.lines) (2 ^ 32)) (are_words (words_of s))
+      end_is = rw (word_there _ end_there.0 (λ w e. bound h.end_value w fits_end.0 e), last);
+      start_is = rw (word_there _ good_start.0 (λ w e. bound h.start_value w fits_start.0 e), first);
+      words_are = there.words ∙ ap (map _) (sym words);
+      fit = and_from _ _
           (ap (λ (x : ℕ). nat_lt x (2 ^ 32)) first ∙ word_small (number_of s.base (offset_of s.lines) h.start_value)) (ap are_words words ∙ there.fit);
       few = fit.few;
       inside = fit.inside;
@@ -223,8 +206,7 @@ spelled_if refused text (Err e) h = tt
 
 -- a text spells at most one image
 pub one_image : (text : List ℕ) (image other : ImageOf) → IsAssembly text image → IsAssembly text other → image ≡ other
-one_image text image other a b =
-    ap (λ (r : Result ImageOf Breach). result_unwrap_or r image) (sym (spelled_is_assembled text image a) ∙ spelled_is_assembled text other b)
+one_image text image other a b = ap (λ r. result_unwrap_or r image) (sym (spelled_is_assembled text image a) ∙ spelled_is_assembled text other b)
 
 -- a text that spells no image has a fault, and no other has one
 pub fault_or_image : (text : List ℕ) → ((breach : Breach) × (assembly_of text ≡ Err breach)) ↔ ((image : ImageOf) → IsAssembly text image → ⊥)

@@ -47,7 +47,7 @@ unfolding OnRead
 on_with place offset d next said (Err fault) h k = tt
 on_with place offset d next said (Ok s) h k = record {
   offsets = offsets-kept place offset said.label said.statement s.lines k.offsets;
-  in_order = ap (dues d) (statements-kept place offset said s.lines) ∙ dues-front d next said.statement (statements_of s.lines) h ∙ k.in_order;
+  in_order = cc (statements-kept place offset said s.lines, dues-front d next said.statement (statements_of s.lines) h, k.in_order);
 }
 
 due_of : (d : Due) (bytes : List ℕ) (said : Said) (next : Due) → line_read d bytes ≡ Ok (said, next) → due_after_line d said.statement ≡ Ok next
@@ -73,8 +73,7 @@ on_line : (end place offset : ℕ) (d : Due) (bytes : List ℕ) (rest : List (Li
     (lines_read end (place + length bytes + 1) (offset + word_count next.0.statement) next.1 rest))
 unfolding OnRead
 on_line end place offset d bytes rest (Err rule) is later = tt
-on_line end place offset d bytes rest (Ok x) is later =
-    on_with place offset d x.1 x.0 (lines_read end (place + length bytes + 1) (offset + word_count x.0.statement) x.1 rest) (due_of d bytes x.0 x.1 is)
+on_line end place offset d bytes rest (Ok x) is later = on_with place offset d x.1 x.0 _ (due_of d bytes x.0 x.1 is)
     (later (offset + word_count x.0.statement) x.1)
 
 on_read : (end place offset : ℕ) (d : Due) (texts : List (List ℕ)) → OnRead offset d (lines_read end place offset d texts)
@@ -84,8 +83,7 @@ on_read end place offset (due.Size b) [] = tt
 on_read end place offset (due.Final b n) [] = tt
 on_read end place offset (due.Start b n) [] = tt
 on_read end place offset (due.Words b n) [] = record { offsets = tt; in_order = refl }
-on_read end place offset d (bytes ∷ rest) =
-    on_line end place offset d bytes rest (line_read d bytes) refl (λ o e. on_read end (place + length bytes + 1) o e rest)
+on_read end place offset d (bytes ∷ rest) = on_line end place offset d bytes rest _ refl (λ o e. on_read end (place + length bytes + 1) o e rest)
 
 pub read_is : (s : SourceOf) → IsOfText s → IsReadFrom 0 due.Base s
 unfolding OnRead source_in
@@ -100,9 +98,7 @@ record EndsSo (b n : ℕ) (x y : ℕ) : Type 0 where
 
 words_end : (b n x y : ℕ) (ss : List Statement) → dues (due.Words x y) ss ≡ Ok (due.Words b n) → EndsSo b n x y
 unfolding dues due_after
-words_end b n x y [] h =
-    let same : due.Words x y ≡ due.Words b n = cc in
-    record { base_is = cc; size_is = cc }
+words_end b n x y [] h = record { base_is = cc; size_is = cc }
 words_end b n x y (base z ∷ ss) h = absurd cc
 words_end b n x y (size z ∷ ss) h = absurd cc
 words_end b n x y (final v ∷ ss) h = absurd cc
@@ -126,14 +122,13 @@ header_made : (b n x y : ℕ) (v w : Value) (ss : List Statement) → is_size x 
 header_made b n x y v w ss sized h =
     let e = words_end b n x y ss h in
     record {
-      sized = ap (λ (m : ℕ). is_size m n) (sym e.base_is) ∙ ap (λ (m : ℕ). is_size x m) (sym e.size_is) ∙ sized;
+      sized = cc (e.base_is, e.size_is, sized);
       end_value = v;
       start_value = w;
       words = ss;
       words_due = subst (λ (m : ℕ). dues (due.Words m n) ss ≡ Ok (due.Words b n)) e.base_is
           (subst (λ (m : ℕ). dues (due.Words x m) ss ≡ Ok (due.Words b n)) e.size_is h);
-      is = ap (λ (m : ℕ). base (Some m) ∷ size (Some y) ∷ final v ∷ start w ∷ ss) e.base_is
-          ∙ ap (λ (m : ℕ). base (Some b) ∷ size (Some m) ∷ final v ∷ start w ∷ ss) e.size_is;
+      is = cc (e.base_is, e.size_is);
     }
 
 after_final : (b n x y : ℕ) (v : Value) (ss : List Statement) → is_size x y ≡ true → dues (due.Start x y) ss ≡ Ok (due.Words b n)
@@ -209,10 +204,10 @@ good_of b n known place offset (start v) h le = (is_there (number_of b known v) 
 good_of b n known place offset (word v) h le =
     let parts = append_none (undefined place (number_of b known v)) (beyond_size place n offset) h in
     let below = leb-false n offset (rule_fails (nat_le n offset) place 6 parts.1) in
-    (is_there (number_of b known v) (rule_fails (is_none (number_of b known v)) place 5 parts.0), omega (arith, below))
+    (is_there (number_of b known v) (rule_fails (is_none (number_of b known v)) place 5 parts.0), omega arith)
 good_of b n known place offset (instruction w) h le =
     let below = leb-false n offset (rule_fails (nat_le n offset) place 6 h) in
-    (refl, omega (arith, below))
+    (refl, omega arith)
 
 pub record AreGood (b n : ℕ) (known : List ℕ → Option ℕ) (offset : ℕ) (ss : List Statement) : Type 0 where
   pub good : list_all (is_good b n known) ss ≡ true
@@ -222,27 +217,21 @@ pub lines_good : (b n : ℕ) (known : List ℕ → Option ℕ) (offset : ℕ) (l
     → flat_map (line_breaches b n known) lines ≡ [] → offset ≤ n → AreGood b n known offset (statements_of lines)
 unfolding HasOffsets word_total statement_breaches
 lines_good b n known offset [] h k le = record { good = refl; few = omega arith }
-lines_good b n known offset (line ∷ lines) h k le =
-    by_statement line.said.statement h.1 (append_none (statement_breaches b n known line.place line.offset line.said.statement)
-    (flat_map (line_breaches b n known) lines) k)
-    (λ o hs ks les. lines_good b n known o lines hs ks les)
+lines_good b n known offset (line ∷ lines) h k le = by_statement _ h.1 (append_none (statement_breaches b n known line.place line.offset line.said.statement)
+    (flat_map (line_breaches b n known) lines) k) (λ o hs ks les. lines_good b n known o lines hs ks les)
   where
     by_statement : (s : Option Statement) → HasOffsets (offset + word_count s) lines → (statement_breaches b n known line.place line.offset s ≡ [])
         × (flat_map (line_breaches b n known) lines ≡ [])
         → ((o : ℕ) → HasOffsets o lines → flat_map (line_breaches b n known) lines ≡ [] → o ≤ n → AreGood b n known o (statements_of lines))
         → AreGood b n known offset (option_to_list s ++ statements_of lines)
     by_statement None hs parts later =
-        let l = later (offset + 0) hs parts.1 (omega arith) in
-        let f = l.few in
+        let l = later _ hs parts.1 (omega arith) in
         record { good = l.good; few = omega arith }
     by_statement (Some s) hs parts later =
-        let same = h.0 in
         let at : line.offset ≤ n = omega arith in
         let g = good_of b n known line.place line.offset s parts.0 at in
-        let bound = g.1 in
-        let l = later (offset + word_count (Some s)) hs parts.1 (omega arith) in
-        let f = l.few in
-        record { good = and_from (is_good b n known s) (list_all (is_good b n known) (statements_of lines)) g.0 l.good; few = omega arith }
+        let l = later _ hs parts.1 (omega arith) in
+        record { good = and_from _ _ g.0 l.good; few = omega arith }
 
 words_counted : (b : ℕ) (known : List ℕ → Option ℕ) (ss : List Statement) → length (flat_map (λ s. statement_words b known (Some s)) ss) ≡ word_total ss
 unfolding statement_words word_total
@@ -276,21 +265,15 @@ pub source_fits : (s : SourceOf) → IsOfText s → breaches s ≡ [] → IsFit 
 unfolding breaches final_by is_good
 source_fits s read none =
     let r = read_is s read in
-    let h = header_of s.base s.size (statements_of s.lines) r.in_order in
-    let parts = append_none (repeats [] s.lines) (flat_map (line_breaches s.base s.size (offset_of s.lines)) s.lines) none in
-    let g = lines_good s.base s.size (offset_of s.lines) 0 s.lines r.offsets parts.1 (omega arith) in
+    let h = header_of s.base s.size _ r.in_order in
+    let parts = append_none (repeats [] s.lines) _ none in
+    let g = lines_good s.base s.size _ 0 s.lines r.offsets parts.1 (omega arith) in
     let good : list_all (is_good s.base s.size (offset_of s.lines))
     (base (Some s.base) ∷ size (Some s.size) ∷ final h.end_value ∷ start h.start_value ∷ h.words) ≡ true =
     ap (list_all (is_good s.base s.size (offset_of s.lines))) (sym h.is) ∙ g.good in
-    let ended = and_parts (is_some (number_of s.base (offset_of s.lines) h.end_value))
-    (not (is_outside s.base s.size (number_of s.base (offset_of s.lines) h.end_value))) (and_parts _ _ good).0 in
+    let ended = and_parts (is_some (number_of s.base (offset_of s.lines) h.end_value)) _ (and_parts _ _ good).0 in
     let last : final_in s.base (offset_of s.lines) s.lines ≡ as_word (number_of s.base (offset_of s.lines) h.end_value) =
-    final-lines s.base (offset_of s.lines) s.lines ∙ ap (final_by s.base (offset_of s.lines)) h.is in
-    let count : length (words_of s) ≡ word_total (statements_of s.lines) =
-    ap length (words-lines s.base (offset_of s.lines) s.lines) ∙ words_counted s.base (offset_of s.lines) (statements_of s.lines) in
-    let total = g.few in
-    record {
-      sized = h.sized;
-      inside = ap (is_inside s.base s.size) last ∙ found_inside s.base s.size (number_of s.base (offset_of s.lines) h.end_value) ended.0 ended.1 h.sized;
-      few = omega arith;
-    }
+    final-lines s.base _ s.lines ∙ ap (final_by s.base (offset_of s.lines)) h.is in
+    let count : length (words_of s) ≡ word_total (statements_of s.lines) = ap length (words-lines s.base (offset_of s.lines) s.lines)
+    ∙ words_counted s.base _ _ in
+    record { sized = h.sized; inside = cc (last, found_inside s.base s.size _ ended.0 ended.1 h.sized); few = omega arith }

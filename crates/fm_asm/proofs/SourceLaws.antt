@@ -103,7 +103,5 @@ pub header_due : (b n e x : ℕ) (known : List ℕ → Option ℕ) (f s : Value)
     → number_of b known f ≡ Some e → number_of b known s ≡ Some x
     → map (statement_word b known) ss ≡ map (λ w. Some w) ws → dues due.Base (base (Some b) ∷ size (Some n) ∷ final f ∷ start s ∷ ss) ≡ Ok (due.Words b n)
 unfolding dues due_after
-header_due b n e x known f s ss ws sized end_is start_is words =
-    rw (sized_due b n sized)
-    (rw (valued b known f e (due.Start b n) end_is)
-    (rw (valued b known s x (due.Words b n) start_is) (words_due b n known ss ws words)))
+header_due b n e x known f s ss ws sized end_is start_is words = rw (sized_due b n sized) (rw (valued b known f e _ end_is)
+    (rw (valued b known s x _ start_is) (words_due b n known ss ws words)))

@@ -53,8 +53,7 @@ left-after (Some a) = refl
 
 pub split_off : (left bytes : List ℕ) (after : Option (Bor (List ℕ))) → (let parts : Cut = (bytes, option_copied after) in parts) ≡ cut 10 left
     → slice_split (λ b. b == 10) left ≡ bytes ∷ lines_left after
-split_off left bytes after is =
-    split-cut left ∙ ap (λ (parts : Cut). parts.0 ∷ lines_of_rest parts.1) (sym is) ∙ ap (λ ls. bytes ∷ ls) (left-after after)
+split_off left bytes after is = cc (split-cut left, is, left-after after)
 
 -- the length of what is cut
 pub whole_length : Option (Bor (List ℕ)) → List ℕ → ℕ
@@ -88,7 +87,7 @@ place_after : (end count : ℕ) (left bytes : List ℕ) (after : Option (Bor (Li
 unfolding whole_length
 place_after end count left bytes None d within long = any_place end (end - length left + length bytes + 1) (end - 0) count count d
 place_after end count left bytes (Some a) d within long =
-    let same : end - length left + length bytes + 1 ≡ end - length a.now = omega (arith, within, long) in
+    let same : end - length left + length bytes + 1 ≡ end - length a.now = omega arith in
     ap (λ (p : ℕ). lines_read end p count d (slice_split (λ b. b == 10) a.now)) same
 
 pub next_line : (end offset : ℕ) (left bytes : List ℕ) (after : Option (Bor (List ℕ))) (d next : Due) (said : Said) (before new : List Line)
@@ -116,10 +115,11 @@ pub line_fails : (end offset rule : ℕ) (left bytes : List ℕ) (after : Option
     → line_read d bytes ≡ Err rule → all ≡ Err (record { rule = rule; place = end - length left })
 unfolding lines_read
 line_fails end offset rule left bytes after d before all parts so_far reads =
-    let failed : lines_read end (end - length left) offset d (bytes ∷ lines_left after) ≡ Err (record { rule = rule; place = end - length left }) =
-    rw reads refl in
-    sym so_far
-    ∙ ap (λ (ts : List (List ℕ)). with_lines before (lines_read end (end - length left) offset d ts)) (split_off left bytes after parts)
+    let failed : lines_read end (end - length left) offset d (bytes ∷ lines_left after) ≡ Err (record {
+      rule = rule;
+      place = end - length left;
+    }) = rw reads refl in
+    sym so_far ∙ ap (λ (ts : List (List ℕ)). with_lines before (lines_read end (end - length left) offset d ts)) (split_off left bytes after parts)
     ∙ ap (with_lines before) failed
 
 -- ---- no line is left
@@ -144,14 +144,12 @@ unfolding source_in
 begins text items none =
     let zero_place : length text - length text ≡ 0 = omega arith in
     ap (λ (ls : List Line). with_lines ls (lines_read (length text) (length text - length text) 0 due.Base (slice_split (λ b. b == 10) text))) none
-    ∙ with_lines-none (lines_read (length text) (length text - length text) 0 due.Base (slice_split (λ b. b == 10) text))
-    ∙ ap (λ (p : ℕ). lines_read (length text) p 0 due.Base (slice_split (λ b. b == 10) text)) zero_place
+    ∙ with_lines-none _ ∙ ap (λ (p : ℕ). lines_read (length text) p 0 due.Base (slice_split (λ b. b == 10) text)) zero_place
 
 pub smaller : (rest : Option (Bor (List ℕ))) (left : Bor (List ℕ)) (bytes : List ℕ) (after : Option (Bor (List ℕ))) → rest ≡ Some left
     → (let parts : Cut = (bytes, option_copied after) in parts) ≡ cut 10 left.now → left_measure after < left_measure rest
 unfolding whole_length
-smaller rest left bytes after is parts =
-    subst (λ (r : Option (Bor (List ℕ))). left_measure after < left_measure r) (sym is) (by_after after (cut_length left.now bytes after parts))
+smaller rest left bytes after is parts = subst (λ r. left_measure after < left_measure r) (sym is) (by_after after (cut_length left.now bytes after parts))
   where
     by_after : (after : Option (Bor (List ℕ))) → length left.now ≡ whole_length after bytes → left_measure after < suc (length left.now)
     by_after None h = omega arith
@@ -177,8 +175,7 @@ so_far_at : (end offset : ℕ) (rest : Option (Bor (List ℕ))) (left : Bor (Lis
     → rest ≡ Some left
     → with_lines before (lines_read end (end - left_length rest) offset d (lines_left rest)) ≡ all
     → with_lines before (lines_read end (end - length left.now) offset d (slice_split (λ b. b == 10) left.now)) ≡ all
-so_far_at end offset rest left d before all is h =
-    subst (λ (r : Option (Bor (List ℕ))). with_lines before (lines_read end (end - left_length r) offset d (lines_left r)) ≡ all) is h
+so_far_at end offset rest left d before all is h = cc
 
 pub step_on : (end offset count : ℕ) (rest : Option (Bor (List ℕ))) (left : Bor (List ℕ)) (bytes : List ℕ) (after : Option (Bor (List ℕ)))
     (d next : Due) (said : Said) (before new : List Line) (all : Result SourceOf Breach)
@@ -189,7 +186,7 @@ pub step_on : (end offset count : ℕ) (rest : Option (Bor (List ℕ))) (left : 
     → with_lines new (lines_read end (end - left_length after) (offset + count) next (lines_left after)) ≡ all
 step_on end offset count rest left bytes after d next said before new all is parts within so_far reads pushed counted =
     let le : offset + length left.now ≤ end = left_within rest left offset end is within in
-    let short : length left.now ≤ end = omega (arith, le) in
+    let short : length left.now ≤ end = omega arith in
     ap (λ (k : ℕ). with_lines new (lines_read end (end - left_length after) (offset + k) next (lines_left after))) counted
     ∙ next_line end offset left.now bytes after d next said before new all parts short (so_far_at end offset rest left d before all is so_far) reads pushed
 
@@ -206,16 +203,13 @@ pub ends_well : (end offset : ℕ) (rest : Option (Bor (List ℕ))) (d : Due) (w
     → all ≡ Ok (record { base = window.0; size = window.1; lines = before })
 unfolding lines_read
 ends_well end offset rest d window before all is so_far there =
-    let at_end : with_lines before (ended end d) ≡ all =
-    subst (λ (r : Option (Bor (List ℕ))). with_lines before (lines_read end (end - left_length r) offset d (lines_left r)) ≡ all) is so_far in
-    sym at_end ∙ ap (λ (o : Option (ℕ × ℕ)). with_lines before (ended_by end o)) (sym there)
+    let at_end : with_lines before (ended end d) ≡ all = subst (λ r. with_lines before (lines_read end (end - left_length r) offset d
+    (lines_left r)) ≡ all) is so_far in
+    sym at_end ∙ ap (λ o. with_lines before (ended_by end o)) (sym there)
     ∙ (let found : List Line → Result SourceOf Breach = λ ls. Ok (record { base = window.0; size = window.1; lines = ls }) in ap found (append-nil before))
 
 pub ends_early : (end offset : ℕ) (rest : Option (Bor (List ℕ))) (d : Due) (before : List Line) (all : Result SourceOf Breach)
     → rest ≡ None → with_lines before (lines_read end (end - left_length rest) offset d (lines_left rest)) ≡ all → None ≡ window_of d
     → all ≡ Err (record { rule = 2; place = end })
 unfolding lines_read
-ends_early end offset rest d before all is so_far there =
-    let at_end : with_lines before (ended end d) ≡ all =
-    subst (λ (r : Option (Bor (List ℕ))). with_lines before (lines_read end (end - left_length r) offset d (lines_left r)) ≡ all) is so_far in
-    sym at_end ∙ ap (λ (o : Option (ℕ × ℕ)). with_lines before (ended_by end o)) (sym there)
+ends_early end offset rest d before all is so_far there = cc

@@ -2,9 +2,9 @@
 use Rattle.std.proofs.Common.{◌≡◌, ℕ, ◌+◌, ◌-◌, ◌/◌, ◌%◌, ◌<◌, ◌≤◌, ◌==◌, ◌&&◌, ◌||◌, Bool, true, false, cond, List, [], ◌∷◌, ◌++◌, Option, Some, None, Result}
 use Rattle.std.proofs.Common.{Ok, Err, option_map, unwrap_or, refl, sym, ap, subst, ◌∙◌, arith, codes, append-nil, eqb-true, nat_le, leb-true}
 use Rattle.std.{specs.Prelude.find, specs.Fmt.decimal, specs.List.list_all, specs.Str.bytes_eq, proofs.lemmas.Bool.and_parts, proofs.lemmas.Fmt.decimal_digit}
-use Rattle.std.{proofs.lemmas.Fmt.decimal_step, specs.Int.{w32, from_be_bytes}}
+use Rattle.std.proofs.lemmas.Fmt.{decimal_step}
 use Rattle.hex.{specs.Hex.decode_sized, specs.declared.error.FromHexError.FromHexError}
-use Rattle.stack_text.{specs.Names.is_name, specs.Numerals.{is_digits, is_numeral, numeral_value}, specs.Options.◌>>=◌, proofs.SharedLaws.bytes_same}
+use Rattle.stack_text.{specs.Names.is_name, specs.Numerals.{is_digits, numeral_value}, specs.Options.◌>>=◌, proofs.SharedLaws.bytes_same}
 use Rattle.stack_text.proofs.KeepsLaws.{found_tests}
 use Rattle.fm_words.{specs.declared.operation.Op.Op, specs.declared.condition.Cc.Cc, specs.declared.condition.Flags.Flags, specs.declared.instruction.Mode.Mode}
 use Rattle.fm_words.specs.declared.instruction.Mode.TheVariants.{Register, Indirect, PreDecrement, PostIncrement}
@@ -59,9 +59,7 @@ hex_spelled digits v h = by_bytes (decode_sized digits 4) refl h
     by_bytes : (r : Result (List ℕ) FromHexError) → decode_sized digits 4 ≡ r → option_map as_number (number_of_bytes r) ≡ Some v
         → SpellsValue (codes "0x" ++ digits) v
     by_bytes (Err e) is k = absurd cc
-    by_bytes (Ok bytes) is k =
-        subst (SpellsValue (codes "0x" ++ digits)) (by_some (number (Some (from_be_bytes w32 bytes))) v k)
-        (hexadecimal digits (from_be_bytes w32 bytes) (record { bytes = bytes; digits_are = is; number_is = refl }))
+    by_bytes (Ok bytes) is k = subst (SpellsValue _) (by_some _ v k) (hexadecimal digits _ (record { bytes = bytes; digits_are = is; number_is = refl }))
 
 pub value_spelled : (word : List ℕ) (v : Value) → value_in word ≡ Some v → SpellsValue word v
 unfolding value_in
@@ -139,9 +137,7 @@ closed_found byte text front h = by_parts (split_once byte text) refl h
     by_end : (p : List ℕ × List ℕ) → split_once byte text ≡ Some p → (t : Bool) → bytes_eq p.1 [] ≡ t → cond t (Some p.0) None ≡ Some front
         → text ≡ front ++ byte ∷ []
     by_end p is false e k = absurd cc
-    by_end p is true e k =
-        split_once_found byte text p.0 p.1 is ∙ ap (λ (r : List ℕ). p.0 ++ byte ∷ r) (bytes_same p.1 [] e)
-        ∙ ap (λ (f : List ℕ). f ++ byte ∷ []) (by_some p.0 front k)
+    by_end p is true e k = cc (split_once_found byte text p.0 p.1 is, bytes_same p.1 [] e, by_some p.0 front k)
 
     by_parts : (o : Option (List ℕ × List ℕ)) → split_once byte text ≡ o → (o >>= λ parts. cond (bytes_eq parts.1 []) (Some parts.0) None) ≡ Some front
         → text ≡ front ++ byte ∷ []
@@ -167,9 +163,7 @@ direct_spelled text p h = by_register (register_in text) refl h
 closing_spelled : (text digits : List ℕ) (m : Mode) (r : ℕ) → closing_mode text ≡ Some m → digits ≡ decimal r
     → codes "(r" ++ digits ++ 41 ∷ text ≡ place_text m r
 unfolding closing_mode
-closing_spelled text digits m r h is =
-    chosen_of (bytes_eq text []) Indirect m (cond (bytes_eq text (codes "+")) (Some PostIncrement) None) h
-    (λ e k. with_digits ∙ ended [] (bytes_same text [] e) ∙ ap (λ (n : Mode). place_text n r) k)
+closing_spelled text digits m r h is = chosen_of _ Indirect m _ h (λ e k. with_digits ∙ ended [] (bytes_same text [] e) ∙ ap (λ (n : Mode). place_text n r) k)
     (λ later.
     let t = tested (bytes_eq text (codes "+")) (Some PostIncrement) m later in
     with_digits ∙ ended (codes "+") (bytes_same text (codes "+") t.0) ∙ ap (λ (n : Mode). place_text n r) (by_some PostIncrement m t.1))
@@ -186,14 +180,13 @@ some_place m r = Some (m, r)
 indirect_spelled : (text : List ℕ) (p : PlaceOf) → indirect_in text ≡ Some p → IsPlace (codes "(r" ++ text) p
 unfolding indirect_in
 indirect_spelled text p h =
-    let parts = bound (split_once 41 text) (λ (parts : List ℕ × List ℕ). register_in parts.0 >>= λ r. closing_mode parts.1 >>= λ m. some_place m r) p h in
-    let register = bound (register_in parts.value.0) (λ r. closing_mode parts.value.1 >>= λ m. some_place m r) p parts.later in
-    let mode = bound (closing_mode parts.value.1) (λ m. some_place m register.value) p register.later in
-    let found = register_spelled parts.value.0 register.value register.is in
-    let same = by_some (place_at mode.value register.value) p mode.later in
-    let text_is = ap (λ (t : List ℕ). codes "(r" ++ t) (split_once_found 41 text parts.value.0 parts.value.1 parts.is)
-    ∙ closing_spelled parts.value.1 parts.value.0 mode.value register.value mode.is found.1 in
-    subst (IsPlace (codes "(r" ++ text)) same (record { small = found.0; is = text_is })
+    let parts = bound _ _ p h in
+    let register = bound _ _ p parts.later in
+    let mode = bound _ _ p register.later in
+    let found = register_spelled _ register.value register.is in
+    let same = by_some _ p mode.later in
+    let text_is = ap (λ t. codes "(r" ++ t) (split_once_found 41 text _ _ parts.is) ∙ closing_spelled _ _ mode.value register.value mode.is found.1 in
+    subst (IsPlace _) same (record { small = found.0; is = text_is })
   where
     place_at : Mode → ℕ → PlaceOf
     place_at m r = (m, r)
@@ -201,13 +194,12 @@ indirect_spelled text p h =
 decrement_spelled : (text : List ℕ) (p : PlaceOf) → decrement_in text ≡ Some p → IsPlace (codes "-(r" ++ text) p
 unfolding decrement_in
 decrement_spelled text p h =
-    let digits = bound (closed 41 text) (λ (digits : List ℕ). register_in digits >>= λ r. some_place PreDecrement r) p h in
-    let register = bound (register_in digits.value) (λ r. some_place PreDecrement r) p digits.later in
+    let digits = bound _ _ p h in
+    let register = bound _ _ p digits.later in
     let found = register_spelled digits.value register.value register.is in
-    let same = by_some (place_at register.value) p register.later in
-    let text_is = ap (λ (t : List ℕ). codes "-(r" ++ t) (closed_found 41 text digits.value digits.is)
-    ∙ ap (λ (ds : List ℕ). codes "-(r" ++ ds ++ 41 ∷ []) found.1 in
-    subst (IsPlace (codes "-(r" ++ text)) same (record { small = found.0; is = text_is })
+    let same = by_some _ p register.later in
+    let text_is = ap (λ t. codes "-(r" ++ t) (closed_found 41 text digits.value digits.is) ∙ ap (λ ds. codes "-(r" ++ ds ++ 41 ∷ []) found.1 in
+    subst (IsPlace _) same (record { small = found.0; is = text_is })
   where
     place_at : ℕ → PlaceOf
     place_at r = (PreDecrement, r)
@@ -218,12 +210,9 @@ place_spelled text p h = by_front (after_prefix (codes "r") text) refl (after_pr
   where
     by_front : (direct : Option (List ℕ)) → after_prefix (codes "r") text ≡ direct → (indirect : Option (List ℕ)) → after_prefix (codes "(r") text ≡ indirect
         → (decrement : Option (List ℕ)) → after_prefix (codes "-(r") text ≡ decrement → place_by direct indirect decrement ≡ Some p → IsPlace text p
-    by_front (Some rest) d indirect i decrement m k =
-        subst (λ (t : List ℕ). IsPlace t p) (sym (after_prefix_found (codes "r") text rest d)) (direct_spelled rest p k)
-    by_front None d (Some rest) i decrement m k =
-        subst (λ (t : List ℕ). IsPlace t p) (sym (after_prefix_found (codes "(r") text rest i)) (indirect_spelled rest p k)
-    by_front None d None i (Some rest) m k =
-        subst (λ (t : List ℕ). IsPlace t p) (sym (after_prefix_found (codes "-(r") text rest m)) (decrement_spelled rest p k)
+    by_front (Some rest) d indirect i decrement m k = subst (λ t. IsPlace t p) (sym (after_prefix_found (codes "r") text rest d)) (direct_spelled rest p k)
+    by_front None d (Some rest) i decrement m k = subst (λ t. IsPlace t p) (sym (after_prefix_found (codes "(r") text rest i)) (indirect_spelled rest p k)
+    by_front None d None i (Some rest) m k = subst (λ t. IsPlace t p) (sym (after_prefix_found (codes "-(r") text rest m)) (decrement_spelled rest p k)
     by_front None d None i None m k = absurd cc
 
 operand_spelled : (text : List ℕ) (a : Option OperandA) → operand_in text ≡ Some a → SpellsOperand text a
@@ -232,14 +221,13 @@ operand_spelled text a h = by_hash (after_prefix (codes "#") text) refl h
   where
     by_hash : (o : Option (List ℕ)) → after_prefix (codes "#") text ≡ o → operand_by o text ≡ Some a → SpellsOperand text a
     by_hash (Some digits) is k =
-        let t = tested (is_numeral digits) (Some (in_9_bits (numeral_value digits))) a k in
-        subst (λ (s : List ℕ). SpellsOperand s a) (sym (after_prefix_found (codes "#") text digits is))
+        let t = tested _ _ a k in
+        subst (λ s. SpellsOperand s a) (sym (after_prefix_found (codes "#") text digits is))
         (subst (SpellsOperand (codes "#" ++ digits)) (by_some (in_9_bits (numeral_value digits)) a t.1) (immediate digits t.0))
     by_hash None is k =
-        let m = mapped as_operand (place_in text) a k in
+        let m = mapped as_operand _ a k in
         let p = place_spelled text m.value m.is in
-        subst (λ (s : List ℕ). SpellsOperand s a) (sym p.is)
-        (subst (SpellsOperand (place_text m.value.0 m.value.1)) m.image (place m.value.0 m.value.1 p.small))
+        subst (λ s. SpellsOperand s a) (sym p.is) (subst (SpellsOperand (place_text m.value.0 m.value.1)) m.image (place m.value.0 m.value.1 p.small))
 
 -- ---- what stands before the space
 
@@ -304,16 +292,13 @@ letters_spelled text f h =
     let v = letter_in (codes "v") c.1 in
     let n = letter_in (codes "n") v.1 in
     let z = letter_in (codes "z") n.1 in
-    let t = tested (bytes_eq z.1 (codes "}") && (c.0 || v.0 || n.0 || z.0)) (Some (flags_from c.0 v.0 n.0 z.0)) f h in
-    let parts = and_parts (bytes_eq z.1 (codes "}")) (c.0 || v.0 || n.0 || z.0) t.0 in
-    ap (λ (s : List ℕ). 123 ∷ s) (letter_spelled (codes "c") text)
-    ∙ ap (λ (s : List ℕ). 123 ∷ shown_if c.0 (codes "c") ++ s) (letter_spelled (codes "v") c.1)
+    let t = tested _ _ f h in
+    let parts = and_parts _ _ t.0 in
+    ap (λ (s : List ℕ). 123 ∷ s) (letter_spelled (codes "c") text) ∙ ap (λ (s : List ℕ). 123 ∷ shown_if c.0 (codes "c") ++ s) (letter_spelled (codes "v") c.1)
     ∙ ap (λ (s : List ℕ). 123 ∷ shown_if c.0 (codes "c") ++ (shown_if v.0 (codes "v") ++ s)) (letter_spelled (codes "n") v.1)
     ∙ ap (λ (s : List ℕ). 123 ∷ shown_if c.0 (codes "c") ++ (shown_if v.0 (codes "v") ++ (shown_if n.0 (codes "n") ++ s))) (letter_spelled (codes "z") n.1)
     ∙ ap (λ (s : List ℕ). 123 ∷ shown_if c.0 (codes "c") ++ (shown_if v.0 (codes "v") ++ (shown_if n.0 (codes "n") ++ (shown_if z.0 (codes "z") ++ s))))
-    (bytes_same z.1 (codes "}") parts.0)
-    ∙ braced_text c.0 v.0 n.0 z.0 parts.1
-    ∙ ap (λ (g : Flags). flags_text g) (by_some (flags_from c.0 v.0 n.0 z.0) f t.1)
+    (bytes_same z.1 (codes "}") parts.0) ∙ braced_text c.0 v.0 n.0 z.0 parts.1 ∙ ap (λ (g : Flags). flags_text g) (by_some (flags_from c.0 v.0 n.0 z.0) f t.1)
   where
     flags_from : Bool → Bool → Bool → Bool → Flags
     flags_from c v n z = record { c = c; v = v; n = n; z = z }
@@ -323,18 +308,14 @@ unfolding flags_in whole
 brace_spelled front None f h = sym (append-nil front) ∙ ap (λ (g : Flags). front ++ flags_text g) (by_some no_flags f h)
 brace_spelled front (Some text) f h = ap (λ (t : List ℕ). front ++ t) (letters_spelled text f h)
 
-abbrev some_named : Op → Cc → Option (Op × Cc)
-some_named op k = Some (op, k)
-
 named_spelled : (text : List ℕ) (n : Op × Cc) → named_in text ≡ Some n → text ≡ operation_name n.0 ++ condition_text n.1
 unfolding named_in
 named_spelled text n h =
-    let op = bound (operation_in (cut 91 text).0) (λ op. condition_in (cut 91 text).1 >>= λ k. some_named op k) n h in
-    let k = bound (condition_in (cut 91 text).1) (λ k. some_named op.value k) n op.later in
-    let same = by_some (pair op.value k.value) n k.later in
+    let op = bound _ _ n h in
+    let k = bound _ _ n op.later in
+    let same = by_some _ n k.later in
     cut_whole 91 text ∙ bracket_spelled (cut 91 text).0 (cut 91 text).1 k.value k.is
-    ∙ ap (λ (name : List ℕ). name ++ condition_text k.value) (operation_spelled (cut 91 text).0 op.value op.is)
-    ∙ ap (λ (m : Op × Cc). operation_name m.0 ++ condition_text m.1) same
+    ∙ ap (λ name. name ++ condition_text k.value) (operation_spelled (cut 91 text).0 op.value op.is) ∙ ap (λ m. operation_name m.0 ++ condition_text m.1) same
   where
     pair : Op → Cc → Op × Cc
     pair op k = (op, k)
@@ -368,20 +349,17 @@ both_operands operands front operand m r is begins = is ∙ ap (λ (t : List ℕ
 joined : (before operands : List ℕ) (op : Op) (k : Cc) (f : Flags) (m : Mode) (r : ℕ) (operand : List ℕ) → before ≡ head_text op k f
     → operands ≡ operands_text m r operand
     → before ++ 32 ∷ operands ≡ operation_name op ++ condition_text k ++ flags_text f ++ codes " " ++ place_text m r ++ codes "," ++ operand
-joined before operands op k f m r operand head rest =
-    ap (λ (t : List ℕ). t ++ 32 ∷ operands) head ∙ ap (λ (t : List ℕ). head_text op k f ++ 32 ∷ t) rest ∙ sym (regrouped op k f m r operand)
+joined before operands op k f m r operand head rest = cc (head, rest, regrouped op k f m r operand)
 
 pub instruction_spelled : (before operands : List ℕ) (w : Option ℕ) → instruction_in before operands ≡ Some w → SpellsInstruction (before ++ 32 ∷ operands) w
 unfolding instruction_in word_from
 instruction_spelled before operands w h =
-    let parts = bound (split_once 44 operands)
-    (λ (parts : List ℕ × List ℕ). head_in before >>= λ head. place_in parts.0 >>= λ b. operand_in parts.1 >>= λ a. Some (word_from head b a)) w h in
-    let head = bound (head_in before) (λ head. place_in parts.value.0 >>= λ b. operand_in parts.value.1 >>= λ a. Some (word_from head b a)) w parts.later in
-    let b = bound (place_in parts.value.0) (λ b. operand_in parts.value.1 >>= λ a. Some (word_from head.value b a)) w head.later in
-    let a = bound (operand_in parts.value.1) (λ a. Some (word_from head.value b.value a)) w b.later in
-    let place_b = place_spelled parts.value.0 b.value b.is in
-    let operands_are = both_operands operands parts.value.0 parts.value.1 b.value.0 b.value.1
-    (split_once_found 44 operands parts.value.0 parts.value.1 parts.is) place_b.is in
+    let parts = bound _ _ w h in
+    let head = bound _ _ w parts.later in
+    let b = bound _ _ w head.later in
+    let a = bound _ _ w b.later in
+    let place_b = place_spelled _ b.value b.is in
+    let operands_are = both_operands operands _ _ b.value.0 b.value.1 (split_once_found 44 operands parts.value.0 parts.value.1 parts.is) place_b.is in
     record {
       op = head.value.0;
       condition = head.value.1;
@@ -391,8 +369,7 @@ instruction_spelled before operands w h =
       operand = parts.value.1;
       a = a.value;
       register = place_b.small;
-      operand_is = operand_spelled parts.value.1 a.value a.is;
-      text_is = joined before operands head.value.0 head.value.1 head.value.2 b.value.0 b.value.1 parts.value.1 (head_spelled before head.value head.is)
-          operands_are;
+      operand_is = operand_spelled _ a.value a.is;
+      text_is = joined before operands _ _ _ b.value.0 b.value.1 _ (head_spelled before head.value head.is) operands_are;
       word_is = sym {a = word_from head.value b.value a.value} (by_some (word_from head.value b.value a.value) w a.later);
     }

@@ -1,12 +1,12 @@
 -- What a line says is written so, and the lines of a source that was read are the text's.
-use Rattle.std.proofs.Common.{◌≡◌, ℕ, suc, ◌+◌, arith, nat_lt, ◌==◌, ◌&&◌, Bool, true, false, cond, List, [], ◌∷◌, ◌++◌, length, append-nil, Option, Some, None}
+use Rattle.std.proofs.Common.{◌≡◌, ℕ, suc, ◌+◌, arith, nat_lt, ◌==◌, Bool, true, false, cond, List, [], ◌∷◌, ◌++◌, length, append-nil, Option, Some, None}
 use Rattle.std.{proofs.Common.{Result, Ok, Err, option_map, refl, sym, ap, subst, ◌∙◌, codes, append_assoc}, specs.List.{list_all, slice_split}}
 use Rattle.std.{specs.Str.bytes_eq, specs.Result.result_unwrap_or, proofs.lemmas.Bool.{and_parts, and_from}, proofs.lemmas.Bool.Decides.nat_tests}
 use Rattle.stack_text.{specs.Names.is_name, specs.Results.◌>>=◌, specs.declared.breach.Breach.Breach, proofs.SharedLaws.bytes_same, specs.Lines.is_plain_line}
-use Rattle.fm_asm.{specs.declared.due.Due.Due, specs.declared.statement.Directive.Directive, specs.Cuts.{cut, split_once, without_leading_spaces}}
-use Rattle.fm_asm.{specs.Cuts.{unless_trailing, without_trailing, trimmed}, specs.Values.{decimal_in, value_in}, specs.Instructions.instruction_in}
-use Rattle.fm_asm.specs.Statements.{Statement, base, size, final, start, word, instruction, directive_named, directed, by_directive, statement_in}
-use Rattle.fm_asm.{specs.Lines.{Said, text_of, statement_or_none, is_apart, labelled, said_by, said_in}, specs.Sources.{due_after_line, at_place, if_of_form}}
+use Rattle.fm_asm.{specs.declared.due.Due.Due, specs.declared.statement.Directive.Directive, specs.Cuts.{cut, without_leading_spaces, unless_trailing}}
+use Rattle.fm_asm.{specs.Cuts.{without_trailing, trimmed}, specs.Values.{decimal_in, value_in}, specs.Instructions.instruction_in, specs.Statements.Statement}
+use Rattle.fm_asm.{specs.Statements.{base, size, final, start, word, instruction, directive_named, directed, by_directive, statement_in}, specs.Lines.Said}
+use Rattle.fm_asm.{specs.Lines.{text_of, statement_or_none, is_apart, labelled, said_by, said_in}, specs.Sources.{due_after_line, at_place, if_of_form}}
 use Rattle.fm_asm.{specs.Sources.{said_of_line, line_read, word_count, kept, SourceOf, ended, with_lines, lines_read, source_in}, specs.Assembly.{says, is_gap}}
 use Rattle.fm_asm.specs.Assembly.{SpellsStatement, says_base, says_size, says_final, says_start, says_word, says_instruction, SpellsSaid, nothing}
 use Rattle.fm_asm.{specs.Assembly.{statement_alone, label_alone, label_and_statement, IsLine, AreLines, no_line, one_line}, proofs.CutLaws.split_once_found}
@@ -26,8 +26,7 @@ directive_bytes directive.Word = codes ".word"
 
 directive_spelled : (name : List ℕ) (d : Directive) → directive_named name ≡ Some d → name ≡ directive_bytes d
 unfolding directive_named directive_bytes
-directive_spelled name d h =
-    chosen_of (bytes_eq name (codes ".base")) directive.Base d _ h (λ e is. bytes_same name (codes ".base") e ∙ ap directive_bytes is)
+directive_spelled name d h = chosen_of _ directive.Base d _ h (λ e is. bytes_same name (codes ".base") e ∙ ap directive_bytes is)
     (λ h1. chosen_of (bytes_eq name (codes ".size")) directive.Size d _ h1 (λ e is. bytes_same name (codes ".size") e ∙ ap directive_bytes is)
     (λ h2. chosen_of (bytes_eq name (codes ".final")) directive.Final d _ h2 (λ e is. bytes_same name (codes ".final") e ∙ ap directive_bytes is)
     (λ h3. chosen_of (bytes_eq name (codes ".start")) directive.Start d _ h3 (λ e is. bytes_same name (codes ".start") e ∙ ap directive_bytes is)
@@ -67,9 +66,8 @@ parts_spelled head rest s h = by_name (directive_named head) refl h
 statement_spelled : (text : List ℕ) (s : Statement) → statement_in text ≡ Some s → SpellsStatement text s
 unfolding statement_in
 statement_spelled text s h =
-    let parts = bound (split_once 32 text) (λ (parts : List ℕ × List ℕ). by_directive (directive_named parts.0) parts.0 parts.1) s h in
-    subst (λ (t : List ℕ). SpellsStatement t s) (sym (split_once_found 32 text parts.value.0 parts.value.1 parts.is))
-    (parts_spelled parts.value.0 parts.value.1 s parts.later)
+    let parts = bound _ _ s h in
+    subst (λ t. SpellsStatement t s) (sym (split_once_found 32 text parts.value.0 parts.value.1 parts.is)) (parts_spelled _ _ s parts.later)
 
 -- ---- spaces
 
@@ -86,11 +84,7 @@ gap_of (b ∷ text) = by_space (b == 32) refl (gap_of text)
   where
     by_space : (t : Bool) → (b == 32) ≡ t → HasGap text → HasGap (b ∷ text)
     by_space false e g = record { gap = []; spaces = refl; is = rw e refl }
-    by_space true e g = record {
-      gap = b ∷ g.gap;
-      spaces = and_from (b == 32) (list_all (λ c. c == 32) g.gap) e g.spaces;
-      is = ap (λ (t : List ℕ). b ∷ t) g.is ∙ rw e refl;
-    }
+    by_space true e g = record { gap = b ∷ g.gap; spaces = and_from (b == 32) _ e g.spaces; is = ap (λ (t : List ℕ). b ∷ t) g.is ∙ rw e refl }
 
 spaces_gone : (gap : List ℕ) → list_all (λ b. b == 32) gap ≡ true → without_trailing 32 gap ≡ []
 unfolding without_trailing
@@ -159,8 +153,7 @@ label_ends : (text name gap : List ℕ) → is_name name ≡ true → without_tr
     → list_all (λ b. b == 32) gap ≡ true → SpellsSaid text (says (Some name) None)
 label_ends text name gap named ended is spaces =
     let grouped : name ++ 58 ∷ gap ≡ (name ++ codes ":") ++ gap = simp append_assoc in
-    let short : without_trailing 32 text ≡ name ++ codes ":" =
-    ap (without_trailing 32) (is ∙ grouped) ∙ spaces_cut (name ++ codes ":") gap spaces ∙ last-other 32 name 58 refl in
+    let short : without_trailing 32 text ≡ name ++ codes ":" = ap (without_trailing 32) (is ∙ grouped) ∙ spaces_cut _ gap spaces ∙ last-other 32 name 58 refl in
     subst (λ (t : List ℕ). SpellsSaid t (says (Some name) None)) (sym short ∙ ended) (label_alone name named)
 
 positive : (n : ℕ) → nat_lt 0 (suc n) ≡ true
@@ -172,7 +165,7 @@ labelled_spelled : (text name rest : List ℕ) (s : Option Statement) → is_nam
 unfolding without_leading_spaces statement_or_none
 labelled_spelled text name rest None named short is apart h =
     let g = gap_of rest in
-    let empty = none_empty (without_leading_spaces rest) h in
+    let empty = none_empty _ h in
     let all : rest ≡ g.gap = g.is ∙ ap (λ (t : List ℕ). g.gap ++ t) empty ∙ append-nil g.gap in
     label_ends text name rest named short is (ap (list_all (λ b. b == 32)) all ∙ g.spaces)
 labelled_spelled text name [] (Some s) named short is apart h = absurd (nothing_there h)
@@ -182,9 +175,8 @@ labelled_spelled text name [] (Some s) named short is apart h = absurd (nothing_
 labelled_spelled text name (b ∷ rest) (Some s) named short is apart h =
     let g = gap_of rest in
     let skipped : without_leading_spaces (b ∷ rest) ≡ without_leading_spaces rest = rw apart refl in
-    let statement = some_spelled (without_leading_spaces rest) s (ap statement_or_none (sym skipped) ∙ h) in
-    let spaces : is_gap (b ∷ g.gap) ≡ true =
-    and_from (nat_lt 0 (length (b ∷ g.gap))) _ (positive (length g.gap)) (and_from (b == 32) (list_all (λ c. c == 32) g.gap) apart g.spaces) in
+    let statement = some_spelled _ s (ap statement_or_none (sym skipped) ∙ h) in
+    let spaces : is_gap (b ∷ g.gap) ≡ true = and_from _ _ (positive (length g.gap)) (and_from (b == 32) (list_all (λ c. c == 32) g.gap) apart g.spaces) in
     let grouped : name ++ codes ":" ++ (b ∷ g.gap) ++ without_leading_spaces rest ≡ name ++ 58 ∷ b ∷ (g.gap ++ without_leading_spaces rest) =
     simp append_assoc in
     subst (λ (t : List ℕ). SpellsSaid t (says (Some name) (Some s))) (grouped ∙ ap (λ (t : List ℕ). name ++ 58 ∷ b ∷ t) (sym g.is) ∙ sym is)
@@ -196,13 +188,12 @@ said_spelled text said ended h = by_colon (cut 58 text).1 refl h
   where
     by_colon : (o : Option (List ℕ)) → (cut 58 text).1 ≡ o → said_by o (cut 58 text).0 text ≡ Some said → SpellsSaid text said
     by_colon None is k =
-        let m = mapped (says None) (statement_or_none text) said k in
+        let m = mapped (says None) _ said k in
         subst (SpellsSaid text) m.image (unlabelled text m.value m.is)
     by_colon (Some rest) is k =
-        let t = tested (is_name (cut 58 text).0 && is_apart rest)
-        (option_map (says (Some (cut 58 text).0)) (statement_or_none (without_leading_spaces rest))) said k in
-        let parts = and_parts (is_name (cut 58 text).0) (is_apart rest) t.0 in
-        let m = mapped (says (Some (cut 58 text).0)) (statement_or_none (without_leading_spaces rest)) said t.1 in
+        let t = tested _ _ said k in
+        let parts = and_parts _ _ t.0 in
+        let m = mapped _ _ said t.1 in
         subst (SpellsSaid text) m.image (labelled_spelled text (cut 58 text).0 rest m.value parts.0 ended (cut_some 58 text rest is) parts.1 m.is)
 
 text_ended : (bytes : List ℕ) → without_trailing 32 (text_of bytes) ≡ text_of bytes
@@ -257,8 +248,7 @@ on_line : (end place offset : ℕ) (d : Due) (bytes : List ℕ) (rest : List (Li
     (lines_read end (place + length bytes + 1) (offset + word_count next.0.statement) next.1 rest))
 unfolding Spells
 on_line end place offset d bytes rest (Err rule) is later = tt
-on_line end place offset d bytes rest (Ok x) is later =
-    one_more place offset bytes x.0 rest (lines_read end (place + length bytes + 1) (offset + word_count x.0.statement) x.1 rest)
+on_line end place offset d bytes rest (Ok x) is later = one_more place offset bytes x.0 rest _
     (line_spelled bytes x.0 (said_of d bytes x is)) (later (offset + word_count x.0.statement) x.1)
 
 all_spelled : (end place offset : ℕ) (d : Due) (texts : List (List ℕ)) → Spells place offset texts (lines_read end place offset d texts)
@@ -268,8 +258,7 @@ all_spelled end place offset (due.Size b) [] = tt
 all_spelled end place offset (due.Final b n) [] = tt
 all_spelled end place offset (due.Start b n) [] = tt
 all_spelled end place offset (due.Words b n) [] = no_line place offset
-all_spelled end place offset d (bytes ∷ rest) =
-    on_line end place offset d bytes rest (line_read d bytes) refl (λ o e. all_spelled end (place + length bytes + 1) o e rest)
+all_spelled end place offset d (bytes ∷ rest) = on_line end place offset d bytes rest _ refl (λ o e. all_spelled end (place + length bytes + 1) o e rest)
 
 -- the lines of a source that was read are those of its text
 pub lines_spelled : (text : List ℕ) (s : SourceOf) → source_in text ≡ Ok s → AreLines 0 0 (slice_split (λ b. b == 10) text) s.lines

@@ -31,9 +31,11 @@ no_directive M15 k f = refl
 
 instruction_split : (text : List ℕ) (w : Option ℕ) (i : SpellsInstruction text w)
     → split_once 32 text ≡ Some (head_text i.op i.condition i.set, operands_text i.mode i.reg i.operand)
-instruction_split text w i =
-    ap (split_once 32) (i.text_is ∙ regrouped i.op i.condition i.set i.mode i.reg i.operand)
-    ∙ split_once-append 32 (head_text i.op i.condition i.set) (operands_text i.mode i.reg i.operand) (head_spaceless i.op i.condition i.set)
+instruction_split text w i = cc (
+  i.text_is,
+  regrouped i.op i.condition i.set i.mode i.reg i.operand,
+  split_once-append 32 (head_text i.op i.condition i.set) (operands_text i.mode i.reg i.operand) (head_spaceless i.op i.condition i.set),
+)
 
 instruction_statement : (text : List ℕ) (w : Option ℕ) → SpellsInstruction text w → statement_in text ≡ Some (instruction w)
 unfolding statement_in by_directive
@@ -92,13 +94,12 @@ instruction_text_is : (text : List ℕ) (w : Option ℕ) → SpellsInstruction t
 unfolding operands_text
 instruction_text_is text w i =
     let split = i.text_is ∙ regrouped i.op i.condition i.set i.mode i.reg i.operand in
-    let start = head_begins i.op i.condition i.set (32 ∷ operands_text i.mode i.reg i.operand) in
+    let start = head_begins i.op i.condition i.set _ in
     let operands : lacks 58 (place_text i.mode i.reg ++ 44 ∷ i.operand) ≡ true =
-    lacks-append 58 (place_text i.mode i.reg) (44 ∷ i.operand) (place_lacks 58 i.mode i.reg refl refl i.register)
+    lacks-append 58 (place_text i.mode i.reg) _ (place_lacks 58 i.mode i.reg refl refl i.register)
     (and_from _ _ refl (operand_colonless i.operand i.a i.operand_is)) in
     let all : lacks 58 (head_text i.op i.condition i.set ++ 32 ∷ operands_text i.mode i.reg i.operand) ≡ true =
-    lacks-append 58 (head_text i.op i.condition i.set) (32 ∷ operands_text i.mode i.reg i.operand) (head_colonless i.op i.condition i.set)
-    (and_from _ _ refl operands) in
+    lacks-append 58 (head_text i.op i.condition i.set) _ (head_colonless i.op i.condition i.set) (and_from _ _ refl operands) in
     record { colonless = ap (lacks 58) split ∙ all; first = start.first; rest = start.rest; begins = split ∙ start.begins; spaceless = start.spaceless }
 
 pub statement_text : (text : List ℕ) (s : Statement) → SpellsStatement text s → IsStatementText text

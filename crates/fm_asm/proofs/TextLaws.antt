@@ -1,5 +1,5 @@
 -- Printed lines: their bytes, and that they are cut and trimmed to themselves.
-use Rattle.std.proofs.Common.{◌≡◌, ℕ, ◌≤◌, ◌==◌, ◌&&◌, Bool, true, false, not, List, [], ◌∷◌, ◌++◌, length, None, refl, sym, ap, ◌∙◌, arith, le-leb}
+use Rattle.std.proofs.Common.{◌≡◌, ℕ, ◌≤◌, ◌==◌, ◌&&◌, Bool, true, false, not, List, [], ◌∷◌, ◌++◌, length, None, refl, ap, ◌∙◌, arith, le-leb}
 use Rattle.std.{specs.List.{list_all, slice_split, onto_first}, specs.Char.is_ascii_digit, proofs.lemmas.Bool.{and_parts, and_from, not-true, cond-false}}
 use Rattle.std.proofs.lemmas.Bool.Decides.{nat_tests}
 use Rattle.fm_asm.{specs.Cuts.{cut, without_leading_spaces, unless_trailing, without_trailing, trimmed}, specs.Lines.text_of, proofs.CutLaws.{lacks, cut-lacks}}
@@ -56,8 +56,8 @@ pub tidy_text : (text : List ℕ) → IsTidy text → text_of text ≡ text
 unfolding text_of trimmed without_leading_spaces
 tidy_text text t =
     let commentless : cut 59 text ≡ (text, None) = cut-lacks 59 text (lacks_from is_text_byte 59 text refl t.bytes) in
-    let begun : without_leading_spaces text ≡ text = ap without_leading_spaces t.begins ∙ cond-false (t.first == 32) _ _ t.no_space ∙ sym t.begins in
-    let ended : without_trailing 32 text ≡ text = ap (without_trailing 32) t.ends ∙ end_kept t.front t.back t.more t.spaceless ∙ sym t.ends in
+    let begun : without_leading_spaces text ≡ text = cc (t.begins, cond-false (t.first == 32) _ _ t.no_space) in
+    let ended : without_trailing 32 text ≡ text = cc (t.ends, end_kept t.front t.back t.more t.spaceless) in
     rw commentless (ap (without_trailing 32) begun ∙ ended)
 
 pub tidy_plain : (text : List ℕ) → IsTidy text → is_plain_line text ≡ true

@@ -1,13 +1,12 @@
 -- Values, and the bytes that they have.
-use Rattle.std.proofs.Common.{◌≡◌, ℕ, ◌==◌, ◌&&◌, Bool, true, false, cond, not, List, [], ◌∷◌, length, Some, option_map, refl, sym, ap, subst, ◌∙◌, arith}
-use Rattle.std.{proofs.Common.{codes, eqb-true, nat_lt}, specs.List.list_all, specs.Char.{is_ascii_digit, is_ascii_alphabetic}, proofs.lemmas.Bool.and_parts}
-use Rattle.std.{proofs.lemmas.Bool.{and_from, cond-true, cond-false}, proofs.lemmas.Bool.Decides.nat_tests, specs.Prelude.IsOk}
+use Rattle.std.proofs.Common.{◌≡◌, ℕ, ◌==◌, Bool, true, false, not, List, [], ◌∷◌, length, Some, option_map, refl, sym, ap, subst, ◌∙◌, arith, codes, eqb-true}
+use Rattle.std.{proofs.Common.nat_lt, specs.List.list_all, specs.Char.{is_ascii_digit, is_ascii_alphabetic}, proofs.lemmas.Bool.{and_parts, and_from}}
+use Rattle.std.{proofs.lemmas.Bool.{cond-true, cond-false}, proofs.lemmas.Bool.Decides.nat_tests, specs.Prelude.IsOk}
 use Rattle.std.proofs.lemmas.List.Sums.{list_all-from_AllPass}
 use Rattle.hex.{specs.Hex.{decode_sized, is_hex_digit}, proofs.HexLemmas.IsOk-decode_sized}
 use Rattle.stack_text.{specs.Names.{is_name, is_name_byte, begins_with_letter}, specs.Numerals.is_digits, proofs.SharedLaws.and_false}
-use Rattle.fm_asm.{specs.Cuts.after_prefix, specs.Values.{Value, number, label, decimal_value, decimal_in, number_of_bytes, hex_value, hexadecimal_after}}
-use Rattle.fm_asm.{specs.Values.{as_number, value_in}, specs.Assembly.{IsHexadecimal, SpellsValue, decimal, hexadecimal, named}, proofs.CutLaws.lacks}
-use Rattle.fm_asm.proofs.CutLaws.{after_prefix-append}
+use Rattle.fm_asm.{specs.Cuts.after_prefix, specs.Values.{Value, number, decimal_value, decimal_in, number_of_bytes, hex_value, hexadecimal_after, as_number}}
+use Rattle.fm_asm.{specs.Values.value_in, specs.Assembly.{IsHexadecimal, SpellsValue, decimal, hexadecimal, named}, proofs.CutLaws.{lacks, after_prefix-append}}
 
 -- where each byte passes, and this one doesn't, it is lacking
 pub lacks_from : (p : ℕ → Bool) (byte : ℕ) (bytes : List ℕ) → p byte ≡ false → list_all p bytes ≡ true → lacks byte bytes ≡ true
@@ -35,9 +34,7 @@ letter_is_no_digit b h = grind (arith, nat_tests)
 
 pub name_is_no_digits : (name : List ℕ) → is_name name ≡ true → is_digits name ≡ false
 name_is_no_digits [] h = refl
-name_is_no_digits (b ∷ bytes) h =
-    ap (λ t. nat_lt 0 (length (b ∷ bytes)) && (t && list_all is_ascii_digit bytes)) (letter_is_no_digit b (name_begins (b ∷ bytes) h))
-    ∙ and_false (nat_lt 0 (length (b ∷ bytes)))
+name_is_no_digits (b ∷ bytes) h = cc (letter_is_no_digit b (name_begins (b ∷ bytes) h), and_false (nat_lt 0 (length (b ∷ bytes))))
 
 hex_is_no_digits : (digits : List ℕ) → is_digits (48 ∷ 120 ∷ digits) ≡ false
 hex_is_no_digits digits = and_false (nat_lt 0 (length (48 ∷ 120 ∷ digits)))
@@ -52,20 +49,12 @@ hex_written digits n h = ap number_of_bytes h.digits_are ∙ ap Some (sym h.numb
 
 pub value_written : (text : List ℕ) (v : Value) → SpellsValue text v → value_in text ≡ Some v
 unfolding value_in
-value_written _ _ (decimal digits h) =
-    cond-true (is_digits digits) (Some (number (decimal_value digits)))
-    (cond (is_name digits) (Some (label digits)) (hexadecimal_after (after_prefix (codes "0x") digits))) h
+value_written _ _ (decimal digits h) = cc
 value_written _ _ (hexadecimal digits n h) =
     let rest : hexadecimal_after (after_prefix (codes "0x") (48 ∷ 120 ∷ digits)) ≡ Some (number (Some n)) =
     ap hexadecimal_after (after_prefix-append (codes "0x") digits) ∙ ap (option_map as_number) (hex_written digits n h) in
-    cond-false (is_digits (48 ∷ 120 ∷ digits)) (Some (number (decimal_value (48 ∷ 120 ∷ digits))))
-    (cond (is_name (48 ∷ 120 ∷ digits)) (Some (label (48 ∷ 120 ∷ digits))) (hexadecimal_after (after_prefix (codes "0x") (48 ∷ 120 ∷ digits))))
-    (hex_is_no_digits digits)
-    ∙ rest
-value_written _ _ (named name h) =
-    cond-false (is_digits name) (Some (number (decimal_value name)))
-    (cond (is_name name) (Some (label name)) (hexadecimal_after (after_prefix (codes "0x") name))) (name_is_no_digits name h)
-    ∙ cond-true (is_name name) (Some (label name)) (hexadecimal_after (after_prefix (codes "0x") name)) h
+    cond-false _ _ _ (hex_is_no_digits digits) ∙ rest
+value_written _ _ (named name h) = cond-false _ _ _ (name_is_no_digits name h) ∙ cond-true _ _ _ h
 
 -- ---- bytes that no value has
 

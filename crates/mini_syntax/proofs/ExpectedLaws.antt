@@ -1,20 +1,17 @@
 -- The tokens of every program are taken, one after the other; so where a token isn't taken, no program goes on with it.
-use Rattle.std.proofs.Common.{◌≡◌, ℕ, ◌≤◌, List, [], ◌∷◌, ◌++◌, Option, Some, None, true, false, cond, refl, sym, ap, subst, ◌∙◌, append_assoc, arith}
+use Rattle.std.proofs.Common.{◌≡◌, ℕ, ◌≤◌, List, [], ◌∷◌, ◌++◌, Option, Some, None, true, false, refl, sym, ap, subst, ◌∙◌, append_assoc, arith}
 use Rattle.std.{specs.Prelude.{◌&&◌, nat_le}, proofs.lemmas.Bool.{and_parts, leb-true}, proofs.lemmas.List.append-nil}
 use Rattle.std.specs.Prelude as std
-use Rattle.mini_syntax.{specs.declared.expected.Answer.TheVariants.{Refused, Then}, specs.declared.expected.Expected.Expected}
-use Rattle.mini_syntax.{specs.declared.lexer.TokenKind.TokenKind, specs.declared.operator.Infix.Infix, specs.declared.operator.Prefix.Prefix}
-use Rattle.mini_syntax.{specs.declared.operator.Prefix.TheVariants.{Not, Minus}, specs.Expected.{answered, infix_answer, takes, taken, at_start, is_over}}
-use Rattle.mini_syntax.{specs.Expected.{expression, a_block}, specs.Grammar.{Expression, variable, number, truth, unary, binary, group, binds}}
-use Rattle.mini_syntax.specs.Grammar.{expression_level, expression_tokens, prefix_token, Form, assign, loop, branch, Block, block, Forms, no_forms, form, Decl}
-use Rattle.mini_syntax.specs.Grammar.{InfixProgram, GoesOn, form_binds, block_binds, forms_bind, form_tokens, block_tokens, forms_tokens, decl_tokens}
-use Rattle.mini_syntax.{specs.Grammar.{decls_tokens, program_tokens}, specs.Precedence.{compared_after, infix_of, infix_token, level_of, may_follow}}
-use Rattle.mini_syntax.{specs.Tokens.{Token, name_at, number_at, word_at, mark_at, kind_of}, proofs.PrecedenceLaws.{Allows, after, after_sum, allows_closer}}
-use Rattle.mini_syntax.proofs.PrecedenceLaws.{allows_right, allows_sum, bound_parts, infix_seen, left_below, may_come}
+use Rattle.mini_syntax.{specs.declared.expected.Expected.Expected, specs.declared.lexer.TokenKind.TokenKind, specs.declared.operator.Infix.Infix}
+use Rattle.mini_syntax.{specs.declared.operator.Prefix.Prefix, specs.declared.operator.Prefix.TheVariants.{Not, Minus}, specs.Expected.{answered, infix_answer}}
+use Rattle.mini_syntax.{specs.Expected.{takes, taken, at_start, is_over, expression, a_block}, specs.Grammar.{Expression, variable, number, truth, unary}}
+use Rattle.mini_syntax.specs.Grammar.{binary, group, binds, expression_level, expression_tokens, prefix_token, Form, assign, loop, branch, Block, block, Forms}
+use Rattle.mini_syntax.specs.Grammar.{no_forms, form, Decl, InfixProgram, GoesOn, form_binds, block_binds, forms_bind, form_tokens, block_tokens, forms_tokens}
+use Rattle.mini_syntax.{specs.Grammar.{decl_tokens, decls_tokens, program_tokens}, specs.Precedence.{compared_after, infix_of, level_of, may_follow}}
+use Rattle.mini_syntax.{specs.Tokens.{Token, name_at, mark_at, kind_of}, proofs.PrecedenceLaws.{Allows, after, after_sum, allows_closer, allows_right}}
+use Rattle.mini_syntax.proofs.PrecedenceLaws.{allows_sum, bound_parts, infix_seen, left_below, may_come}
 use Rattle.mini_syntax.specs.declared.expected.Expected.TheVariants as wants
-use Rattle.mini_syntax.specs.declared.expected.Push.TheVariants as push
 use Rattle.mini_syntax.specs.declared.mark.Mark.TheVariants as mark
-use Rattle.mini_syntax.specs.declared.word.Word.TheVariants as word
 
 -- the tokens lead from one stack to another, whatever follows
 pub record Leads (from : List Expected) (ts : List Token) (to : List Expected) : Type 0 where
@@ -36,15 +33,11 @@ before from mid to t us e a = record { on = λ vs. ap (λ (o : Option (List Expe
 
 pub operator_taken : (op : Infix) (c : std.Bool) (k : TokenKind) (rest : List Expected) → infix_of k ≡ Some op → may_follow op c ≡ true →
     takes (wants.MoreExpression c ∷ rest) k ≡ Some (wants.Operand ∷ wants.MoreExpression (compared_after op c) ∷ rest)
-operator_taken op c k rest is may =
-    ap (λ (o : Option Infix). answered (infix_answer c o) rest (takes rest k)) is
-    ∙ ap (λ (b : std.Bool). answered (cond b (Then (push.OperandAndMore (compared_after op c))) Refused) rest (takes rest k)) may
+operator_taken op c k rest is may = cc
 
 pub operator_refused : (op : Infix) (c : std.Bool) (k : TokenKind) (rest : List Expected) → infix_of k ≡ Some op → may_follow op c ≡ false →
     takes (wants.MoreExpression c ∷ rest) k ≡ None
-operator_refused op c k rest is may =
-    ap (λ (o : Option Infix). answered (infix_answer c o) rest (takes rest k)) is
-    ∙ ap (λ (b : std.Bool). answered (cond b (Then (push.OperandAndMore (compared_after op c))) Refused) rest (takes rest k)) may
+operator_refused op c k rest is may = cc
 
 pub none_follows : (c : std.Bool) (k : TokenKind) (rest : List Expected) → infix_of k ≡ None → takes (wants.MoreExpression c ∷ rest) k ≡ takes rest k
 none_follows c k rest is = ap (λ (o : Option Infix). answered (infix_answer c o) rest (takes rest k)) is
@@ -55,38 +48,28 @@ prefix_taken Minus place rest = refl
 
 pub expression_leads : (e : Expression) (c : std.Bool) (rest : List Expected) → binds e ≡ true → Allows c (expression_level e) →
     Leads (wants.Operand ∷ wants.MoreExpression c ∷ rest) (expression_tokens e) (wants.MoreExpression (after c e) ∷ rest)
-expression_leads (variable place name) c rest h allowed =
-    one (wants.Operand ∷ wants.MoreExpression c ∷ rest) (wants.MoreExpression c ∷ rest) (name_at place name) refl
-expression_leads (number place digits) c rest h allowed =
-    one (wants.Operand ∷ wants.MoreExpression c ∷ rest) (wants.MoreExpression c ∷ rest) (number_at place digits) refl
-expression_leads (truth place b) c rest h allowed =
-    one (wants.Operand ∷ wants.MoreExpression c ∷ rest) (wants.MoreExpression c ∷ rest) (word_at place (word.Truth b)) refl
+expression_leads (variable place name) c rest h allowed = one _ _ (name_at place name) refl
+expression_leads (number place digits) c rest h allowed = one _ _ _ refl
+expression_leads (truth place b) c rest h allowed = one _ _ _ refl
 expression_leads (unary place op e) c rest h allowed =
     let st : List Expected = wants.Operand ∷ wants.MoreExpression c ∷ rest in
-    let k = and_parts (nat_le (expression_level e) 0) (binds e) h in
+    let k = and_parts _ (binds e) h in
     let closest = leb-true (expression_level e) 0 k.0 in
     let low : expression_level e ≤ 2 = omega (arith, closest) in
-    before st st (wants.MoreExpression c ∷ rest) (prefix_token place op) (expression_tokens e) (prefix_taken op place (wants.MoreExpression c ∷ rest))
+    before st st _ _ _ (prefix_taken op place _)
     (subst (λ (d : std.Bool). Leads (wants.Operand ∷ wants.MoreExpression c ∷ rest) (expression_tokens e) (wants.MoreExpression d ∷ rest))
-    (after_sum e c k.1 low)
-    (expression_leads e c rest k.1 (allows_sum c (expression_level e) low)))
+    (after_sum e c k.1 low) (expression_leads e c rest k.1 (allows_sum c (expression_level e) low)))
 expression_leads (binary a place op b) c rest h allowed =
     let k = bound_parts a b op place h in
     let left = k.left in
     let d = after c a in
-    join (expression_tokens a) (infix_token place op ∷ expression_tokens b)
-    (expression_leads a c rest k.left_bound (allows_closer c (expression_level a) (level_of op) (omega (arith, left, left_below op)) allowed))
-    (before (wants.MoreExpression d ∷ rest) (wants.Operand ∷ wants.MoreExpression (compared_after op d) ∷ rest) (wants.MoreExpression (after
-    (compared_after op d) b) ∷ rest)
-    (infix_token place op) (expression_tokens b)
-    (operator_taken op d (kind_of (infix_token place op)) rest (infix_seen place op) (may_come op a c k.left_bound k.left allowed))
+    join (expression_tokens a) _
+    (expression_leads a c rest k.left_bound (allows_closer c (expression_level a) (level_of op) (omega (arith, left, left_below op)) allowed)) (before _ _ _
+    _ (expression_tokens b) (operator_taken op d _ rest (infix_seen place op) (may_come op a c k.left_bound k.left allowed))
     (expression_leads b (compared_after op d) rest k.right_bound (allows_right op d (expression_level b) k.right)))
 expression_leads (group place e closing) c rest h allowed =
     let to : List Expected = wants.MoreExpression c ∷ rest in
-    before (wants.Operand ∷ to) (expression (wants.Mark mark.Close ∷ to)) to (mark_at place mark.Open)
-    (expression_tokens e ++ mark_at closing mark.Close ∷ []) refl
-    (join (expression_tokens e) (mark_at closing mark.Close ∷ []) (expression_leads e false (wants.Mark mark.Close ∷ to) h tt)
-    (one (wants.MoreExpression (after false e) ∷ wants.Mark mark.Close ∷ to) to (mark_at closing mark.Close) refl))
+    before (wants.Operand ∷ to) _ to _ _ refl (join (expression_tokens e) _ (expression_leads e false _ h tt) (one _ to _ refl))
 
 -- ---- statements
 
@@ -97,64 +80,45 @@ none_leads st = record { on = λ vs. refl }
 inside_leads : (fs : Forms) (closing : ℕ) (rest : List Expected) → Leads (wants.MoreStatements ∷ wants.Mark mark.CloseBlock ∷ rest) (forms_tokens fs)
     (wants.MoreStatements ∷ wants.Mark mark.CloseBlock ∷ rest) →
     Leads (wants.MoreStatements ∷ wants.Mark mark.CloseBlock ∷ rest) (forms_tokens fs ++ mark_at closing mark.CloseBlock ∷ []) rest
-inside_leads fs closing rest inside =
-    join (forms_tokens fs) (mark_at closing mark.CloseBlock ∷ []) inside
-    (one (wants.MoreStatements ∷ wants.Mark mark.CloseBlock ∷ rest) rest (mark_at closing mark.CloseBlock) refl)
+inside_leads fs closing rest inside = join _ _ inside (one _ rest _ refl)
 
 mutual
   pub form_leads : (f : Form) (rest : List Expected) → form_binds f ≡ true → Leads (wants.MoreStatements ∷ rest) (form_tokens f) (wants.MoreStatements ∷ rest)
   form_leads (assign place name becomes e closing) rest h =
       let more : List Expected = wants.MoreStatements ∷ rest in
-      let value : List Expected = expression (wants.Mark mark.Semicolon ∷ more) in
-      before more (wants.Mark mark.Becomes ∷ value) more (name_at place name) (mark_at becomes mark.Becomes ∷
-      (expression_tokens e ++ mark_at closing mark.Semicolon ∷ [])) refl
-      (before (wants.Mark mark.Becomes ∷ value) value more (mark_at becomes mark.Becomes) (expression_tokens e ++ mark_at closing mark.Semicolon ∷ []) refl
-      (join (expression_tokens e) (mark_at closing mark.Semicolon ∷ []) (expression_leads e false (wants.Mark mark.Semicolon ∷ more) h tt)
-      (one (wants.MoreExpression (after false e) ∷ wants.Mark mark.Semicolon ∷ more) more (mark_at closing mark.Semicolon) refl)))
+      let value : List Expected = expression _ in
+      before more _ more _ _ refl (before _ value more _ _ refl (join (expression_tokens e) _ (expression_leads e false _ h tt) (one _ more _ refl)))
   form_leads (loop place e b) rest h =
       let more : List Expected = wants.MoreStatements ∷ rest in
-      let k = and_parts (binds e) (block_binds b) h in
-      before more (expression (a_block more)) more (word_at place word.While) (expression_tokens e ++ block_tokens b) refl
+      let k = and_parts (binds e) _ h in
+      before more _ more _ _ refl
       (join (expression_tokens e) (block_tokens b) (expression_leads e false (a_block more) k.0 tt) (after_test (after false e) b more k.1))
   form_leads (branch place e b otherwise c) rest h =
       let more : List Expected = wants.MoreStatements ∷ rest in
       let other : List Expected = wants.Else ∷ a_block more in
-      let k = and_parts (binds e) (block_binds b && block_binds c) h in
-      let l = and_parts (block_binds b) (block_binds c) k.1 in
-      before more (expression (a_block other)) more (word_at place word.If) (expression_tokens e ++
-      (block_tokens b ++ word_at otherwise word.Else ∷ block_tokens c)) refl
-      (join (expression_tokens e) (block_tokens b ++ word_at otherwise word.Else ∷ block_tokens c) (expression_leads e false (a_block other) k.0 tt)
-      (join (block_tokens b) (word_at otherwise word.Else ∷ block_tokens c) (after_test (after false e) b other l.0)
-      (before other (a_block more) more (word_at otherwise word.Else) (block_tokens c) refl (block_leads c more l.1))))
+      let k = and_parts (binds e) _ h in
+      let l = and_parts _ _ k.1 in
+      before more _ more _ _ refl (join (expression_tokens e) _ (expression_leads e false (a_block other) k.0 tt)
+      (join (block_tokens b) _ (after_test (after false e) b other l.0) (before other (a_block more) more _ (block_tokens c) refl (block_leads c more l.1))))
 
   -- a block after an expression
   after_test : (c : std.Bool) (b : Block) (rest : List Expected) → block_binds b ≡ true → Leads (wants.MoreExpression c ∷ a_block rest) (block_tokens b) rest
-  after_test c (block place fs closing) rest h =
-      before (wants.MoreExpression c ∷ a_block rest) (wants.MoreStatements ∷ wants.Mark mark.CloseBlock ∷ rest) rest (mark_at place mark.OpenBlock)
-      (forms_tokens fs ++ mark_at closing mark.CloseBlock ∷ []) refl (inside_leads fs closing rest (forms_leads fs (wants.Mark mark.CloseBlock ∷ rest) h))
+  after_test c (block place fs closing) rest h = before _ _ rest _ _ refl (inside_leads fs closing rest (forms_leads fs _ h))
 
   pub block_leads : (b : Block) (rest : List Expected) → block_binds b ≡ true → Leads (a_block rest) (block_tokens b) rest
-  block_leads (block place fs closing) rest h =
-      before (a_block rest) (wants.MoreStatements ∷ wants.Mark mark.CloseBlock ∷ rest) rest (mark_at place mark.OpenBlock)
-      (forms_tokens fs ++ mark_at closing mark.CloseBlock ∷ []) refl (inside_leads fs closing rest (forms_leads fs (wants.Mark mark.CloseBlock ∷ rest) h))
+  block_leads (block place fs closing) rest h = before (a_block rest) _ rest _ _ refl (inside_leads fs closing rest (forms_leads fs _ h))
 
   pub forms_leads : (fs : Forms) (rest : List Expected) → forms_bind fs ≡ true →
       Leads (wants.MoreStatements ∷ rest) (forms_tokens fs) (wants.MoreStatements ∷ rest)
   forms_leads no_forms rest h = none_leads (wants.MoreStatements ∷ rest)
   forms_leads (form f fs) rest h =
-      let k = and_parts (form_binds f) (forms_bind fs) h in
-      join (form_tokens f) (forms_tokens fs) (form_leads f rest k.0) (forms_leads fs rest k.1)
+      let k = and_parts _ _ h in
+      join _ _ (form_leads f rest k.0) (forms_leads fs rest k.1)
 
 -- ---- declarations
 
 pub decl_leads : (d : Decl) (rest : List Expected) → Leads (wants.MoreDeclarations ∷ rest) (decl_tokens d) (wants.MoreDeclarations ∷ rest)
-decl_leads d rest =
-    before (wants.MoreDeclarations ∷ rest) (wants.Name ∷ wants.Mark mark.Semicolon ∷ wants.MoreDeclarations ∷ rest) (wants.MoreDeclarations ∷ rest)
-    (word_at d.start (word.Sort d.sort)) (name_at d.place d.name ∷ mark_at d.closing mark.Semicolon ∷ []) refl
-    (before (wants.Name ∷ wants.Mark mark.Semicolon ∷ wants.MoreDeclarations ∷ rest) (wants.Mark mark.Semicolon ∷ wants.MoreDeclarations ∷ rest)
-    (wants.MoreDeclarations ∷ rest)
-    (name_at d.place d.name) (mark_at d.closing mark.Semicolon ∷ []) refl
-    (one (wants.Mark mark.Semicolon ∷ wants.MoreDeclarations ∷ rest) (wants.MoreDeclarations ∷ rest) (mark_at d.closing mark.Semicolon) refl))
+decl_leads d rest = before _ _ _ _ _ refl (before _ _ _ _ _ refl (one _ _ _ refl))
 
 pub decls_lead : (ds : List Decl) (rest : List Expected) → Leads (wants.MoreDeclarations ∷ rest) (decls_tokens ds) (wants.MoreDeclarations ∷ rest)
 decls_lead [] rest = none_leads (wants.MoreDeclarations ∷ rest)
@@ -168,14 +132,9 @@ skip : (t : Token) (ts : List Token) (to : List Expected) → takes at_start (ki
 skip t ts to e a = record { on = λ vs. ap (λ (o : Option (List Expected)). taken o (ts ++ vs)) e ∙ a.on vs }
 
 first_form : (f : Form) → form_binds f ≡ true → Leads at_start (form_tokens f) (wants.MoreStatements ∷ [])
-first_form (assign place name becomes e closing) h =
-    skip (name_at place name) (mark_at becomes mark.Becomes ∷ (expression_tokens e ++ mark_at closing mark.Semicolon ∷ [])) (wants.MoreStatements ∷ []) refl
-    (form_leads (assign place name becomes e closing) [] h)
-first_form (loop place e b) h =
-    skip (word_at place word.While) (expression_tokens e ++ block_tokens b) (wants.MoreStatements ∷ []) refl (form_leads (loop place e b) [] h)
-first_form (branch place e b otherwise c) h =
-    skip (word_at place word.If) (expression_tokens e ++ (block_tokens b ++ word_at otherwise word.Else ∷ block_tokens c)) (wants.MoreStatements ∷ []) refl
-    (form_leads (branch place e b otherwise c) [] h)
+first_form (assign place name becomes e closing) h = skip _ _ _ refl (form_leads (assign place name becomes e closing) [] h)
+first_form (loop place e b) h = skip _ _ _ refl (form_leads (loop place e b) [] h)
+first_form (branch place e b otherwise c) h = skip _ _ _ refl (form_leads (branch place e b otherwise c) [] h)
 
 -- where a program ends
 abbrev pub end_of : Forms → List Expected

@@ -4,11 +4,11 @@ use Rattle.std.{specs.Prelude.{◌&&◌, codes, nat_le}, proofs.lemmas.Bool.{leb
 use Rattle.std.specs.Prelude as std
 use Rattle.mini_syntax.{specs.declared.expected.Expected.Expected, specs.declared.lexer.TokenKind.TokenKind, specs.declared.mark.Mark.Mark}
 use Rattle.mini_syntax.{specs.declared.operator.Infix.Infix, specs.declared.operator.Prefix.Prefix, specs.declared.operator.Prefix.TheVariants.{Not, Minus}}
-use Rattle.mini_syntax.{specs.Expected.{takes, taken, at_start, is_over, same_mark, expression, a_block}, specs.Grammar.{Expression, variable, number, truth}}
-use Rattle.mini_syntax.specs.Grammar.{unary, binary, group, binds, expression_level, expression_tokens, assign, loop, branch, block, Forms, no_forms, form}
-use Rattle.mini_syntax.{specs.Grammar.{Decl, InfixProgram, GoesOn, forms_bind, forms_tokens, decls_tokens, program_tokens}, specs.Precedence.compared_after}
-use Rattle.mini_syntax.{specs.Precedence.{infix_of, infix_token, level_of, may_follow, right_level}, specs.Tokens.{Token, name_at, number_at, word_at, mark_at}}
-use Rattle.mini_syntax.{specs.Tokens.{wrong_at, kind_of, place_of, token_of}, proofs.ExpectedLaws.{none_follows, none_taken, operator_refused, operator_taken}}
+use Rattle.mini_syntax.{specs.Expected.{takes, taken, at_start, is_over, same_mark}, specs.Grammar.{Expression, variable, number, truth, unary, binary, group}}
+use Rattle.mini_syntax.specs.Grammar.{binds, expression_level, expression_tokens, assign, loop, branch, block, Forms, no_forms, form, Decl, InfixProgram}
+use Rattle.mini_syntax.{specs.Grammar.{GoesOn, forms_bind, forms_tokens, decls_tokens, program_tokens}, specs.Precedence.{compared_after, infix_of}}
+use Rattle.mini_syntax.{specs.Precedence.{infix_token, level_of, may_follow, right_level}, specs.Tokens.{Token, name_at, number_at, word_at, mark_at, wrong_at}}
+use Rattle.mini_syntax.{specs.Tokens.{kind_of, place_of, token_of}, proofs.ExpectedLaws.{none_follows, none_taken, operator_refused, operator_taken}}
 use Rattle.mini_syntax.proofs.PrecedenceLaws.{Bound, after, after_sum, both, bound_made, bound_parts, infix_is, left_close, one_above, unary_bound}
 use Rattle.mini_syntax.specs.declared.expected.Expected.TheVariants as wants
 use Rattle.mini_syntax.specs.declared.lexer.TokenKind.TheVariants as kind
@@ -70,9 +70,7 @@ longer_tokens (binary a at o b) place op x = pick (nat_le (level_of op) (right_l
     pick : (within : std.Bool) → expression_tokens (longer b place op x) ≡ expression_tokens b ++ infix_token place op ∷ expression_tokens x →
         expression_tokens (cond within (binary a at o (longer b place op x)) (binary (binary a at o b) place op x))
         ≡ (expression_tokens a ++ infix_token at o ∷ expression_tokens b) ++ infix_token place op ∷ expression_tokens x
-    pick true e =
-        ap (λ (ts : List Token). expression_tokens a ++ infix_token at o ∷ ts) e
-        ∙ sym (append_assoc (expression_tokens a) (infix_token at o ∷ expression_tokens b) (infix_token place op ∷ expression_tokens x))
+    pick true e = cc (e, append_assoc (expression_tokens a) (infix_token at o ∷ expression_tokens b) (infix_token place op ∷ expression_tokens x))
     pick false e = refl
 longer_tokens e place op x = refl
 
@@ -85,38 +83,27 @@ record Longer (c : std.Bool) (e : Expression) (op : Infix) (tree : Expression) :
 around : (e : Expression) (c : std.Bool) (place : ℕ) (op : Infix) (x : Operand) → binds e ≡ true → expression_level e ≤ level_of op →
     may_follow op (after c e) ≡ true → Longer c e op (binary e place op x.tree)
 around e c place op x h le may =
-    let closest = x.close in
     record {
-      bound =
-          bound_made e x.tree op place
-          record { left = left_close op e c h le may; right = omega (arith, closest); left_bound = h; right_bound = x.bound };
+      bound = bound_made e x.tree op place record { left = left_close op e c h le may; right = omega arith; left_bound = h; right_bound = x.bound };
       close = λ k p q. q;
-      after_is = after_sum x.tree (compared_after op (after c e)) x.bound (omega (arith, closest));
+      after_is = after_sum x.tree _ x.bound (omega arith);
     }
 
 longer_binds : (e : Expression) (c : std.Bool) (place : ℕ) (op : Infix) (x : Operand) → binds e ≡ true → may_follow op (after c e) ≡ true →
     Longer c e op (longer e place op x.tree)
-longer_binds (binary a at o b) c place op x h may =
-    pick (nat_le (level_of op) (right_level o)) refl (bound_parts a b o at h)
-    (longer_binds b (compared_after o (after c a)) place op x (bound_parts a b o at h).right_bound may)
+longer_binds (binary a at o b) c place op x h may = pick _ refl (bound_parts a b o at h) (longer_binds b _ place op x (bound_parts a b o at h).right_bound may)
   where
     pick : (within : std.Bool) → nat_le (level_of op) (right_level o) ≡ within → Bound a b o →
         Longer (compared_after o (after c a)) b op (longer b place op x.tree) →
         Longer c (binary a at o b) op (cond within (binary a at o (longer b place op x.tree)) (binary (binary a at o b) place op x.tree))
     pick true is k g = record {
-      bound =
-          bound_made a (longer b place op x.tree) o at record {
-            left = k.left;
-            right = g.close (right_level o) k.right (leb-true (level_of op) (right_level o) is);
-            left_bound = k.left_bound;
-            right_bound = g.bound;
-          };
+      bound = bound_made a _ o at record { left = k.left; right = g.close _ k.right (leb-true _ _ is); left_bound = k.left_bound; right_bound = g.bound };
       close = λ n p q. p;
       after_is = g.after_is;
     }
     pick false is k g =
-        let further = leb-false (level_of op) (right_level o) is in
-        around (binary a at o b) c place op x h (omega (arith, further, one_above o)) may
+        let further = leb-false _ _ is in
+        around _ c place op x h (omega (arith, further, one_above o)) may
 longer_binds e c place op x h may = around e c place op x h (omega arith) may
 
 -- an expression from its operand and what follows
@@ -130,28 +117,18 @@ whole_of [] e c h follow = record { tree = e; bound = h; tokens = sym (append-ni
 whole_of (s ∷ ss) e c h follow =
     let x = s.operand.tree in
     let g = longer_binds e c s.place s.op s.operand h follow.0 in
-    let w = whole_of ss (longer e s.place s.op x) c g.bound (subst (λ (d : std.Bool). Follow d ss) (sym g.after_is) follow.1) in
-    record {
-      tree = w.tree;
-      bound = w.bound;
-      tokens =
-          w.tokens ∙ ap (λ (ts : List Token). ts ++ steps_tokens ss) (longer_tokens e s.place s.op x)
-          ∙ append_assoc (expression_tokens e) (infix_token s.place s.op ∷ expression_tokens x) (steps_tokens ss);
-    }
+    let w = whole_of ss (longer e s.place s.op x) c g.bound (subst (λ d. Follow d ss) (sym g.after_is) follow.1) in
+    record { tree = w.tree; bound = w.bound; tokens = rw (w.tokens, longer_tokens e s.place s.op x, append_assoc _ _ (steps_tokens ss)) }
 
 whole : (x : Operand) (m : More false) → Whole x.tree m.steps
-whole x m =
-    let closest = x.close in
-    whole_of m.steps x.tree false x.bound
-    (subst (λ (d : std.Bool). Follow d m.steps) (sym (after_sum x.tree false x.bound (omega (arith, closest)))) m.follow)
+whole x m = whole_of m.steps x.tree false x.bound (subst (λ d. Follow d m.steps) (sym (after_sum x.tree false x.bound (omega arith))) m.follow)
 
 -- before what follows
 abbrev flat : Operand → More false → List Token → List Token
 flat x m ts = expression_tokens x.tree ++ (steps_tokens m.steps ++ ts)
 
 whole_tokens : (x : Operand) (m : More false) (ts : List Token) → expression_tokens (whole x m).tree ++ ts ≡ flat x m ts
-whole_tokens x m ts =
-    ap (λ (us : List Token). us ++ ts) (whole x m).tokens ∙ append_assoc (expression_tokens x.tree) (steps_tokens m.steps) ts
+whole_tokens x m ts = ap (λ us. us ++ ts) (whole x m).tokens ∙ append_assoc _ _ ts
 
 -- ---- what is given for what is expected
 
@@ -245,27 +222,18 @@ shift a b c d = append_assoc (a ++ b) c d ∙ append_assoc a b (c ++ d)
 module _ (x : Operand) (m : More false) where
   group_before : (place q : ℕ) (rest : List Token) → expression_tokens (group place (whole x m).tree q) ++ rest
       ≡ mark_at place mark.Open ∷ flat x m (mark_at q mark.Close ∷ rest)
-  group_before place q rest =
-      ap (λ (ts : List Token). mark_at place mark.Open ∷ ts)
-      (append_assoc (expression_tokens (whole x m).tree) (mark_at q mark.Close ∷ []) rest ∙ whole_tokens x m (mark_at q mark.Close ∷ rest))
+  group_before place q rest = ap (λ ts. mark_at place mark.Open ∷ ts) (append_assoc _ _ rest ∙ whole_tokens x m _)
 
   assign_before : (place : ℕ) (bytes : List ℕ) (b q : ℕ) (fs : Forms) (rest : List Token) →
       forms_tokens (form (assign place bytes b (whole x m).tree q) fs) ++ rest
       ≡ name_at place bytes ∷ (mark_at b mark.Becomes ∷ flat x m (mark_at q mark.Semicolon ∷ (forms_tokens fs ++ rest)))
-  assign_before place bytes b q fs rest =
-      ap (λ (ts : List Token). name_at place bytes ∷ mark_at b mark.Becomes ∷ ts)
-      (shift (expression_tokens (whole x m).tree) (mark_at q mark.Semicolon ∷ []) (forms_tokens fs) rest
-      ∙ whole_tokens x m (mark_at q mark.Semicolon ∷ (forms_tokens fs ++ rest)))
+  assign_before place bytes b q fs rest = ap (λ ts. name_at place bytes ∷ mark_at b mark.Becomes ∷ ts) (shift _ _ (forms_tokens fs) rest ∙ whole_tokens x m _)
 
   loop_before : (place p q : ℕ) (fs gs : Forms) (rest : List Token) →
       forms_tokens (form (loop place (whole x m).tree (block p fs q)) gs) ++ rest
       ≡ word_at place word.While ∷ flat x m (mark_at p mark.OpenBlock ∷ (forms_tokens fs ++ mark_at q mark.CloseBlock ∷ (forms_tokens gs ++ rest)))
-  loop_before place p q fs gs rest =
-      ap (λ (ts : List Token). word_at place word.While ∷ ts)
-      (shift (expression_tokens (whole x m).tree) (mark_at p mark.OpenBlock ∷ (forms_tokens fs ++ mark_at q mark.CloseBlock ∷ [])) (forms_tokens gs) rest
-      ∙ ap (λ (ts : List Token). expression_tokens (whole x m).tree ++ mark_at p mark.OpenBlock ∷ ts) (append_assoc (forms_tokens fs)
-      (mark_at q mark.CloseBlock ∷ []) (forms_tokens gs ++ rest))
-      ∙ whole_tokens x m (mark_at p mark.OpenBlock ∷ (forms_tokens fs ++ mark_at q mark.CloseBlock ∷ (forms_tokens gs ++ rest))))
+  loop_before place p q fs gs rest = ap (λ ts. word_at place word.While ∷ ts) (shift _ _ (forms_tokens gs) rest
+      ∙ ap (λ ts. expression_tokens (whole x m).tree ++ mark_at p mark.OpenBlock ∷ ts) (append_assoc _ _ (forms_tokens gs ++ rest)) ∙ whole_tokens x m _)
 
   branch_before : (place p q l p' q' : ℕ) (fs gs hs : Forms) (rest : List Token) →
       forms_tokens (form (branch place (whole x m).tree (block p fs q) l (block p' gs q')) hs) ++ rest
@@ -273,15 +241,9 @@ module _ (x : Operand) (m : More false) where
       (mark_at p' mark.OpenBlock ∷ (forms_tokens gs ++ mark_at q' mark.CloseBlock ∷ (forms_tokens hs ++ rest))))))
   branch_before place p q l p' q' fs gs hs rest =
       let second : List Token = word_at l word.Else ∷ (mark_at p' mark.OpenBlock ∷ (forms_tokens gs ++ mark_at q' mark.CloseBlock ∷ [])) in
-      ap (λ (ts : List Token). word_at place word.If ∷ ts)
-      (shift (expression_tokens (whole x m).tree) (mark_at p mark.OpenBlock ∷ ((forms_tokens fs ++ mark_at q mark.CloseBlock ∷ []) ++ second))
-      (forms_tokens hs) rest
-      ∙ ap (λ (ts : List Token). expression_tokens (whole x m).tree ++ mark_at p mark.OpenBlock ∷ ts)
-      (shift (forms_tokens fs) (mark_at q mark.CloseBlock ∷ []) second (forms_tokens hs ++ rest)
-      ∙ ap (λ (ts : List Token). forms_tokens fs ++ mark_at q mark.CloseBlock ∷ (word_at l word.Else ∷ (mark_at p' mark.OpenBlock ∷ ts)))
-      (append_assoc (forms_tokens gs) (mark_at q' mark.CloseBlock ∷ []) (forms_tokens hs ++ rest)))
-      ∙ whole_tokens x m (mark_at p mark.OpenBlock ∷ (forms_tokens fs ++ mark_at q mark.CloseBlock ∷ (word_at l word.Else ∷
-      (mark_at p' mark.OpenBlock ∷ (forms_tokens gs ++ mark_at q' mark.CloseBlock ∷ (forms_tokens hs ++ rest)))))))
+      ap (λ ts. word_at place word.If ∷ ts) (shift _ _ (forms_tokens hs) rest ∙ ap (λ ts. expression_tokens (whole x m).tree ++ mark_at p mark.OpenBlock ∷ ts)
+      (shift _ _ second _ ∙ ap (λ ts. forms_tokens fs ++ mark_at q mark.CloseBlock ∷ (word_at l word.Else ∷ (mark_at p' mark.OpenBlock ∷ ts)))
+      (append_assoc _ _ (forms_tokens hs ++ rest))) ∙ whole_tokens x m _)
 
 abbrev operand_behind : ℕ → Prefix → Operand → Operand
 operand_behind place op x = record { tree = unary place op x.tree; close = omega arith; bound = unary_bound x.tree x.close x.bound }
@@ -316,7 +278,7 @@ module _ (t : Token) (place : ℕ) (bytes : List ℕ) where
   step_back [] st' k is e ts d = cc
   step_back (wants.Name ∷ rest) st' kind.Name is e ts d =
       let g = at_stack rest st' ts e d in
-      record { all = (record { place = place; bytes = bytes }, g.all); is = front t (name_at place bytes) ts (all_tokens rest g.all) is g.is }
+      record { all = (record { place = place; bytes = bytes }, g.all); is = front t _ ts _ is g.is }
   step_back (wants.Name ∷ rest) st' k is e ts d = cc
   step_back (wants.Mark m ∷ rest) st' (kind.Mark n) is e ts d = pick (same_mark m n) refl e
     where
@@ -324,86 +286,56 @@ module _ (t : Token) (place : ℕ) (bytes : List ℕ) where
       pick true p e =
           let taken_here : takes (wants.Mark m ∷ rest) (kind.Mark n) ≡ Some rest = rw p refl in
           let g = at_stack rest st' ts (sym taken_here ∙ e) d in
-          record { all = (place, g.all); is = front t (mark_at place m) ts (all_tokens rest g.all) (is ∙ sym (ap (mark_at place) (same_marks m n p))) g.is }
-      pick false p e =
-          let refused_here : takes (wants.Mark m ∷ rest) (kind.Mark n) ≡ None = rw p refl in
-          let bad = sym refused_here ∙ e in
-          cc
+          record { all = (place, g.all); is = front t _ ts _ (is ∙ sym (ap (mark_at place) (same_marks m n p))) g.is }
+      pick false p e = cc
   step_back (wants.Mark m ∷ rest) st' k is e ts d = cc
   step_back (wants.Else ∷ rest) st' (kind.Word word.Else) is e ts d =
       let g = at_stack rest st' ts e d in
-      record { all = (place, g.all); is = front t (word_at place word.Else) ts (all_tokens rest g.all) is g.is }
+      record { all = (place, g.all); is = front t _ ts _ is g.is }
   step_back (wants.Else ∷ rest) st' k is e ts d = cc
   step_back (wants.Operand ∷ rest) st' kind.Name is e ts d =
       let g = at_stack rest st' ts e d in
-      record {
-        all = (record { tree = variable place bytes; close = omega arith; bound = refl }, g.all);
-        is = front t (name_at place bytes) ts
-            (all_tokens rest g.all) is g.is;
-      }
+      record { all = (record { tree = variable place bytes; close = omega arith; bound = refl }, g.all); is = front t _ ts _ is g.is }
   step_back (wants.Operand ∷ rest) st' kind.Number is e ts d =
       let g = at_stack rest st' ts e d in
-      record {
-        all = (record { tree = number place bytes; close = omega arith; bound = refl }, g.all);
-        is = front t (number_at place bytes) ts
-            (all_tokens rest g.all) is g.is;
-      }
+      record { all = (record { tree = number place bytes; close = omega arith; bound = refl }, g.all); is = front t _ ts _ is g.is }
   step_back (wants.Operand ∷ rest) st' (kind.Word (word.Truth b)) is e ts d =
       let g = at_stack rest st' ts e d in
-      record {
-        all = (record { tree = truth place b; close = omega arith; bound = refl }, g.all);
-        is = front t (word_at place (word.Truth b)) ts
-            (all_tokens rest g.all) is g.is;
-      }
+      record { all = (record { tree = truth place b; close = omega arith; bound = refl }, g.all); is = front t _ ts _ is g.is }
   step_back (wants.Operand ∷ rest) st' (kind.Word word.Not) is e ts d =
-      let g = at_stack (wants.Operand ∷ rest) st' ts e d in
-      record { all = (operand_behind place Not g.all.0, g.all.1); is = front t (word_at place word.Not) ts (all_tokens (wants.Operand ∷ rest) g.all) is g.is }
+      let g = at_stack _ st' ts e d in
+      record { all = (operand_behind place Not g.all.0, g.all.1); is = front t _ ts _ is g.is }
   step_back (wants.Operand ∷ rest) st' (kind.Mark mark.Minus) is e ts d =
-      let g = at_stack (wants.Operand ∷ rest) st' ts e d in
-      record {
-        all = (operand_behind place Minus g.all.0, g.all.1);
-        is = front t (mark_at place mark.Minus) ts (all_tokens
-            (wants.Operand ∷ rest) g.all) is g.is;
-      }
+      let g = at_stack _ st' ts e d in
+      record { all = (operand_behind place Minus g.all.0, g.all.1); is = front t _ ts _ is g.is }
   step_back (wants.Operand ∷ rest) st' (kind.Mark mark.Open) is e ts d =
-      let g = at_stack (expression (wants.Mark mark.Close ∷ rest)) st' ts e d in
+      let g = at_stack _ st' ts e d in
       let x = g.all in
       record {
         all = (record { tree = group place (whole x.0 x.1.0).tree x.1.1.0; close = omega arith; bound = (whole x.0 x.1.0).bound }, x.1.1.1);
-        is =
-            group_before x.0 x.1.0 place x.1.1.0 (all_tokens rest x.1.1.1)
-            ∙ front t (mark_at place mark.Open) ts (all_tokens (expression (wants.Mark mark.Close ∷ rest)) x) is g.is;
+        is = group_before x.0 x.1.0 place x.1.1.0 _ ∙ front t _ ts _ is g.is;
       }
   step_back (wants.Operand ∷ rest) st' k is e ts d = cc
   step_back (wants.MoreExpression c ∷ rest) st' k is e ts d = more_back c rest st' k is e ts d (λ h. step_back rest st' k is h ts d)
   step_back (wants.MoreDeclarations ∷ rest) st' (kind.Word (word.Sort s)) is e ts d =
-      let g = at_stack (wants.Name ∷ wants.Mark mark.Semicolon ∷ wants.MoreDeclarations ∷ rest) st' ts e d in
+      let g = at_stack _ st' ts e d in
       let x = g.all in
       record {
         all = (record { start = place; sort = s; place = x.0.place; name = x.0.bytes; closing = x.1.0 } ∷ x.1.1.0, x.1.1.1);
-        is = front t (word_at place (word.Sort s)) ts (all_tokens (wants.Name ∷ wants.Mark mark.Semicolon ∷ wants.MoreDeclarations ∷ rest) x) is g.is;
+        is = front t _ ts _ is g.is;
       }
   step_back (wants.MoreDeclarations ∷ rest) st' k is e ts d = left_out wants.MoreDeclarations [] rest t ts refl (step_back rest st' k is e ts d)
   step_back (wants.MoreStatements ∷ rest) st' kind.Name is e ts d =
-      let g = at_stack (wants.Mark mark.Becomes ∷ expression (wants.Mark mark.Semicolon ∷ wants.MoreStatements ∷ rest)) st' ts e d in
+      let g = at_stack _ st' ts e d in
       let x = g.all.1 in
       let y = x.1.1 in
       let value = whole x.0 x.1.0 in
       record {
-        all = (
-          record {
-            forms = form (assign place bytes g.all.0 value.tree y.0) y.1.0.forms;
-            bound = both (binds value.tree) (forms_bind y.1.0.forms) value.bound y.1.0.bound;
-          },
-          y.1.1,
-        );
-        is =
-            assign_before x.0 x.1.0 place bytes g.all.0 y.0 y.1.0.forms (all_tokens rest y.1.1)
-            ∙ front t (name_at place bytes) ts (all_tokens
-            (wants.Mark mark.Becomes ∷ expression (wants.Mark mark.Semicolon ∷ wants.MoreStatements ∷ rest)) g.all) is g.is;
+        all = (record { forms = form (assign place bytes g.all.0 value.tree y.0) y.1.0.forms; bound = both _ _ value.bound y.1.0.bound }, y.1.1);
+        is = assign_before x.0 x.1.0 place bytes g.all.0 y.0 y.1.0.forms _ ∙ front t _ ts _ is g.is;
       }
   step_back (wants.MoreStatements ∷ rest) st' (kind.Word word.While) is e ts d =
-      let g = at_stack (expression (a_block (wants.MoreStatements ∷ rest))) st' ts e d in
+      let g = at_stack _ st' ts e d in
       let x = g.all in
       let y = x.1.1 in
       let test = whole x.0 x.1.0 in
@@ -412,18 +344,14 @@ module _ (t : Token) (place : ℕ) (bytes : List ℕ) where
         all = (
           record {
             forms = form (loop place test.tree (block y.0 y.1.0.forms y.1.1.0)) last.forms;
-            bound =
-                both (binds test.tree && forms_bind y.1.0.forms) (forms_bind last.forms)
-                (both (binds test.tree) (forms_bind y.1.0.forms) test.bound y.1.0.bound) last.bound;
+            bound = both _ _ (both (binds test.tree) (forms_bind y.1.0.forms) test.bound y.1.0.bound) last.bound;
           },
           y.1.1.1.1,
         );
-        is =
-            loop_before x.0 x.1.0 place y.0 y.1.1.0 y.1.0.forms last.forms (all_tokens rest y.1.1.1.1)
-            ∙ front t (word_at place word.While) ts (all_tokens (expression (a_block (wants.MoreStatements ∷ rest))) x) is g.is;
+        is = loop_before x.0 x.1.0 place y.0 y.1.1.0 y.1.0.forms last.forms _ ∙ front t _ ts _ is g.is;
       }
   step_back (wants.MoreStatements ∷ rest) st' (kind.Word word.If) is e ts d =
-      let g = at_stack (expression (a_block (wants.Else ∷ a_block (wants.MoreStatements ∷ rest)))) st' ts e d in
+      let g = at_stack _ st' ts e d in
       let x = g.all in
       let y = x.1.1 in
       let z = y.1.1.1 in
@@ -433,16 +361,12 @@ module _ (t : Token) (place : ℕ) (bytes : List ℕ) where
         all = (
           record {
             forms = form (branch place test.tree (block y.0 y.1.0.forms y.1.1.0) z.0 (block z.1.0 z.1.1.0.forms z.1.1.1.0)) last.forms;
-            bound =
-                both (binds test.tree && (forms_bind y.1.0.forms && forms_bind z.1.1.0.forms)) (forms_bind last.forms)
-                (both (binds test.tree) (forms_bind y.1.0.forms && forms_bind z.1.1.0.forms) test.bound
+            bound = both _ _ (both (binds test.tree) _ test.bound
                 (both (forms_bind y.1.0.forms) (forms_bind z.1.1.0.forms) y.1.0.bound z.1.1.0.bound)) last.bound;
           },
           z.1.1.1.1.1,
         );
-        is =
-            branch_before x.0 x.1.0 place y.0 y.1.1.0 z.0 z.1.0 z.1.1.1.0 y.1.0.forms z.1.1.0.forms last.forms (all_tokens rest z.1.1.1.1.1)
-            ∙ front t (word_at place word.If) ts (all_tokens (expression (a_block (wants.Else ∷ a_block (wants.MoreStatements ∷ rest)))) x) is g.is;
+        is = branch_before x.0 x.1.0 place y.0 y.1.1.0 z.0 z.1.0 z.1.1.1.0 y.1.0.forms _ last.forms _ ∙ front t _ ts _ is g.is;
       }
   step_back (wants.MoreStatements ∷ rest) st' k is e ts d = left_out wants.MoreStatements record { forms = no_forms; bound = refl } rest t ts refl
       (step_back rest st' k is e ts d)

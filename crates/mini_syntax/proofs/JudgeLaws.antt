@@ -109,8 +109,7 @@ module _ (before : List Token) (t : Token) (right : is_wrong (kind_of t) ≡ fal
       by_which (inr x) = x
 
   limit_verdict : Verdict before t (limit_of (counts_of before) (kind_of t))
-  limit_verdict =
-      pick (is_over_limit (opens_bracket (kind_of t)) (count_of opens_bracket before) (count_of closes_bracket before))
+  limit_verdict = pick (is_over_limit (opens_bracket (kind_of t)) (count_of opens_bracket before) (count_of closes_bracket before))
       (is_over_limit (opens_block (kind_of t)) (count_of opens_block before) (count_of closes_block before))
       (is_over_limit (is_operator (kind_of t)) (operators before) 0) refl refl refl
     where
@@ -131,15 +130,14 @@ module _ (before : List Token) (t : Token) (right : is_wrong (kind_of t) ≡ fal
       pick false false true ex ey ez =
           let h = and_parts (is_operator (kind_of t)) (nat_le (0 + 40) (operators before)) ez in
           let le : 0 + 40 ≤ operators before = leb-true (0 + 40) (operators before) h.1 in
-          (too_many t goes h.0 (omega (arith, le)), λ other b. let e : other ≡ 4 = (nothing_else ex ey other b).0 in omega (arith, e))
+          (too_many t goes h.0 (omega arith), λ other b. let e : other ≡ 4 = (nothing_else ex ey other b).0 in omega arith)
       pick false false false ex ey ez = λ rule b.
           let h = nothing_else ex ey rule b in
-          not_over (is_operator (kind_of t)) (operators before) 0 ez h.1 (let le : 40 ≤ operators before = h.2 in omega (arith, le))
+          not_over (is_operator (kind_of t)) (operators before) 0 ez h.1 (let le : 40 ≤ operators before = h.2 in omega arith)
 
 pub taken_one : (before : List Token) (t : Token) (old : List Expected) → taken (Some at_start) before ≡ Some old
     → taken (Some at_start) (before ++ t ∷ []) ≡ takes old (kind_of t)
-taken_one before t old e =
-    taken_append (Some at_start) before (t ∷ []) ∙ ap (λ (o : Option (List Expected)). taken o (t ∷ [])) e ∙ taken_end (takes old (kind_of t))
+taken_one before t old e = cc (taken_append (Some at_start) before (t ∷ []), e, taken_end (takes old (kind_of t)))
   where
     taken_end : (o : Option (List Expected)) → taken o [] ≡ o
     taken_end None = refl
@@ -213,9 +211,7 @@ place_is text found = pick found.kind
 module _ (text : List ℕ) (at : ℕ) (ls : List Lexeme) (old new : List Expected) (n : Counts) (found : TokenSpan) (st : Stands text at ls old n)
     (f : FindsToken text at found) where
   verdict : (rule : Option ℕ) → Judges old n found.kind rule new → Verdict (seen ls) (token_in text found) rule
-  verdict rule j =
-      token_verdict old new rule (seen ls) (token_in text found)
-      (subst (λ (k : TokenKind). Judges old (counts_of (seen ls)) k rule new) (sym (kind_is text found))
+  verdict rule j = token_verdict old new rule (seen ls) _ (subst (λ (k : TokenKind). Judges old (counts_of (seen ls)) k rule new) (sym (kind_is text found))
       (subst (λ (m : Counts). Judges old m found.kind rule new) (sym st.counts_are) j)) st.taken_is
 
   -- the first token that breaks a rule
@@ -243,15 +239,10 @@ module _ (text : List ℕ) (at : ℕ) (ls : List Lexeme) (old new : List Expecte
   goes_further l more is pushed j =
       let all : seen more ≡ seen ls ++ token_in text found ∷ [] = ap seen pushed ∙ map_push token_seen ls l ∙ ap (λ (t : Token). seen ls ++ t ∷ []) is in
       record {
-        parts = st.parts ∙ ap (λ (ts : List Token). seen ls ++ ts) f.tokens_are
-            ∙ sym (append_assoc (seen ls) (token_in text found ∷ []) (tokens between found.«end» (drop found.«end» text)))
-            ∙ ap (λ (ts : List Token). ts ++ tokens between found.«end» (drop found.«end» text)) (sym all);
+        parts = cc (st.parts, f.tokens_are, append_assoc (seen ls) (token_in text found ∷ []) _, all);
         free = subst AreFree (sym all) (free_more (seen ls) (token_in text found) st.free (verdict None j));
-        taken_is =
-            ap (taken (Some at_start)) all ∙ taken_one (seen ls) (token_in text found) (reverse old) st.taken_is
-            ∙ ap (takes (reverse old)) (kind_is text found) ∙ now_taken j;
-        counts_are = ap counts_of all ∙ counts_more (seen ls) (token_in text found)
-            ∙ ap (λ (k : TokenKind). counted (counts_of (seen ls)) k) (kind_is text found) ∙ ap (λ (m : Counts). counted m found.kind) st.counts_are;
+        taken_is = ap (taken (Some at_start)) all ∙ taken_one (seen ls) _ _ st.taken_is ∙ ap (takes (reverse old)) (kind_is text found) ∙ now_taken j;
+        counts_are = cc (all, counts_more (seen ls) (token_in text found), kind_is text found, st.counts_are);
       }
 
 -- ---- the text's end

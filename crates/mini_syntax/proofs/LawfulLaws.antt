@@ -10,8 +10,8 @@ use Rattle.mini_syntax.specs.Breaches.{test_breaches, expression_breaches, expre
 use Rattle.mini_syntax.{specs.Breaches.{form_stmt, block_stmt, forms_stmt}, specs.declared.program.Declared.Declared, specs.declared.scope.Variable.Variable}
 use Rattle.mini_syntax.{specs.declared.sort.Sort.Sort, specs.declared.sort.Sort.TheVariants.{Int, Bool}, specs.declared.operator.Prefix.Prefix}
 use Rattle.mini_syntax.{specs.declared.operator.Infix.Infix, specs.Grammar.{Expression, variable, number, truth, unary, binary, group, Form, assign, loop}}
-use Rattle.mini_syntax.{specs.Grammar.{branch, Block, block, Forms, no_forms, form, Decl, InfixProgram}, specs.Operands.{prefix_takes, infix_takes}}
-use Rattle.mini_syntax.{specs.Operands.{prefix_sort, infix_sort, sort_of}, specs.Language.Exp, specs.Lawful.{AreApart, IsLawful, levels, part_count, nth_name}}
+use Rattle.mini_syntax.{specs.Grammar.{branch, Block, block, Forms, no_forms, form, Decl, InfixProgram}, specs.Operands.{infix_takes, prefix_sort, infix_sort}}
+use Rattle.mini_syntax.{specs.Operands.sort_of, specs.Language.Exp, specs.Lawful.{AreApart, IsLawful, levels, part_count, nth_name}}
 use Rattle.mini_syntax.specs.Internal.Limits.{expression_operators, form_blocks, block_blocks, forms_blocks, FormIsSmall, BlockIsSmall, FormsAreSmall}
 use Rattle.mini_syntax.{specs.Internal.Limits.KeepsLimits, specs.Names.is_variable_name, specs.Sorted.{depth, IsWellSorted, IsFine, AreFine}}
 use Rattle.mini_syntax.proofs.EmptyLaws.{two, three}
@@ -78,11 +78,8 @@ variable_known : (ds : List Declared) (name : List ℕ) → is_none (variable_na
     Known ds (sort_named ds name) (language.Variable (or_first (variable_named ds name)).sort (or_first (variable_named ds name)).index)
 variable_known ds name e =
     let v = variable_there ds name e in
-    let at : (or_first (variable_named ds name)).index ≡ v.i = omega (arith, v.index) in
-    record {
-      sorted = ap (slice_get (map (λ (d : Declared). d.sort) ds)) at ∙ v.sort;
-      sort = ap (option_map (λ (w : Variable). w.sort)) (some_found (variable_named ds name) e);
-    }
+    let at : (or_first (variable_named ds name)).index ≡ v.i = omega arith in
+    record { sorted = cc (at, v.sort); sort = ap (option_map _) (some_found _ e) }
 
 infix_known : (ds : List Declared) (place : ℕ) (op : Infix) (s t : Option Sort) (a b : Exp) → Known ds s a → Known ds t b → infix_breaches place op s t ≡ [] →
     Known ds (Some (infix_sort op)) (language.Between op a b)
@@ -93,10 +90,7 @@ infix_known ds place op s t a b p r e = record {
 
 prefix_known : (ds : List Declared) (place : ℕ) (op : Prefix) (s : Option Sort) (a : Exp) → Known ds s a → prefix_breaches place op s ≡ []
     → Known ds (Some (prefix_sort op)) (language.Before op a)
-prefix_known ds place op s a p e = record {
-  sorted = (p.sorted, rule_holds (prefix_takes op (sort_of a)) place 7 (sym (ap (prefix_breaches place op) p.sort) ∙ e));
-  sort = refl;
-}
+prefix_known ds place op s a p e = record { sorted = (p.sorted, rule_holds _ place 7 (sym (ap (prefix_breaches place op) p.sort) ∙ e)); sort = refl }
 
 expression_known : (ds : List Declared) (e : Expression) → expression_breaches ds e ≡ [] → Known ds (expression_sort ds e) (expression_exp ds e)
 expression_known ds (variable place name) h = variable_known ds name (rule_fails (is_none (variable_named ds name)) place 6 h)
@@ -107,12 +101,11 @@ expression_known ds (number place digits) h = record { sorted = small (is_too_la
     small false e = let le : number_of digits ≤ 2147483647 = ltb-false 2147483647 (number_of digits) e in omega (arith, le)
 expression_known ds (truth place b) h = record { sorted = tt; sort = refl }
 expression_known ds (unary place op e) h =
-    let k = two (expression_breaches ds e) (prefix_breaches place op (expression_sort ds e)) h in
-    prefix_known ds place op (expression_sort ds e) (expression_exp ds e) (expression_known ds e k.0) k.1
+    let k = two _ _ h in
+    prefix_known ds place op _ _ (expression_known ds e k.0) k.1
 expression_known ds (binary a place op b) h =
-    let k = three (expression_breaches ds a) (expression_breaches ds b) (infix_breaches place op (expression_sort ds a) (expression_sort ds b)) h in
-    infix_known ds place op (expression_sort ds a) (expression_sort ds b) (expression_exp ds a) (expression_exp ds b)
-    (expression_known ds a k.0) (expression_known ds b k.1) k.2
+    let k = three _ _ _ h in
+    infix_known ds place op _ _ _ _ (expression_known ds a k.0) (expression_known ds b k.1) k.2
 expression_known ds (group place e closing) h = expression_known ds e h
 
 -- ---- statements
@@ -133,29 +126,24 @@ fine_of ds e s clean small same = record {
 
 test_fine : (ds : List Declared) (place : ℕ) (e : Expression) → test_breaches place (expression_sort ds e) ≡ [] → expression_breaches ds e ≡ [] →
     expression_operators e ≤ 40 → IsFine (map (λ (d : Declared). d.sort) ds) Bool (expression_exp ds e)
-test_fine ds place e test clean small =
-    fine_of ds e Bool clean small
-    (same_sorts (sort_of (expression_exp ds e)) Bool (rule_holds (same_sort (sort_of (expression_exp ds e)) Bool) place 7 (sym (ap (test_breaches place)
+test_fine ds place e test clean small = fine_of ds e Bool clean small (same_sorts _ Bool (rule_holds _ place 7 (sym (ap (test_breaches place)
     (expression_known ds e clean).sort) ∙ test)))
 
 mutual
   form_fine : (ds : List Declared) (f : Form) → form_breaches ds f ≡ [] → FormIsSmall f → AreFine (map (λ (d : Declared). d.sort) ds) (form_stmt ds f)
   form_fine ds (assign place name becomes e closing) h small =
-      let k = three (when (is_none (variable_named ds name)) place 6) (expression_breaches ds e) (assigns_breaches becomes (sort_named ds name)
-      (expression_sort ds e)) h in
-      let known = variable_known ds name (rule_fails (is_none (variable_named ds name)) place 6 k.0) in
+      let k = three _ _ _ h in
+      let known = variable_known ds name (rule_fails _ place 6 k.0) in
       let s = (or_first (variable_named ds name)).sort in
-      let same : s ≡ sort_of (expression_exp ds e) =
-      same_sorts s (sort_of (expression_exp ds e))
-      (rule_holds (same_sort s (sort_of (expression_exp ds e))) becomes 7
+      let same : s ≡ sort_of (expression_exp ds e) = same_sorts s _ (rule_holds _ becomes 7
       (sym (ap₂ (assigns_breaches becomes) known.sort (expression_known ds e k.1).sort) ∙ k.2)) in
-      (known.sorted ∙ ap Some same, fine_of ds e (sort_of (expression_exp ds e)) k.1 small.0 refl)
+      (known.sorted ∙ ap Some same, fine_of ds e _ k.1 small.0 refl)
   form_fine ds (loop place e b) h small =
-      let k = three (expression_breaches ds e) (test_breaches place (expression_sort ds e)) (block_breaches ds b) h in
+      let k = three _ _ _ h in
       (test_fine ds place e k.1 k.0 small.0.0, block_fine ds b k.2 small.1)
   form_fine ds (branch place e b otherwise c) h small =
-      let k = three (expression_breaches ds e) (test_breaches place (expression_sort ds e)) (block_breaches ds b ++ block_breaches ds c) h in
-      let l = two (block_breaches ds b) (block_breaches ds c) k.2 in
+      let k = three _ _ _ h in
+      let l = two _ _ k.2 in
       (test_fine ds place e k.1 k.0 small.0.0, block_fine ds b l.0 small.1, block_fine ds c l.1 small.2)
 
   block_fine : (ds : List Declared) (b : Block) → block_breaches ds b ≡ [] → BlockIsSmall b → AreFine (map (λ (d : Declared). d.sort) ds) (block_stmt ds b)
@@ -164,7 +152,7 @@ mutual
   forms_fine : (ds : List Declared) (fs : Forms) → forms_breaches ds fs ≡ [] → FormsAreSmall fs → AreFine (map (λ (d : Declared). d.sort) ds) (forms_stmt ds fs)
   forms_fine ds no_forms h small = tt
   forms_fine ds (form f rest) h small =
-      let k = two (form_breaches ds f) (forms_breaches ds rest) h in
+      let k = two _ _ h in
       (form_fine ds f k.0 small.0, forms_fine ds rest k.1 small.1)
 
 -- blocks nest as in the text

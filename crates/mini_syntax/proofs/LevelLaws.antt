@@ -9,7 +9,7 @@ use Rattle.mini_syntax.{specs.Grammar.{binary, binds, expression_level, expressi
 use Rattle.mini_syntax.{specs.Precedence.right_level, specs.Internal.Combined.IsInfix, specs.Internal.Lexemes.{next_kind, token_seen}}
 use Rattle.mini_syntax.{specs.Internal.Phrases.{Awaits, AwaitsOperand, Completes, IsTyped, Reads, infix_within}, specs.Tokens.Token, proofs.AwaitLaws.Operates}
 use Rattle.mini_syntax.{proofs.AwaitLaws.{moved, operates}, proofs.ExpectedLaws.expression_leads, proofs.JoinLaws.binary_typed, proofs.PrecedenceLaws.after}
-use Rattle.mini_syntax.proofs.PrecedenceLaws.{allows_right, allows_sum, bound_made, infix_is, left_close, none_within, one_above, within_is}
+use Rattle.mini_syntax.proofs.PrecedenceLaws.{allows_right, allows_sum, bound_made, infix_is, left_close, none_within, within_is}
 use Rattle.mini_syntax.proofs.ReadingLaws.{kind_seen}
 use Rattle.mini_syntax.specs.declared.expected.Expected.TheVariants as wants
 
@@ -44,19 +44,16 @@ going_shrinks {new = new} g = omega (arith, ap length g.tokens_are, length-appen
 pub begun : {level : ℕ} {ds : List Declared} {old new : List Token} {best next : Option Breach} {typed : Typed} →
     AwaitsOperand old → Reads 0 ds old new best next typed → Going level ds old new best next typed
 begun {level} {ds} {old} {new} a r =
-    let closest = r.close in
     record {
       tree = r.tree;
-      close = omega (arith, closest);
+      close = omega arith;
       bound = r.bound;
       tokens_are = r.tokens_are;
       typed_as = r.typed_as;
-      left = λ op e. omega (arith, closest);
+      left = λ op e. omega arith;
       compared = a.compared;
       rest = a.rest;
-      completes =
-          moved old (expression_tokens r.tree) new r.tokens_are
-          (expression_leads r.tree a.compared a.rest r.bound (allows_sum a.compared (expression_level r.tree) (omega (arith, closest)))) a.completes;
+      completes = moved old _ new r.tokens_are (expression_leads r.tree a.compared a.rest r.bound (allows_sum a.compared _ (omega arith))) a.completes;
     }
 
 -- it is done where no operator of the level follows
@@ -94,19 +91,16 @@ module _ {level : ℕ} {ds : List Declared} {old mid new : List Token} {b1 b2 : 
               left_bound = g.bound;
               right_bound = r.bound;
             };
-        tokens_are =
-            g.tokens_are
-            ∙ ap (λ (ts : List Token). expression_tokens g.tree ++ ts)
-            (is ∙ ap (λ (t : Token). t ∷ new) (infix_is op l.kind l.place l.bytes.now kind_is)
-            ∙ ap (λ (ts : List Token). infix_token l.place op ∷ ts) r.tokens_are)
-            ∙ sym (append_assoc (expression_tokens g.tree) (infix_token l.place op ∷ expression_tokens r.tree) next);
+        tokens_are = cc (
+          g.tokens_are,
+          is,
+          ap (λ t. t ∷ new) (infix_is op l.kind l.place l.bytes.now kind_is),
+          ap (λ ts. infix_token l.place op ∷ ts) r.tokens_are,
+          append_assoc _ _ next,
+        );
         typed_as = binary_typed ds l.place b1 b2 b3 b4 op g.tree r.tree left right typed g.typed_as r.typed_as made;
-        left = λ o e. (let lt = none_within (right_level op) (infix_of (next_kind next)) o r.ends e in omega (arith, lt, one_above op));
+        left = λ o e. (let lt = none_within _ _ o r.ends e in omega arith);
         compared = g.compared;
         rest = g.rest;
-        completes =
-            moved new (expression_tokens r.tree) next r.tokens_are
-            (expression_leads r.tree (compared_after op (after g.compared g.tree)) g.rest r.bound (allows_right op (after g.compared g.tree)
-            (expression_level r.tree) r.close))
-            follows.completes;
+        completes = moved new _ next r.tokens_are (expression_leads r.tree _ g.rest r.bound (allows_right op _ _ r.close)) follows.completes;
       }

@@ -1,6 +1,6 @@
 -- One byte of a text after the other.
-use Rattle.std.proofs.Common.{◌≡◌, ℕ, ◌+◌, ◌-◌, ◌<◌, ◌≤◌, List, [], ◌∷◌, ◌++◌, length, get_or, drop, ⊎_elim, true, false, cond, Option, Some, None, refl, sym}
-use Rattle.std.{proofs.Common.{ap, subst, ◌∙◌, append_assoc, arith}, specs.Prelude.{◌==◌, ◌||◌}, specs.Char.{is_ascii_alphabetic, is_ascii_digit}}
+use Rattle.std.proofs.Common.{◌≡◌, ℕ, ◌+◌, ◌-◌, ◌<◌, ◌≤◌, List, [], ◌∷◌, ◌++◌, length, get_or, drop, ⊎_elim, true, false, cond, Some, None, refl, sym, ap}
+use Rattle.std.{proofs.Common.{subst, ◌∙◌, append_assoc, arith}, specs.Prelude.{◌==◌, ◌||◌}, specs.Char.{is_ascii_alphabetic, is_ascii_digit}}
 use Rattle.std.{specs.Int.is_in_range, specs.List.slice_range, proofs.lemmas.Bool.{cases_lt, eqb-true}, proofs.lemmas.List.{drop_more, drop_all, length-take}}
 use Rattle.std.proofs.lemmas.List.{append-nil}
 use Rattle.std.specs.Prelude as std
@@ -35,11 +35,12 @@ run_past test text at le = rw (drop_all at text le) refl
 
 pub run_goes_on : (test : ℕ → std.Bool) (text : List ℕ) (from at : ℕ) → from ≤ at → at < length text → test (get_or text at 0) ≡ true →
     slice_range text from at ++ longest_run test (drop at text) ≡ slice_range text from (at + 1) ++ longest_run test (drop (at + 1) text)
-run_goes_on test text from at le lt e =
-    ap (λ (r : List ℕ). slice_range text from at ++ r)
-    (run_step test text at lt ∙ ap (λ (c : std.Bool). cond c (get_or text at 0 ∷ longest_run test (drop (at + 1) text)) []) e)
-    ∙ sym (append_assoc (slice_range text from at) (get_or text at 0 ∷ []) (longest_run test (drop (at + 1) text)))
-    ∙ ap (λ (r : List ℕ). r ++ longest_run test (drop (at + 1) text)) (sym (slice_range-more text from at le lt))
+run_goes_on test text from at le lt e = cc (
+  run_step test text at lt,
+  ap (λ (c : std.Bool). cond c (get_or text at 0 ∷ longest_run test (drop (at + 1) text)) []) e,
+  append_assoc (slice_range text from at) (get_or text at 0 ∷ []) (longest_run test (drop (at + 1) text)),
+  slice_range-more text from at le lt,
+)
 
 pub run_over : (test : ℕ → std.Bool) (text : List ℕ) (at : ℕ) → at < length text → test (get_or text at 0) ≡ false → longest_run test (drop at text) ≡ []
 run_over test text at lt e = run_step test text at lt ∙ ap (λ (c : std.Bool). cond c (get_or text at 0 ∷ longest_run test (drop (at + 1) text)) []) e
@@ -54,25 +55,23 @@ pub mode_goes_on : (run : Run) (text : List ℕ) (at : ℕ) → at < length text
 mode_goes_on runs.Word text at lt e =
     let rest = drop (at + 1) text in
     tokens_step mode.in_word text at lt
-    ∙ ap (λ (c : std.Bool). cond c [] (fresh at (get_or text at 0) rest) ++ tokens (cond c mode.in_word (after_fresh (get_or text at 0) rest)) (at + 1) rest) e
+    ∙ ap (λ c. cond c [] (fresh at (get_or text at 0) rest) ++ tokens (cond c mode.in_word (after_fresh (get_or text at 0) rest)) (at + 1) rest) e
 mode_goes_on runs.Number text at lt e =
     let rest = drop (at + 1) text in
     tokens_step mode.in_number text at lt
-    ∙ ap (λ (c : std.Bool). cond c [] (fresh at (get_or text at 0) rest) ++ tokens (cond c mode.in_number (after_fresh (get_or text at 0) rest))
-    (at + 1) rest) e
+    ∙ ap (λ c. cond c [] (fresh at (get_or text at 0) rest) ++ tokens (cond c mode.in_number (after_fresh (get_or text at 0) rest)) (at + 1) rest) e
 
 pub mode_over : (run : Run) (text : List ℕ) (at : ℕ) → at < length text → run_test run (get_or text at 0) ≡ false →
     tokens (run_mode run) at (drop at text) ≡ tokens mode.between at (drop at text)
 mode_over runs.Word text at lt e =
     let rest = drop (at + 1) text in
     tokens_step mode.in_word text at lt
-    ∙ ap (λ (c : std.Bool). cond c [] (fresh at (get_or text at 0) rest) ++ tokens (cond c mode.in_word (after_fresh (get_or text at 0) rest)) (at + 1) rest) e
+    ∙ ap (λ c. cond c [] (fresh at (get_or text at 0) rest) ++ tokens (cond c mode.in_word (after_fresh (get_or text at 0) rest)) (at + 1) rest) e
     ∙ sym (tokens_step mode.between text at lt)
 mode_over runs.Number text at lt e =
     let rest = drop (at + 1) text in
     tokens_step mode.in_number text at lt
-    ∙ ap (λ (c : std.Bool). cond c [] (fresh at (get_or text at 0) rest) ++ tokens (cond c mode.in_number (after_fresh (get_or text at 0) rest))
-    (at + 1) rest) e
+    ∙ ap (λ c. cond c [] (fresh at (get_or text at 0) rest) ++ tokens (cond c mode.in_number (after_fresh (get_or text at 0) rest)) (at + 1) rest) e
     ∙ sym (tokens_step mode.between text at lt)
 
 -- ---- what begins with a byte
@@ -109,11 +108,7 @@ begun blank letter digit at byte rest =
 pub begins_with : (text : List ℕ) (at : ℕ) (a b c : std.Bool) → at < length text → is_blank (get_or text at 0) ≡ a
     → is_ascii_alphabetic (get_or text at 0) ≡ b →
     is_ascii_digit (get_or text at 0) ≡ c → tokens mode.between at (drop at text) ≡ begun a b c at (get_or text at 0) (drop (at + 1) text)
-begins_with text at a b c lt ea eb ec =
-    tokens_step mode.between text at lt
-    ∙ ap (λ (x : std.Bool). begun x (is_ascii_alphabetic (get_or text at 0)) (is_ascii_digit (get_or text at 0)) at (get_or text at 0) (drop (at + 1) text)) ea
-    ∙ ap (λ (x : std.Bool). begun a x (is_ascii_digit (get_or text at 0)) at (get_or text at 0) (drop (at + 1) text)) eb
-    ∙ ap (λ (x : std.Bool). begun a b x at (get_or text at 0) (drop (at + 1) text)) ec
+begins_with text at a b c lt ea eb ec = cc (tokens_step mode.between text at lt, ea, eb, ec)
 
 letter_goes_on : (b : ℕ) → is_ascii_alphabetic b ≡ true → is_word_byte b ≡ true
 letter_goes_on b e = pick (is_in_range 48 57 b) (is_in_range 65 90 b) (is_in_range 97 122 b) e
@@ -138,8 +133,7 @@ pub word_found : (text : List ℕ) (at to : ℕ) → at < length text → is_bla
 word_found text at to lt visible letter le within is rest =
     let more = letter_goes_on (get_or text at 0) letter in
     record {
-      tokens_are =
-          begins_with text at false true (is_ascii_digit (get_or text at 0)) lt visible letter refl
+      tokens_are = begins_with text at false true _ lt visible letter refl
           ∙ ap (λ (w : List ℕ). word_token at w ∷ tokens mode.in_word (at + 1) (drop (at + 1) text)) (sym (run_step is_word_byte text at lt) ∙ sym is)
           ∙ ap (λ (ts : List Token). word_token at (slice_range text at to) ∷ ts) (sym (mode_goes_on runs.Word text at lt more) ∙ rest);
       in_order = (omega arith, run_is_long is_word_byte text at to lt more is, within);
@@ -153,10 +147,9 @@ pub number_found : (text : List ℕ) (at to : ℕ) → at < length text → is_b
     FindsToken text at (record { kind = kind.Number; start = at; «end» = to })
 number_found text at to lt visible letter digit le within is rest =
     record {
-      tokens_are =
-          begins_with text at false false true lt visible letter digit
-          ∙ ap (λ (w : List ℕ). number_at at w ∷ tokens mode.in_number (at + 1) (drop (at + 1) text)) (sym (run_step is_ascii_digit text at lt) ∙ sym is)
-          ∙ ap (λ (ts : List Token). number_at at (slice_range text at to) ∷ ts) (sym (mode_goes_on runs.Number text at lt digit) ∙ rest);
+      tokens_are = begins_with text at false false true lt visible letter digit
+          ∙ ap (λ w. number_at at w ∷ tokens mode.in_number (at + 1) (drop (at + 1) text)) (sym (run_step is_ascii_digit text at lt) ∙ sym is)
+          ∙ ap (λ ts. number_at at (slice_range text at to) ∷ ts) (sym (mode_goes_on runs.Number text at lt digit) ∙ rest);
       in_order = (omega arith, run_is_long is_ascii_digit text at to lt digit is, within);
     }
 
@@ -174,37 +167,29 @@ pub mark_found : (text : List ℕ) (at to : ℕ) (m : Mark) → at < length text
     → is_ascii_alphabetic (get_or text at 0) ≡ false → is_ascii_digit (get_or text at 0) ≡ false →
     Some m ≡ mark_of (get_or text at 0) (drop (at + 1) text) → to ≡ cond (is_pair (Some m)) (at + 2) (at + 1) →
     FindsToken text at (record { kind = kind.Mark m; start = at; «end» = to })
-mark_found text at to m lt visible letter digit is ends =
-    pick (is_pair (Some m)) refl ends
+mark_found text at to m lt visible letter digit is ends = pick (is_pair (Some m)) refl ends
   where
     first : tokens mode.between at (drop at text) ≡ mark_at at m ∷ tokens (cond (is_pair (Some m)) mode.in_pair mode.between) (at + 1) (drop (at + 1) text)
-    first = begins_with text at false false false lt visible letter digit
-        ∙ ap (λ (o : Option Mark). mark_token at o ∷ tokens (cond (is_pair o) mode.in_pair mode.between) (at + 1) (drop (at + 1) text)) (sym is)
+    first = cc (begins_with text at false false false lt visible letter digit, is)
 
     pick : (c : std.Bool) → is_pair (Some m) ≡ c → to ≡ cond c (at + 2) (at + 1) → FindsToken text at (record { kind = kind.Mark m; start = at; «end» = to })
     pick true e here =
         let more : at + 1 < length text = pair_rest (get_or text at 0) text (at + 1) (ap is_pair (sym is) ∙ e) in
-        let there : (at + 1) + 1 ≡ to = omega (arith, here) in
+        let there : (at + 1) + 1 ≡ to = omega arith in
         record {
-          tokens_are = first ∙ ap (λ (c : std.Bool). mark_at at m ∷ tokens (cond c mode.in_pair mode.between) (at + 1) (drop (at + 1) text)) e
-              ∙ ap (λ (ts : List Token). mark_at at m ∷ ts) (pair_over text (at + 1) more ∙ ap (λ (k : ℕ). tokens mode.between k (drop k text)) there);
-          in_order = (omega arith, omega arith, omega (arith, here, more));
+          tokens_are = cc (first, e, pair_over text (at + 1) more, ap (λ (k : ℕ). tokens mode.between k (drop k text)) there);
+          in_order = (omega arith, omega arith, omega arith);
         }
     pick false e here =
-        let there : at + 1 ≡ to = omega (arith, here) in
-        record {
-          tokens_are = first ∙ ap (λ (c : std.Bool). mark_at at m ∷ tokens (cond c mode.in_pair mode.between) (at + 1) (drop (at + 1) text)) e
-              ∙ ap (λ (k : ℕ). mark_at at m ∷ tokens mode.between k (drop k text)) there;
-          in_order = (omega arith, omega arith, omega (arith, here, lt));
-        }
+        let there : at + 1 ≡ to = omega arith in
+        record { tokens_are = cc (first, e, there); in_order = (omega arith, omega arith, omega arith) }
 
 -- a byte with which no token begins
 pub wrong_found : (text : List ℕ) (at : ℕ) → at < length text → is_blank (get_or text at 0) ≡ false → is_ascii_alphabetic (get_or text at 0) ≡ false
     → is_ascii_digit (get_or text at 0) ≡ false →
     None ≡ mark_of (get_or text at 0) (drop (at + 1) text) → FindsToken text at (record { kind = kind.Wrong; start = at; «end» = at + 1 })
 wrong_found text at lt visible letter digit is = record {
-  tokens_are = begins_with text at false false false lt visible letter digit
-      ∙ ap (λ (o : Option Mark). mark_token at o ∷ tokens (cond (is_pair o) mode.in_pair mode.between) (at + 1) (drop (at + 1) text)) (sym is);
+  tokens_are = cc (begins_with text at false false false lt visible letter digit, is);
   in_order = (omega arith, omega arith, omega arith);
 }
 
@@ -212,7 +197,4 @@ wrong_found text at lt visible letter digit is = record {
 pub later_token : (text : List ℕ) (from at : ℕ) (found : TokenSpan) → from ≤ at → tokens mode.between from (drop from text)
     ≡ tokens mode.between at (drop at text) →
     FindsToken text at found → FindsToken text from found
-later_token text from at found le same f = record {
-  tokens_are = same ∙ f.tokens_are;
-  in_order = (let h = f.in_order.0 in omega (arith, h, le), f.in_order.1, f.in_order.2);
-}
+later_token text from at found le same f = record { tokens_are = same ∙ f.tokens_are; in_order = (omega arith, f.in_order.1, f.in_order.2) }

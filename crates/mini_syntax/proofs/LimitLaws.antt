@@ -71,22 +71,11 @@ record Even (ts : List Token) (ops : ℕ) : Type 0 where
 -- an operator between
 even_infix : (a b : List Token) (t : Token) (m n : ℕ) → Even a m → Even b n → Even (t ∷ []) 1 → Even (a ++ t ∷ b) (suc (m + n))
 even_infix a b t m n l r o = record {
-  brackets = omega (
-    arith,
-    l.brackets,
-    r.brackets,
-    o.brackets,
-    count_append opens_bracket a (t ∷ b),
-    count_append closes_bracket a (t ∷ b),
-    count_append opens_bracket (t ∷ []) b,
-    count_append closes_bracket (t ∷ []) b,
-  );
-  opened = omega (arith, l.opened, r.opened, o.opened, count_append opens_block a (t ∷ b), count_append opens_block (t ∷ []) b);
-  closed = omega (arith, l.closed, r.closed, o.closed, count_append closes_block a (t ∷ b), count_append closes_block (t ∷ []) b);
-  operators = λ k.
-      operators_append k a (t ∷ b) ∙ operators_append (operators_from k a) (t ∷ []) b ∙ r.operators (operators_from (operators_from k a) (t ∷ []))
-      ∙ ap (λ (x : ℕ). x + n) (o.operators (operators_from k a) ∙ ap (λ (x : ℕ). x + 1) (l.operators k))
-      ∙ (let sums : k + m + 1 + n ≡ k + suc (m + n) = omega arith in sums);
+  brackets = omega (arith, count_append);
+  opened = omega (arith, count_append);
+  closed = omega (arith, count_append);
+  operators = λ k. operators_append k a (t ∷ b) ∙ operators_append _ (t ∷ []) b ∙ r.operators _
+      ∙ ap (λ x. x + n) (o.operators _ ∙ ap (λ x. x + 1) (l.operators k)) ∙ (let sums : k + m + 1 + n ≡ k + suc (m + n) = omega arith in sums);
 }
 
 even_operator : (place : ℕ) (op : Infix) → Even (infix_token place op ∷ []) 1
@@ -98,27 +87,18 @@ even_sign place Not = record { brackets = refl; opened = refl; closed = refl; op
 even_sign place Minus = record { brackets = refl; opened = refl; closed = refl; operators = λ n. refl }
 
 even_prefix : (a : List Token) (t : Token) (m : ℕ) → Even (t ∷ []) 1 → Even a m → Even (t ∷ a) (suc m)
-even_prefix a t m o l = record {
-  brackets = omega (arith, l.brackets, o.brackets, count_append opens_bracket (t ∷ []) a, count_append closes_bracket (t ∷ []) a);
-  opened = omega (arith, l.opened, o.opened, count_append opens_block (t ∷ []) a);
-  closed = omega (arith, l.closed, o.closed, count_append closes_block (t ∷ []) a);
-  operators = λ k. operators_append k (t ∷ []) a ∙ l.operators (operators_from k (t ∷ [])) ∙ ap (λ (x : ℕ). x + m) (o.operators k)
-      ∙ (let sums : k + 1 + m ≡ k + suc m = omega arith in sums);
-}
+even_prefix a t m o l = omega arith
 
 expression_even : (e : Expression) → Even (expression_tokens e) (expression_operators e)
 expression_even (unary place op e) = even_prefix (expression_tokens e) (prefix_token place op) (expression_operators e) (even_sign place op) (expression_even e)
-expression_even (binary a place op b) =
-    even_infix (expression_tokens a) (expression_tokens b) (infix_token place op) (expression_operators a) (expression_operators b) (expression_even a)
-    (expression_even b)
-    (even_operator place op)
+expression_even (binary a place op b) = even_infix _ _ _ _ _ (expression_even a) (expression_even b) (even_operator place op)
 expression_even (group place e closing) =
     let l = expression_even e in
     let close : List Token = mark_at closing mark.Close ∷ [] in
     record {
-      brackets = omega (arith, l.brackets, count_append opens_bracket (expression_tokens e) close, count_append closes_bracket (expression_tokens e) close);
-      opened = omega (arith, l.opened, count_append opens_block (expression_tokens e) close);
-      closed = omega (arith, l.closed, count_append closes_block (expression_tokens e) close);
+      brackets = omega (arith, count_append opens_bracket (expression_tokens e) close, count_append closes_bracket (expression_tokens e) close);
+      opened = omega (arith, count_append opens_block (expression_tokens e) close);
+      closed = omega (arith, count_append closes_block (expression_tokens e) close);
       operators = λ n. operators_append n (expression_tokens e) close ∙ l.operators n;
     }
 expression_even e = record { brackets = refl; opened = refl; closed = refl; operators = λ n. omega arith }
@@ -152,18 +132,16 @@ infix_within before a b t n k l m c d keeps s even one is left right =
     let parts = keeps_parts before a (t ∷ b) keeps in
     let first = left parts.first in
     let here = after_even before a n k l even first.operators s in
-    let lt = parts.second.0.operator is in
-    let next = after_even (before ++ a) (t ∷ []) n (k + l) 1 one (omega (arith, lt, here.operators)) here in
-    let second = right ((before ++ a) ++ t ∷ []) (k + l + 1) parts.second.1 next in
-    record { brackets = omega (arith, first.brackets, second.brackets); operators = omega (arith, second.operators) }
+    let next = after_even _ (t ∷ []) n (k + l) 1 one (omega arith) here in
+    let second = right _ (k + l + 1) parts.second.1 next in
+    record { brackets = omega arith; operators = omega (arith, second.operators) }
 
 prefix_within : (before a : List Token) (t : Token) (n k m d : ℕ) → Keeps before (t ∷ a) → Stands before n k → Even (t ∷ []) 1 → is_operator (kind_of t) ≡ true
     → ((before' : List Token) (k' : ℕ) → Keeps before' a → Stands before' n k' → Within n k' d m) → Within n k d (suc m)
 prefix_within before a t n k m d keeps s one is right =
-    let lt = keeps.0.operator is in
-    let next = after_even before (t ∷ []) n k 1 one (omega (arith, lt, s.operators)) s in
-    let second = right (before ++ t ∷ []) (k + 1) keeps.1 next in
-    record { brackets = second.brackets; operators = omega (arith, second.operators) }
+    let next = after_even before (t ∷ []) n k 1 one (omega arith) s in
+    let second = right _ (k + 1) keeps.1 next in
+    record { brackets = second.brackets; operators = omega arith }
 
 leaf_within : (before : List Token) (n k : ℕ) → Stands before n k → Within n k 0 0
 leaf_within before n k s = record { brackets = omega (arith, s.few); operators = omega (arith, s.small) }
@@ -179,27 +157,21 @@ sign_counts place Minus = refl
 expression_within : (e : Expression) (before : List Token) (n k : ℕ) → Keeps before (expression_tokens e) → Stands before n k →
     Within n k (expression_brackets e) (expression_operators e)
 expression_within (unary place op e) before n k keeps s =
-    prefix_within before (expression_tokens e) (prefix_token place op) n k (expression_operators e) (expression_brackets e) keeps s (even_sign place op)
-    (sign_counts place op)
-    (λ before' k' h s'. expression_within e before' n k' h s')
-expression_within (binary a place op b) before n k keeps s =
-    infix_within before (expression_tokens a) (expression_tokens b) (infix_token place op) n k (expression_operators a) (expression_operators b)
-    (expression_brackets a)
-    (expression_brackets b) keeps s (expression_even a) (even_operator place op) (operator_counts place op)
+    prefix_within before _ _ n k _ _ keeps s (even_sign place op) (sign_counts place op) (λ before' k' h s'. expression_within e before' n k' h s')
+expression_within (binary a place op b) before n k keeps s = infix_within before _ _ _ n k _ _ _
+    _ keeps s (expression_even a) (even_operator place op) (operator_counts place op)
     (λ h. expression_within a before n k h s) (λ before' k' h s'. expression_within b before' n k' h s')
 expression_within (group place e closing) before n k keeps s =
     let lt = keeps.0.bracket refl in
-    let opening : Token = mark_at place mark.Open in
-    let next : Stands (before ++ opening ∷ []) (suc n) k =
+    let next : Stands (before ++ mark_at place mark.Open ∷ []) (suc n) k =
     record {
-      brackets = omega (arith, s.brackets, count_append opens_bracket before (opening ∷ []), count_append closes_bracket before (opening ∷ []));
-      operators = operators_append 0 before (opening ∷ []) ∙ s.operators;
+      brackets = omega (arith, count_append);
+      operators = operators_append 0 before _ ∙ s.operators;
       few = omega (arith, lt, s.brackets);
       small = s.small;
     } in
-    let inner = expression_within e (before ++ opening ∷ []) (suc n) k (keeps_parts (before ++ opening ∷ []) (expression_tokens e)
-    (mark_at closing mark.Close ∷ []) keeps.1).first next in
-    record { brackets = omega (arith, inner.brackets); operators = inner.operators }
+    let inner = expression_within e (before ++ mark_at place mark.Open ∷ []) (suc n) k (keeps_parts _ _ _ keeps.1).first next in
+    record { brackets = omega arith; operators = inner.operators }
 expression_within e before n k keeps s = leaf_within before n k s
 
 -- ---- statements
@@ -210,10 +182,7 @@ record Closed (ts : List Token) : Type 0 where
   blocks : count_of opens_block ts ≡ count_of closes_block ts
 
 closed_append : (a b : List Token) → Closed a → Closed b → Closed (a ++ b)
-closed_append a b l r = record {
-  brackets = omega (arith, l.brackets, r.brackets, count_append opens_bracket a b, count_append closes_bracket a b);
-  blocks = omega (arith, l.blocks, r.blocks, count_append opens_block a b, count_append closes_block a b);
-}
+closed_append a b l r = record { brackets = omega (arith, count_append); blocks = omega (arith, count_append) }
 
 closed_even : (a : List Token) (n : ℕ) → Even a n → Closed a
 closed_even a n e = record { brackets = e.brackets; blocks = e.opened ∙ sym e.closed }
@@ -223,29 +192,19 @@ closed_word place w = record { brackets = refl; blocks = refl }
 
 mutual
   form_closed : (f : Form) → Closed (form_tokens f)
-  form_closed (assign place name becomes e closing) =
-      closed_append (name_at place name ∷ mark_at becomes mark.Becomes ∷ [])
-      (expression_tokens e ++ mark_at closing mark.Semicolon ∷ []) record { brackets = refl; blocks = refl }
-      (closed_append (expression_tokens e) (mark_at closing mark.Semicolon ∷ []) (closed_even (expression_tokens e) (expression_operators e)
-      (expression_even e)) record { brackets = refl; blocks = refl })
-  form_closed (loop place e b) =
-      closed_append (word_at place word.While ∷ []) (expression_tokens e ++ block_tokens b) (closed_word place word.While)
-      (closed_append (expression_tokens e) (block_tokens b) (closed_even (expression_tokens e) (expression_operators e) (expression_even e)) (block_closed b))
-  form_closed (branch place e b otherwise c) =
-      closed_append (word_at place word.If ∷ []) (expression_tokens e ++ (block_tokens b ++ word_at otherwise word.Else ∷ block_tokens c))
-      (closed_word place word.If)
-      (closed_append (expression_tokens e) (block_tokens b ++ word_at otherwise word.Else ∷ block_tokens c) (closed_even (expression_tokens e)
-      (expression_operators e) (expression_even e))
-      (closed_append (block_tokens b) (word_at otherwise word.Else ∷ block_tokens c) (block_closed b)
-      (closed_append (word_at otherwise word.Else ∷ []) (block_tokens c) (closed_word otherwise word.Else) (block_closed c))))
+  form_closed (assign place name becomes e closing) = closed_append (name_at place name ∷ mark_at becomes mark.Becomes ∷ [])
+      _ record { brackets = refl; blocks = refl } (closed_append _ _ (closed_even _ _ (expression_even e)) record { brackets = refl; blocks = refl })
+  form_closed (loop place e b) = closed_append _ _ (closed_word place word.While) (closed_append _ _ (closed_even _ _ (expression_even e)) (block_closed b))
+  form_closed (branch place e b otherwise c) = closed_append _ _ (closed_word place word.If) (closed_append _ _ (closed_even _
+      _ (expression_even e)) (closed_append _ _ (block_closed b) (closed_append _ _ (closed_word otherwise word.Else) (block_closed c))))
 
   block_closed : (b : Block) → Closed (block_tokens b)
   block_closed (block place fs closing) =
       let c = forms_closed fs in
       let close : List Token = mark_at closing mark.CloseBlock ∷ [] in
       record {
-        brackets = omega (arith, c.brackets, count_append opens_bracket (forms_tokens fs) close, count_append closes_bracket (forms_tokens fs) close);
-        blocks = omega (arith, c.blocks, count_append opens_block (forms_tokens fs) close, count_append closes_block (forms_tokens fs) close);
+        brackets = omega (arith, count_append opens_bracket (forms_tokens fs) close, count_append closes_bracket (forms_tokens fs) close);
+        blocks = omega (arith, count_append opens_block (forms_tokens fs) close, count_append closes_block (forms_tokens fs) close);
       }
 
   forms_closed : (fs : Forms) → Closed (forms_tokens fs)
@@ -259,11 +218,7 @@ record Level (before : List Token) (m : ℕ) : Type 0 where
   few : m ≤ 40
 
 level_after : (before ts : List Token) (m : ℕ) → Level before m → Closed ts → Level (before ++ ts) m
-level_after before ts m l c = record {
-  brackets = omega (arith, l.brackets, c.brackets, count_append opens_bracket before ts, count_append closes_bracket before ts);
-  blocks = omega (arith, l.blocks, c.blocks, count_append opens_block before ts, count_append closes_block before ts);
-  few = l.few;
-}
+level_after before ts m l c = record { brackets = omega (arith, count_append); blocks = omega (arith, count_append); few = l.few }
 
 -- where an expression begins
 stands_at : (before : List Token) (t : Token) (m : ℕ) → Level before m → opens_bracket (kind_of t) ≡ false → closes_bracket (kind_of t) ≡ false
@@ -297,61 +252,50 @@ mutual
   form_within : (f : Form) (before : List Token) (m : ℕ) → Keeps before (form_tokens f) → Level before m → SmallForm f m
   form_within (assign place name becomes e closing) before m keeps l =
       let named : List Token = before ++ name_at place name ∷ [] in
-      let s = stands_at named (mark_at becomes mark.Becomes) m
-      (level_after before (name_at place name ∷ []) m l record { brackets = refl; blocks = refl }) refl refl refl in
-      let parts = keeps_parts (named ++ mark_at becomes mark.Becomes ∷ []) (expression_tokens e) (mark_at closing mark.Semicolon ∷ []) keeps.1.1 in
-      record { small = expression_small (named ++ mark_at becomes mark.Becomes ∷ []) e parts.first s; blocks = omega (arith, l.few) }
+      let s = stands_at named _ m (level_after before _ m l record { brackets = refl; blocks = refl }) refl refl refl in
+      let parts = keeps_parts _ _ _ keeps.1.1 in
+      record { small = expression_small _ e parts.first s; blocks = omega (arith, l.few) }
   form_within (loop place e b) before m keeps l =
       let w : Token = word_at place word.While in
       let s = stands_at before w m l refl refl refl in
-      let parts = keeps_parts (before ++ w ∷ []) (expression_tokens e) (block_tokens b) keeps.1 in
-      let here = level_after (before ++ w ∷ []) (expression_tokens e) m (level_after before (w ∷ []) m l (closed_word place word.While)) (closed_even
-      (expression_tokens e) (expression_operators e) (expression_even e)) in
-      let inner = block_within b ((before ++ w ∷ []) ++ expression_tokens e) m parts.second here in
-      record { small = (expression_small (before ++ w ∷ []) e parts.first s, inner.small); blocks = inner.blocks }
+      let parts = keeps_parts _ _ (block_tokens b) keeps.1 in
+      let here = level_after _ _ m (level_after before (w ∷ []) m l (closed_word place word.While)) (closed_even _ _ (expression_even e)) in
+      let inner = block_within b _ m parts.second here in
+      record { small = (expression_small _ e parts.first s, inner.small); blocks = inner.blocks }
   form_within (branch place e b otherwise c) before m keeps l =
       let w : Token = word_at place word.If in
       let other : Token = word_at otherwise word.Else in
       let s = stands_at before w m l refl refl refl in
       let parts = keeps_parts (before ++ w ∷ []) (expression_tokens e) (block_tokens b ++ other ∷ block_tokens c) keeps.1 in
-      let here = level_after (before ++ w ∷ []) (expression_tokens e) m (level_after before (w ∷ []) m l (closed_word place word.If)) (closed_even
-      (expression_tokens e) (expression_operators e) (expression_even e)) in
+      let here = level_after _ _ m (level_after before (w ∷ []) m l (closed_word place word.If)) (closed_even _ _ (expression_even e)) in
       let at : List Token = (before ++ w ∷ []) ++ expression_tokens e in
       let two = keeps_parts at (block_tokens b) (other ∷ block_tokens c) parts.second in
       let first = block_within b at m two.first here in
-      let there =
-      level_after (at ++ block_tokens b) (other ∷ []) m (level_after at (block_tokens b) m here (block_closed b)) (closed_word otherwise word.Else) in
+      let there = level_after _ (other ∷ []) m (level_after at (block_tokens b) m here (block_closed b)) (closed_word otherwise word.Else) in
       let second = block_within c ((at ++ block_tokens b) ++ other ∷ []) m two.second.1 there in
-      record { small = (expression_small (before ++ w ∷ []) e parts.first s, first.small, second.small); blocks = omega (arith, first.blocks, second.blocks) }
+      record { small = (expression_small _ e parts.first s, first.small, second.small); blocks = omega arith }
 
   block_within : (b : Block) (before : List Token) (m : ℕ) → Keeps before (block_tokens b) → Level before m → SmallBlock b m
   block_within (block place fs closing) before m keeps l =
-      let opening : Token = mark_at place mark.OpenBlock in
       let lt = keeps.0.block refl in
-      let next : Level (before ++ opening ∷ []) (suc m) =
-      record {
-        brackets = omega (arith, l.brackets, count_append opens_bracket before (opening ∷ []), count_append closes_bracket before (opening ∷ []));
-        blocks = omega (arith, l.blocks, count_append opens_block before (opening ∷ []), count_append closes_block before (opening ∷ []));
-        few = omega (arith, lt, l.blocks);
-      } in
-      let inner = forms_within fs (before ++ opening ∷ []) (suc m)
-      (keeps_parts (before ++ opening ∷ []) (forms_tokens fs) (mark_at closing mark.CloseBlock ∷ []) keeps.1).first next in
-      record { small = inner.small; blocks = omega (arith, inner.blocks) }
+      let next : Level (before ++ mark_at place mark.OpenBlock ∷ []) (suc m) =
+      record { brackets = omega (arith, count_append); blocks = omega (arith, count_append); few = omega (arith, lt, l.blocks) } in
+      let inner = forms_within fs (before ++ mark_at place mark.OpenBlock ∷ []) (suc m) (keeps_parts _ _ _ keeps.1).first next in
+      record { small = inner.small; blocks = omega arith }
 
   forms_within : (fs : Forms) (before : List Token) (m : ℕ) → Keeps before (forms_tokens fs) → Level before m → SmallForms fs m
   forms_within no_forms before m keeps l = record { small = tt; blocks = omega (arith, l.few) }
   forms_within (form f rest) before m keeps l =
-      let parts = keeps_parts before (form_tokens f) (forms_tokens rest) keeps in
+      let parts = keeps_parts before (form_tokens f) _ keeps in
       let first = form_within f before m parts.first l in
-      let others = forms_within rest (before ++ form_tokens f) m parts.second (level_after before (form_tokens f) m l (form_closed f)) in
-      record { small = (first.small, others.small); blocks = omega (arith, first.blocks, others.blocks) }
+      let others = forms_within rest _ m parts.second (level_after before (form_tokens f) m l (form_closed f)) in
+      record { small = (first.small, others.small); blocks = omega arith }
 
 -- ---- programs
 
 decls_closed : (ds : List Decl) → Closed (decls_tokens ds)
 decls_closed [] = record { brackets = refl; blocks = refl }
-decls_closed (d ∷ ds) =
-    closed_append (decl_tokens d) (decls_tokens ds) record { brackets = refl; blocks = refl } (decls_closed ds)
+decls_closed (d ∷ ds) = closed_append (decl_tokens d) _ record { brackets = refl; blocks = refl } (decls_closed ds)
 
 pub record IsWithin (p : InfixProgram) : Type 0 where
   pub small : FormsAreSmall p.forms
@@ -361,9 +305,8 @@ pub free_within : (p : InfixProgram) → AreFree (program_tokens p) → IsWithin
 free_within p free =
     let parts = keeps_parts [] (decls_tokens p.decls) (forms_tokens p.forms) (keeps_all p [] (program_tokens p) free refl) in
     let closed = decls_closed p.decls in
-    let w = forms_within p.forms (decls_tokens p.decls) 0 parts.second
-    record { brackets = closed.brackets; blocks = omega (arith, closed.blocks); few = omega arith } in
-    record { small = w.small; blocks = omega (arith, w.blocks) }
+    let w = forms_within p.forms (decls_tokens p.decls) 0 parts.second record { brackets = closed.brackets; blocks = omega arith; few = omega arith } in
+    record { small = w.small; blocks = omega arith }
 
 -- a text of which no token breaks a rule, and whose program breaks none
 pub free_is_lawful : (text : List ℕ) (p : InfixProgram) → IsProgram text p → length text ≤ 2 ^ 20 → AreFree (tokens_in text) → breaches p ≡ [] → IsShort text p

@@ -41,8 +41,7 @@ pub over_all : (items : List Expected) → list_all may_be_empty items ≡ is_ov
 over_all [] = refl
 over_all (x ∷ items) =
     let turned : reverse (x ∷ items) ≡ reverse items ++ x ∷ [] = reverse-append (x ∷ []) items in
-    ap (λ (c : std.Bool). may_be_empty x && c) (over_all items) ∙ pick (may_be_empty x) (list_all may_be_empty (reverse items))
-    ∙ sym (all_append (reverse items) (x ∷ [])) ∙ ap (list_all may_be_empty) (sym turned)
+    ap (λ (c : std.Bool). may_be_empty x && c) (over_all items) ∙ pick _ _ ∙ sym (all_append (reverse items) (x ∷ [])) ∙ ap (list_all may_be_empty) (sym turned)
   where
     pick : (p q : std.Bool) → (p && q) ≡ (q && (p && true))
     pick true true = refl

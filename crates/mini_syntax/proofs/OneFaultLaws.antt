@@ -29,9 +29,8 @@ module _ (text : List ℕ) where
     where
       pick : Order f.before g.before f.token g.token → (r ≡ s) × (p ≡ q)
       pick (here e h) =
-          let low : r ≤ s =
-          f.least s (subst (λ (x : Token). BreaksAt f.before x s) (sym h) (subst (λ (x : List Token). BreaksAt x g.token s) (sym e) g.breaks)) in
-          let high : s ≤ r = g.least r (subst (λ (x : Token). BreaksAt g.before x r) h (subst (λ (x : List Token). BreaksAt x f.token r) e f.breaks)) in
+          let low : r ≤ s = f.least s (subst (λ x. BreaksAt f.before x s) (sym h) (subst (λ x. BreaksAt x g.token s) (sym e) g.breaks)) in
+          let high : s ≤ r = g.least r (subst (λ x. BreaksAt g.before x r) h (subst (λ x. BreaksAt x f.token r) e f.breaks)) in
           (omega (arith, low, high), f.at ∙ ap place_of h ∙ sym g.at)
       pick (first rest e) = absurd (g.free f.before f.token rest r e f.breaks)
       pick (second rest e) = absurd (f.free g.before g.token rest s e g.breaks)

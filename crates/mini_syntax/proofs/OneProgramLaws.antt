@@ -100,8 +100,7 @@ left_alone : (op : Infix) (s : List Pending) (x : Expression) → Looser (level_
 left_alone op [] x l = refl
 left_alone op (sign place o ∷ s) x l = absurd (omega (arith, l, one_above op))
 left_alone op (operation a place o ∷ s) x l =
-    ap (λ (b : std.Bool). cond {A = Held} b (reduced (level_of op) s (binary a place o x)) record { pending = operation a place o ∷ s; operand = x })
-    (lt-leb (level_of o) (level_of op) l)
+    ap (λ b. cond {A = Held} b (reduced (level_of op) s (binary a place o x)) record { pending = operation a place o ∷ s; operand = x }) (lt-leb _ _ l)
 left_alone op (bracket place ∷ s) x l = refl
 
 -- two operands are one where no operator behind them tells them apart
@@ -135,30 +134,26 @@ expression_read (variable place name) s ts h l loose some = refl
 expression_read (number place digits) s ts h l loose some = refl
 expression_read (truth place b) s ts h l loose some = refl
 expression_read (unary place op e) s ts h l loose some =
-    let k = and_parts (nat_le (expression_level e) 0) (binds e) h in
-    let closest = leb-true (expression_level e) 0 k.0 in
-    sign_read place op s (expression_tokens e ++ ts)
-    ∙ expression_read e (sign place op ∷ s) ts k.1 closest (λ o is. omega (arith, closest)) some
-    ∙ same_operand 0 (sign place op ∷ s) s e (unary place op e) (omega arith) (λ n le. refl) ts (λ o is. omega arith) some
+    let k = and_parts _ (binds e) h in
+    let closest = leb-true _ 0 k.0 in
+    sign_read place op s (expression_tokens e ++ ts) ∙ expression_read e _ ts k.1 closest (λ o is. omega arith) some
+    ∙ same_operand 0 _ s e _ (omega arith) (λ n le. refl) ts (λ o is. omega arith) some
 expression_read (binary a place op b) s ts h l loose some =
     let k = bound_parts a b op place h in
-    let close_left = k.left in
-    let close_right = k.right in
-    let further : expression_level a ≤ level_of op = omega (arith, close_left, left_below op) in
-    let closer : expression_level b < level_of op = omega (arith, close_right, one_above op) in
+    let further : expression_level a ≤ level_of op = omega (arith, left_below) in
+    let closer : expression_level b < level_of op = omega (arith, one_above) in
     let us : List Token = infix_token place op ∷ (expression_tokens b ++ ts) in
     let loose_left : Loose (expression_level a) us =
-    λ o is. (let same : op ≡ o = some_same op o (sym (infix_seen place op) ∙ sym is) in subst (λ (q : Infix). expression_level a ≤ level_of q) same further) in
-    ap (reads (wants s)) (append_assoc (expression_tokens a) (infix_token place op ∷ expression_tokens b) ts)
-    ∙ expression_read a s us k.left_bound (looser_closer (expression_level a) (level_of op) s further l) loose_left (λ e. cc)
-    ∙ operator_read place op s a (expression_tokens b ++ ts) l
-    ∙ expression_read b (operation a place op ∷ s) ts k.right_bound closer (λ o is. (let le = loose o is in omega (arith, le, closer))) some
-    ∙ same_operand (level_of op) (operation a place op ∷ s) s b (binary a place op b) (level_in op)
+    λ o is. (let same : op ≡ o = some_same op o (sym (infix_seen place op) ∙ sym is) in subst (λ q. expression_level a ≤ level_of q) same further) in
+    ap (reads (wants s)) (append_assoc (expression_tokens a) _ ts) ∙ expression_read a s us k.left_bound (looser_closer _ _ s further l) loose_left (λ e. cc)
+    ∙ operator_read place op s a (expression_tokens b ++ ts) l ∙ expression_read b _ ts k.right_bound closer (λ o is. (let le = loose o is in omega arith)) some
+    ∙ same_operand _ _ s b _ (level_in op)
     (λ n le. ap (λ (c : std.Bool). cond {A = Held} c (reduced n s (binary a place op b)) record { pending = operation a place op ∷ s; operand = b })
     (le-leb (level_of op) n le)) ts loose some
-expression_read (group place e closing) s ts h l loose some =
-    ap (reads (wants (bracket place ∷ s))) (append_assoc (expression_tokens e) (mark_at closing mark.Close ∷ []) ts)
-    ∙ expression_read e (bracket place ∷ s) (mark_at closing mark.Close ∷ ts) h tt (λ o is. absurd cc) (λ e. cc)
+expression_read (group place e closing) s ts h l loose some = cc (
+  append_assoc (expression_tokens e) (mark_at closing mark.Close ∷ []) ts,
+  expression_read e (bracket place ∷ s) (mark_at closing mark.Close ∷ ts) h tt (λ o is. absurd cc) (λ e. cc),
+)
 
 -- an expression ends before a semicolon or a block
 data IsEnd : Token → Type 0 where
@@ -221,26 +216,17 @@ before_block e f b c us vs g k is =
     let there : List Token = inner_of c ++ vs in
     let left : block_tokens b ++ us ≡ mark_at (opening_of b) mark.OpenBlock ∷ at = ap (λ (ts : List Token). ts ++ us) (block_is b) in
     let right : block_tokens c ++ vs ≡ mark_at (opening_of c) mark.OpenBlock ∷ there = ap (λ (ts : List Token). ts ++ vs) (block_is c) in
-    let h =
-    expression_same e f (mark_at (opening_of b) mark.OpenBlock) (mark_at (opening_of c) mark.OpenBlock) at there g k (opening (opening_of b)) (opening
-    (opening_of c))
+    let h = expression_same e f _ _ at there g k (opening (opening_of b)) (opening (opening_of c))
     (ap (λ (ts : List Token). expression_tokens e ++ ts) (sym left) ∙ is ∙ ap (λ (ts : List Token). expression_tokens f ++ ts) right) in
     record { tree = h.tree; rest = left ∙ h.rest ∙ sym right }
 
 mutual
   form_same : (f g : Form) (us vs : List Token) → form_binds f ≡ true → form_binds g ≡ true → form_tokens f ++ us ≡ form_tokens g ++ vs → Same f g us vs
   form_same (assign p n b e q) (assign p' n' b' e' q') us vs x y is =
-      let same_p : p ≡ p' = cc in
-      let same_n : n ≡ n' = cc in
-      let same_b : b ≡ b' = cc in
       let tails : (expression_tokens e ++ mark_at q mark.Semicolon ∷ []) ++ us ≡ (expression_tokens e' ++ mark_at q' mark.Semicolon ∷ []) ++ vs = cc in
-      let h =
-      expression_same e e' (mark_at q mark.Semicolon) (mark_at q' mark.Semicolon) us vs x y (semicolon q) (semicolon q')
+      let h = expression_same e e' (mark_at q mark.Semicolon) (mark_at q' mark.Semicolon) us vs x y (semicolon q) (semicolon q')
       (sym (append_assoc (expression_tokens e) (mark_at q mark.Semicolon ∷ []) us) ∙ tails
       ∙ append_assoc (expression_tokens e') (mark_at q' mark.Semicolon ∷ []) vs) in
-      let same_e : e ≡ e' = h.tree in
-      let ends : mark_at q mark.Semicolon ∷ us ≡ mark_at q' mark.Semicolon ∷ vs = h.rest in
-      let same_q : q ≡ q' = cc in
       record { tree = cc; rest = cc }
   form_same (assign p n b e q) (loop p' e' b') us vs x y is = cc
   form_same (assign p n b e q) (branch p' e' b' l' c') us vs x y is = cc
@@ -248,14 +234,10 @@ mutual
   form_same (loop p e b) (loop p' e' b') us vs x y is =
       let bound = and_parts (binds e) (block_binds b) x in
       let bound' = and_parts (binds e') (block_binds b') y in
-      let same_p : p ≡ p' = cc in
       let tails : (expression_tokens e ++ block_tokens b) ++ us ≡ (expression_tokens e' ++ block_tokens b') ++ vs = cc in
-      let h =
-      before_block e e' b b' us vs bound.0 bound'.0
+      let h = before_block e e' b b' us vs bound.0 bound'.0
       (sym (append_assoc (expression_tokens e) (block_tokens b) us) ∙ tails ∙ append_assoc (expression_tokens e') (block_tokens b') vs) in
       let k = block_same b b' us vs bound.1 bound'.1 h.rest in
-      let same_e : e ≡ e' = h.tree in
-      let same_b : b ≡ b' = k.tree in
       record { tree = cc; rest = k.rest }
   form_same (loop p e b) (branch p' e' b' l' c') us vs x y is = cc
   form_same (branch p e b l c) (assign p' n' b' e' q') us vs x y is = cc
@@ -265,36 +247,23 @@ mutual
       let bound' = and_parts (binds e') (block_binds b' && block_binds c') y in
       let blocks = and_parts (block_binds b) (block_binds c) bound.1 in
       let blocks' = and_parts (block_binds b') (block_binds c') bound'.1 in
-      let same_p : p ≡ p' = cc in
       let second : List Token = word_at l word.Else ∷ block_tokens c in
       let second' : List Token = word_at l' word.Else ∷ block_tokens c' in
       let tails : (expression_tokens e ++ (block_tokens b ++ second)) ++ us ≡ (expression_tokens e' ++ (block_tokens b' ++ second')) ++ vs = cc in
-      let h =
-      before_block e e' b b' (second ++ us) (second' ++ vs) bound.0 bound'.0
-      (sym (ap (λ (ts : List Token). expression_tokens e ++ ts) (append_assoc (block_tokens b) second us))
+      let h = before_block e e' b b' _ _ bound.0 bound'.0 (sym (ap (λ (ts : List Token). expression_tokens e ++ ts) (append_assoc (block_tokens b) second us))
       ∙ sym (append_assoc (expression_tokens e) (block_tokens b ++ second) us) ∙ tails ∙ append_assoc (expression_tokens e') (block_tokens b' ++ second') vs
       ∙ ap (λ (ts : List Token). expression_tokens e' ++ ts) (append_assoc (block_tokens b') second' vs)) in
-      let k = block_same b b' (second ++ us) (second' ++ vs) blocks.0 blocks'.0 h.rest in
-      let others : word_at l word.Else ∷ (block_tokens c ++ us) ≡ word_at l' word.Else ∷ (block_tokens c' ++ vs) = k.rest in
-      let same_l : l ≡ l' = cc in
+      let k = block_same b b' _ _ blocks.0 blocks'.0 h.rest in
       let last : block_tokens c ++ us ≡ block_tokens c' ++ vs = cc in
       let m = block_same c c' us vs blocks.1 blocks'.1 last in
-      let same_e : e ≡ e' = h.tree in
-      let same_b : b ≡ b' = k.tree in
-      let same_c : c ≡ c' = m.tree in
       record { tree = cc; rest = m.rest }
 
   block_same : (b c : Block) (us vs : List Token) → block_binds b ≡ true → block_binds c ≡ true → block_tokens b ++ us ≡ block_tokens c ++ vs → Same b c us vs
   block_same (block p fs q) (block p' fs' q') us vs x y is =
-      let same_p : p ≡ p' = cc in
       let tails : (forms_tokens fs ++ mark_at q mark.CloseBlock ∷ []) ++ us ≡ (forms_tokens fs' ++ mark_at q' mark.CloseBlock ∷ []) ++ vs = cc in
-      let h =
-      forms_same fs fs' (mark_at q mark.CloseBlock ∷ us) (mark_at q' mark.CloseBlock ∷ vs) x y (at_brace q us) (at_brace q' vs)
+      let h = forms_same fs fs' (mark_at q mark.CloseBlock ∷ us) (mark_at q' mark.CloseBlock ∷ vs) x y (at_brace q us) (at_brace q' vs)
       (sym (append_assoc (forms_tokens fs) (mark_at q mark.CloseBlock ∷ []) us) ∙ tails
       ∙ append_assoc (forms_tokens fs') (mark_at q' mark.CloseBlock ∷ []) vs) in
-      let same_fs : fs ≡ fs' = h.tree in
-      let ends : mark_at q mark.CloseBlock ∷ us ≡ mark_at q' mark.CloseBlock ∷ vs = h.rest in
-      let same_q : q ≡ q' = cc in
       record { tree = cc; rest = cc }
 
   forms_same : (fs gs : Forms) (us vs : List Token) → forms_bind fs ≡ true → forms_bind gs ≡ true → AreOver us → AreOver vs →
@@ -303,13 +272,11 @@ mutual
   forms_same no_forms (form g gs) us vs x y a b is = absurd (none_begins g (forms_tokens gs) us vs a is)
   forms_same (form f fs) no_forms us vs x y a b is = absurd (none_begins f (forms_tokens fs) vs us b (sym is))
   forms_same (form f fs) (form g gs) us vs x y a b is =
-      let bound = and_parts (form_binds f) (forms_bind fs) x in
-      let bound' = and_parts (form_binds g) (forms_bind gs) y in
-      let h = form_same f g (forms_tokens fs ++ us) (forms_tokens gs ++ vs) bound.0 bound'.0 (sym (append_assoc (form_tokens f) (forms_tokens fs) us)
-      ∙ is ∙ append_assoc (form_tokens g) (forms_tokens gs) vs) in
+      let bound = and_parts _ _ x in
+      let bound' = and_parts _ _ y in
+      let h = form_same f g (forms_tokens fs ++ us) (forms_tokens gs ++ vs) bound.0 bound'.0 (sym (append_assoc _ (forms_tokens fs) us)
+      ∙ is ∙ append_assoc _ (forms_tokens gs) vs) in
       let k = forms_same fs gs us vs bound.1 bound'.1 a b h.rest in
-      let same_f : f ≡ g = h.tree in
-      let same_fs : fs ≡ gs = k.tree in
       record { tree = cc; rest = k.rest }
 
 -- ---- programs
@@ -351,9 +318,8 @@ one_program ds es fs gs b c same_decls same_forms =
 
 program_same : (p q : InfixProgram) → program_tokens p ≡ program_tokens q → p ≡ q
 program_same p q is =
-    let h = decls_same p.decls q.decls (forms_tokens p.forms) (forms_tokens q.forms) (none_declares p.forms) (none_declares q.forms) is in
-    let k = forms_same p.forms q.forms [] [] p.bound q.bound at_end at_end (append-nil (forms_tokens p.forms) ∙ h.rest
-    ∙ sym (append-nil (forms_tokens q.forms))) in
+    let h = decls_same p.decls q.decls _ _ (none_declares p.forms) (none_declares q.forms) is in
+    let k = forms_same p.forms q.forms [] [] p.bound q.bound at_end at_end (append-nil _ ∙ h.rest ∙ sym (append-nil (forms_tokens q.forms))) in
     one_program p.decls q.decls p.forms q.forms p.bound q.bound h.tree k.tree
 
 pub program_is : (text : List ℕ) (p q : InfixProgram) → IsProgram text p → IsProgram text q → p ≡ q

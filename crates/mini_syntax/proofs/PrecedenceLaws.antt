@@ -87,24 +87,18 @@ pub record Bound (a b : Expression) (op : Infix) : Type 0 where
 
 pub bound_parts : (a b : Expression) (op : Infix) (place : ℕ) → binds (binary a place op b) ≡ true → Bound a b op
 bound_parts a b op place e =
-    let l : std.Bool = nat_le (expression_level a) (left_level op) in
-    let r : std.Bool = nat_le (expression_level b) (right_level op) in
-    let all = and_parts (l && r) (binds a && binds b) e in
+    let l : std.Bool = nat_le _ _ in
+    let r : std.Bool = nat_le _ _ in
+    let all = and_parts (l && r) _ e in
     let levels = and_parts l r all.0 in
     let inside = and_parts (binds a) (binds b) all.1 in
-    record {
-      left = leb-true (expression_level a) (left_level op) levels.0;
-      right = leb-true (expression_level b) (right_level op) levels.1;
-      left_bound = inside.0;
-      right_bound = inside.1;
-    }
+    record { left = leb-true _ _ levels.0; right = leb-true _ _ levels.1; left_bound = inside.0; right_bound = inside.1 }
 
 pub bound_made : (a b : Expression) (op : Infix) (place : ℕ) → Bound a b op → binds (binary a place op b) ≡ true
 bound_made a b op place k =
-    let l : std.Bool = nat_le (expression_level a) (left_level op) in
-    let r : std.Bool = nat_le (expression_level b) (right_level op) in
-    both (l && r) (binds a && binds b)
-    (both l r (le-leb (expression_level a) (left_level op) k.left) (le-leb (expression_level b) (right_level op) k.right))
+    let l : std.Bool = nat_le _ _ in
+    let r : std.Bool = nat_le _ _ in
+    both (l && r) _ (both l r (le-leb (expression_level a) (left_level op) k.left) (le-leb (expression_level b) (right_level op) k.right))
     (both (binds a) (binds b) k.left_bound k.right_bound)
 
 pub unary_bound : (e : Expression) → expression_level e ≤ 0 → binds e ≡ true → (nat_le (expression_level e) 0 && binds e) ≡ true
@@ -128,10 +122,7 @@ arithmetic op c le = refl
 pub after_sum : (e : Expression) (c : std.Bool) → binds e ≡ true → expression_level e ≤ 2 → after c e ≡ c
 after_sum (binary a place op b) c h le =
     let k = bound_parts a b op place h in
-    let right = k.right in
-    let left = k.left in
-    after_sum b (compared_after op (after c a)) k.right_bound (omega (arith, right, one_above op, le))
-    ∙ arithmetic op (after c a) le ∙ after_sum a c k.left_bound (omega (arith, left, left_below op, le))
+    after_sum b _ k.right_bound (omega arith) ∙ arithmetic op (after c a) le ∙ after_sum a c k.left_bound (omega (arith, left_below))
 after_sum e c h le = refl
 
 -- an expression that may stand before a comparison is none

@@ -3,13 +3,13 @@ use Rattle.std.proofs.Common.{◌≡◌, ℕ, ◌^◌, ◌<◌, ◌≤◌, List,
 use Rattle.std.proofs.lemmas.List.{append-nil, length-map}
 use Rattle.stack_text.{specs.declared.breach.Breach.Breach, specs.Breaches.{least, lesser_of}, proofs.BreachLaws.{none_least, notes_more}}
 use Rattle.mini_syntax.{specs.MiniReading.{IsFault, IsRead, ReadsText, RefusesTextUnless, of_program, of_tokens}, specs.Breaches.{body_of, breaches}}
-use Rattle.mini_syntax.{specs.Breaches.{declared_of, decls_breaches, forms_breaches, forms_stmt}, specs.Internal.Declaring.{ReadsDecls, ReadsProgram}}
-use Rattle.mini_syntax.{specs.Internal.Declaring.are_proper, specs.declared.fault.MiniFault.MiniFault, specs.declared.fault.MiniFault.TheVariants.Memory}
-use Rattle.mini_syntax.{specs.declared.fault.MiniFault.TheVariants.Refused, specs.declared.lexeme.Lexeme.Lexeme, specs.declared.program.Declared.Declared}
-use Rattle.mini_syntax.{specs.declared.program.Statement.Statement, specs.declared.reading.Reading.Reading, specs.Faults.AreFree, specs.Grammar.IsProgram}
-use Rattle.mini_syntax.{specs.Grammar.{InfixProgram, decls_tokens, forms_tokens, program_tokens}, specs.Internal.Judging.RefusesUnless}
-use Rattle.mini_syntax.{specs.Internal.Lexemes.token_seen, specs.Internal.Phrases.ReadsForms, specs.ProgramView.block_in, specs.Tokens.{Token, between}}
-use Rattle.mini_syntax.{specs.Tokens.tokens_in, proofs.LimitLaws.free_is_lawful, proofs.SpanLaws.{all_good, tokens_few}}
+use Rattle.mini_syntax.{specs.Breaches.{declared_of, decls_breaches, forms_breaches}, specs.Internal.Declaring.{ReadsDecls, ReadsProgram, are_proper}}
+use Rattle.mini_syntax.{specs.declared.fault.MiniFault.MiniFault, specs.declared.fault.MiniFault.TheVariants.{Memory, Refused}}
+use Rattle.mini_syntax.{specs.declared.lexeme.Lexeme.Lexeme, specs.declared.program.Declared.Declared, specs.declared.program.Statement.Statement}
+use Rattle.mini_syntax.{specs.declared.reading.Reading.Reading, specs.Faults.AreFree, specs.Grammar.{IsProgram, InfixProgram, decls_tokens, forms_tokens}}
+use Rattle.mini_syntax.{specs.Grammar.program_tokens, specs.Internal.Judging.RefusesUnless, specs.Internal.Lexemes.token_seen}
+use Rattle.mini_syntax.{specs.Internal.Phrases.ReadsForms, specs.ProgramView.block_in, specs.Tokens.{Token, between, tokens_in}}
+use Rattle.mini_syntax.{proofs.LimitLaws.free_is_lawful, proofs.SpanLaws.{all_good, tokens_few}}
 
 -- declarations and statements are a program where no token is left
 pub record WholeRead (ts : List Token) (ds : List Declared) (body : List Statement) (breach : Option Breach) : Type 0 where
@@ -24,15 +24,10 @@ pub whole_read : {ts mid new : List Token} {ds : List Declared} {b1 b2 : Option 
     WholeRead ts ds body b2
 whole_read {b1 = b1} {b2 = b2} d f empty = record {
   tree = record { decls = d.trees; forms = f.tree; bound = f.bound };
-  tokens_are =
-      d.tokens_are ∙ ap (λ (us : List Token). decls_tokens d.trees ++ us)
-      (f.tokens_are ∙ ap (λ (us : List Token). forms_tokens f.tree ++ us) empty ∙ append-nil (forms_tokens f.tree));
+  tokens_are = d.tokens_are ∙ ap (λ us. decls_tokens d.trees ++ us) (f.tokens_are ∙ ap (λ us. forms_tokens f.tree ++ us) empty ∙ append-nil _);
   declared = d.declared;
-  means = f.means ∙ ap (λ (ds : List Declared). forms_stmt ds f.tree) d.declared;
-  breach_is =
-      notes_more None b1 b2 (decls_breaches [] d.trees) (forms_breaches
-      (declared_of record { decls = d.trees; forms = f.tree; bound = f.bound }) f.tree) d.noted
-      (f.noted ∙ ap (λ (ds : List Declared). lesser_of b1 (least (forms_breaches ds f.tree))) d.declared);
+  means = cc (f.means, d.declared);
+  breach_is = notes_more None b1 b2 (decls_breaches [] d.trees) _ d.noted (f.noted ∙ ap (λ ds. lesser_of b1 (least (forms_breaches ds f.tree))) d.declared);
 }
 
 -- ---- what is asked of the tokens of a judged text

@@ -4,15 +4,14 @@ use Rattle.std.{proofs.Common.{append_assoc, arith}, specs.Prelude.{◌&&◌, op
 use Rattle.std.proofs.lemmas.List.{length-append, map_push}
 use Rattle.std.specs.Prelude as std
 use Rattle.stack_text.{specs.declared.breach.Breach.Breach, specs.Breaches.{Notes, least, lesser_of, when}, proofs.BreachLaws.{notes_more, notes_none}}
-use Rattle.mini_syntax.specs.Breaches.{assigns_breaches, block_breaches, block_stmt, declared_by, decl_breaches, decls_breaches, expression_breaches}
-use Rattle.mini_syntax.specs.Breaches.{expression_exp, expression_sort, form_breaches, form_stmt, forms_breaches, forms_stmt, or_first, sort_named}
-use Rattle.mini_syntax.{specs.Breaches.{test_breaches, variable_named}, specs.Internal.Declaring.{ReadsDecl, ReadsDecls}}
-use Rattle.mini_syntax.{specs.declared.expected.Expected.Expected, specs.declared.lexeme.Lexeme.Lexeme, specs.declared.lexer.TokenKind.TokenKind}
-use Rattle.mini_syntax.{specs.declared.program.Declared.Declared, specs.declared.program.Statement.Statement, specs.declared.scope.Variable.Variable}
-use Rattle.mini_syntax.{specs.declared.sort.Sort.Sort, specs.declared.typed.Typed.Typed, specs.Expected.expression, specs.Grammar.{Expression, binds}}
-use Rattle.mini_syntax.specs.Grammar.{expression_level, form_binds, block_binds, forms_bind, Form, assign, loop, branch, block, Forms, no_forms, form, Decl}
-use Rattle.mini_syntax.{specs.Grammar.{block_tokens, decl_tokens, decls_tokens, expression_tokens, form_tokens, forms_tokens}, specs.Language.{Exp, Stmt}}
-use Rattle.mini_syntax.{specs.Language.{Nothing, Then}, specs.Precedence.{any_level, infix_of}, specs.Internal.Lexemes.{next_kind, token_seen}}
+use Rattle.mini_syntax.specs.Breaches.{assigns_breaches, block_breaches, declared_by, decl_breaches, decls_breaches, expression_breaches, expression_sort}
+use Rattle.mini_syntax.specs.Breaches.{form_breaches, form_stmt, forms_breaches, forms_stmt, or_first, sort_named, test_breaches, variable_named}
+use Rattle.mini_syntax.{specs.Internal.Declaring.{ReadsDecl, ReadsDecls}, specs.declared.expected.Expected.Expected, specs.declared.lexeme.Lexeme.Lexeme}
+use Rattle.mini_syntax.{specs.declared.lexer.TokenKind.TokenKind, specs.declared.program.Declared.Declared, specs.declared.program.Statement.Statement}
+use Rattle.mini_syntax.{specs.declared.scope.Variable.Variable, specs.declared.sort.Sort.Sort, specs.declared.typed.Typed.Typed, specs.Expected.expression}
+use Rattle.mini_syntax.specs.Grammar.{Expression, binds, expression_level, form_binds, block_binds, forms_bind, Form, assign, loop, branch, block, Forms}
+use Rattle.mini_syntax.specs.Grammar.{no_forms, form, Decl, block_tokens, decl_tokens, decls_tokens, expression_tokens, form_tokens, forms_tokens}
+use Rattle.mini_syntax.{specs.Language.{Exp, Stmt, Nothing, Then}, specs.Precedence.{any_level, infix_of}, specs.Internal.Lexemes.{next_kind, token_seen}}
 use Rattle.mini_syntax.{specs.Internal.Phrases.{Completes, IsTyped, Reads, ReadsBlock, ReadsForm, ReadsForms}, specs.ProgramView.{block_in, exp_of}}
 use Rattle.mini_syntax.{specs.ProgramView.statement_in, specs.Tokens.{Token, name_at, word_at, mark_at, kind_of, token_of}, proofs.AwaitLaws.moved}
 use Rattle.mini_syntax.{proofs.AwaitLaws.no_operator, proofs.ExpectedLaws.expression_leads, proofs.PrecedenceLaws.{after, both, none_at_all, none_closest}}
@@ -73,9 +72,8 @@ leaf ds l k tree old new best next typed is e close bound tokens x = record {
 -- what follows an expression
 pub after_expression : (ds : List Declared) (old new : List Token) (best next : Option Breach) (typed : Typed) (st : List Expected) →
     Reads any_level ds old new best next typed → Completes (expression st) old → Completes st new
-after_expression ds old new best next typed st r c =
-    no_operator (after std.false r.tree) st new (none_at_all (infix_of (next_kind new)) r.ends)
-    (moved old (expression_tokens r.tree) new r.tokens_are (expression_leads r.tree std.false st r.bound tt) c)
+after_expression ds old new best next typed st r c = no_operator _ st new (none_at_all _ r.ends)
+    (moved old _ new r.tokens_are (expression_leads r.tree std.false st r.bound tt) c)
 
 -- ---- statements
 
@@ -146,22 +144,18 @@ if_read ds l otherwise old t1 t2 t3 t4 new b1 b2 b3 b4 b5 test body other statem
     let second : List Token = word_at otherwise word.Else ∷ block_tokens c in
     record {
       tree = branch l.place e b otherwise c;
-      bound = both (binds e) (block_binds b && block_binds c) r.bound (both (block_binds b) (block_binds c) h.bound k.bound);
-      tokens_are =
-          is ∙ ap₂ (λ (t : Token) (ts : List Token). t ∷ ts) (token_by_kind l (kind.Word word.If) begun)
-          (r.tokens_are
-          ∙ ap (λ (ts : List Token). expression_tokens e ++ ts)
-          (h.tokens_are ∙ ap (λ (ts : List Token). block_tokens b ++ ts)
-          (is_else ∙ ap (λ (ts : List Token). word_at otherwise word.Else ∷ ts) k.tokens_are) ∙ sym (append_assoc (block_tokens b) second new))
-          ∙ sym (append_assoc (expression_tokens e) (block_tokens b ++ second) new));
-      means = made ∙ ap₂ (λ (x : Exp) (s : Stmt). language.If x s (block_in other)) r.typed_as.exp_is h.means
-          ∙ ap (language.If (expression_exp ds e) (block_stmt ds b)) k.means;
-      noted =
-          notes_more b1 b2 b5 (expression_breaches ds e) (test_breaches l.place (expression_sort ds e) ++
-          (block_breaches ds b ++ block_breaches ds c)) r.typed_as.noted
-          (notes_more b2 b3 b5 (test_breaches l.place (expression_sort ds e)) (block_breaches ds b ++ block_breaches ds c)
-          (note ∙ ap (λ (s : Option Sort). lesser_of b2 (least (test_breaches l.place s))) r.typed_as.sort_is)
-          (notes_more b3 b4 b5 (block_breaches ds b) (block_breaches ds c) h.noted k.noted));
+      bound = both (binds e) _ r.bound (both _ _ h.bound k.bound);
+      tokens_are = cc (
+        is,
+        token_by_kind l _ begun,
+        r.tokens_are,
+        ap (λ ts. expression_tokens e ++ ts) (h.tokens_are ∙ ap (λ ts. block_tokens b ++ ts) (is_else
+            ∙ ap (λ ts. word_at otherwise word.Else ∷ ts) k.tokens_are) ∙ sym (append_assoc _ second new)),
+        append_assoc _ _ new,
+      );
+      means = cc (made, r.typed_as.exp_is, h.means, k.means);
+      noted = notes_more b1 b2 b5 (expression_breaches ds e) _ r.typed_as.noted (notes_more b2 b3 b5 (test_breaches l.place _) _
+          (note ∙ ap (λ s. lesser_of b2 (least (test_breaches l.place s))) r.typed_as.sort_is) (notes_more b3 b4 b5 (block_breaches ds b) _ h.noted k.noted));
     }
 
 -- a block
@@ -171,10 +165,7 @@ pub block_read : (ds : List Declared) (place closing : ℕ) (old t1 t2 new : Lis
 block_read ds place closing old t1 t2 new b1 b2 body is h is_closed = record {
   tree = block place h.tree closing;
   bound = h.bound;
-  tokens_are =
-      is ∙ ap (λ (ts : List Token). mark_at place mark.OpenBlock ∷ ts)
-      (h.tokens_are ∙ ap (λ (ts : List Token). forms_tokens h.tree ++ ts) is_closed
-      ∙ sym (append_assoc (forms_tokens h.tree) (mark_at closing mark.CloseBlock ∷ []) new));
+  tokens_are = is ∙ ap (λ ts. mark_at place mark.OpenBlock ∷ ts) (h.tokens_are ∙ ap (λ ts. forms_tokens h.tree ++ ts) is_closed ∙ sym (append_assoc _ _ new));
   means = h.means;
   noted = h.noted;
 }
@@ -203,14 +194,12 @@ forms_of (f ∷ fs) = form f (forms_of fs)
 
 forms_push : (fs : List Form) (f : Form) → forms_tokens (forms_of (fs ++ f ∷ [])) ≡ forms_tokens (forms_of fs) ++ form_tokens f
 forms_push [] f = append-nil (form_tokens f)
-forms_push (g ∷ fs) f =
-    ap (λ (ts : List Token). form_tokens g ++ ts) (forms_push fs f) ∙ sym (append_assoc (form_tokens g) (forms_tokens (forms_of fs)) (form_tokens f))
+forms_push (g ∷ fs) f = cc (forms_push fs f, append_assoc (form_tokens g) (forms_tokens (forms_of fs)) (form_tokens f))
 
 breaches_push : (ds : List Declared) (fs : List Form) (f : Form) → forms_breaches ds (forms_of (fs ++ f ∷ [])) ≡ forms_breaches ds (forms_of fs)
     ++ form_breaches ds f
 breaches_push ds [] f = append-nil (form_breaches ds f)
-breaches_push ds (g ∷ fs) f = ap (λ (bs : List Breach). form_breaches ds g ++ bs) (breaches_push ds fs f)
-    ∙ sym (append_assoc (form_breaches ds g) (forms_breaches ds (forms_of fs)) (form_breaches ds f))
+breaches_push ds (g ∷ fs) f = cc (breaches_push ds fs f, append_assoc (form_breaches ds g) (forms_breaches ds (forms_of fs)) (form_breaches ds f))
 
 binds_push : (fs : List Form) (f : Form) → forms_bind (forms_of fs) ≡ true → form_binds f ≡ true → forms_bind (forms_of (fs ++ f ∷ [])) ≡ true
 binds_push [] f h k = both (form_binds f) true k refl
@@ -251,15 +240,12 @@ pub one_more : (ds : List Declared) (old mid new : List Token) (b1 b2 b3 : Optio
 one_more ds old mid new b1 b2 b3 body more s h k pushed = record {
   trees = h.trees ++ k.tree ∷ [];
   bound = binds_push h.trees k.tree h.bound k.bound;
-  tokens_are =
-      h.tokens_are ∙ ap (λ (ts : List Token). forms_tokens (forms_of h.trees) ++ ts) k.tokens_are
-      ∙ sym (append_assoc (forms_tokens (forms_of h.trees)) (form_tokens k.tree) new)
-      ∙ ap (λ (ts : List Token). ts ++ new) (sym (forms_push h.trees k.tree));
-  count = omega (arith, ap length pushed, h.count, length-append body (s ∷ []), length-append h.trees (k.tree ∷ []));
+  tokens_are = h.tokens_are ∙ ap (λ ts. forms_tokens (forms_of h.trees) ++ ts) k.tokens_are ∙ sym (append_assoc _ _ new)
+      ∙ ap (λ ts. ts ++ new) (sym (forms_push h.trees k.tree));
+  count = omega (arith, ap length pushed, length-append body (s ∷ []), length-append h.trees (k.tree ∷ []));
   means = ap block_in pushed ∙ means_push ds h.trees k.tree body s h.means h.count k.means;
-  noted =
-      notes_more b1 b2 b3 (forms_breaches ds (forms_of h.trees)) (form_breaches ds k.tree) h.noted k.noted
-      ∙ ap (λ (bs : List Breach). lesser_of b1 (least bs)) (sym (breaches_push ds h.trees k.tree));
+  noted = notes_more b1 b2 b3 (forms_breaches ds (forms_of h.trees)) _ h.noted k.noted
+      ∙ ap (λ bs. lesser_of b1 (least bs)) (sym (breaches_push ds h.trees k.tree));
 }
 
 pub all_read : (ds : List Declared) (old new : List Token) (best next : Option Breach) (body : List Statement) → SoFar ds old new best next body →
@@ -286,15 +272,13 @@ decls_push (e ∷ ds) d = ap (λ (ts : List Token). decl_tokens e ++ ts) (decls_
 
 decls_breaches-push : (earlier : List Declared) (ds : List Decl) (d : Decl) → decls_breaches earlier (ds ++ d ∷ []) ≡ decls_breaches earlier ds
     ++ decl_breaches (earlier ++ map declared_by ds) d
-decls_breaches-push earlier [] d =
-    append-nil (decl_breaches earlier d) ∙ ap (λ (e : List Declared). decl_breaches e d) (sym (append-nil earlier))
-decls_breaches-push earlier (e ∷ ds) d =
-    ap (λ (bs : List Breach). decl_breaches earlier e ++ bs)
-    (decls_breaches-push (earlier ++ declared_by e ∷ []) ds d ∙ ap
-    (λ (x : List Declared). decls_breaches (earlier ++ declared_by e ∷ []) ds ++ decl_breaches x d)
-    (append_assoc earlier (declared_by e ∷ []) (map declared_by ds)))
-    ∙ sym (append_assoc (decl_breaches earlier e) (decls_breaches (earlier ++ declared_by e ∷ []) ds)
-    (decl_breaches (earlier ++ declared_by e ∷ map declared_by ds) d))
+decls_breaches-push earlier [] d = cc (append-nil (decl_breaches earlier d), append-nil earlier)
+decls_breaches-push earlier (e ∷ ds) d = cc (
+  decls_breaches-push (earlier ++ declared_by e ∷ []) ds d,
+  ap (λ (x : List Declared). decls_breaches (earlier ++ declared_by e ∷ []) ds ++ decl_breaches x d) (append_assoc earlier (declared_by e ∷ [])
+      (map declared_by ds)),
+  append_assoc (decl_breaches earlier e) (decls_breaches (earlier ++ declared_by e ∷ []) ds) (decl_breaches (earlier ++ declared_by e ∷ map declared_by ds) d),
+)
 
 -- the declarations so far
 pub record DeclaredSoFar (ds : List Declared) (old new : List Token) (best next : Option Breach) : Type 0 where
@@ -310,14 +294,12 @@ pub one_declared : (before after : List Declared) (old mid new : List Token) (b1
     → ReadsDecl before after mid new b2 b3 → DeclaredSoFar after old new b1 b3
 one_declared before after old mid new b1 b2 b3 h k = record {
   trees = h.trees ++ k.tree ∷ [];
-  tokens_are =
-      h.tokens_are ∙ ap (λ (ts : List Token). decls_tokens h.trees ++ ts) k.tokens_are ∙ sym (append_assoc (decls_tokens h.trees) (decl_tokens k.tree) new)
-      ∙ ap (λ (ts : List Token). ts ++ new) (sym (decls_push h.trees k.tree));
-  declared = k.declared ∙ ap (λ (ds : List Declared). ds ++ declared_by k.tree ∷ []) h.declared ∙ sym (map_push declared_by h.trees k.tree);
-  noted =
-      notes_more b1 b2 b3 (decls_breaches [] h.trees) (decl_breaches before k.tree) h.noted k.noted
-      ∙ ap (λ (ds : List Declared). lesser_of b1 (least (decls_breaches [] h.trees ++ decl_breaches ds k.tree))) h.declared
-      ∙ ap (λ (bs : List Breach). lesser_of b1 (least bs)) (sym (decls_breaches-push [] h.trees k.tree));
+  tokens_are = h.tokens_are ∙ ap (λ ts. decls_tokens h.trees ++ ts) k.tokens_are ∙ sym (append_assoc _ _ new)
+      ∙ ap (λ ts. ts ++ new) (sym (decls_push h.trees k.tree));
+  declared = cc (k.declared, h.declared, map_push declared_by h.trees k.tree);
+  noted = notes_more b1 b2 b3 (decls_breaches [] h.trees) _ h.noted k.noted
+      ∙ ap (λ ds. lesser_of b1 (least (decls_breaches [] h.trees ++ decl_breaches ds k.tree))) h.declared
+      ∙ ap (λ bs. lesser_of b1 (least bs)) (sym (decls_breaches-push [] h.trees k.tree));
 }
 
 pub all_declared : (ds : List Declared) (old new : List Token) (best next : Option Breach) → DeclaredSoFar ds old new best next →

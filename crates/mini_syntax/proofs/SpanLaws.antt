@@ -4,20 +4,20 @@ use Rattle.std.{proofs.Common.{refl, sym, ap, ap₂, ◌∙◌, arith}, specs.Pr
 use Rattle.std.{specs.Char.{is_ascii_lowercase, is_ascii_uppercase}, specs.List.list_all, proofs.lemmas.List.length-append}
 use Rattle.std.{proofs.lemmas.Slice.Eq.bytes_eq-Decides, proofs.lemmas.Bool.and_parts}
 use Rattle.std.specs.Prelude as std
-use Rattle.stack_text.{specs.Breaches.when, specs.Names.begins_with_letter, proofs.SharedLaws.rule_fails, proofs.NumberedNameLaws.letter_passes}
-use Rattle.mini_syntax.specs.Breaches.{breaches, body_of, decls_breaches, declared_by, declared_of, variable_named, sort_named, infix_breaches, prefix_breaches}
-use Rattle.mini_syntax.specs.Breaches.{assigns_breaches, test_breaches, expression_breaches, expression_sort, expression_exp, form_breaches, block_breaches}
-use Rattle.mini_syntax.{specs.Breaches.{forms_breaches, form_stmt, block_stmt, forms_stmt}, specs.Internal.Declaring.{are_proper, is_proper}}
-use Rattle.mini_syntax.{specs.declared.mark.Mark.Mark, specs.declared.word.Word.Word, specs.declared.program.Declared.Declared, specs.declared.sort.Sort.Sort}
-use Rattle.mini_syntax.{specs.declared.sort.Sort.TheVariants.{Int, Bool}, specs.declared.operator.Prefix.Prefix, specs.declared.operator.Prefix.TheVariants.Not}
-use Rattle.mini_syntax.{specs.declared.operator.Prefix.TheVariants.Minus, specs.declared.operator.Infix.Infix, specs.declared.operator.Infix.TheVariants.Or}
-use Rattle.mini_syntax.specs.Grammar.{Expression, variable, number, truth, unary, binary, group, expression_tokens, prefix_token, Form, assign, loop, branch}
-use Rattle.mini_syntax.specs.Grammar.{Block, block, Forms, no_forms, form, Decl, InfixProgram, IsProgram, form_tokens, block_tokens, forms_tokens, decls_tokens}
-use Rattle.mini_syntax.{specs.Language.{Exp, Stmt}, specs.Lawful.{IsLawful, part_count, size_of}, specs.Internal.Limits.{FormsAreSmall, forms_blocks}}
-use Rattle.mini_syntax.{specs.Names.{is_variable_name, is_word_byte, spelling, word_named, words}, specs.Precedence.infix_token, specs.Spelled.bytes_of_all}
-use Rattle.mini_syntax.{specs.Spelled.{declared_bytes, exp_bytes, program_bytes, stmt_bytes, token_bytes}, specs.Tokens.{Token, number_at, word_at, mark_at}}
-use Rattle.mini_syntax.specs.Tokens.{Mode, after_fresh, begins, fresh, is_blank, is_pair, mark_of, mark_token, named_kind, next, longest_run, token_of, tokens}
-use Rattle.mini_syntax.{specs.Tokens.{tokens_in, word_token}, proofs.EmptyLaws.{two, three}, proofs.LawfulLaws.{name_there, rules_make_lawful}}
+use Rattle.stack_text.{specs.Names.begins_with_letter, proofs.SharedLaws.rule_fails, proofs.NumberedNameLaws.letter_passes}
+use Rattle.mini_syntax.specs.Breaches.{breaches, body_of, decls_breaches, declared_by, declared_of, variable_named, expression_breaches, expression_exp}
+use Rattle.mini_syntax.{specs.Breaches.{form_breaches, block_breaches, forms_breaches, form_stmt, block_stmt, forms_stmt}, specs.Internal.Declaring.are_proper}
+use Rattle.mini_syntax.{specs.Internal.Declaring.is_proper, specs.declared.mark.Mark.Mark, specs.declared.word.Word.Word}
+use Rattle.mini_syntax.{specs.declared.program.Declared.Declared, specs.declared.sort.Sort.Sort, specs.declared.sort.Sort.TheVariants.{Int, Bool}}
+use Rattle.mini_syntax.{specs.declared.operator.Prefix.Prefix, specs.declared.operator.Prefix.TheVariants.{Not, Minus}, specs.declared.operator.Infix.Infix}
+use Rattle.mini_syntax.{specs.declared.operator.Infix.TheVariants.Or, specs.Grammar.{Expression, variable, number, truth, unary, binary, group}}
+use Rattle.mini_syntax.specs.Grammar.{expression_tokens, prefix_token, Form, assign, loop, branch, Block, block, Forms, no_forms, form, Decl, InfixProgram}
+use Rattle.mini_syntax.{specs.Grammar.{IsProgram, form_tokens, block_tokens, forms_tokens, decls_tokens}, specs.Language.{Exp, Stmt}, specs.Lawful.IsLawful}
+use Rattle.mini_syntax.{specs.Lawful.{part_count, size_of}, specs.Internal.Limits.{FormsAreSmall, forms_blocks}, specs.Names.{is_variable_name, is_word_byte}}
+use Rattle.mini_syntax.{specs.Names.{spelling, word_named, words}, specs.Precedence.infix_token, specs.Spelled.{bytes_of_all, declared_bytes, exp_bytes}}
+use Rattle.mini_syntax.{specs.Spelled.{program_bytes, stmt_bytes, token_bytes}, specs.Tokens.{Token, number_at, word_at, mark_at, Mode, after_fresh, begins}}
+use Rattle.mini_syntax.specs.Tokens.{fresh, is_blank, is_pair, mark_of, mark_token, named_kind, next, longest_run, token_of, tokens, tokens_in, word_token}
+use Rattle.mini_syntax.{proofs.EmptyLaws.{two, three}, proofs.LawfulLaws.{name_there, rules_make_lawful}}
 use Rattle.mini_syntax.specs.declared.lexer.TokenKind.TheVariants as kind
 use Rattle.mini_syntax.specs.declared.mark.Mark.TheVariants as mark
 use Rattle.mini_syntax.specs.declared.word.Word.TheVariants as word
@@ -62,8 +62,7 @@ word_bytes at bytes = pick (nat_le (length bytes) 60) (word_named bytes) refl
     pick false o e = omega arith
 
 pub no_pair : (byte : ℕ) → is_pair (mark_of byte []) ≡ false
-no_pair byte = pick (byte == 59) (byte == 58) (byte == 60) (byte == 61) (byte == 43) (byte == 45) (byte == 42) (byte == 40) (byte == 41) (byte == 123)
-    (byte == 125)
+no_pair byte = pick _ _ _ (byte == 61) (byte == 43) _ _ _ _ _ _
   where
     pick : (a b c d e f g h i j k : std.Bool) → is_pair
         (cond a (Some mark.Semicolon) (cond b None (cond c None (cond d (Some mark.Equals) (cond e (Some mark.Plus) (cond f (Some mark.Minus)
@@ -107,11 +106,10 @@ fresh_fits at byte rest later = pick (is_blank byte) (is_ascii_alphabetic byte) 
         bytes_of_all (cond blank [] (cond letter (word_token at (longest_run is_word_byte (byte ∷ rest)) ∷ [])
         (cond digit (number_at at (longest_run is_ascii_digit (byte ∷ rest)) ∷ []) (mark_token at mk ∷ []))) ++
         tokens (cond letter mode.in_word (cond digit mode.in_number (cond (is_pair mk) mode.in_pair mode.between))) (at + 1) rest) ≤ suc (length rest)
-    pick true letter digit mk more =
-        let e = later.enough (cond letter mode.in_word (cond digit mode.in_number (cond (is_pair mk) mode.in_pair mode.between))) in omega (arith, e)
+    pick true letter digit mk more = omega arith
     pick false true digit mk more =
         let e = later.enough mode.in_word in
-        omega (arith, e, word_bytes at (longest_run is_word_byte (byte ∷ rest)), run_more is_word_byte byte rest)
+        omega (arith, word_bytes, run_more)
     pick false false true mk more = let e = later.enough mode.in_number in omega (arith, e, run_more is_ascii_digit byte rest)
     pick false false false None more = let e = later.enough mode.between in omega (arith, e)
     pick false false false (Some m) more = by_mark m more
@@ -194,8 +192,7 @@ run_all (b ∷ text) = pick (is_word_byte b) refl (run_all text)
     pick false e all = refl
 
 word_good : (at byte : ℕ) (rest : List ℕ) → is_ascii_alphabetic byte ≡ true → is_proper (word_token at (longest_run is_word_byte (byte ∷ rest))) ≡ true
-word_good at byte rest letter =
-    pick (nat_le (length (longest_run is_word_byte (byte ∷ rest))) 60) refl (word_named (longest_run is_word_byte (byte ∷ rest))) refl
+word_good at byte rest letter = pick _ refl _ refl
   where
     first : is_word_byte byte ≡ true
     first = letter_passes (is_ascii_digit byte) (is_ascii_uppercase byte) (is_ascii_lowercase byte) (byte == 95) letter
@@ -292,14 +289,13 @@ expression_spans ds (number place digits) h = record { bytes = omega arith; size
 expression_spans ds (truth place true) h = record { bytes = omega arith; size = omega arith }
 expression_spans ds (truth place false) h = record { bytes = omega arith; size = omega arith }
 expression_spans ds (unary place op e) h =
-    let k = two (expression_breaches ds e) (prefix_breaches place op (expression_sort ds e)) h in
+    let k = two _ _ h in
     let a = expression_spans ds e k.0 in
     let one = sign_bytes place op in
     record { bytes = omega (arith, a.bytes, one); size = omega (arith, a.size, one) }
 expression_spans ds (binary a place op b) h =
-    let k = three (expression_breaches ds a) (expression_breaches ds b) (infix_breaches place op (expression_sort ds a) (expression_sort ds b)) h in
-    spans_infix ds op (expression_exp ds a) (expression_exp ds b) (expression_tokens a) (expression_tokens b) (infix_token place op) (operator_bytes place op)
-    (expression_spans ds a k.0) (expression_spans ds b k.1)
+    let k = three _ _ _ h in
+    spans_infix ds op _ _ _ _ _ (operator_bytes place op) (expression_spans ds a k.0) (expression_spans ds b k.1)
 expression_spans ds (group place e closing) h =
     let a = expression_spans ds e h in
     let all = bytes_append (expression_tokens e) (mark_at closing mark.Close ∷ []) in
@@ -318,20 +314,19 @@ record BlockCovers (ds : List Declared) (b : Block) : Type 0 where
 mutual
   form_covers : (ds : List Declared) (f : Form) → form_breaches ds f ≡ [] → Covers ds (form_stmt ds f) (form_tokens f)
   form_covers ds (assign place name becomes e closing) h =
-      let k = three (when (is_none (variable_named ds name)) place 6) (expression_breaches ds e) (assigns_breaches becomes (sort_named ds name)
-      (expression_sort ds e)) h in
-      let same = ap length (name_there ds name (rule_fails (is_none (variable_named ds name)) place 6 k.0)) in
+      let k = three _ _ _ h in
+      let same = ap length (name_there ds name (rule_fails _ place 6 k.0)) in
       let a = expression_spans ds e k.1 in
       let all = bytes_append (expression_tokens e) (mark_at closing mark.Semicolon ∷ []) in
       record { bytes = omega (arith, a.bytes, all, same); count = omega (arith, a.size, all) }
   form_covers ds (loop place e b) h =
-      let k = three (expression_breaches ds e) (test_breaches place (expression_sort ds e)) (block_breaches ds b) h in
+      let k = three _ _ (block_breaches ds b) h in
       let a = expression_spans ds e k.0 in
       let c = block_covers ds b k.2 in
       let all = bytes_append (expression_tokens e) (block_tokens b) in
-      record { bytes = omega (arith, a.bytes, c.bytes, all); count = omega (arith, a.size, c.count, all) }
+      record { bytes = omega arith; count = omega arith }
   form_covers ds (branch place e b otherwise d) h =
-      let k = three (expression_breaches ds e) (test_breaches place (expression_sort ds e)) (block_breaches ds b ++ block_breaches ds d) h in
+      let k = three _ _ _ h in
       let l = two (block_breaches ds b) (block_breaches ds d) k.2 in
       let a = expression_spans ds e k.0 in
       let c = block_covers ds b l.0 in
@@ -381,7 +376,6 @@ text_is_lawful text p is few small blocks clean =
     let body = forms_cover (declared_of p) p.forms k.1 in
     let decls = decls_cover p.decls in
     record {
-      lawful = rules_make_lawful p record { names = names_are_names text p is; expressions = small; blocks = blocks } clean
-          (omega (arith, body.count, both, same, fit, few));
+      lawful = rules_make_lawful p record { names = names_are_names text p is; expressions = small; blocks = blocks } clean (omega arith);
       short = omega (arith, body.bytes, decls, both, same, fit);
     }

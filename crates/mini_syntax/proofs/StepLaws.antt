@@ -8,10 +8,10 @@ use Rattle.mini_syntax.{specs.declared.lexer.TokenKind.TokenKind, specs.declared
 use Rattle.mini_syntax.{specs.declared.operator.Prefix.TheVariants.{Not, Minus}, specs.declared.program.Declared.Declared}
 use Rattle.mini_syntax.{specs.declared.program.Statement.Statement, specs.declared.sort.Sort.Sort, specs.declared.typed.Typed.Typed, specs.Expected.a_block}
 use Rattle.mini_syntax.{specs.Expected.{at_start, expression, may_be_empty, taken, takes}, specs.Grammar.{unary, group, prefix_token, Decl, InfixProgram}}
-use Rattle.mini_syntax.specs.Grammar.{block_tokens, decl_tokens, decls_tokens, expression_tokens, form_tokens, forms_tokens, program_tokens}
-use Rattle.mini_syntax.{specs.Internal.Lexemes.{next_kind, token_seen}, specs.Names.is_variable_name, specs.Precedence.{any_level, infix_of}}
-use Rattle.mini_syntax.{specs.Internal.Phrases.{Awaits, Completes, Reads, ReadsBlock, ReadsForm, ReadsForms, factor_kind}, specs.Tokens.{Token, name_at}}
-use Rattle.mini_syntax.{specs.Tokens.{word_at, mark_at, kind_of, place_of}, proofs.AwaitLaws.{after_mark, moved, next_is_else, next_is_mark, next_is_name}}
+use Rattle.mini_syntax.{specs.Grammar.{decl_tokens, decls_tokens, expression_tokens, forms_tokens, program_tokens}, specs.Internal.Lexemes.next_kind}
+use Rattle.mini_syntax.{specs.Internal.Lexemes.token_seen, specs.Names.is_variable_name, specs.Precedence.{any_level, infix_of}, specs.Internal.Phrases.Awaits}
+use Rattle.mini_syntax.{specs.Internal.Phrases.{Completes, Reads, ReadsBlock, ReadsForm, ReadsForms, factor_kind}, specs.Tokens.{Token, name_at, word_at}}
+use Rattle.mini_syntax.{specs.Tokens.{mark_at, kind_of, place_of}, proofs.AwaitLaws.{after_mark, moved, next_is_else, next_is_mark, next_is_name}}
 use Rattle.mini_syntax.{proofs.AwaitLaws.{next_is_operand, not_over, prefix_kind, stepped}, proofs.ExpectedLaws.{block_leads, decl_leads, decls_lead, end_of}}
 use Rattle.mini_syntax.{proofs.ExpectedLaws.{form_leads, forms_leads, over_end, program_taken}, proofs.JoinLaws.unary_typed, proofs.PrecedenceLaws.none_closest}
 use Rattle.mini_syntax.{proofs.PrecedenceLaws.unary_bound, proofs.ReadingLaws.{after_expression, kind_seen, token_by_kind}}
@@ -69,19 +69,14 @@ expression_passed more {ds} {old} {new} {best} {next} {typed} a r =
 pub form_passed : {ds : List Declared} {old new : List Token} {best next : Option Breach} {statement : Statement}
     → Awaits (wants.MoreStatements ∷ []) old → ReadsForm ds old new best next statement →
     Awaits (wants.MoreStatements ∷ []) new
-form_passed {old = old} {new = new} a r = record {
-  rest = a.rest;
-  completes = moved old (form_tokens r.tree) new r.tokens_are
-      (form_leads r.tree a.rest r.bound) a.completes;
-}
+form_passed {old = old} {new = new} a r = record { rest = a.rest; completes = moved old _ new r.tokens_are (form_leads r.tree a.rest r.bound) a.completes }
 
 pub block_passed : (more : List Expected) {ds : List Declared} {old new : List Token} {best next : Option Breach} {body : List Statement}
     → Awaits (a_block more) old → ReadsBlock ds old new best next body →
     Awaits more new
 block_passed more {old = old} {new = new} a r = record {
   rest = a.rest;
-  completes = moved old (block_tokens r.tree) new r.tokens_are (block_leads r.tree
-      (more ++ a.rest) r.bound) a.completes;
+  completes = moved old _ new r.tokens_are (block_leads r.tree (more ++ a.rest) r.bound) a.completes;
 }
 
 pub forms_passed : (more : List Expected) {ds : List Declared} {old new : List Token} {best next : Option Breach} {body : List Statement}
@@ -132,12 +127,11 @@ group_read {new = new} l closing is e r closes = record {
   tree = group l.place r.tree closing;
   close = omega arith;
   bound = r.bound;
-  tokens_are =
-      is ∙ ap₂ (λ (t : Token) (ts : List Token). t ∷ ts) (token_by_kind l (kind.Mark mark.Open) e)
+  tokens_are = is ∙ ap₂ (λ (t : Token) (ts : List Token). t ∷ ts) (token_by_kind l _ e)
       (r.tokens_are ∙ ap (λ (ts : List Token). expression_tokens r.tree ++ ts) closes
       ∙ sym (append_assoc (expression_tokens r.tree) (mark_at closing mark.Close ∷ []) new));
   typed_as = record { exp_is = r.typed_as.exp_is; sort_is = r.typed_as.sort_is; noted = r.typed_as.noted };
-  ends = none_closest (infix_of (next_kind new));
+  ends = none_closest (infix_of _);
 }
 
 -- ---- declarations
@@ -164,22 +158,18 @@ pub decl_tokens_read : {old t1 t2 new : List Token} (l name : Lexeme) (sort : So
     → l.kind ≡ kind.Word (word.Sort sort) →
     t1 ≡ token_seen name ∷ t2 → name.kind ≡ kind.Name → t2 ≡ mark_at closing mark.Semicolon ∷ new →
     old ≡ decl_tokens record { start = l.place; sort = sort; place = name.place; name = name.bytes.now; closing = closing } ++ new
-decl_tokens_read l name sort closing is1 k1 is2 k2 is3 =
-    is1 ∙ ap₂ (λ (t : Token) (ts : List Token). t ∷ ts) (token_by_kind l (kind.Word (word.Sort sort)) k1)
-    (is2 ∙ ap₂ (λ (t : Token) (ts : List Token). t ∷ ts) (token_by_kind name kind.Name k2) is3)
+decl_tokens_read l name sort closing is1 k1 is2 k2 is3 = cc
 
 -- what a declaration breaks
 pub decl_noted : (ds : List Declared) (d : Decl) (b1 b2 b3 : Option Breach) → Notes b1 (when (is_some (variable_named ds d.name)) d.place 5) b2
     → Notes b2 (when (length ds == 100) d.place 9) b3 →
     Notes b1 (decl_breaches ds d) b3
-decl_noted ds d b1 b2 b3 first second =
-    notes_more b1 b2 b3 (when (is_some (variable_named ds d.name)) d.place 5) (when (length ds == 100) d.place 9) first second
+decl_noted ds d b1 b2 b3 first second = notes_more b1 b2 b3 (when (is_some (variable_named ds d.name)) d.place 5) _ first second
 
 pub decl_passed : {before after : List Declared} {old new : List Token} {best next : Option Breach} → Awaits (wants.MoreDeclarations ∷ []) old
     → ReadsDecl before after old new best next →
     Awaits (wants.MoreDeclarations ∷ []) new
-decl_passed {old = old} {new = new} a r =
-    record { rest = a.rest; completes = moved old (decl_tokens r.tree) new r.tokens_are (decl_leads r.tree a.rest) a.completes }
+decl_passed {old = old} {new = new} a r = record { rest = a.rest; completes = moved old _ new r.tokens_are (decl_leads r.tree a.rest) a.completes }
 
 -- ---- programs
 
@@ -190,8 +180,7 @@ program_completes ts p e = record { last = end_of p.forms; taken_is = ap (taken 
 -- after the declarations, statements are awaited, and after them nothing
 pub decls_passed : {ds : List Declared} {old new : List Token} {best next : Option Breach} → Completes at_start old → ReadsDecls ds old new best next
     → Completes (wants.MoreStatements ∷ []) new
-decls_passed {old = old} {new = new} c r =
-    r.ends (wants.MoreStatements ∷ []) (moved old (decls_tokens r.trees) new r.tokens_are (decls_lead r.trees (wants.MoreStatements ∷ [])) c)
+decls_passed {old = old} {new = new} c r = r.ends _ (moved old (decls_tokens r.trees) new r.tokens_are (decls_lead r.trees (wants.MoreStatements ∷ [])) c)
 
 pub all_passed : {ds : List Declared} {old new : List Token} {best next : Option Breach} {body : List Statement}
     → Completes (wants.MoreStatements ∷ []) old → ReadsForms ds old new best next body → Completes [] new

@@ -103,9 +103,7 @@ module _ (before : List Token) (t : Token) (st : List Expected) (is : taken (Som
   by_taken : is_wrong (kind_of t) ≡ false → (o : Option (List Expected)) → takes st (kind_of t) ≡ o → Judged before t
   by_taken right None none =
       breaks 2 (no_program t (not_taken (before ++ t ∷ []) (taken_one before t st is ∙ none))) (λ rule k. at_least_two right rule (broken before t rule k))
-  by_taken right (Some new) some =
-      by_limits right new some (is_full (opens_bracket (kind_of t)) (open_brackets before)) (is_full (opens_block (kind_of t)) (open_blocks before))
-      (is_full (is_operator (kind_of t)) (operators before)) refl refl refl
+  by_taken right (Some new) some = by_limits right new some _ _ _ refl refl refl
 
   judge : Judged before t
   judge = by_wrong (is_wrong (kind_of t)) refl

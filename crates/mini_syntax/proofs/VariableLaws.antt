@@ -1,7 +1,6 @@
 -- A variable's name is a name of the other languages.
-use Rattle.std.{proofs.Common.{◌≡◌, ℕ, ◌≤◌, List, [], ◌∷◌, length, bytes_eq, true, false, cond, Some, None, is_none, refl, ap₂, arith}, specs.Prelude.codes}
-use Rattle.std.{specs.Prelude.{◌||◌, ◌&&◌, ◌==◌, nat_le, IsTrue}, specs.Char.is_ascii_alphanumeric, specs.List.list_all, proofs.lemmas.Bool.{le-leb, leb-true}}
-use Rattle.std.proofs.lemmas.Bool.{and_parts}
+use Rattle.std.{proofs.Common.{◌≡◌, ℕ, ◌≤◌, List, [], ◌∷◌, length, true, false, cond, Some, None, is_none, refl, ap₂, arith}, specs.Prelude.{codes, ◌||◌, ◌&&◌}}
+use Rattle.std.{specs.Prelude.{◌==◌, nat_le, IsTrue}, specs.Char.is_ascii_alphanumeric, specs.List.list_all, proofs.lemmas.Bool.{le-leb, leb-true, and_parts}}
 use Rattle.std.specs.Prelude as std
 use Rattle.stack_text.specs.Names.{is_name, is_name_byte, begins_with_letter, is_truth_word, name_of}
 use Rattle.mini_syntax.{specs.declared.sort.Sort.TheVariants.{Int, Bool}, specs.Names.{is_variable_name, is_word_byte, word_named}}
@@ -21,11 +20,7 @@ word_bytes (b ∷ bytes) e =
     ap₂ (λ (x y : std.Bool). x && y) first (word_bytes bytes k.1)
 
 no_truth : (bytes : List ℕ) → is_none (word_named bytes) ≡ true → is_truth_word bytes ≡ false
-no_truth bytes e =
-    pick (bytes_eq bytes (codes "int")) (bytes_eq bytes (codes "bool")) (bytes_eq bytes (codes "while")) (bytes_eq bytes (codes "if"))
-    (bytes_eq bytes (codes "else"))
-    (bytes_eq bytes (codes "or")) (bytes_eq bytes (codes "and")) (bytes_eq bytes (codes "not")) (bytes_eq bytes (codes "true"))
-    (bytes_eq bytes (codes "false")) e
+no_truth bytes e = pick _ _ _ _ _ _ _ _ _ _ e
   where
     pick : (a b c d e f g h i j : std.Bool) → is_none
         (cond a (Some (word.Sort Int)) (cond b (Some (word.Sort Bool)) (cond c (Some word.While) (cond d (Some word.If) (cond e (Some word.Else)

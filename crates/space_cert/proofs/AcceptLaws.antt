@@ -1,6 +1,6 @@
 -- What the code judges is whether the certificate covers the source.
 use Rattle.std.proofs.Common.{◌≡◌, ℕ, zero, suc, ◌+◌, ◌<◌, ◌≤◌, nat_le, cond, slice_get, List, [], ◌∷◌, ◌++◌, map, length, get_or, Bool, true, false, ◌&&◌}
-use Rattle.std.{proofs.Common.{◌==◌, Option, Some, None, inl, inr, refl, ap, sym, ◌∙◌, subst, arith, eq-eqb, leb-true}, proofs.lemmas.Bool.{and_parts, le-leb}}
+use Rattle.std.{proofs.Common.{Option, Some, None, inl, inr, refl, ap, sym, ◌∙◌, subst, arith, eq-eqb, leb-true}, proofs.lemmas.Bool.{and_parts, le-leb}}
 use Rattle.std.{proofs.lemmas.Bool.{eqb-true, cases_lt, false_from_ne_true, and_from}, proofs.lemmas.List.{length-map, get_or_past}}
 use Rattle.std.{proofs.lemmas.List.Elements.{All-nil, All-cons, All-head, All-tail}, specs.List.All, specs.Option.{IsSome, IsSomeAnd, option_map, unwrap_or}}
 use Rattle.stack_text.specs.Values.{ValueOf}
@@ -42,14 +42,10 @@ past_none bs p b e = elim (cases_lt p (length bs)) [ inl h ↦ h | inr h ↦ abs
 
 module _ (q : Program) (ns : List Need) (needs : AreNeeds q ns) (fits : ProgramFits q) (bs : Bounds) where
   call_true : (b : StackSizes) (r : ℕ) → r < length q.procs → covers_call ns bs b r ≡ true → CoversCall q bs b r
-  call_true b r lt e =
-      some_true (bound_at bs r) (λ d. suffice (call_bound_by (need_at ns r) d) b) (λ d. IsAtMost (call_bound q r d) b)
-      (λ d i. at_most_true (call_bound q r d) b (subst (λ n. suffice (call_bound_by n d) b ≡ true) (needs.each r lt) i)) e
+  call_true b r lt e = some_true _ _ _ (λ d i. at_most_true (call_bound q r d) b (subst (λ n. suffice (call_bound_by n d) b ≡ true) (needs.each r lt) i)) e
 
   call_is : (b : StackSizes) (r : ℕ) → r < length q.procs → CoversCall q bs b r → covers_call ns bs b r ≡ true
-  call_is b r lt h =
-      some_is_true (bound_at bs r) (λ d. suffice (call_bound_by (need_at ns r) d) b) (λ d. IsAtMost (call_bound q r d) b)
-      (λ d i. subst (λ n. suffice (call_bound_by n d) b ≡ true) (sym (needs.each r lt)) (at_most_is (call_bound q r d) b i)) h
+  call_is b r lt h = some_is_true _ _ _ (λ d i. subst (λ n. suffice (call_bound_by n d) b ≡ true) (sym (needs.each r lt)) (at_most_is (call_bound q r d) b i)) h
 
   calls_true : (b : StackSizes) (ps : List ℕ) → All (λ r. r < length q.procs) ps → covers_calls ns bs b ps ≡ true → All (CoversCall q bs b) ps
   calls_true b [] lt e = All-nil (CoversCall q bs b)
@@ -60,9 +56,7 @@ module _ (q : Program) (ns : List Need) (needs : AreNeeds q ns) (fits : ProgramF
 
   calls_is : (b : StackSizes) (ps : List ℕ) → All (λ r. r < length q.procs) ps → All (CoversCall q bs b) ps → covers_calls ns bs b ps ≡ true
   calls_is b [] lt h = refl
-  calls_is b (r ∷ ps) lt h =
-      and_from (covers_call ns bs b r) (covers_calls ns bs b ps)
-      (call_is b r (All-head (λ x. x < length q.procs) r ps lt) (All-head (CoversCall q bs b) r ps h))
+  calls_is b (r ∷ ps) lt h = and_from _ _ (call_is b r (All-head (λ x. x < length q.procs) r ps lt) (All-head (CoversCall q bs b) r ps h))
       (calls_is b ps (All-tail (λ x. x < length q.procs) r ps lt) (All-tail (CoversCall q bs b) r ps h))
 
   run_true : (p : ℕ) (b : StackSizes) → p < length q.procs → covers_run ns bs (need_at ns p) (calls_of q p) (Some b) ≡ true → CoversRun q bs p b
@@ -76,8 +70,7 @@ module _ (q : Program) (ns : List Need) (needs : AreNeeds q ns) (fits : ProgramF
   run_is : (p : ℕ) (o : Option StackSizes) → p < length q.procs → ((b : StackSizes) → o ≡ Some b → CoversRun q bs p b)
       → covers_run ns bs (need_at ns p) (calls_of q p) o ≡ true
   run_is p None lt h = refl
-  run_is p (Some b) lt h =
-      and_from (suffice (stack_sizes (need_at ns p).ctrl (need_at ns p).temp) b) (covers_calls ns bs b (calls_of q p))
+  run_is p (Some b) lt h = and_from _ _
       (subst (λ (n : Need). suffice (stack_sizes n.ctrl n.temp) b ≡ true) (sym (needs.each p lt)) (at_most_is (own_need (proc_at q p)) b (h b refl).own))
       (calls_is b (calls_of q p) (calls_below q fits p) (h b refl).calls)
 
@@ -86,13 +79,11 @@ module _ (q : Program) (ns : List Need) (needs : AreNeeds q ns) (fits : ProgramF
   from_true [] k i e lt = absurd (omega (arith, lt))
   from_true (ps ∷ calls) k zero e lt =
       let first : k ≡ k + 0 = omega arith in
-      subst (λ j. covers_run ns bs (need_at ns j) ps (bound_at bs j) ≡ true) first
-      (and_parts (covers_run ns bs (need_at ns k) ps (bound_at bs k)) (covers_from ns bs (k + 1) calls) e).0
+      subst (λ j. covers_run ns bs (need_at ns j) ps (bound_at bs j) ≡ true) first (and_parts _ _ e).0
   from_true (ps ∷ calls) k (suc i) e lt =
       let next : (k + 1) + i ≡ k + suc i = omega arith in
       subst (λ j. covers_run ns bs (need_at ns j) (get_or calls i []) (bound_at bs j) ≡ true) next
-      (from_true calls (k + 1) i (and_parts (covers_run ns bs (need_at ns k) ps (bound_at bs k)) (covers_from ns bs (k + 1) calls) e).1
-      (omega (arith, lt)))
+      (from_true calls (k + 1) i (and_parts (covers_run ns bs (need_at ns k) ps (bound_at bs k)) (covers_from ns bs (k + 1) calls) e).1 (omega arith))
 
   from_is : (calls : List (List ℕ)) (k : ℕ)
       → ((i : ℕ) → i < length calls → covers_run ns bs (need_at ns (k + i)) (get_or calls i []) (bound_at bs (k + i)) ≡ true)
@@ -100,10 +91,9 @@ module _ (q : Program) (ns : List Need) (needs : AreNeeds q ns) (fits : ProgramF
   from_is [] k h = refl
   from_is (ps ∷ calls) k h =
       let first : k + 0 ≡ k = omega arith in
-      and_from (covers_run ns bs (need_at ns k) ps (bound_at bs k)) (covers_from ns bs (k + 1) calls)
-      (subst (λ j. covers_run ns bs (need_at ns j) ps (bound_at bs j) ≡ true) first (h 0 (omega arith)))
+      and_from _ _ (subst (λ j. covers_run ns bs (need_at ns j) ps (bound_at bs j) ≡ true) first (h 0 (omega arith)))
       (from_is calls (k + 1) (λ i lt. subst (λ j. covers_run ns bs (need_at ns j) (get_or calls i []) (bound_at bs j) ≡ true) (shift k i)
-      (h (suc i) (omega (arith, lt)))))
+      (h (suc i) (omega arith))))
     where
       shift : (k i : ℕ) → k + suc i ≡ (k + 1) + i
       shift k i = omega arith
@@ -113,24 +103,23 @@ module _ (q : Program) (ns : List Need) (needs : AreNeeds q ns) (fits : ProgramF
 
   pub covers_true : (sizes : StackSizes) → covers ns bs (main_used q) sizes q.main (body_calls q) ≡ true → Covers q bs sizes
   covers_true sizes e =
-      let k = and_parts (length bs == length (body_calls q)) (covers_main (main_used q) sizes (bound_at bs q.main) && covers_from ns bs 0 (body_calls q)) e in
-      let j = and_parts (covers_main (main_used q) sizes (bound_at bs q.main)) (covers_from ns bs 0 (body_calls q)) k.1 in
-      let number : length bs ≡ length q.procs = eqb-true (length bs) (length (body_calls q)) k.0 ∙ many in
-      let main = some_true (bound_at bs q.main) (λ b. suffice (words_sum (main_used q) b) sizes) (λ b. IsAtMost (words_sum (main_used q) b) sizes)
-      (λ b i. at_most_true (words_sum (main_used q) b) sizes i) j.0 in
+      let k = and_parts _ _ e in
+      let j = and_parts _ _ k.1 in
+      let number : length bs ≡ length q.procs = eqb-true (length bs) _ k.0 ∙ many in
+      let main = some_true _ _ _ (λ b i. at_most_true (words_sum (main_used q) b) sizes i) j.0 in
       record {
         certificate = record {
           number = number;
-          main = some_there (bound_at bs q.main) (λ b. IsAtMost (words_sum (main_used q) b) sizes) main;
+          main = some_there _ _ main;
           each = λ p b i.
-              let lt : p < length q.procs = omega (arith, past_none bs p b i, number) in
+              let lt : p < length q.procs = omega (arith, past_none) in
               let zero_add : 0 + p ≡ p = omega arith in
               let run = subst (λ x. covers_run ns bs (need_at ns x) (get_or (body_calls q) p []) (bound_at bs x) ≡ true) zero_add
               (from_true (body_calls q) 0 p j.1 (omega (arith, lt, many))) in
               run_true p b lt (subst (λ o. covers_run ns bs (need_at ns p) (calls_of q p) o ≡ true) i
               (subst (λ x. covers_run ns bs (need_at ns p) x (bound_at bs p) ≡ true) (calls_same q.procs p) run));
         };
-        within = main_enough (bound_at bs q.main) main;
+        within = main_enough _ main;
       }
     where
       main_enough : (o : Option StackSizes) → IsSomeAnd o (λ d. IsAtMost (words_sum (main_used q) d) sizes)
@@ -139,12 +128,8 @@ module _ (q : Program) (ns : List Need) (needs : AreNeeds q ns) (fits : ProgramF
       main_enough (Some d) h = h
 
   pub covers_is : (sizes : StackSizes) → Covers q bs sizes → covers ns bs (main_used q) sizes q.main (body_calls q) ≡ true
-  covers_is sizes h =
-      and_from (length bs == length (body_calls q)) (covers_main (main_used q) sizes (bound_at bs q.main) && covers_from ns bs 0 (body_calls q))
-      (eq-eqb (length bs) (length (body_calls q)) (h.certificate.number ∙ sym many))
-      (and_from (covers_main (main_used q) sizes (bound_at bs q.main)) (covers_from ns bs 0 (body_calls q))
-      (main (bound_at bs q.main) refl h.certificate.main)
-      (from_is (body_calls q) 0 (λ i lt.
+  covers_is sizes h = and_from _ _ (eq-eqb (length bs) (length (body_calls q)) (h.certificate.number ∙ sym many))
+      (and_from _ _ (main (bound_at bs q.main) refl h.certificate.main) (from_is (body_calls q) 0 (λ i lt.
       let zero_add : i ≡ 0 + i = omega arith in
       subst (λ x. covers_run ns bs (need_at ns x) (get_or (body_calls q) i []) (bound_at bs x) ≡ true) zero_add
       (subst (λ x. covers_run ns bs (need_at ns i) x (bound_at bs i) ≡ true) (sym (calls_same q.procs i))
@@ -166,10 +151,7 @@ needs_many q zero k = refl
 needs_many q (suc n) k = let rest = needs_many q n (k + 1) in omega (arith, rest)
 
 are_needs : (q : Program) → AreNeeds q (needs_from q (length q.procs) 0)
-are_needs q = record {
-  number = needs_many q (length q.procs) 0;
-  each = λ p lt. needs_at q (length q.procs) 0 p lt ∙ ap (need_of q) (zero_plus p);
-}
+are_needs q = record { number = needs_many q _ 0; each = λ p lt. needs_at q _ 0 p lt ∙ ap (need_of q) (zero_plus p) }
   where
     zero_plus : (p : ℕ) → 0 + p ≡ p
     zero_plus p = omega arith
@@ -178,10 +160,7 @@ are_needs q = record {
 pub covered_is : (q : Program) → ProgramFits q → (bs : Bounds) (sizes : StackSizes) → (is_covered q bs sizes ≡ true → Covers q bs sizes)
     × (Covers q bs sizes → is_covered q bs sizes ≡ true)
 unfolding is_covered
-covered_is q fits bs sizes = (
-  λ t. covers_true q (needs_from q (length q.procs) 0) (are_needs q) fits bs sizes t,
-  λ h. covers_is q (needs_from q (length q.procs) 0) (are_needs q) fits bs sizes h,
-)
+covered_is q fits bs sizes = (λ t. covers_true q _ (are_needs q) fits bs sizes t, λ h. covers_is q _ (are_needs q) fits bs sizes h)
 
 -- what is judged so is judged as the program has it
 pub is_covered_by : (q : Program) → ProgramFits q → (bs : Bounds) (sizes : StackSizes) (b : Bool) → (b ≡ true → Covers q bs sizes)
@@ -233,9 +212,7 @@ module _ (s : SourceOf) (ns : List Need) (needs : AreNeeds (program_of s) ns) (f
       ∙ ap (λ n. stack_sizes (frame_of p) n) (sym (words_of-append p.formals (map (λ (v : ValueOf). v.shape) p.locals)))
 
 pub formals_small : (s : SourceOf) → ProgramFits (program_of s) → words_of (proc_at (program_of s) (program_of s).main).formals ≤ 65536
-formals_small s fits =
-    let p = proc_at (program_of s) (program_of s).main in
-    omega (arith, (fits.procs (program_of s).main).words, words_of-append p.formals (map (λ (v : ValueOf). v.shape) p.locals))
+formals_small s fits = omega (arith, (fits.procs (program_of s).main).words, words_of-append)
 
 -- a procedure of the source, as it is looked up
 pub formals_at : (s : SourceOf) (procs : List TextProc) (i : ℕ) (p : TextProc) → slice_get procs i ≡ Some p

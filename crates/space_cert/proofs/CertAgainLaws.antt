@@ -1,14 +1,13 @@
 -- The least certificate of a source is read again.
-use Rattle.std.proofs.Common.{◌≡◌, ◌≤◌, ◌+◌, ◌*◌, ◌^◌, ℕ, zero, suc, max, Bool, true, false, if◌then◌else◌, Option, Some, None, Result, Ok, length, refl, sym}
-use Rattle.std.{proofs.Common.{ap, ◌∙◌, subst, arith}, proofs.lemmas.Bool.{le-leb, and_from}, proofs.lemmas.List.length-map, specs.Result.MatchResult}
+use Rattle.std.proofs.Common.{◌≡◌, ◌≤◌, ◌+◌, ◌*◌, ◌^◌, ℕ, zero, suc, max, Bool, true, false, if◌then◌else◌, Option, Some, None, Ok, length, refl, sym, ◌∙◌}
+use Rattle.std.{proofs.Common.{subst, arith}, proofs.lemmas.Bool.{le-leb, and_from}, proofs.lemmas.List.length-map, specs.Result.MatchResult}
 use Rattle.gypsy_syntax.{specs.Predefined.{predef_temp, predef_ctrl}, specs.Programs.{Program, proc_at}, specs.ProgramFits.ProgramFits}
-use Rattle.gypsy_syntax.{specs.Resolved.{procedure_names, procedure_of, program_of}, specs.Sources.ProcOf, proofs.PredefLaws.{low_temp, low_ctrl}}
-use Rattle.gypsy_space.{specs.Needs.{StackSizes, stack_sizes, local_words, vars_of}, proofs.SmallLaws.greatest_within}
+use Rattle.gypsy_syntax.{specs.Resolved.{procedure_names, program_of}, proofs.PredefLaws.{low_temp, low_ctrl}}
+use Rattle.gypsy_space.{specs.Needs.{StackSizes, stack_sizes}, proofs.SmallLaws.greatest_within}
 use Rattle.space_cert.{specs.Bounded.{is_bound, are_bounds}, specs.CertAgain.CertificatesAreReadAgain, specs.Certified.{is_reached, is_recursive, first_from}}
 use Rattle.space_cert.{specs.Certified.{run_within, least_bound, bounds_from, unless_recursive, certified}, specs.Covers.{Bounds, IsAtMost, own_need}}
-use Rattle.space_cert.{specs.Covers.call_bound, specs.Least.{AreLeastBounds, IsFirstRecursive}, specs.Reaches.calls_of, proofs.CertifiedLaws.greatest_least}
-use Rattle.space_cert.{proofs.CertifiedLaws.certified_is, proofs.CertifyLaws.small_words, proofs.NameLaws.{own_names, are_names, few_names}}
-use Rattle.space_cert.proofs.ReadAgainLaws.{printed_short, printed_reads}
+use Rattle.space_cert.{specs.Covers.call_bound, specs.Least.{AreLeastBounds, IsFirstRecursive}, proofs.CertifiedLaws.{greatest_least, certified_is}}
+use Rattle.space_cert.{proofs.CertifyLaws.small_words, proofs.NameLaws.{own_names, are_names, few_names}, proofs.ReadAgainLaws.{printed_short, printed_reads}}
 
 -- 1. No bound is large.
 
@@ -25,11 +24,8 @@ module _ (q : Program) (fits : ProgramFits q) where
 
   call_small : (p k : ℕ) (d : StackSizes) → IsAtMost d (limit k) → IsAtMost (call_bound q p d) (limit (suc k))
   call_small p k d h =
-      let words = small_words q (proc_at q p) (fits.procs p) in
-      record {
-        temp = more (local_words (proc_at q p)) (vars_of (proc_at q p)) d.temp k words h.temp;
-        ctrl = under (local_words (proc_at q p)) (vars_of (proc_at q p)) d.ctrl k words h.ctrl;
-      }
+      let words = small_words q _ (fits.procs p) in
+      record { temp = more _ _ d.temp k words h.temp; ctrl = under _ _ d.ctrl k words h.ctrl }
     where
       more : (l v d k : ℕ) → l + v ≤ 131072 → d ≤ k * 262144 → max (l + v) (l + d) ≤ suc k * 262144
       more l v d k h g = omega (arith, h, g)
@@ -40,9 +36,7 @@ module _ (q : Program) (fits : ProgramFits q) where
   run_small : (k p : ℕ) → IsAtMost (run_within q k p) (limit k)
   unfolding run_within
   run_small zero p = record { temp = omega arith; ctrl = omega arith }
-  run_small (suc k) p =
-      greatest_least q (run_within q k) (calls_of q p) (own_need (proc_at q p)) (limit (suc k)) (own_small p k)
-      (λ r there. call_small r k (run_within q k r) (run_small k r))
+  run_small (suc k) p = greatest_least q _ _ _ _ (own_small p k) (λ r there. call_small r k (run_within q k r) (run_small k r))
 
   module _ (few : length q.procs ≤ 1000) where
     one_small : (p : ℕ) → is_bound (least_bound q p) ≡ true
@@ -72,11 +66,10 @@ certificates_again source bs accepted is =
     let q : Program = program_of source in
     let names = procedure_names source in
     let named = few_names source accepted.form in
-    let same : length q.procs ≡ length names = length-map source.procs (procedure_of source) ∙ sym (length-map source.procs (λ (p : ProcOf). p.name.name)) in
-    let few : length q.procs ≤ 1000 = omega (arith, same, named) in
-    let small : are_bounds bs ≡ true = ap are_bounds (sym (computed q bs is)) ∙ all_small q accepted.fits few (length q.procs) 0 in
-    let least : AreLeastBounds q bs =
-    subst (λ (r : Result Bounds ℕ). MatchResult r (AreLeastBounds q) (IsFirstRecursive q)) is (certified_is q accepted.fits) in
+    let same : length q.procs ≡ length names = length-map source.procs _ ∙ sym (length-map source.procs _) in
+    let few : length q.procs ≤ 1000 = omega arith in
+    let small : are_bounds bs ≡ true = cc (computed q bs is, all_small q accepted.fits few (length q.procs) 0) in
+    let least : AreLeastBounds q bs = subst (λ r. MatchResult r (AreLeastBounds q) (IsFirstRecursive q)) is (certified_is q accepted.fits) in
     record {
       short = printed_short names bs (are_names source accepted.form) named small;
       again = printed_reads names bs (are_names source accepted.form) named small (own_names source accepted.rules) (least.certificate.number ∙ same);

@@ -9,7 +9,7 @@ use Rattle.gypsy_space.specs.Needs.{StackSizes, stack_sizes}
 use Rattle.space_cert.{specs.declared.certificate.Certificate.Certificate, specs.declared.certifying.CertFault.CertFault}
 use Rattle.space_cert.{specs.declared.certifying.CertFault.TheVariants.{Recursive, Memory}, specs.Covers.{Bounds, as_words, bound_at, IsAtMost, own_need}}
 use Rattle.space_cert.{specs.Covers.{call_bound, CoversCall, CoversRun, IsCertificate}, specs.Reaches.{Directly, Further, calls_of, IsReached, IsRecursive}}
-use Rattle.space_cert.{specs.Least.{AreLeastBounds, IsFirstRecursive, IsCertFaultUnless, IsThere}, specs.Order.{greater, call_words, greatest_call, run_bound}}
+use Rattle.space_cert.{specs.Least.{AreLeastBounds, IsFirstRecursive, IsCertFaultUnless, IsThere}, specs.Order.{greatest_call, run_bound}}
 use Rattle.space_cert.specs.Certified.{reaches, is_reached, is_recursive, first_from, greatest_taken, run_within, least_bound, bounds_from, unless_recursive}
 use Rattle.space_cert.{specs.Certified.{certified, recursive_of, GivesCertifiedUnless}, proofs.ContainsLaws.{contains_first, contains_later}}
 use Rattle.space_cert.{proofs.ReachLaws.{reached_by, computed_reached, reached_below, reached_computed}, proofs.LeastLaws.{greater_least, more_taken}}
@@ -28,14 +28,13 @@ first_found test zero k r h = absurd cc
 first_found test (suc n) k r h = by_test (test k) refl h (first_found test n (k + 1) r)
   where
     later : (s : ℕ) → test k ≡ false → FirstFrom test (k + 1) r → k ≤ s → s < r → test s ≡ false
-    later s none first le lt =
-        elim (cases_eq k s) [ inl e ↦ subst (λ x. test x ≡ false) e none | inr d ↦ first.earlier s (omega (arith, le, d)) lt ]
+    later s none first le lt = elim (cases_eq k s) [ inl e ↦ subst (λ x. test x ≡ false) e none | inr d ↦ first.earlier s (omega arith) lt ]
 
     by_test : (t : Bool) → test k ≡ t → (if t then Some k else first_from test n (k + 1)) ≡ Some r
         → (first_from test n (k + 1) ≡ Some r → FirstFrom test (k + 1) r) → FirstFrom test k r
     by_test true is h rest =
         let same : k ≡ r = ap (λ o. unwrap_or o k) h in
-        record { passes = subst (λ x. test x ≡ true) same is; earlier = λ s le lt. absurd (omega (arith, le, lt, same)) }
+        record { passes = subst (λ x. test x ≡ true) same is; earlier = λ s le lt. absurd (omega arith) }
     by_test false is h rest = let first = rest h in record { passes = first.passes; earlier = λ s le lt. later s is first le lt }
 
 none_found : (test : ℕ → Bool) (n k : ℕ) → first_from test n k ≡ None → (s : ℕ) → k ≤ s → s < k + n → test s ≡ false
@@ -46,8 +45,7 @@ none_found test (suc n) k h s le lt = by_test (test k) refl h (none_found test n
     by_test : (t : Bool) → test k ≡ t → (if t then Some k else first_from test n (k + 1)) ≡ None
         → (first_from test n (k + 1) ≡ None → (s : ℕ) → k + 1 ≤ s → s < k + 1 + n → test s ≡ false) → test s ≡ false
     by_test true is h rest = absurd cc
-    by_test false is h rest =
-        elim (cases_eq k s) [ inl e ↦ subst (λ x. test x ≡ false) e is | inr d ↦ rest h s (omega (arith, le, d)) (omega (arith, lt)) ]
+    by_test false is h rest = elim (cases_eq k s) [ inl e ↦ subst (λ x. test x ≡ false) e is | inr d ↦ rest h s (omega arith) (omega arith) ]
 
 not_both : true ≡ false → ⊥
 not_both k = cc
@@ -98,24 +96,19 @@ module _ (q : Program) where
       → greatest_taken q f ps w ≡ greatest_taken q g ps w
   unfolding greatest_taken
   greatest_equal f g [] w h = refl
-  greatest_equal f g (p ∷ ps) w h =
-      ap (λ v. greatest_taken q f ps (greater w (call_bound q p v))) (h p (contains_first p ps))
-      ∙ greatest_equal f g ps (greater w (call_bound q p (g p))) (λ r k. h r (contains_later p ps r k))
+  greatest_equal f g (p ∷ ps) w h = cc (h p (contains_first p ps), greatest_equal f g ps _ (λ r k. h r (contains_later p ps r k)))
 
   greatest_same : (taken : ℕ → StackSizes) (bs : Bounds) (ps : List ℕ) (w : StackSizes)
       → ((r : ℕ) → Contains ps r → taken r ≡ unwrap_or (bound_at bs r) (stack_sizes 0 0)) → greatest_taken q taken ps w ≡ greatest_call q bs ps w
   unfolding greatest_taken
   greatest_same taken bs [] w h = refl
-  greatest_same taken bs (p ∷ ps) w h =
-      ap (λ v. greatest_taken q taken ps (greater w (call_bound q p v))) (h p (contains_first p ps))
-      ∙ greatest_same taken bs ps (greater w (call_words q bs p)) (λ r k. h r (contains_later p ps r k))
+  greatest_same taken bs (p ∷ ps) w h = cc (h p (contains_first p ps), greatest_same taken bs ps _ (λ r k. h r (contains_later p ps r k)))
 
   pub greatest_least : (taken : ℕ → StackSizes) (ps : List ℕ) (w v : StackSizes) → IsAtMost w v
       → ((r : ℕ) → Contains ps r → IsAtMost (call_bound q r (taken r)) v) → IsAtMost (greatest_taken q taken ps w) v
   unfolding greatest_taken
   greatest_least taken [] w v h each = h
-  greatest_least taken (p ∷ ps) w v h each =
-      greatest_least taken ps (greater w (call_bound q p (taken p))) v (greater_least h (each p (contains_first p ps)))
+  greatest_least taken (p ∷ ps) w v h each = greatest_least taken ps _ v (greater_least h (each p (contains_first p ps)))
       (λ r k. each r (contains_later p ps r k))
 
   -- no certificate has less, however deep calls are followed
@@ -331,8 +324,7 @@ same_bounds (b ∷ bs) (d ∷ ds) e h =
     λ i. first i ∷ rest i
 
 least_one : (q : Program) (bs ds : Bounds) → AreLeastBounds q bs → AreLeastBounds q ds → bs ≡ ds
-least_one q bs ds h g =
-    same_bounds bs ds (h.certificate.number ∙ sym g.certificate.number)
+least_one q bs ds h g = same_bounds bs ds (h.certificate.number ∙ sym g.certificate.number)
     (λ p. one (get_or bs p None) (get_or ds p None) (λ b e. lower bs ds h g.certificate p b e) (λ d e. lower ds bs g h.certificate p d e) refl refl)
   where
     lower : (bs ds : Bounds) → AreLeastBounds q bs → IsCertificate q ds → (p : ℕ) (b : ℕ × ℕ) → get_or bs p None ≡ Some b
@@ -347,8 +339,8 @@ least_one q bs ds h g =
     one (Some b) (Some d) below above k l =
         let down = below b refl in
         let up = above d refl in
-        let temp : b.0 ≡ d.0 = omega (arith, down.temp, up.temp) in
-        let ctrl : b.1 ≡ d.1 = omega (arith, down.ctrl, up.ctrl) in
+        let temp : b.0 ≡ d.0 = omega arith in
+        let ctrl : b.1 ≡ d.1 = omega arith in
         λ i. Some (temp i, ctrl i)
 
 -- what the code finds is what is computed
@@ -366,8 +358,7 @@ certified_gives R q fits r h = by_both (certified q) (certified_is q fits) r h
     by_both (Err p) g (Err (Recursive r)) h =
         let same : p ≡ r = elim (cases_lt p r) [
           | inl lt ↦ absurd (h.first p lt g.recursive)
-          | inr le ↦
-              elim (cases_lt r p) [ inl lt ↦ absurd (g.first r lt h.recursive) | inr le' ↦ omega (arith, le, le') ]
+          | inr le ↦ elim (cases_lt r p) [ inl lt ↦ absurd (g.first r lt h.recursive) | inr le' ↦ omega arith ]
         ] in
         ap (λ x. Err x) same
     by_both (Ok bs) g (Err Memory) h = h

@@ -12,7 +12,7 @@ use Rattle.gypsy_space.{specs.Needs.{StackSizes, stack_sizes, local_words, vars_
 use Rattle.gypsy_space.proofs.SmallLaws.{words_of-append, length-words_of, greatest_within}
 use Rattle.space_cert.{specs.Covers.{Bounds, no_bounds, bound_at, IsAtMost, callees, own_need, call_bound}, specs.Reaches.{Reaches, Directly, Further, Leads}}
 use Rattle.space_cert.{specs.Reaches.{calls_of, IsReached}, specs.Least.{AreLeastBounds, IsFirstRecursive}, specs.Order.{greater, call_words, greatest_call}}
-use Rattle.space_cert.specs.Order.{run_bound, with_bound, bounds_of_order, call_bound_by, greatest_call_by, run_bound_by, bounds_by_needs, AreBounds}
+use Rattle.space_cert.specs.Order.{run_bound, with_bound, bounds_of_order, greatest_call_by, run_bound_by, bounds_by_needs, AreBounds}
 use Rattle.space_cert.{specs.Internal.Search.AreDone, specs.Internal.SearchState.{call_of, IsFound}, specs.Internal.SearchView.{AreCalls, seen_calls}}
 use Rattle.space_cert.{proofs.AllLaws.all_left, proofs.ContainsLaws.{contains_none, contains_first, contains_later, contains_cases}}
 use Rattle.space_cert.proofs.LeastLaws.{calls_least, known_now, bound_other, some_same, none_at, least_by}
@@ -60,10 +60,10 @@ module _ (q : Program) where
   greatest_same : (ns : List Need) → AreNeeds q ns → (bs : Bounds) (ps : List ℕ) (w : StackSizes) → All (λ r. r < length q.procs) ps
       → greatest_call_by ns bs ps w ≡ greatest_call q bs ps w
   greatest_same ns h bs [] w lt = refl
-  greatest_same ns h bs (p ∷ ps) w lt =
-      ap (λ n. greatest_call_by ns bs ps (greater w (call_bound_by n (unwrap_or (bound_at bs p) (stack_sizes 0 0)))))
-      (h.each p (All-head (λ r. r < length q.procs) p ps lt))
-      ∙ greatest_same ns h bs ps (greater w (call_words q bs p)) (All-tail (λ r. r < length q.procs) p ps lt)
+  greatest_same ns h bs (p ∷ ps) w lt = cc (
+    h.each p (All-head (λ r. r < length q.procs) p ps lt),
+    greatest_same ns h bs ps (greater w (call_words q bs p)) (All-tail (λ r. r < length q.procs) p ps lt),
+  )
 
   pub along_same : (ns : List Need) → AreNeeds q ns → ProgramFits q → (order : List ℕ) → All (λ r. r < length q.procs) order
       → bounds_by_needs ns (body_calls q) order ≡ bounds_of_order q order
@@ -76,8 +76,7 @@ module _ (q : Program) where
       let own : stack_sizes (need_at ns p).ctrl (need_at ns p).temp ≡ own_need (proc_at q p) =
       ap (λ (n : Need). stack_sizes n.ctrl n.temp) (h.each p (All-head (λ r. r < length q.procs) p before lt)) in
       let run : run_bound_by ns (bounds_of_order q before) (call_of (body_calls q) p) p ≡ run_bound q (bounds_of_order q before) p =
-      (λ i. greatest_call_by ns (bounds_of_order q before) (calls_same q.procs p i) (own i))
-      ∙ greatest_same ns h (bounds_of_order q before) (calls_of q p) (own_need (proc_at q p)) (calls_below fits p) in
+      (λ i. greatest_call_by ns (bounds_of_order q before) (calls_same q.procs p i) (own i)) ∙ greatest_same ns h _ _ _ (calls_below fits p) in
       ap (λ bs. with_bound bs p (run_bound_by ns bs (call_of (body_calls q) p) p)) old ∙ ap (with_bound (bounds_of_order q before) p) run
 
   -- No bound is large.
@@ -85,14 +84,7 @@ module _ (q : Program) where
   pub small_words : (p : Proc) → ProcFits q p → local_words p + vars_of p ≤ 131072
   small_words p h =
       let shapes = map (λ (v : ValueOf). v.shape) p.locals in
-      omega (
-        arith,
-        h.words,
-        words_of-append p.formals shapes,
-        length-words_of p.formals,
-        length-words_of shapes,
-        length-map p.locals (λ (v : ValueOf). v.shape),
-      )
+      omega (arith, words_of-append p.formals shapes, length-words_of p.formals, length-words_of shapes, length-map p.locals (λ (v : ValueOf). v.shape))
 
   -- twice so many words a procedure
   abbrev limit : ℕ → StackSizes
@@ -105,11 +97,8 @@ module _ (q : Program) where
     where
       bounded : (d : StackSizes) → IsAtMost d (limit k) → IsAtMost (call_bound q r d) (limit (k + 1))
       bounded d h =
-          let words = small_words (proc_at q r) (fits.procs r) in
-          record {
-            temp = more (local_words (proc_at q r)) (vars_of (proc_at q r)) d.temp k words h.temp;
-            ctrl = under (local_words (proc_at q r)) (vars_of (proc_at q r)) d.ctrl k words h.ctrl;
-          }
+          let words = small_words _ (fits.procs r) in
+          record { temp = more _ _ d.temp k words h.temp; ctrl = under _ _ d.ctrl k words h.ctrl }
         where
           more : (l v d k : ℕ) → l + v ≤ 131072 → d ≤ k * 262144 → max (l + v) (l + d) ≤ (k + 1) * 262144
           more l v d k h g = omega (arith, h, g)
@@ -134,8 +123,7 @@ module _ (q : Program) where
         | inl i ↦
             let now = known_now q p before (All-head (λ x. x < length q.procs) p before lt) in
             let is : run_bound q (bounds_of_order q before) p ≡ b = some_same (sym now ∙ (ap (bound_at (bounds_of_order q (p ∷ before))) (sym i) ∙ e)) in
-            subst (λ w. IsAtMost w (limit (suc k))) is
-            (subst (λ n. IsAtMost (run_bound q (bounds_of_order q before) p) (limit n)) (succ k)
+            subst (λ w. IsAtMost w (limit (suc k))) is (subst (λ n. IsAtMost (run_bound q (bounds_of_order q before) p) (limit n)) (succ k)
             (calls_least q (bounds_of_order q before) (calls_of q p) (own_need (proc_at q p)) (limit (k + 1)) (own_small (proc_at q p) k)
             (calls_small fits (bounds_of_order q before) k old (calls_of q p))))
         | inr d ↦ grows (old r b (sym (bound_other (bounds_of_order q before) p r (run_bound q (bounds_of_order q before) p) d) ∙ e))
@@ -203,17 +191,12 @@ module _ (q : Program) where
 
 reversed_there : (xs : List ℕ) (x : ℕ) → Contains xs x → Contains (reverse xs) x
 reversed_there [] x k = absurd (contains_none k)
-reversed_there (y ∷ xs) x k =
-    subst (λ l. Contains l x) (sym (reverse-append (y ∷ []) xs))
-    (elim (contains_cases y xs x k) [
-      | inl e ↦ subst (Contains (reverse xs ++ y ∷ [])) e (Contains-push (reverse xs) y)
-      | inr l ↦ Contains-append_left (reverse xs) (y ∷ []) x (reversed_there xs x l)
-    ])
+reversed_there (y ∷ xs) x k = subst (λ l. Contains l x) (sym (reverse-append (y ∷ []) xs))
+    (elim (contains_cases y xs x k) [ inl e ↦ subst (Contains _) e (Contains-push _ y) | inr l ↦ Contains-append_left _ (y ∷ []) x (reversed_there xs x l) ])
 
 all_reversed : (P : ℕ → Type 0) (xs : List ℕ) → All P (reverse xs) → All P xs
 all_reversed P [] h = All-nil P
-all_reversed P (x ∷ xs) h =
-    All-cons P x xs (All-contains P (reverse (x ∷ xs)) x h (reversed_there (x ∷ xs) x (contains_first x xs)))
+all_reversed P (x ∷ xs) h = All-cons P x xs (All-contains P _ x h (reversed_there (x ∷ xs) x (contains_first x xs)))
     (all_reversed P xs (λ k d lt. front (subst (All P) (reverse-append (x ∷ []) xs) h) k d lt))
   where
     front : All P (reverse xs ++ x ∷ []) → All P (reverse xs)

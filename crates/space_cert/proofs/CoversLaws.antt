@@ -2,8 +2,8 @@
 use Rattle.std.{proofs.Common.{◌≡◌, not, if◌then◌else◌, ℕ, ◌+◌, ◌≤◌, max, length, true, Option, Some, None, refl, subst, arith}, proofs.lemmas.Bool.le-leb}
 use Rattle.std.{proofs.lemmas.Bool.and_from, specs.Option.{IsSome, IsSomeAnd, unwrap_or}}
 use Rattle.gypsy_syntax.specs.Programs.{Program, proc_at}
-use Rattle.gypsy_space.specs.Needs.{StackSizes, stack_sizes, main_used, temp_need, ctrl_need, local_words, vars_of, frame_of, with_call, call_need}
-use Rattle.gypsy_space.{specs.Needs.{has_temp_room, has_ctrl_room, has_room, lack_of}, specs.declared.need.Lack.TheVariants.{Nothing, Temporary, Control}}
+use Rattle.gypsy_space.specs.Needs.{StackSizes, stack_sizes, main_used, temp_need, local_words, with_call, call_need, has_temp_room, has_ctrl_room, has_room}
+use Rattle.gypsy_space.{specs.Needs.lack_of, specs.declared.need.Lack.TheVariants.{Nothing, Temporary, Control}}
 use Rattle.space_cert.specs.Covers.{Bounds, bound_at, words_sum, IsAtMost, own_need, call_bound, Covers}
 
 -- main's words with its bounds
@@ -33,17 +33,14 @@ module _ (q : Program) (sizes : StackSizes) (p : ℕ) (u b d : StackSizes) (own 
   temp_room =
       let c = proc_at q p in
       let l = local_words c in
-      le-leb (u.temp + max (l + length c.locals + length c.formals) (l + temp_need c)) sizes.temp
-      (more u.temp l (length c.locals) (length c.formals) (temp_need c) d.temp b.temp sizes.temp own.temp call.temp within.temp)
+      le-leb _ sizes.temp (more u.temp l (length c.locals) (length c.formals) (temp_need c) d.temp b.temp sizes.temp own.temp call.temp within.temp)
     where
       more : (a l m k t d b s : ℕ) → t ≤ d → max (l + (k + m)) (l + d) ≤ b → a + b ≤ s → a + max (l + m + k) (l + t) ≤ s
       more a l m k t d b s h g f = omega (arith, h, g, f)
 
   ctrl_room : has_ctrl_room q sizes p u ≡ true
   unfolding call_need
-  ctrl_room =
-      let c = proc_at q p in
-      le-leb (u.ctrl + (frame_of c + ctrl_need c)) sizes.ctrl (omega (arith, own.ctrl, call.ctrl, within.ctrl))
+  ctrl_room = le-leb _ sizes.ctrl (omega arith)
 
   pub room : has_room q sizes p u ≡ true
   unfolding has_room
@@ -55,9 +52,7 @@ module _ (q : Program) (sizes : StackSizes) (p : ℕ) (u b d : StackSizes) (own 
 
   pub left : IsAtMost (words_sum (with_call q p u) d) sizes
   unfolding with_call
-  left =
-      let c = proc_at q p in
-      record { temp = more u.temp (local_words c) (vars_of c) d.temp b.temp sizes.temp call.temp within.temp; ctrl = omega (arith, call.ctrl, within.ctrl) }
+  left = omega arith
     where
       more : (a l v d b s : ℕ) → max (l + v) (l + d) ≤ b → a + b ≤ s → a + l + d ≤ s
       more a l v d b s h g = omega (arith, h, g)

@@ -30,18 +30,16 @@ follow_joins cs main s w h le at m lt t u is f = pick s.below refl
 
 -- what is entered is marked
 pub entered_below : (marks : List Mark) (entered done : List ℕ) → AreMarked marks entered done → All (λ p. p < length marks) entered
-entered_below marks entered done h =
-    All-from_get_or (λ p. p < length marks) entered 0 (λ i lt. marked_below marks (get_or entered i 0) (λ e. new_apart (sym e ∙ h.places i lt)))
+entered_below marks entered done h = All-from_get_or (λ p. p < length marks) entered 0 (λ i lt. marked_below marks _ (λ e. new_apart (sym e ∙ h.places i lt)))
 
 pub finish_advances : (cs : List (List ℕ)) (main : ℕ) (s t : SearchOf) → IsSearch cs main s → length s.todo ≤ s.top.from → (more : Bool)
     → HasFinished s t more → HasAdvanced cs main s t more
 finish_advances cs main s t h le true (k, ks, b, e) =
-    let no_more : length s.todo ≡ s.top.from = omega (arith, le, h.cut.1) in (
+    let no_more : length s.todo ≡ s.top.from = omega arith in (
       subst (IsSearch cs main) (sym e) (ends_keeps cs main s h no_more k ks b),
-      subst (λ x. left_to_do cs x < left_to_do cs s) (sym e)
-          (ends_less cs main s h no_more k ks b),
+      subst (λ x. left_to_do cs x < left_to_do cs s) (sym e) (ends_less cs main s h no_more k ks b),
     )
 finish_advances cs main s t h le false (b, e) =
-    let no_more : length s.todo ≡ s.top.from = omega (arith, le, h.cut.1) in
+    let no_more : length s.todo ≡ s.top.from = omega arith in
     let found = ends_found cs main s h no_more b in
     subst (λ x. IsFound cs main x.done x.first) (sym e) found

@@ -16,10 +16,8 @@ module _ (q : Program) (s t : StackSizes) (most : IsAtMost s t) where
   unfolding lack_of
   more_room p u e =
       let both = rooms (has_temp_room q s p u) (has_ctrl_room q s p u) e in
-      let temp : has_temp_room q t p u ≡ true =
-      le-leb (u.temp + (call_need q p).temp) t.temp (omega (arith, leb-true (u.temp + (call_need q p).temp) s.temp both.0, most.temp)) in
-      let ctrl : has_ctrl_room q t p u ≡ true =
-      le-leb (u.ctrl + (call_need q p).ctrl) t.ctrl (omega (arith, leb-true (u.ctrl + (call_need q p).ctrl) s.ctrl both.1, most.ctrl)) in
+      let temp : has_temp_room q t p u ≡ true = le-leb (u.temp + (call_need q p).temp) t.temp (omega (arith, leb-true)) in
+      let ctrl : has_ctrl_room q t p u ≡ true = le-leb (u.ctrl + (call_need q p).ctrl) t.ctrl (omega (arith, leb-true)) in
       λ i. if not (temp i) then Temporary else if not (ctrl i) then Control else Nothing
 
   -- a step looks at the sizes where a call is made

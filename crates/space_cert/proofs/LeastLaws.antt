@@ -4,7 +4,7 @@ use Rattle.std.{proofs.lemmas.Bool.cases_eq, proofs.lemmas.List.{get_or-set_same
 use Rattle.std.{proofs.lemmas.List.Elements.{All-nil, All-cons, All-head, All-tail, All-contains}, specs.List.{All, Contains}, specs.Option.{IsSome, IsSomeAnd}}
 use Rattle.std.specs.Option.{option_map, unwrap_or}
 use Rattle.gypsy_syntax.specs.Programs.{Program, proc_at}
-use Rattle.gypsy_space.specs.Needs.{StackSizes, stack_sizes, local_words, vars_of, main_used}
+use Rattle.gypsy_space.specs.Needs.{StackSizes, stack_sizes, main_used}
 use Rattle.space_cert.specs.Covers.{Bounds, no_bounds, as_words, bound_at, words_sum, IsAtMost, own_need, call_bound, CoversCall, CoversRun, IsCertificate}
 use Rattle.space_cert.{specs.Covers.{sizes_for, Covers}, specs.Reaches.{Reaches, Directly, Further, calls_of, IsReached, IsRecursive}}
 use Rattle.space_cert.{specs.Least.AreLeastBounds, specs.Order.{IsOrder, greater, call_words, greatest_call, run_bound, with_bound, bounds_of_order}}
@@ -28,9 +28,7 @@ pub greater_least : {u v w : StackSizes} → IsAtMost u w → IsAtMost v w → I
 greater_least h g = record { temp = omega (arith, h.temp, g.temp); ctrl = omega (arith, h.ctrl, g.ctrl) }
 
 pub more_taken : (q : Program) (p : ℕ) {b d : StackSizes} → IsAtMost b d → IsAtMost (call_bound q p b) (call_bound q p d)
-more_taken q p {b} {d} h =
-    let c = proc_at q p in
-    record { temp = more (local_words c) (vars_of c) b.temp d.temp h.temp; ctrl = omega (arith, h.ctrl) }
+more_taken q p {b} {d} h = omega arith
   where
     more : (l v b d : ℕ) → b ≤ d → max (l + v) (l + b) ≤ max (l + v) (l + d)
     more l v b d h = omega (arith, h)
@@ -59,9 +57,8 @@ module _ (q : Program) (bs : Bounds) where
   pub calls_within : (ps : List ℕ) (w : StackSizes) → All (λ p. IsAtMost (call_words q bs p) (greatest_call q bs ps w)) ps
   calls_within [] w = All-nil (λ p. IsAtMost (call_words q bs p) w)
   calls_within (p ∷ ps) w =
-      let v = greater w (call_words q bs p) in
-      All-cons (λ r. IsAtMost (call_words q bs r) (greatest_call q bs ps v)) p ps
-      (trans_at_most (greater_right w (call_words q bs p)) (calls_rise ps v))
+      let v = greater w _ in
+      All-cons (λ r. IsAtMost (call_words q bs r) (greatest_call q bs ps v)) p ps (trans_at_most (greater_right w (call_words q bs p)) (calls_rise ps v))
       (calls_within ps v)
 
   pub calls_least : (ps : List ℕ) (w v : StackSizes) → IsAtMost w v → All (λ p. IsAtMost (call_words q bs p) v) ps → IsAtMost (greatest_call q bs ps w) v
@@ -82,16 +79,13 @@ module _ (q : Program) where
 
   pub unknown : (order : List ℕ) (r : ℕ) → (Contains order r → ⊥) → bound_at (bounds_of_order q order) r ≡ None
   unknown [] r h = none_at (length q.procs) r
-  unknown (p ∷ before) r h =
-      bound_other (bounds_of_order q before) p r (run_bound q (bounds_of_order q before) p)
-      (λ e. h (subst (λ x. Contains (p ∷ before) x) (sym e) (contains_first p before)))
+  unknown (p ∷ before) r h = bound_other _ p r _ (λ e. h (subst (λ x. Contains (p ∷ before) x) (sym e) (contains_first p before)))
       ∙ unknown before r (λ k. h (contains_later p before r k))
 
   -- bounds that are there stay the same
   stays : (p : ℕ) (before : List ℕ) (r : ℕ) → (Contains before p → ⊥) → Contains before r
       → bound_at (bounds_of_order q (p ∷ before)) r ≡ bound_at (bounds_of_order q before) r
-  stays p before r n h =
-      bound_other (bounds_of_order q before) p r (run_bound q (bounds_of_order q before) p) (λ e. n (subst (Contains before) e h))
+  stays p before r n h = bound_other _ p r _ (λ e. n (subst (Contains before) e h))
 
   pub known_now : (p : ℕ) (before : List ℕ) → p < length q.procs → bound_at (bounds_of_order q (p ∷ before)) p ≡ Some (run_bound q (bounds_of_order q before) p)
   known_now p before lt =
@@ -112,9 +106,8 @@ module _ (q : Program) where
   pub covered_by : (bs : Bounds) (ps : List ℕ) (w : StackSizes) → All (λ r. IsSome (bound_at bs r)) ps → All (λ r. IsAtMost (call_words q bs r) w) ps
       → All (CoversCall q bs w) ps
   covered_by bs [] w k h = All-nil (CoversCall q bs w)
-  covered_by bs (p ∷ ps) w k h =
-      All-cons (CoversCall q bs w) p ps
-      (pick (bound_at bs p) (All-head (λ r. IsSome (bound_at bs r)) p ps k) (All-head (λ r. IsAtMost (call_words q bs r) w) p ps h))
+  covered_by bs (p ∷ ps) w k h = All-cons (CoversCall q bs w) p ps
+      (pick _ (All-head (λ r. IsSome (bound_at bs r)) p ps k) (All-head (λ r. IsAtMost (call_words q bs r) w) p ps h))
       (covered_by bs ps w (All-tail (λ r. IsSome (bound_at bs r)) p ps k) (All-tail (λ r. IsAtMost (call_words q bs r) w) p ps h))
     where
       pick : (o : Option StackSizes) → IsSome o → IsAtMost (call_bound q p (unwrap_or o (stack_sizes 0 0))) w → IsSomeAnd o (λ d. IsAtMost (call_bound q p d) w)
@@ -125,16 +118,14 @@ module _ (q : Program) where
   covers_later : (p : ℕ) (before : List ℕ) (b : StackSizes) → (Contains before p → ⊥) → (ps : List ℕ)
       → All (CoversCall q (bounds_of_order q before) b) ps → All (CoversCall q (bounds_of_order q (p ∷ before)) b) ps
   covers_later p before b n [] h = All-nil (CoversCall q (bounds_of_order q (p ∷ before)) b)
-  covers_later p before b n (r ∷ ps) h =
-      All-cons (CoversCall q (bounds_of_order q (p ∷ before)) b) r ps
+  covers_later p before b n (r ∷ ps) h = All-cons (CoversCall q _ b) r ps
       (elim (cases_eq r p) [
         | inl e ↦ absurd (subst (λ o. IsSomeAnd o (λ d. IsAtMost (call_bound q r d) b))
             (ap (bound_at (bounds_of_order q before)) e ∙ unknown before p n) (All-head (CoversCall q (bounds_of_order q before) b) r ps h))
         | inr d ↦ subst (λ o. IsSomeAnd o (λ d. IsAtMost (call_bound q r d) b))
             (sym (bound_other (bounds_of_order q before) p r (run_bound q (bounds_of_order q before) p) d))
             (All-head (CoversCall q (bounds_of_order q before) b) r ps h)
-      ])
-      (covers_later p before b n ps (All-tail (CoversCall q (bounds_of_order q before) b) r ps h))
+      ]) (covers_later p before b n ps (All-tail (CoversCall q (bounds_of_order q before) b) r ps h))
 
   each_known : (order : List ℕ) → IsOrder (calls_of q) order → All (λ p. p < length q.procs) order → (ps : List ℕ) → All (Contains order) ps
       → All (λ r. IsSome (bound_at (bounds_of_order q order) r)) ps
@@ -181,9 +172,8 @@ module _ (q : Program) where
   all_least : (bs ds : Bounds) (d : StackSizes) → ((r : ℕ) (b : StackSizes) → bound_at bs r ≡ Some b → IsSomeAnd (bound_at ds r) (IsAtMost b))
       → (ps : List ℕ) → All (λ r. IsSome (bound_at bs r)) ps → All (CoversCall q ds d) ps → All (λ r. IsAtMost (call_words q bs r) d) ps
   all_least bs ds d lower [] k h = All-nil (λ r. IsAtMost (call_words q bs r) d)
-  all_least bs ds d lower (r ∷ ps) k h =
-      All-cons (λ x. IsAtMost (call_words q bs x) d) r ps
-      (call_least r d (bound_at bs r) (bound_at ds r) (All-head (λ x. IsSome (bound_at bs x)) r ps k) (lower r) (All-head (CoversCall q ds d) r ps h))
+  all_least bs ds d lower (r ∷ ps) k h = All-cons (λ x. IsAtMost (call_words q bs x) d) r ps
+      (call_least r d _ _ (All-head (λ x. IsSome (bound_at bs x)) r ps k) (lower r) (All-head (CoversCall q ds d) r ps h))
       (all_least bs ds d lower ps (All-tail (λ x. IsSome (bound_at bs x)) r ps k) (All-tail (CoversCall q ds d) r ps h))
 
   last_least : (ds : Bounds) → IsCertificate q ds → (p : ℕ) (before : List ℕ) → IsOrder (calls_of q) (p ∷ before) → All (λ x. x < length q.procs) before
@@ -193,8 +183,7 @@ module _ (q : Program) where
   last_least ds cert p before o lt lower (Some d) e k =
       let bs = bounds_of_order q before in
       let run = cert.each p d e in
-      calls_least q bs (calls_of q p) (own_need (proc_at q p)) d run.own
-      (all_least bs ds d lower (calls_of q p) (each_known before o.2 lt (calls_of q p) o.1) run.calls)
+      calls_least q bs _ _ d run.own (all_least bs ds d lower (calls_of q p) (each_known before o.2 lt (calls_of q p) o.1) run.calls)
 
   -- no certificate has less
   pub least : (ds : Bounds) → IsCertificate q ds → (order : List ℕ) → IsOrder (calls_of q) order → All (λ p. p < length q.procs) order
@@ -223,8 +212,7 @@ module _ (q : Program) where
     where
       pick : (o : Option StackSizes) → bound_at bs p ≡ o → IsSome o → IsSome (bound_at bs r)
       pick None e k = cc
-      pick (Some b) e k =
-          some_there (bound_at bs r) (λ d. IsAtMost (call_bound q r d) b) (All-contains (CoversCall q bs b) (calls_of q p) r (cert.each p b e).calls h)
+      pick (Some b) e k = some_there _ _ (All-contains (CoversCall q bs b) (calls_of q p) r (cert.each p b e).calls h)
 
   along : (bs : Bounds) → IsCertificate q bs → (p r : ℕ) → IsSome (bound_at bs p) → Reaches (calls_of q) p r → IsSome (bound_at bs r)
   along bs cert p r k (Directly h) = callee_known bs cert p r k h
@@ -245,11 +233,14 @@ module _ (q : Program) where
   pub least_by : (order : List ℕ) → IsOrder (calls_of q) order → All (λ p. p < length q.procs) order → All (IsReached q) order → Contains order q.main
       → AreLeastBounds q (bounds_of_order q order)
   least_by order o lt reached main =
-      let cert : IsCertificate q (bounds_of_order q order) =
-      record { number = length_by order; main = known order o lt q.main main; each = covers order o lt } in
+      let cert : IsCertificate q (bounds_of_order q order) = record {
+        number = length_by order;
+        main = known order o lt q.main main;
+        each = covers order o lt;
+      } in
       record {
         certificate = cert;
-        reached = reached_known (bounds_of_order q order) cert;
+        reached = reached_known _ cert;
         others = λ p n. unknown order p (λ k. n (All-contains (IsReached q) order p reached k));
         least = λ ds other r b e. least ds other order o lt (all_known ds other order reached) r b e;
       }
@@ -266,12 +257,11 @@ module _ (q : Program) where
       least_words b None i k = absurd k
       least_words b (Some d) i k =
           let within = main_within q ds sizes covers d i in
-          record { temp = omega (arith, k.temp, within.temp); ctrl = omega (arith, k.ctrl, within.ctrl) }
+          record { temp = omega arith; ctrl = omega arith }
 
       main : (o : Option StackSizes) → bound_at bs q.main ≡ o → IsSome o → IsAtMost (sizes_for q bs) sizes
       main None e k = cc
-      main (Some b) e k =
-          subst (λ o. IsAtMost (words_sum (main_used q) (unwrap_or o (stack_sizes 0 0))) sizes) (sym e)
+      main (Some b) e k = subst (λ o. IsAtMost (words_sum (main_used q) (unwrap_or o (stack_sizes 0 0))) sizes) (sym e)
           (least_words b (bound_at ds q.main) refl (h.least ds covers.certificate q.main b e))
 
   -- a call's bounds on the control stack are less

@@ -67,11 +67,10 @@ module _ (marks : List Mark) (entered done : List ℕ) (h : AreMarked marks ente
   pub enters : (w : ℕ) → w < length marks → mark_at marks w ≡ New → AreMarked (set marks w (Entered (length entered))) (entered ++ w ∷ []) done
   enters w lt new = record {
     places = λ i l. elim (cases_eq i (length entered)) [
-      | inl e ↦ subst (λ x. mark_at now x ≡ Entered i)
-          (sym (ap (λ j. get_or (entered ++ w ∷ []) j 0) e ∙ get_or_push entered w 0 (length entered) refl))
+      | inl e ↦ subst (λ x. mark_at now x ≡ Entered i) (sym (ap (λ j. get_or (entered ++ w ∷ []) j 0) e ∙ get_or_push entered w 0 (length entered) refl))
           (get_or-set_same marks w (Entered (length entered)) New lt ∙ ap Entered (sym e))
       | inr n ↦
-          let small : i < length entered = omega (arith, l, n, length_push entered w) in
+          let small : i < length entered = omega (arith, length_push) in
           let is = get_or_append_left entered (w ∷ []) 0 i small in
           ap (mark_at now) is ∙ (other (get_or entered i 0) (λ e. new_apart (sym new ∙ (ap (mark_at marks) (sym e) ∙ h.places i small))) ∙ h.places i small)
     ];
@@ -79,13 +78,12 @@ module _ (marks : List Mark) (entered done : List ℕ) (h : AreMarked marks ente
     entered_is = λ p at e. elim (cases_eq p w) [
       | inl i ↦
           let place : length entered ≡ at = entered_same (sym (get_or-set_same marks w (Entered (length entered)) New lt) ∙ (ap (mark_at now) (sym i) ∙ e)) in (
-            omega (arith, length_push entered w, place),
-            ap (λ j. get_or (entered ++ w ∷ []) j 0) (sym place)
-                ∙ (get_or_push entered w 0 (length entered) refl ∙ sym i),
+            omega (arith, length_push),
+            ap (λ j. get_or (entered ++ w ∷ []) j 0) (sym place) ∙ (get_or_push entered w 0 (length entered) refl ∙ sym i),
           )
       | inr n ↦
           let old = h.entered_is p at (sym (other p n) ∙ e) in
-          (omega (arith, old.0, length_push entered w), get_or_append_left entered (w ∷ []) 0 at old.0 ∙ old.1)
+          (omega (arith, length_push), get_or_append_left entered (w ∷ []) 0 at old.0 ∙ old.1)
     ];
     finished_is = λ p e. elim (cases_eq p w) [
       | inl i ↦ absurd (entered_not_done (sym (get_or-set_same marks w (Entered (length entered)) New lt) ∙ (ap (mark_at now) (sym i) ∙ e)))
@@ -115,11 +113,10 @@ pub done_mark : (ps : List ℕ) (marks : List Mark) (p : ℕ) (m : Mark) → mar
 done_mark [] marks p m e = inr e
 done_mark (x ∷ ps) marks p m e =
     elim (cases_eq p x) [
-      | inl i ↦ elim (cases_lt x (length (done_marks ps marks))) [
+      | inl i ↦ elim (cases_lt x _) [
         | inl lt ↦ inl (
           subst (Contains (x ∷ ps)) (sym i) (contains_first x ps),
-          sym e
-              ∙ (ap (mark_at (set (done_marks ps marks) x Done)) i ∙ get_or-set_same (done_marks ps marks) x Done New lt),
+          sym e ∙ (ap (mark_at (set (done_marks ps marks) x Done)) i ∙ get_or-set_same _ x Done New lt),
         )
         | inr ge ↦ up (done_mark ps marks p m (sym (set_out (done_marks ps marks) x ge p) ∙ e))
       ]
@@ -137,18 +134,13 @@ pub done_there : (ps : List ℕ) (marks : List Mark) (p : ℕ) → Contains ps p
 done_there [] marks p k lt = absurd (contains_none k)
 done_there (x ∷ ps) marks p k lt =
     elim (cases_eq p x) [
-      | inl i ↦ ap (mark_at (set (done_marks ps marks) x Done)) i ∙ get_or-set_same (done_marks ps marks) x Done New
-          (omega (arith, lt, i, done_marks-length ps marks))
-      | inr n ↦ elim (contains_cases x ps p k) [
-        | inl e ↦ absurd (n (sym e))
-        | inr l ↦ get_or-set_other (done_marks ps marks) x p Done New n ∙ done_there ps marks p l lt
-      ]
+      | inl i ↦ ap (mark_at (set (done_marks ps marks) x Done)) i ∙ get_or-set_same _ x Done New (omega (arith, done_marks-length))
+      | inr n ↦ elim (contains_cases x ps p k) [ inl e ↦ absurd (n (sym e)) | inr l ↦ get_or-set_other _ x p Done New n ∙ done_there ps marks p l lt ]
     ]
 
 pub done_elsewhere : (ps : List ℕ) (marks : List Mark) (p : ℕ) → (Contains ps p → ⊥) → mark_at (done_marks ps marks) p ≡ mark_at marks p
 done_elsewhere [] marks p n = refl
-done_elsewhere (x ∷ ps) marks p n =
-    get_or-set_other (done_marks ps marks) x p Done New (λ e. n (subst (Contains (x ∷ ps)) (sym e) (contains_first x ps)))
+done_elsewhere (x ∷ ps) marks p n = get_or-set_other _ x p Done New (λ e. n (subst (Contains (x ∷ ps)) (sym e) (contains_first x ps)))
     ∙ done_elsewhere ps marks p (λ k. n (contains_later x ps p k))
 
 -- nothing that was new is done
@@ -159,8 +151,7 @@ done_counts (x ∷ ps) marks f = one (mark_at (done_marks ps marks) x) refl (don
     one : (m : Mark) → mark_at (done_marks ps marks) x ≡ m → new_count (done_marks ps marks) ≡ new_count marks
         → new_count (set (done_marks ps marks) x Done) ≡ new_count marks
     one New e h = absurd (f x (contains_first x ps) (elim (done_mark ps marks x New e) [ inl k ↦ absurd (new_not_done k.1) | inr i ↦ i ]))
-    one (Entered at) e h =
-        omega (arith, h, count_set (done_marks ps marks) x Done (marked_below (done_marks ps marks) x (λ i. new_apart (sym i ∙ e))), ap is_new e)
+    one (Entered at) e h = omega (arith, count_set _ x Done (marked_below (done_marks ps marks) x (λ i. new_apart (sym i ∙ e))), ap is_new e)
     one Done e h = omega (arith, h, count_set (done_marks ps marks) x Done (marked_below (done_marks ps marks) x (λ i. new_not_done (sym i ∙ e))), ap is_new e)
 
 pub done_weighs : (ps : List ℕ) (marks : List Mark) (cs : List (List ℕ)) → length marks ≡ length cs
@@ -173,20 +164,10 @@ done_weighs (x ∷ ps) marks cs n f = one (mark_at (done_marks ps marks) x) refl
     one New e h = absurd (f x (contains_first x ps) (elim (done_mark ps marks x New e) [ inl k ↦ absurd (new_not_done k.1) | inr i ↦ i ]))
     one (Entered at) e h =
         let lt = marked_below (done_marks ps marks) x (λ i. new_apart (sym i ∙ e)) in
-        omega (
-          arith,
-          h,
-          weight_set (done_marks ps marks) cs x Done lt (omega (arith, lt, n, done_marks-length ps marks)),
-          ap (λ m. weight m (get_or cs x [])) e,
-        )
+        omega (arith, weight_set (done_marks ps marks) cs x Done lt (omega (arith, lt, n, done_marks-length ps marks)), ap (λ m. weight m (get_or cs x [])) e)
     one Done e h =
         let lt = marked_below (done_marks ps marks) x (λ i. new_not_done (sym i ∙ e)) in
-        omega (
-          arith,
-          h,
-          weight_set (done_marks ps marks) cs x Done lt (omega (arith, lt, n, done_marks-length ps marks)),
-          ap (λ m. weight m (get_or cs x [])) e,
-        )
+        omega (arith, weight_set (done_marks ps marks) cs x Done lt (omega (arith, lt, n, done_marks-length ps marks)), ap (λ m. weight m (get_or cs x [])) e)
 
 -- the entered ones from a place on are done
 module _ (marks : List Mark) (entered done : List ℕ) (first : ℕ) (h : AreMarked marks entered done) where
@@ -201,42 +182,37 @@ module _ (marks : List Mark) (entered done : List ℕ) (first : ℕ) (h : AreMar
   pub drop_there : (at : ℕ) → at < length entered → first ≤ at → Contains (drop first entered) (get_or entered at 0)
   drop_there at lt le =
       let d = get_or-drop first entered (at - first) (get_or entered at 0) in
-      let e : first + (at - first) ≡ at = omega (arith, le) in (
+      let e : first + (at - first) ≡ at = omega arith in (
         at - first,
-        omega (arith, lt, le, length-drop first entered),
-        d
-            ∙ (ap (λ j. get_or entered j (get_or entered at 0)) e ∙ get_or_default entered at (get_or entered at 0) 0 lt),
+        omega (arith, length-drop first entered),
+        d ∙ (ap (λ j. get_or entered j (get_or entered at 0)) e ∙ get_or_default entered at (get_or entered at 0) 0 lt),
       )
 
   pub take_there : (at : ℕ) → at < length entered → at < first → Contains (take first entered) (get_or entered at 0)
   take_there at lt small = (
     at,
-    omega (arith, length-take first entered, lt, small),
-    get_or-take first entered at (get_or entered at 0) small
-        ∙ get_or_default entered at (get_or entered at 0) 0 lt,
+    omega (arith, length-take first entered),
+    get_or-take first entered at (get_or entered at 0) small ∙ get_or_default entered at (get_or entered at 0) 0 lt,
   )
 
   pub leaves : first ≤ length entered → AreMarked (done_marks (drop first entered) marks) (take first entered) (drop first entered ++ done)
   leaves le = record {
     places = λ i lt.
-        let small : i < first = omega (arith, lt, length-take first entered) in
-        let there : i < length entered = omega (arith, small, le) in
+        let small : i < first = omega (arith, length-take first entered) in
+        let there : i < length entered = omega arith in
         let is = get_or-take first entered i 0 small in
-        ap (mark_at (done_marks (drop first entered) marks)) is
-        ∙ (done_elsewhere (drop first entered) marks (get_or entered i 0)
-        (λ k. absurd (omega (arith, small, from_there (get_or entered i 0) i (h.places i there) k)))
-        ∙ h.places i there);
-    finished = λ p k. elim (Contains-append_cases (drop first entered) done p k) [
-      | inl d ↦ done_there (drop first entered) marks p d (member_below p d)
-      | inr d ↦ done_elsewhere (drop first entered) marks p (λ i. not_both marks entered done h p (dropped p i) d) ∙ h.finished p d
+        ap (mark_at _) is ∙ (done_elsewhere (drop first entered) marks _ (λ k. absurd (omega (arith, from_there _ i (h.places i there) k))) ∙ h.places i there);
+    finished = λ p k. elim (Contains-append_cases _ done p k) [
+      | inl d ↦ done_there _ marks p d (member_below p d)
+      | inr d ↦ done_elsewhere _ marks p (λ i. not_both marks entered done h p (dropped p i) d) ∙ h.finished p d
     ];
-    entered_is = λ p at e. elim (done_mark (drop first entered) marks p (Entered at) e) [
+    entered_is = λ p at e. elim (done_mark (drop first entered) marks p _ e) [
       | inl k ↦ absurd (entered_not_done k.1)
       | inr i ↦ old p at i (h.entered_is p at i) e
     ];
     finished_is = λ p e. elim (done_mark (drop first entered) marks p Done e) [
-      | inl k ↦ Contains-append_left (drop first entered) done p k.0
-      | inr i ↦ Contains-append_right (drop first entered) done p (h.finished_is p i)
+      | inl k ↦ Contains-append_left _ done p k.0
+      | inr i ↦ Contains-append_right _ done p (h.finished_is p i)
     ];
   }
     where
@@ -249,7 +225,7 @@ module _ (marks : List Mark) (entered done : List ℕ) (first : ℕ) (h : AreMar
       old : (p at : ℕ) → mark_at marks p ≡ Entered at → (at < length entered) × (get_or entered at 0 ≡ p)
           → mark_at (done_marks (drop first entered) marks) p ≡ Entered at → (at < length (take first entered)) × (get_or (take first entered) at 0 ≡ p)
       old p at m (lt, is) e = elim (cases_lt at first) [
-        | inl small ↦ (omega (arith, small, le, length-take first entered), get_or-take first entered at 0 small ∙ is)
+        | inl small ↦ (omega (arith, length-take first entered), get_or-take first entered at 0 small ∙ is)
         | inr ge ↦ absurd (entered_not_done (sym e ∙ done_there (drop first entered) marks p
             (subst (Contains (drop first entered)) is (drop_there at lt ge)) (marked_below marks p (λ i. new_apart (sym i ∙ m)))))
       ]

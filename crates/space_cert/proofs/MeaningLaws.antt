@@ -2,8 +2,7 @@
 use Rattle.std.{proofs.Common.{◌≡◌, ℕ, zero, suc, List, [], Bool, true, false, Some, None, refl, subst, sym}, proofs.lemmas.List.Elements.All-head}
 use Rattle.stack_text.specs.Values.{ValueOf}
 use Rattle.gypsy_syntax.specs.Programs.{ConditionOf, Space, Arg, Program, body_of, Stmt, Skip, NoOp, Signal, Seq, Loop, If, Begin, Call, Apply}
-use Rattle.gypsy_syntax.{specs.Predefined.predef_effect, specs.Effects.{Effect, Normal, Fault, Beyond, value_at, is_true_value}, specs.ProgramFits.Each}
-use Rattle.gypsy_syntax.specs.ProgramFits.{ProgramFits}
+use Rattle.gypsy_syntax.{specs.Predefined.predef_effect, specs.Effects.{Effect, Normal, Fault, Beyond}, specs.ProgramFits.{Each, ProgramFits}}
 use Rattle.gypsy_space.specs.Needs.{StackSizes, main_used, with_call}
 use Rattle.gypsy_semantics.{specs.Calls.{has_cond, is_leave, values_of, copied_in, main_start}, specs.Meaning.{MeaningOutcome, Done, Unfinished, then_do}}
 use Rattle.gypsy_semantics.specs.Meaning.{either_way, caught, round_end, applied, returned, if_room, evaluate, main_end, meaning}
@@ -59,25 +58,17 @@ module _ (q : Program) (bs : Bounds) (sizes : StackSizes) (cert : IsCertificate 
   others (suc n) Skip u b x o f h = tt
   others (suc n) (NoOp place) u b x o f h = tt
   others (suc n) (Signal place c) u b x o f h = o
-  others (suc n) (Seq a c) u b x o f h =
-      then_other (evaluate q sizes (suc n) a u x) (evaluate q sizes (suc n) c u)
-      (others (suc n) a u b x o.0 (all_left (CoversCall q bs b) (callees a) (callees c) f) h)
+  others (suc n) (Seq a c) u b x o f h = then_other _ _ (others (suc n) a u b x o.0 (all_left (CoversCall q bs b) (callees a) (callees c) f) h)
       (λ y. others (suc n) c u b y o.1 (all_right (CoversCall q bs b) (callees a) (callees c) f) h)
-  others (suc n) (Loop place s) u b x o f h =
-      round_other (evaluate q sizes (suc n) s u x) (evaluate q sizes n (Loop place s) u) (others (suc n) s u b x o f h)
-      (λ y. others n (Loop place s) u b y o f h)
-  others (suc n) (If place i s w) u b x o f h =
-      either_other (is_true_value (value_at x i)) (evaluate q sizes (suc n) s u x) (evaluate q sizes (suc n) w u x)
-      (others (suc n) s u b x o.0 (all_left (CoversCall q bs b) (callees s) (callees w) f) h)
+  others (suc n) (Loop place s) u b x o f h = round_other _ _ (others (suc n) s u b x o f h) (λ y. others n (Loop place s) u b y o f h)
+  others (suc n) (If place i s w) u b x o f h = either_other _ _ _ (others (suc n) s u b x o.0 (all_left (CoversCall q bs b) (callees s) (callees w) f) h)
       (others (suc n) w u b x o.1 (all_right (CoversCall q bs b) (callees s) (callees w) f) h)
-  others (suc n) (Begin place s cs w) u b x o f h =
-      caught_other (evaluate q sizes (suc n) s u x) cs (evaluate q sizes (suc n) w u)
-      (others (suc n) s u b x o.0 (all_left (CoversCall q bs b) (callees s) (callees w) f) h)
+  others (suc n) (Begin place s cs w) u b x o f h = caught_other _ cs _ (others (suc n) s u b x o.0 (all_left (CoversCall q bs b) (callees s) (callees w) f) h)
       (λ y. others (suc n) w u b y o.1 (all_right (CoversCall q bs b) (callees s) (callees w) f) h)
   others (suc n) (Call place p xs cs) u b x o f h =
-      let there = bound_there q bs b p (bound_at bs p) refl (All-head (CoversCall q bs b) p [] f) in
+      let there = bound_there q bs b p _ refl (All-head (CoversCall q bs b) p [] f) in
       let each = cert.each p there.bound there.known in
-      let r = evaluate q sizes n (body_of q p) (with_call q p u) (copied_in q p xs x) in
+      let r = evaluate q sizes n _ _ _ in
       subst (λ e. EndsOther (if_room e x (returned q p xs cs x r))) (sym (room q sizes p u b there.bound each.own there.within h))
       (returned_other q p xs cs x r o (others n (body_of q p) (with_call q p u) there.bound (copied_in q p xs x) (bodies p) each.calls
       (left q sizes p u b there.bound each.own there.within h)))

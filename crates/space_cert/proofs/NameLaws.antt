@@ -41,9 +41,8 @@ distinct_names : (rule : ℕ) (earlier : List (List ℕ)) (ns : List Named) → 
 unfolding IsDistinct
 distinct_names rule earlier [] e = tt
 distinct_names rule earlier (n ∷ ns) e =
-    let k = append_none _ (repeats rule (n.name ∷ earlier) ns) e in
-    IsDistinct-cons bytes_eq n.name (map (λ (n : Named). n.name) ns)
-    (all_apart rule (n.name ∷ earlier) n.name ns (λ x h. (or_parts (bytes_eq x n.name) (is_among x earlier) h).0) k.1)
+    let k = append_none _ _ e in
+    IsDistinct-cons bytes_eq n.name _ (all_apart rule (n.name ∷ earlier) n.name ns (λ x h. (or_parts (bytes_eq x n.name) (is_among x earlier) h).0) k.1)
     (distinct_names rule (n.name ∷ earlier) ns k.1)
 
 pub own_names : (s : SourceOf) → violations s ≡ [] → IsDistinct bytes_eq (procedure_names s)
@@ -57,8 +56,7 @@ own_names s e =
 
 all_names : (procs : List ProcOf) → All FitsProcedure procs → All (λ n. is_name n ≡ true) (map (λ (p : ProcOf). p.name.name) procs)
 all_names [] h = All-nil (λ n. is_name n ≡ true)
-all_names (p ∷ procs) h =
-    All-cons (λ n. is_name n ≡ true) p.name.name (map (λ (p : ProcOf). p.name.name) procs) (All-head FitsProcedure p procs h).name
+all_names (p ∷ procs) h = All-cons (λ n. is_name n ≡ true) p.name.name _ (All-head FitsProcedure p procs h).name
     (all_names procs (All-tail FitsProcedure p procs h))
 
 pub are_names : (s : SourceOf) → KeepsForm s → All (λ n. is_name n ≡ true) (procedure_names s)

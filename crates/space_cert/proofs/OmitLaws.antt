@@ -5,10 +5,10 @@ use Rattle.gypsy_syntax.{specs.declared.predef.Predef.Predef, specs.Programs.{Co
 use Rattle.gypsy_syntax.{specs.Programs.{shapes_of, conds_of, Stmt, Skip, NoOp, Signal, Seq, Loop, If, Begin, Call, Apply}, specs.ProgramFits.{Each, CondFits}}
 use Rattle.gypsy_syntax.{specs.ProgramFits.{StmtFits, ProgramFits}, specs.Predefined.predef_effect, specs.Effects.{Effect, Normal, Fault, Beyond, value_at}}
 use Rattle.gypsy_syntax.specs.Effects.{is_true_value}
-use Rattle.gypsy_space.{specs.Costs.{Tally, spend, predef_spend, out_spend}, specs.Needs.StackSizes}
-use Rattle.gypsy_semantics.{specs.Calls.{has_cond, is_leave, is_passed_on, main_way, matching, values_of, copied_out}, specs.Machine.{Item, Do, Back, JoinThen}}
-use Rattle.gypsy_semantics.specs.Machine.{JoinOne, Guard, Out, Frame, Held, State, At, Next, opens, open_on, settle, stop_if, raise, either_move, apply_step}
-use Rattle.gypsy_semantics.specs.Machine.{call_step, do_step, end_step, out_step, gypsy_step}
+use Rattle.gypsy_space.{specs.Costs.{Tally, spend, predef_spend}, specs.Needs.StackSizes}
+use Rattle.gypsy_semantics.{specs.Calls.{has_cond, is_leave, is_passed_on, main_way, matching, values_of}, specs.Machine.{Item, Do, Back, JoinThen, JoinOne}}
+use Rattle.gypsy_semantics.specs.Machine.{Guard, Out, Frame, Held, State, At, Next, opens, open_on, settle, stop_if, raise, either_move, apply_step, call_step}
+use Rattle.gypsy_semantics.specs.Machine.{do_step, end_step, out_step, gypsy_step}
 use Rattle.space_cert.{specs.Never.{HasCallRoom, raised, raised_for, raised_after}, specs.Internal.Omits.{IsOther, OmitsSpace, WorkOmitsSpace}}
 use Rattle.space_cert.specs.Internal.Omits.{WaitingOmitsSpace, StateOmitsSpace, MoveOmitsSpace}
 
@@ -123,8 +123,7 @@ end_omits q p y (Held c x w xs cs ∷ fs) t g = (settle_omits w g.0, g.2)
 out_omits : (q : Program) (d : ConditionOf) (p : ℕ) (y : List ValueOf) (fs : List Frame) (t : Tally) → IsOther d → WaitingOmitsSpace fs
     → MoveOmitsSpace (out_step q d p y fs t)
 out_omits q d p y [] t o g = main_omits q d o
-out_omits q d p y (Held c x w xs cs ∷ fs) t o g =
-    raise_omits (matching q p cs d) c (copied_out xs y x) w fs (out_spend (is_passed_on q p d) t) (matching_omits q p cs d g.1 o) g.0 g.2
+out_omits q d p y (Held c x w xs cs ∷ fs) t o g = raise_omits _ c _ w fs _ (matching_omits q p cs d g.1 o) g.0 g.2
 
 module _ (q : Program) (sizes : StackSizes) (bodies : (p : ℕ) → OmitsSpace (body_of q p)) where
   do_omits : (s : Stmt) (p : ℕ) (x : List ValueOf) (w : List Item) (fs : List Frame) (t : Tally) → HasCallRoom q sizes (At p x (Do s ∷ w) fs t)

@@ -36,10 +36,9 @@ module _ (procs : List Proc) (bs : Bounds) (many : length bs ≡ length procs) (
   printed_next b k out apart new all e ea en so_far =
       let t = entry_tree p.name.name b in
       let ts = nodes (entries_left procs bs (i + 1)) in
-      let later : (k + 1 == 0) ≡ false = ne_eqb (k + 1) 0 (λ z. omega (arith, z)) in
+      let later : (k + 1 == 0) ≡ false = ne_eqb (k + 1) 0 (λ z. omega arith) in
       (λ j. (en ∙ ap (λ (w : List ℕ). w ++ tree_text t) ea) j ++ (if later j then items_text ts else spaced_text ts))
-      ∙ (apart_by (k == 0) out (tree_text t) (spaced_text ts)
-      ∙ (ap (λ (us : List Node). out ++ items_after k (nodes us)) (sym (first_left b e)) ∙ so_far))
+      ∙ (apart_by (k == 0) out (tree_text t) (spaced_text ts) ∙ (ap (λ (us : List Node). out ++ items_after k (nodes us)) (sym (first_left b e)) ∙ so_far))
 
 no_more : (b : Bool) → (if b then items_text none else spaced_text none) ≡ []
 no_more true = refl
@@ -47,6 +46,4 @@ no_more false = refl
 
 pub printed_end : (procs : List Proc) (bs : Bounds) (i k : ℕ) (out all : List ℕ) → length procs ≤ i
     → out ++ items_after k (nodes (entries_left procs bs i)) ≡ all → out ≡ all
-printed_end procs bs i k out all le so_far =
-    sym (append-nil out) ∙ (ap (λ (w : List ℕ). out ++ w) (sym (no_more (k == 0)))
-    ∙ (ap (λ (ps : List Proc). out ++ items_after k (nodes (entry_trees (names_of ps) (drop i bs)))) (sym (drop_all i procs le)) ∙ so_far))
+printed_end procs bs i k out all le so_far = cc (append-nil out, no_more (k == 0), drop_all i procs le, so_far)

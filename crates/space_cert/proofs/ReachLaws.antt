@@ -8,18 +8,14 @@ use Rattle.space_cert.proofs.ContainsLaws.{contains_later, contains_cases}
 any_there : (r : ℕ) (cs : List ℕ) → list_any (λ c. c == r) cs ≡ true → Contains cs r
 any_there r [] h = absurd cc
 any_there r (c ∷ cs) h =
-    elim (or_cases (c == r) (list_any (λ c. c == r) cs) h) [
+    elim (or_cases (c == r) _ h) [
       | inl e ↦ subst (Contains (c ∷ cs)) (eqb-true c r e) (contains_first c cs)
       | inr k ↦ contains_later c cs r (any_there r cs k)
     ]
 
 there_any : (r : ℕ) (cs : List ℕ) → Contains cs r → list_any (λ c. c == r) cs ≡ true
 there_any r [] k = absurd (contains_none k)
-there_any r (c ∷ cs) k =
-    elim (contains_cases c cs r k) [
-      | inl e ↦ or_left (c == r) (list_any (λ c. c == r) cs) (eq-eqb c r e)
-      | inr l ↦ or_right (c == r) (list_any (λ c. c == r) cs) (there_any r cs l)
-    ]
+there_any r (c ∷ cs) k = elim (contains_cases c cs r k) [ inl e ↦ or_left (c == r) _ (eq-eqb c r e) | inr l ↦ or_right (c == r) _ (there_any r cs l) ]
 
 module _ (calls : ℕ → List ℕ) where
   abbrev Computed : ℕ → ℕ → ℕ → Type 0
@@ -39,16 +35,11 @@ module _ (calls : ℕ → List ℕ) where
 
   joins : (n p r : ℕ) → Computed n p n → Computed n n r → Computed (suc n) p r
   unfolding reaches_below
-  joins n p r h g = or_right (reaches_below calls n p r) (reaches_below calls n p n && reaches_below calls n n r)
-      (and_from (reaches_below calls n p n) (reaches_below calls n n r) h g)
+  joins n p r h g = or_right _ _ (and_from (reaches_below calls n p n) (reaches_below calls n n r) h g)
 
   splits : (n p r : ℕ) → Computed (suc n) p r → Computed n p r ⊎ (Computed n p n × Computed n n r)
   unfolding reaches_below
-  splits n p r h =
-      elim (or_cases (reaches_below calls n p r) (reaches_below calls n p n && reaches_below calls n n r) h) [
-        | inl a ↦ inl a
-        | inr b ↦ inr (and_parts (reaches_below calls n p n) (reaches_below calls n n r) b)
-      ]
+  splits n p r h = elim (or_cases _ _ h) [ inl a ↦ inl a | inr b ↦ inr (and_parts (reaches_below calls n p n) (reaches_below calls n n r) b) ]
 
   -- what is computed is reached
 
@@ -73,13 +64,10 @@ module _ (calls : ℕ → List ℕ) where
         | inl e ↦ joins n p r (to (subst (λ x. Computed (suc n) p x) e h)) (from (subst (λ x. Computed (suc n) x r) e g))
         | inr d ↦ elim (splits n p s h) [
           | inl a ↦ elim (splits n s r g) [
-            | inl b ↦ rises n p r (through n p s r (omega (arith, lt, d)) a b)
-            | inr b ↦ joins n p r (through n p s n (omega (arith, lt, d)) a b.0) b.1
+            | inl b ↦ rises n p r (through n p s r (omega arith) a b)
+            | inr b ↦ joins n p r (through n p s n (omega arith) a b.0) b.1
           ]
-          | inr a ↦ elim (splits n s r g) [
-            | inl b ↦ joins n p r a.0 (through n n s r (omega (arith, lt, d)) a.1 b)
-            | inr b ↦ joins n p r a.0 b.1
-          ]
+          | inr a ↦ elim (splits n s r g) [ inl b ↦ joins n p r a.0 (through n n s r (omega arith) a.1 b) | inr b ↦ joins n p r a.0 b.1 ]
         ]
       ]
     where

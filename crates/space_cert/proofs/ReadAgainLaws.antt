@@ -52,8 +52,7 @@ module _ (names : List (List ℕ)) where
   three_lifts bs place none e h = cc
   three_lifts bs place (more a none) e h = cc
   three_lifts bs place (more a (more b none)) e h = cc
-  three_lifts bs place (more a (more b (more c none))) e h =
-      named_lifts bs place (name_of_tree a) (number_at b) (number_at c) e
+  three_lifts bs place (more a (more b (more c none))) e h = named_lifts bs place _ _ _ e
       ((λ i. named_entry names bs 0 (name_same a i) (number_same b i) (number_same c i)) ∙ h)
   three_lifts bs place (more a (more b (more c (more d ts)))) e h = cc
 
@@ -66,15 +65,13 @@ module _ (names : List (List ℕ)) where
   then_lifts : (bs ds : Bounds) (t : Node) (ts us : Nodes) (r : Result (ℕ × (ℕ × ℕ)) Fault) → entry_at names bs (without_places t) ≡ r
       → ((cs : Bounds) → with_entries names cs us ≡ Ok ds → with_entries names cs ts ≡ Ok ds) →
       (r >>= λ e. with_entries names (set bs e.0 (Some e.1)) us) ≡ Ok ds → (entry_at names bs t >>= λ e. with_entries names (set bs e.0 (Some e.1)) ts) ≡ Ok ds
-  then_lifts bs ds t ts us (Ok e) is later h =
-      ap (λ r. r >>= λ e. with_entries names (set bs e.0 (Some e.1)) ts) (entry_lifts bs t e is) ∙ later (set bs e.0 (Some e.1)) h
+  then_lifts bs ds t ts us (Ok e) is later h = cc (entry_lifts bs t e is, later (set bs e.0 (Some e.1)) h)
   then_lifts bs ds t ts us (Err fault) is later h = cc
 
   entries_lift : (ts : Nodes) (ds bs : Bounds) → with_entries names bs (all_without_places ts) ≡ Ok ds → with_entries names bs ts ≡ Ok ds
   unfolding with_entries
   entries_lift none ds bs h = h
-  entries_lift (more t ts) ds bs h =
-      then_lifts bs ds t ts (all_without_places ts) (entry_at names bs (without_places t)) refl (entries_lift ts ds) h
+  entries_lift (more t ts) ds bs h = then_lifts bs ds t ts _ _ refl (entries_lift ts ds) h
 
   bounds_lift : (t : Node) (ds : Bounds) → bounds_at names (without_places t) ≡ Ok ds → bounds_at names t ≡ Ok ds
   bounds_lift (atom p w) ds h = cc
@@ -104,12 +101,11 @@ drop_head : (names : List (List ℕ)) (k : ℕ) (name : List ℕ) (rest : List (
     × (name ≡ get_or names k name) × (drop (k + 1) names ≡ rest)
 drop_head [] zero name rest e = cc
 drop_head [] (suc k) name rest e = cc
-drop_head (x ∷ names) zero name rest e =
-    (omega arith, sym (ap (λ (xs : List (List ℕ)). get_or xs 0 name) e), ap (drop 1) e)
+drop_head (x ∷ names) zero name rest e = (omega arith, sym (ap (λ (xs : List (List ℕ)). get_or xs 0 name) e), ap (drop 1) e)
 drop_head (x ∷ names) (suc k) name rest e =
     let h = drop_head names k name rest e in
     let next : suc k + 1 ≡ suc (k + 1) = omega arith in
-    (omega (arith, h.0), h.1, ap (λ (n : ℕ). drop n (x ∷ names)) next ∙ h.2)
+    (omega arith, h.1, ap (λ (n : ℕ). drop n (x ∷ names)) next ∙ h.2)
 
 get_between : (front back : Bounds) (o : Option (ℕ × ℕ)) → get_or (front ++ o ∷ back) (length front) None ≡ o
 get_between [] back o = refl
@@ -124,8 +120,8 @@ module _ (names : List (List ℕ)) (own : IsDistinct bytes_eq names) where
       → get_or bs k None ≡ None → is_bound (Some b) ≡ true → entry_at names bs (entry_tree name b) ≡ Ok (k, b)
   unfolding entry_at parts_entry
   entry_gives bs k name b lt is named free small =
-      let place : place_for bs (place_among name names) ≡ Some k =
-      ap (place_for bs) (place_own names k name own lt is) ∙ ap (λ o. if is_some o then None else Some k) free in
+      let place : place_for bs (place_among name names) ≡ Some k = ap (place_for bs) (place_own names k name own lt is)
+      ∙ ap (λ o. if is_some o then None else Some k) free in
       let s = both_small b small in
       (λ i. named_entry names bs 0 (name_reads name named i) (number_reads b.0 s.0 i) (number_reads b.1 s.1 i))
       ∙ ap (λ o. found_entry 0 o (Some b.0) (Some b.1)) place
@@ -138,23 +134,20 @@ module _ (names : List (List ℕ)) (own : IsDistinct bytes_eq names) where
   entries_give [] (b ∷ bs) front e named many small = absurd (omega (arith, many))
   entries_give (name ∷ rest) [] front e named many small = absurd (omega (arith, many))
   entries_give (name ∷ rest) (None ∷ bs) front e named many small =
-      let h = drop_head names (length front) name rest e in
-      let next : drop (length (front ++ None ∷ [])) names ≡ rest = ap (λ (n : ℕ). drop n names) (length_push front None) ∙ h.2 in
-      ap (λ (cs : Bounds). with_entries names cs (nodes (entry_trees rest bs))) (sym (append_assoc front (None ∷ []) (no_bounds (length rest))))
-      ∙ (entries_give rest bs (front ++ None ∷ []) next (All-tail (λ n. is_name n ≡ true) name rest named) (omega (arith, many))
-      (and_parts (is_bound None) (are_bounds bs) small).1
-      ∙ ap (λ (cs : Bounds). Ok cs) (append_assoc front (None ∷ []) bs))
+      let h = drop_head names _ name rest e in
+      let next : drop (length (front ++ None ∷ [])) names ≡ rest = cc (length_push front None, h.2) in
+      ap (λ cs. with_entries names cs (nodes (entry_trees rest bs))) (sym (append_assoc front (None ∷ []) (no_bounds (length rest))))
+      ∙ (entries_give rest bs _ next (All-tail (λ n. is_name n ≡ true) name rest named) (omega arith)
+      (and_parts (is_bound None) _ small).1 ∙ ap (λ cs. Ok cs) (append_assoc front (None ∷ []) bs))
   entries_give (name ∷ rest) (Some b ∷ bs) front e named many small =
       let h = drop_head names (length front) name rest e in
-      let k = and_parts (is_bound (Some b)) (are_bounds bs) small in
-      let next : drop (length (front ++ Some b ∷ [])) names ≡ rest = ap (λ (n : ℕ). drop n names) (length_push front (Some b)) ∙ h.2 in
-      let one = entry_gives (front ++ None ∷ no_bounds (length rest)) (length front) name b h.0 h.1 (All-head (λ n. is_name n ≡ true) name rest named)
-      (get_between front (no_bounds (length rest)) None) k.0 in
+      let k = and_parts (is_bound (Some b)) _ small in
+      let next : drop (length (front ++ Some b ∷ [])) names ≡ rest = cc (length_push front (Some b), h.2) in
+      let one = entry_gives _ _ name b h.0 h.1 (All-head (λ n. is_name n ≡ true) name rest named) (get_between front (no_bounds (length rest)) None) k.0 in
       ap (λ r. r >>= λ e. with_entries names (set (front ++ None ∷ no_bounds (length rest)) e.0 (Some e.1)) (nodes (entry_trees rest bs))) one
-      ∙ (ap (λ (cs : Bounds). with_entries names cs (nodes (entry_trees rest bs)))
-      (set_between front (no_bounds (length rest)) None (Some b) ∙ sym (append_assoc front (Some b ∷ []) (no_bounds (length rest))))
-      ∙ (entries_give rest bs (front ++ Some b ∷ []) next (All-tail (λ n. is_name n ≡ true) name rest named) (omega (arith, many)) k.1
-      ∙ ap (λ (cs : Bounds). Ok cs) (append_assoc front (Some b ∷ []) bs)))
+      ∙ (ap (λ cs. with_entries names cs (nodes (entry_trees rest bs)))
+      (set_between front _ None (Some b) ∙ sym (append_assoc front (Some b ∷ []) (no_bounds (length rest))))
+      ∙ (entries_give rest bs _ next (All-tail (λ n. is_name n ≡ true) name rest named) (omega arith) k.1 ∙ ap (λ cs. Ok cs) (append_assoc front _ bs)))
 
 -- The tree keeps the form of a tree, has 0 in all its places, and its text is short.
 
@@ -233,11 +226,7 @@ module _ (names : List (List ℕ)) (bs : Bounds) (named : All (λ n. is_name n �
   unfolding bounds_in certificate_text
   printed_reads own many =
       let t = certificate_tree names bs in
-      let form : IsWellFormed t = record {
-        atoms = entries_run names bs named small;
-        shallow = omega (arith, entries_low names bs);
-        few = omega (arith, few, entries_few names bs);
-      } in
+      let form : IsWellFormed t = record { atoms = entries_run names bs named small; shallow = omega (arith, entries_low); few = omega (arith, entries_few) } in
       let read = tree_text_reads t form in
       let plain : without_places t ≡ t = ap (list 0) (entries_plain names bs) in
       ap (bounds_on names) (tree_in-TreeOf (tree_text t) read.0 read.1)

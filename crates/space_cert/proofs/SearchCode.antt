@@ -1,7 +1,7 @@
 -- The search as the code keeps it.
-use Rattle.std.proofs.Common.{◌≡◌, ℕ, zero, suc, ◌<◌, ◌≤◌, List, [], ◌∷◌, ◌++◌, length, get_or, set, take, drop, reverse, Bool, true, false, Option, refl, ap}
-use Rattle.std.{proofs.Common.{sym, ◌∙◌, subst, arith}, proofs.lemmas.List.{append_assoc, drop-append-le, take-append-le, length_push, length-set}}
-use Rattle.std.{specs.List.All, specs.Global.Vec}
+use Rattle.std.proofs.Common.{◌≡◌, ℕ, zero, suc, ◌<◌, ◌≤◌, List, [], ◌∷◌, ◌++◌, length, get_or, set, drop, reverse, Bool, true, false, Option, refl, ap, sym}
+use Rattle.std.{proofs.Common.{◌∙◌, subst, arith}, proofs.lemmas.List.{append_assoc, drop-append-le, take-append-le, length_push, length-set}, specs.List.All}
+use Rattle.std.specs.Global.{Vec}
 use Rattle.stack_text.proofs.SharedLaws.{reverse_snoc}
 use Rattle.space_cert.{specs.Internal.Search.{earlier, earliest, first_with}, specs.Internal.SearchState.{SearchOf, call_of, done_marks}}
 use Rattle.space_cert.{specs.Internal.SearchView.{seen_calls, IsClosing}, specs.declared.search.Search.Search, specs.declared.search.Mark.TheVariants.Done}
@@ -32,12 +32,10 @@ pub closes_on : (s t u : Search) (es : List ℕ) (p : ℕ) → IsClosing s t →
     → IsClosing s u
 closes_on s t u es p h lt is ee em eo ef et ep eb ea = record {
   there = omega (arith, le, ap length ee);
-  taken = ap (take f) ee ∙ (sym (take-append-le f es (p ∷ []) le) ∙ (ap (take f) (sym is) ∙ h.taken));
-  marks_are = (λ i. done_marks (drop f (ee i)) (em i))
-      ∙ (sym (done_marks-push (drop f es) p t.marks.items) ∙ (ap (λ x. done_marks x t.marks.items) dropped ∙ h.marks_are));
-  order_is = (λ i. drop f (ee i) ++ reverse (eo i))
-      ∙ (ap (λ x. drop f es ++ x) (reverse_snoc t.order.items p)
-      ∙ (sym (append_assoc (drop f es) (p ∷ []) (reverse t.order.items)) ∙ (ap (λ x. x ++ reverse t.order.items) dropped ∙ h.order_is)));
+  taken = cc (ee, take-append-le f es (p ∷ []) le, is, h.taken);
+  marks_are = (λ i. done_marks (drop f (ee i)) (em i)) ∙ (sym (done_marks-push (drop f es) p _) ∙ (ap (λ x. done_marks x t.marks.items) dropped ∙ h.marks_are));
+  order_is = (λ i. drop f (ee i) ++ reverse (eo i)) ∙ (ap (λ x. drop f es ++ x) (reverse_snoc t.order.items p)
+      ∙ (sym (append_assoc (drop f es) (p ∷ []) _) ∙ (ap (λ x. x ++ reverse t.order.items) dropped ∙ h.order_is)));
   first_is = (λ i. first_with s.top.again (drop f (ee i)) (ef i))
       ∙ (ap (λ b. first_with s.top.again (drop f es) (first_with b (p ∷ []) t.first)) (ap (λ k. k.again) h.top_is)
       ∙ (sym (first_push s.top.again (drop f es) p t.first) ∙ (ap (λ x. first_with s.top.again x t.first) dropped ∙ h.first_is)));

@@ -47,8 +47,7 @@ module _ (calls : ℕ → List ℕ) where
   pub groups_more : (done above more : List ℕ) (gs : List GroupOf) → ((c : ℕ) → Contains above c → Contains more c) → AreGroups calls done above gs
       → AreGroups calls done more gs
   groups_more done above more [] f h = tt
-  groups_more done above more (g ∷ gs) f h =
-      (group_more done above more g f h.0, h.1, groups_more done (g.members ++ above) (g.members ++ more) gs (append_more g.members above more f) h.2)
+  groups_more done above more (g ∷ gs) f h = (group_more done above more g f h.0, h.1, groups_more done _ _ gs (append_more g.members above more f) h.2)
 
   -- What is above becomes done.
 
@@ -99,12 +98,7 @@ module _ (calls : ℕ → List ℕ) where
       let source = h.0.sources w (subst (λ t. Contains t w) (sym e) (todo_last ts w)) in (
         fresh,
         chain source,
-        (
-          below,
-          h.1,
-          groups_more done (g.members ++ []) (g.members ++ w ∷ []) gs
-              (append_more g.members [] (w ∷ []) (λ c k. absurd (contains_none k))) h.2,
-        ),
+        (below, h.1, groups_more done _ _ gs (append_more g.members [] (w ∷ []) (λ c k. absurd (contains_none k))) h.2),
       )
     where
       is_w : (a : ℕ) → Contains (w ∷ []) a → w ≡ a
@@ -121,8 +115,7 @@ module _ (calls : ℕ → List ℕ) where
 
       chain : (a : ℕ) × Contains g.members a × Contains (calls a) w → (b a : ℕ) → Contains (g.members ++ all_members gs) b → Contains (w ∷ []) a
           → Leads calls b a
-      chain (u, m, c) b a k l =
-          subst (Leads calls b) (is_w a l) (lead_on b u w
+      chain (u, m, c) b a k l = subst (Leads calls b) (is_w a l) (lead_on b u w
           (elim (Contains-append_cases g.members (all_members gs) b k) [ inl i ↦ h.0.strong b u i m | inr i ↦ h.1 b u i m ]) (call_leads u w c))
 
       below : IsGroup calls done (w ∷ []) (record { members = g.members; todo = ts; again = g.again })
@@ -198,15 +191,14 @@ module _ (calls : ℕ → List ℕ) where
       AreGroups calls done [] (record { members = k.members ++ g.members; todo = k.todo ++ g.todo; again = true } ∷ gs)
   joined done g k gs w t there h =
       let up = h.0 in
-      let low = h.2.0 in
-      (now (up.sources w t), chain, groups_more done (k.members ++ (g.members ++ [])) ((k.members ++ g.members) ++ []) gs regroup h.2.2)
+      (now (up.sources w t), chain, groups_more done _ _ gs regroup h.2.2)
     where
       regroup : (c : ℕ) → Contains (k.members ++ (g.members ++ [])) c → Contains ((k.members ++ g.members) ++ []) c
       regroup c i =
-          elim (Contains-append_cases k.members (g.members ++ []) c i) [
-            | inl l ↦ Contains-append_left (k.members ++ g.members) [] c (Contains-append_left k.members g.members c l)
+          elim (Contains-append_cases k.members _ c i) [
+            | inl l ↦ Contains-append_left _ [] c (Contains-append_left k.members g.members c l)
             | inr l ↦ elim (Contains-append_cases g.members [] c l) [
-              | inl m ↦ Contains-append_left (k.members ++ g.members) [] c (Contains-append_right k.members g.members c m)
+              | inl m ↦ Contains-append_left _ [] c (Contains-append_right k.members g.members c m)
               | inr n ↦ absurd (contains_none n)
             ]
           ]
@@ -222,7 +214,7 @@ module _ (calls : ℕ → List ℕ) where
       leads : (a : ℕ) → Contains (k.members ++ g.members) a → Leads calls w a
       leads a i =
           elim (Contains-append_cases k.members g.members a i) [
-            | inl m ↦ elim (Contains-append_cases k.members (all_members gs) w there) [ inl l ↦ h.2.0.strong w a l m | inr l ↦ h.2.1 w a l m ]
+            | inl m ↦ elim (Contains-append_cases k.members _ w there) [ inl l ↦ h.2.0.strong w a l m | inr l ↦ h.2.1 w a l m ]
             | inr m ↦ h.1 w a there m
           ]
 
@@ -231,10 +223,7 @@ module _ (calls : ℕ → List ℕ) where
       now (u, m, c) = record {
         strong = λ a b i l. inr (lead_reach a u b (back a i) (reach_lead u w b (Directly c) (leads b l)));
         sources = λ x i.
-            elim (Contains-append_cases k.todo g.todo x i) [
-              | inl l ↦ left_source x (h.2.0.sources x l)
-              | inr l ↦ right_source x (h.0.sources x l)
-            ];
+            elim (Contains-append_cases k.todo g.todo x i) [ inl l ↦ left_source x (h.2.0.sources x l) | inr l ↦ right_source x (h.0.sources x l) ];
         followed = λ a x i l.
             elim (Contains-append_cases k.members g.members a i) [
               | inl j ↦ elim (h.2.0.followed a x j l) [
@@ -262,10 +251,7 @@ module _ (calls : ℕ → List ℕ) where
         where
           back : (a : ℕ) → Contains (k.members ++ g.members) a → Leads calls a u
           back a i =
-              elim (Contains-append_cases k.members g.members a i) [
-                | inl l ↦ h.1 a u (Contains-append_left k.members (all_members gs) a l) m
-                | inr l ↦ h.0.strong a u l m
-              ]
+              elim (Contains-append_cases k.members g.members a i) [ inl l ↦ h.1 a u (Contains-append_left k.members _ a l) m | inr l ↦ h.0.strong a u l m ]
 
           left_source : (x : ℕ) → (a : ℕ) × Contains k.members a × Contains (calls a) x → (a : ℕ) × Contains (k.members ++ g.members) a × Contains (calls a) x
           left_source x (a, i, l) = (a, Contains-append_left k.members g.members a i, l)
@@ -427,7 +413,5 @@ module _ (calls : ℕ → List ℕ) where
           by (v, m) = single v m i
 
   pub left_groups : (done : List ℕ) (g : GroupOf) (gs : List GroupOf) → AreGroups calls done [] (g ∷ gs) → AreGroups calls (g.members ++ done) [] gs
-  left_groups done g gs h =
-      groups_done done (g.members ++ []) (g.members ++ done) [] gs (λ c k. Contains-append_right g.members done c k)
-      (λ c k. elim (Contains-append_cases g.members [] c k) [ inl m ↦ inl (Contains-append_left g.members done c m) | inr n ↦ absurd (contains_none n) ])
-      h.2
+  left_groups done g gs h = groups_done done _ _ [] gs (λ c k. Contains-append_right g.members done c k)
+      (λ c k. elim (Contains-append_cases g.members [] c k) [ inl m ↦ inl (Contains-append_left g.members done c m) | inr n ↦ absurd (contains_none n) ]) h.2

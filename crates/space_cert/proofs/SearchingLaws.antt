@@ -34,10 +34,9 @@ module _ (cs : List (List ℕ)) (main : ℕ) where
   in_groups : (ks : List Group) (es ts : List ℕ) (p : ℕ) → IsCut ks es ts → Contains es p → Contains (all_members (groups_in ks es ts)) p
   in_groups [] es ts p h k = subst (λ x. Contains x p) h.0 k
   in_groups (g ∷ ks) es ts p h k =
-      elim (Contains-append_cases (take g.first es) (drop g.first es) p (subst (λ x. Contains x p) (sym (take-append-drop g.first es)) k)) [
-        | inl l ↦ Contains-append_right (drop g.first es) (all_members (groups_in ks (take g.first es) (take g.from ts))) p
-            (in_groups ks (take g.first es) (take g.from ts) p h.2 l)
-        | inr l ↦ Contains-append_left (drop g.first es) (all_members (groups_in ks (take g.first es) (take g.from ts))) p l
+      elim (Contains-append_cases _ _ p (subst (λ x. Contains x p) (sym (take-append-drop g.first es)) k)) [
+        | inl l ↦ Contains-append_right _ _ p (in_groups ks (take g.first es) (take g.from ts) p h.2 l)
+        | inr l ↦ Contains-append_left _ _ p l
       ]
 
   module _ (s : SearchOf) (h : IsSearch cs main s) (ts : List ℕ) (w : ℕ) (is : s.todo ≡ ts ++ w ∷ []) (le : s.top.from ≤ length ts) where
@@ -324,7 +323,7 @@ module _ (cs : List (List ℕ)) (main : ℕ) where
     first = None;
   }
   begins lt = record {
-    number = length-set (replicate (length cs) New) main (Entered 0) ∙ length-replicate (length cs) New;
+    number = length-set _ main (Entered 0) ∙ length-replicate (length cs) New;
     cut = (omega arith, omega arith, (refl, refl));
     groups = (alone, (λ b a k l. absurd (contains_none k)), tt);
     done = record {
@@ -333,21 +332,18 @@ module _ (cs : List (List ℕ)) (main : ℕ) where
       circular = λ r e. absurd (none_is_some r e);
       least = λ a k r. absurd (contains_none k);
     };
-    marked = enters (replicate (length cs) New) [] [] nothing main (omega (arith, lt, length-replicate (length cs) New))
-        (get_or-replicate (length cs) main New New lt);
+    marked = enters _ [] [] nothing main (omega (arith, length-replicate (length cs) New)) (get_or-replicate (length cs) main New New lt);
     reached = record {
       leads = λ p k. elim k [
         | inl e ↦ elim (contains_cases main [] p e) [ inl i ↦ inl i | inr n ↦ absurd (contains_none n) ]
-        | inr d ↦
-            absurd (contains_none d)
+        | inr d ↦ absurd (contains_none d)
       ];
       main_there = inl (contains_first main []);
     };
     count = omega (
       arith,
       all_new (length cs),
-      count_set (replicate (length cs) New) main (Entered 0)
-          (omega (arith, lt, length-replicate (length cs) New)),
+      count_set (replicate (length cs) New) main (Entered 0) (omega (arith, length-replicate (length cs) New)),
       ap is_new (get_or-replicate (length cs) main New New lt),
     );
   }
@@ -366,7 +362,7 @@ module _ (cs : List (List ℕ)) (main : ℕ) where
 
       nothing : AreMarked (replicate (length cs) New) [] []
       nothing = record {
-        places = λ i l. absurd (omega (arith, l));
+        places = λ i l. absurd (omega arith);
         finished = λ p k. absurd (contains_none k);
         entered_is = λ p at e. absurd (new_apart (sym (new_at (length cs) p) ∙ e));
         finished_is = λ p e. absurd (new_not_done (sym (new_at (length cs) p) ∙ e));

@@ -3,13 +3,11 @@ use Rattle.std.{proofs.Common.{◌≡◌, ℕ, List, [], ◌∷◌, Bool, true, 
 use Rattle.std.proofs.lemmas.List.Elements.{All-head}
 use Rattle.stack_text.specs.Values.{ValueOf}
 use Rattle.gypsy_syntax.{specs.declared.predef.Predef.Predef, specs.Programs.{ConditionOf, Routine, Arg, Program, body_of, Stmt, Skip, NoOp, Signal, Seq, Loop}}
-use Rattle.gypsy_syntax.{specs.Programs.{If, Begin, Call, Apply}, specs.Predefined.predef_effect, specs.Effects.{Effect, Normal, Fault, Beyond, value_at}}
-use Rattle.gypsy_syntax.specs.Effects.{is_true_value}
-use Rattle.gypsy_space.{specs.Costs.{Tally, spend, predef_spend, out_spend}, specs.Needs.{StackSizes, lack_of, with_call}}
-use Rattle.gypsy_space.specs.declared.need.Lack.TheVariants.{Nothing}
-use Rattle.gypsy_semantics.{specs.Calls.{has_cond, is_leave, is_passed_on, matching, values_of, copied_out}, specs.Machine.{Item, Do, Back, JoinThen, JoinOne}}
-use Rattle.gypsy_semantics.specs.Machine.{Guard, Out, Frame, Held, State, At, Move, Next, Ended, opens, open_on, settle, stop_if, raise, either_move}
-use Rattle.gypsy_semantics.specs.Machine.{apply_step, used, call_step, do_step, end_step, out_step, gypsy_step, start}
+use Rattle.gypsy_syntax.{specs.Programs.{If, Begin, Call, Apply}, specs.Effects.{Effect, Normal, Fault, Beyond, value_at, is_true_value}}
+use Rattle.gypsy_space.{specs.Costs.{Tally, spend, predef_spend}, specs.Needs.{StackSizes, lack_of, with_call}, specs.declared.need.Lack.TheVariants.Nothing}
+use Rattle.gypsy_semantics.{specs.Calls.{has_cond, is_leave}, specs.Machine.{Item, Do, Back, JoinThen, JoinOne, Guard, Out, Frame, Held, State, At, Move, Next}}
+use Rattle.gypsy_semantics.specs.Machine.{Ended, opens, open_on, settle, stop_if, raise, either_move, apply_step, used, call_step, do_step, end_step, out_step}
+use Rattle.gypsy_semantics.specs.Machine.{gypsy_step, start}
 use Rattle.space_cert.{specs.Covers.{Bounds, bound_at, callees, CoversCall, CoversCalls, IsCertificate, Covers}, specs.CoveredStates.WorkCovered}
 use Rattle.space_cert.{specs.CoveredStates.{ActivationCovered, WaitingCovered, StateCovered}, specs.Never.HasCallRoom, proofs.AllLaws.{all_left, all_right}}
 use Rattle.space_cert.proofs.CoversLaws.{bound_there, lacks_nothing, left, main_within}
@@ -87,8 +85,7 @@ module _ (q : Program) (bs : Bounds) (sizes : StackSizes) where
   out_covered : (d : ConditionOf) (p : ℕ) (y : List ValueOf) (fs : List Frame) (t : Tally) → WaitingCovered q bs sizes fs
       → MoveCovered q bs sizes (out_step q d p y fs t)
   out_covered d p y [] t g = tt
-  out_covered d p y (Held c x w xs cs ∷ fs) t g =
-      raise_covered (matching q p cs d) c (copied_out xs y x) w fs (out_spend (is_passed_on q p d) t) g.0 g.1
+  out_covered d p y (Held c x w xs cs ∷ fs) t g = raise_covered _ c _ w fs _ g.0 g.1
 
 module _ (q : Program) (bs : Bounds) (sizes : StackSizes) (cert : IsCertificate q bs) where
   -- a call in the work of an activation
@@ -116,8 +113,7 @@ module _ (q : Program) (bs : Bounds) (sizes : StackSizes) (cert : IsCertificate 
   do_covered (NoOp place) p x w fs t k g = (with_work q bs sizes k (settle w) (settle_covered q bs k.bound w k.work.1), g)
   do_covered (Signal place c) p x w fs t k g = raise_covered q bs sizes c p x w fs (spend 4 3 t) (with_work q bs sizes k w k.work.1) g
   do_covered (Seq a c) p x w fs t k g = (with_work q bs sizes k (open_on (Seq a c) w) (open_covered q bs k.bound (Seq a c) w k.work.0 k.work.1), g)
-  do_covered (Loop place s) p x w fs t k g =
-      (with_work q bs sizes k (open_on s (Back place s ∷ w)) (open_covered q bs k.bound s (Back place s ∷ w) k.work.0 k.work), g)
+  do_covered (Loop place s) p x w fs t k g = (with_work q bs sizes k _ (open_covered q bs k.bound s (Back place s ∷ w) k.work.0 k.work), g)
   do_covered (If place i s v) p x w fs t k g = pick (is_true_value (value_at x i))
     where
       pick : (e : Bool) → MoveCovered q bs sizes
@@ -125,23 +121,20 @@ module _ (q : Program) (bs : Bounds) (sizes : StackSizes) (cert : IsCertificate 
           (Next (At p x (open_on v (JoinOne place ∷ w)) fs (spend 9 4 t))))
       pick true =
           let fs' = all_left (CoversCall q bs k.bound) (callees s) (callees v) k.work.0 in
-          (with_work q bs sizes k (open_on s (JoinThen place v ∷ w)) (open_covered q bs k.bound s (JoinThen place v ∷ w) fs' k.work.1), g)
+          (with_work q bs sizes k _ (open_covered q bs k.bound s (JoinThen place v ∷ w) fs' k.work.1), g)
       pick false =
           let fv = all_right (CoversCall q bs k.bound) (callees s) (callees v) k.work.0 in
-          (with_work q bs sizes k (open_on v (JoinOne place ∷ w)) (open_covered q bs k.bound v (JoinOne place ∷ w) fv k.work.1), g)
-  do_covered (Begin place s cs v) p x w fs t k g =
-      (with_work q bs sizes k (open_on (Begin place s cs v) w) (open_covered q bs k.bound (Begin place s cs v) w k.work.0 k.work.1), g)
+          (with_work q bs sizes k _ (open_covered q bs k.bound v (JoinOne place ∷ w) fv k.work.1), g)
+  do_covered (Begin place s cs v) p x w fs t k g = (with_work q bs sizes k _ (open_covered q bs k.bound (Begin place s cs v) w k.work.0 k.work.1), g)
   do_covered (Call place c xs cs) p x w fs t k g =
       subst (λ r. MoveCovered q bs sizes (call_step q r c xs cs p x w fs t)) (sym (call_room place c xs cs p w (used q p fs) k))
-      (callee_covered place c xs cs p w (used q p fs) k, (with_work q bs sizes k w k.work.1, g))
-  do_covered (Apply place r args) p x w fs t k g =
-      apply_covered q bs sizes r args (predef_effect r (values_of x args)) p x w fs t (with_work q bs sizes k w k.work.1) g
+      (callee_covered place c xs cs p w _ k, (with_work q bs sizes k w k.work.1, g))
+  do_covered (Apply place r args) p x w fs t k g = apply_covered q bs sizes r args _ p x w fs t (with_work q bs sizes k w k.work.1) g
 
   pub step_covered : (g : State) → StateCovered q bs sizes g → MoveCovered q bs sizes (gypsy_step q sizes g)
   step_covered (At p x [] fs t) h = end_covered q bs sizes p x fs t h.1
   step_covered (At p x (Do s ∷ w) fs t) h = do_covered s p x w fs t h.0 h.1
-  step_covered (At p x (Back place s ∷ w) fs t) h =
-      (with_work q bs sizes h.0 (open_on (Loop place s) w) (open_covered q bs h.0.bound (Loop place s) w h.0.work.0 h.0.work.1), h.1)
+  step_covered (At p x (Back place s ∷ w) fs t) h = (with_work q bs sizes h.0 _ (open_covered q bs h.0.bound (Loop place s) w h.0.work.0 h.0.work.1), h.1)
   step_covered (At p x (JoinThen place v ∷ w) fs t) h = (with_work q bs sizes h.0 (settle w) (settle_covered q bs h.0.bound w h.0.work), h.1)
   step_covered (At p x (JoinOne place ∷ w) fs t) h = (with_work q bs sizes h.0 (settle w) (settle_covered q bs h.0.bound w h.0.work), h.1)
   step_covered (At p x (Guard place cs v ∷ w) fs t) h = (with_work q bs sizes h.0 (settle w) (settle_covered q bs h.0.bound w h.0.work.1), h.1)

@@ -1,10 +1,11 @@
 use Rattle.std.proofs.Common.{[], ◌∷◌, List, Some, refl, sym, ap, ◌∙◌, arith}
-use Rattle.mini_syntax.{specs.declared.expected.Expected.Expected, specs.Expected.{a_block, expression}, specs.Internal.Lexemes.{left_of, next_kind}}
-use Rattle.mini_syntax.{specs.Internal.Lexemes.token_seen, specs.Internal.Phrases.statement_kind, specs.Tokens.mark_at, proofs.AwaitLaws.begins_with_if}
-use Rattle.mini_syntax.{proofs.AwaitLaws.{begins_with_while, no_statement}, proofs.LevelLaws.read_shrinks, proofs.ReadingLaws.{all_read, block_read}}
-use Rattle.mini_syntax.proofs.ReadingLaws.{block_shrinks, form_shrinks, if_read, none_yet, one_less, one_more, shrinks, so_far_shrinks, while_read}
-use Rattle.mini_syntax.proofs.StepLaws.{after_kind, block_first, block_passed, else_is, else_passed, expression_first, expression_passed, first_awaited}
-use Rattle.mini_syntax.{proofs.StepLaws.{form_passed, forms_passed, kind_next, mark_passed, token_left}, proofs.ViewLaws.{statement_in-if, statement_in-while}}
+use Rattle.mini_syntax.{specs.declared.expected.Expected.Expected, specs.Expected.{a_block, expression}, specs.Internal.Lexemes.{left_of, token_seen}}
+use Rattle.mini_syntax.{specs.Internal.Phrases.statement_kind, specs.Tokens.mark_at, proofs.AwaitLaws.{statement_begins, no_statement}}
+use Rattle.mini_syntax.{proofs.LevelLaws.read_shrinks, proofs.ReadingLaws.{all_read, block_read, block_shrinks, form_shrinks, if_read, none_yet, one_less}}
+use Rattle.mini_syntax.{proofs.ReadingLaws.{one_more, shrinks, so_far_shrinks, while_read}, proofs.StepLaws.{after_kind, block_first, block_passed, else_is}}
+use Rattle.mini_syntax.proofs.StepLaws.{else_passed, expression_first, expression_passed, first_awaited, form_passed, forms_passed, kind_next, mark_passed}
+use Rattle.mini_syntax.{proofs.StepLaws.token_left, proofs.ViewLaws.{statement_in-if, statement_in-while}}
+use Rattle.mini_syntax.specs.declared.blocks.StatementKind.TheVariants as a_statement
 use Rattle.mini_syntax.specs.declared.expected.Expected.TheVariants as wants
 use Rattle.mini_syntax.specs.declared.lexer.TokenKind.TheVariants as kind
 use Rattle.mini_syntax.specs.declared.mark.Mark.TheVariants as mark
@@ -19,14 +20,14 @@ more = wants.MoreStatements ∷ []
 pub while_statement-expression-requires-clause-awaits : goal.while_statement-expression-requires-clause-awaits
 while_statement-expression-requires-clause-awaits g t c =
     let l = c.next-place.result in
-    let k = kind_next l (kind.Word word.While) c.next-place.ensures (begins_with_while (next_kind (left_of c.args.cursor.now)) c.requires.begun) in
+    let k = kind_next l (kind.Word word.While) c.next-place.ensures (statement_begins a_statement.While _ c.requires.begun) in
     expression_first (a_block more) (after_kind more (expression (a_block more)) l (kind.Word word.While) c.requires.awaits c.next-place.ensures k
     (λ rest. refl))
 
 pub while_statement-block-requires : goal.while_statement-block-requires
 while_statement-block-requires g t c =
     let l = c.next-place.result in
-    let k = kind_next l (kind.Word word.While) c.next-place.ensures (begins_with_while (next_kind (left_of c.args.cursor.now)) c.requires.begun) in
+    let k = kind_next l (kind.Word word.While) c.next-place.ensures (statement_begins a_statement.While _ c.requires.begun) in
     let begun = after_kind more (expression (a_block more)) l (kind.Word word.While) c.requires.awaits c.next-place.ensures k (λ rest. refl) in
     let less = one_less (token_seen l) (left_of c.args.cursor.now) (left_of c.next-place.new.self) c.next-place.ensures in
     let no_more = read_shrinks c.in_ok-test.ensures in
@@ -35,10 +36,9 @@ while_statement-block-requires g t c =
 pub while_statement-returns : goal.while_statement-returns
 while_statement-returns g t c =
     let l = c.next-place.result in
-    let k = kind_next l (kind.Word word.While) c.next-place.ensures (begins_with_while (next_kind (left_of c.args.cursor.now)) c.requires.begun) in
+    let k = kind_next l (kind.Word word.While) c.next-place.ensures (statement_begins a_statement.While _ c.requires.begun) in
     while_read c.args.scope.now.declared.items l (left_of c.args.cursor.now) (left_of c.next-place.new.self) (left_of c.expression.new.cursor)
-    (left_of c.block.new.cursor)
-    c.args.best.now c.expression.new.best c.note_test.new.best c.block.new.best c.in_ok-test.test c.in_ok-body.body.items _
+    (left_of c.block.new.cursor) c.args.best.now c.expression.new.best c.note_test.new.best c.block.new.best c.in_ok-test.test c.in_ok-body.body.items _
     c.next-place.ensures k c.in_ok-test.ensures c.note_test.ensures c.in_ok-body.ensures (statement_in-while c.in_ok-test.test.exp c.in_ok-body.body)
 
 -- ---- `if`
@@ -46,14 +46,14 @@ while_statement-returns g t c =
 pub if_statement-expression-requires-clause-awaits : goal.if_statement-expression-requires-clause-awaits
 if_statement-expression-requires-clause-awaits g t c =
     let l = c.next-place.result in
-    let k = kind_next l (kind.Word word.If) c.next-place.ensures (begins_with_if (next_kind (left_of c.args.cursor.now)) c.requires.begun) in
+    let k = kind_next l (kind.Word word.If) c.next-place.ensures (statement_begins a_statement.If _ c.requires.begun) in
     let rest = wants.Else ∷ a_block more in
     expression_first (a_block rest) (after_kind more (expression (a_block rest)) l (kind.Word word.If) c.requires.awaits c.next-place.ensures k (λ st. refl))
 
 pub if_statement-block-requires : goal.if_statement-block-requires
 if_statement-block-requires g t c =
     let l = c.next-place.result in
-    let k = kind_next l (kind.Word word.If) c.next-place.ensures (begins_with_if (next_kind (left_of c.args.cursor.now)) c.requires.begun) in
+    let k = kind_next l (kind.Word word.If) c.next-place.ensures (statement_begins a_statement.If _ c.requires.begun) in
     let rest = wants.Else ∷ a_block more in
     let begun = after_kind more (expression (a_block rest)) l (kind.Word word.If) c.requires.awaits c.next-place.ensures k (λ st. refl) in
     let less = one_less (token_seen l) (left_of c.args.cursor.now) (left_of c.next-place.new.self) c.next-place.ensures in
@@ -63,7 +63,7 @@ if_statement-block-requires g t c =
 pub if_statement-next-requires : goal.if_statement-next-requires
 if_statement-next-requires g t c =
     let l = c.next-place.result in
-    let k = kind_next l (kind.Word word.If) c.next-place.ensures (begins_with_if (next_kind (left_of c.args.cursor.now)) c.requires.begun) in
+    let k = kind_next l (kind.Word word.If) c.next-place.ensures (statement_begins a_statement.If _ c.requires.begun) in
     let rest = wants.Else ∷ a_block more in
     let begun = after_kind more (expression (a_block rest)) l (kind.Word word.If) c.requires.awaits c.next-place.ensures k (λ st. refl) in
     token_left (block_passed rest (expression_passed (a_block rest) begun c.in_ok-test.ensures) c.in_ok-then.ensures) refl
@@ -71,7 +71,7 @@ if_statement-next-requires g t c =
 pub if_statement-block-requires-2 : goal.if_statement-block-requires-2
 if_statement-block-requires-2 g t c =
     let l = c.next-place.result in
-    let k = kind_next l (kind.Word word.If) c.next-place.ensures (begins_with_if (next_kind (left_of c.args.cursor.now)) c.requires.begun) in
+    let k = kind_next l (kind.Word word.If) c.next-place.ensures (statement_begins a_statement.If _ c.requires.begun) in
     let rest = wants.Else ∷ a_block more in
     let begun = after_kind more (expression (a_block rest)) l (kind.Word word.If) c.requires.awaits c.next-place.ensures k (λ st. refl) in
     let less = one_less (token_seen l) (left_of c.args.cursor.now) (left_of c.next-place.new.self) c.next-place.ensures in
@@ -85,7 +85,7 @@ if_statement-block-requires-2 g t c =
 pub if_statement-returns : goal.if_statement-returns
 if_statement-returns g t c =
     let l = c.next-place.result in
-    let k = kind_next l (kind.Word word.If) c.next-place.ensures (begins_with_if (next_kind (left_of c.args.cursor.now)) c.requires.begun) in
+    let k = kind_next l (kind.Word word.If) c.next-place.ensures (statement_begins a_statement.If _ c.requires.begun) in
     let rest = wants.Else ∷ a_block more in
     let begun = after_kind more (expression (a_block rest)) l (kind.Word word.If) c.requires.awaits c.next-place.ensures k (λ st. refl) in
     let other = block_passed rest (expression_passed (a_block rest) begun c.in_ok-test.ensures) c.in_ok-then.ensures in
