@@ -135,10 +135,15 @@ until_any words = until_parts [] (slice_split is_or words)
 abbrev pub until_command : List (List ℕ) → Result Command ScriptRule
 until_command words = if nat_lt 3 (length words) then until_any words else until_one words
 
+-- the one word that `show` may have
+abbrev pub show_word : List ℕ → Result Command ScriptRule
+show_word word = if bytes_eq word (codes "all") then Ok command.ShowAll else Err rules.WordCount
+
 -- the command of a verb and the words behind it, or the rule that they break
 abbrev pub command_by : Verb → List (List ℕ) → Result Command ScriptRule
 command_by verb.Step (count ∷ []) = count_of count >>= λ n. Ok (command.Step n)
 command_by verb.Show [] = Ok command.Show
+command_by verb.Show (word ∷ []) = show_word word
 command_by verb.Up [] = Ok command.Up
 command_by verb.Attach (watch ∷ []) = watch_of watch >>= λ w. Ok (command.Attach w)
 command_by verb.Detach (watch ∷ []) = watch_of watch >>= λ w. Ok (command.Detach w)

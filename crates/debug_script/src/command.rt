@@ -2,8 +2,8 @@
 
 ghost use Rattle.std.specs.{Prelude.{◌≡◌, ◌∷◌, ◌<◌, ◌≤◌, IfSome, drop, length, map}, List.{position}, Option.{option_copied, option_map}};
 ghost use Rattle.debug_script.specs.Commands.{GivesCommandUnless, GivesPlaceUnless, command_by, command_of, count_of, depth_behind, number_of, place_in};
-ghost use Rattle.debug_script.specs.Commands.{place_of, until_instruction, until_word, verb_of, watch_of, words_command, GivesLastUnless, SplitsAtOr, is_or};
-ghost use Rattle.debug_script.specs.Commands.{last_instruction, last_place, place_from, until_any, until_command, until_one};
+ghost use Rattle.debug_script.specs.Commands.{place_of, show_word, until_instruction, until_word, verb_of, watch_of, words_command, GivesLastUnless};
+ghost use Rattle.debug_script.specs.Commands.{SplitsAtOr, is_or, last_instruction, last_place, place_from, until_any, until_command, until_one};
 ghost use Rattle.debug_script.specs.declared.command.Verb.TheVariants as verb;
 
 use crate::fault::{LineFault, ScriptRule};
@@ -71,6 +71,8 @@ pub enum Command {
     Step { count: u64 },
     /// Says what the run shows at its own level.
     Show,
+    /// Says that, and then the same of each activation that waits.
+    ShowAll,
     /// Says what is known of the variables of the source.
     Up,
     /// Attaches the first watch of the kind that waits; it is notified of each step from here on.
@@ -242,6 +244,17 @@ fn until_instruction<H: Heap>(
     })
 }
 
+/// The command of `show` with a word.
+fn show_word(word: &[u8]) -> Result<Command, ScriptRule>
+    ensures { result ≡ show_word word.now }
+{
+    if word == b"all".as_slice() {
+        Ok(Command::ShowAll)
+    } else {
+        Err(ScriptRule::WordCount)
+    }
+}
+
 /// The command of `words`, by its address and what stands behind that.
 fn words_from(address: &[u8], rest: &[&[u8]]) -> Result<Command, ScriptRule>
     ensures { result ≡ command_by verb.Words (address.now ∷ map (λ word. word.now) rest.now) }
@@ -408,6 +421,7 @@ fn command_by<H: Heap>(heap: H, verb: Verb, arguments: &[&[u8]]) -> Result<Comma
             count: count_of(count)?,
         }),
         (Verb::Show, []) => Ok(Command::Show),
+        (Verb::Show, [word]) => Ok(show_word(word)?),
         (Verb::Up, []) => Ok(Command::Up),
         (Verb::Attach, [watch]) => Ok(Command::Attach {
             watch: watch_of(watch)?,

@@ -5,9 +5,9 @@ use Rattle.std.proofs.lemmas.Bool.{ltb-true, ltb-false}
 use Rattle.stack_text.proofs.Loops.{drop-item}
 use Rattle.debug_script.specs.declared.command.Place.{Place}
 use Rattle.level_debuggers.{specs.declared.advance.Advance.Advance, specs.declared.advance.Stop.Stop, specs.declared.session.SessionRun.SessionRun}
-use Rattle.level_debuggers.{specs.Arrivals.{IsFirstTime, arrived, arrived_at_one, arrived_by, arrived_where, first_where}, specs.Levels.LevelOf}
-use Rattle.level_debuggers.{specs.Levels.{next_of, stands_at, stands_at_one}, specs.Steps.{IsAdvance, is_over}, specs.Walks.{HasMadeSome, SessionOf, Stepped}}
-use Rattle.level_debuggers.{specs.Walks.{Walk, refused_after, stepped, walk}, proofs.WalkLaws.{IsStop, Made, made_all, step_over, step_refused, stepped_some}}
+use Rattle.level_debuggers.{specs.Arrivals.{IsFirstTime, arrived, arrived_at_one, arrived_by, arrived_where, first_where}, specs.Levels.{LevelOf, next_of}}
+use Rattle.level_debuggers.{specs.Levels.{stands_at, stands_at_one}, specs.Steps.{IsAdvance, is_over}, specs.Walks.{HasMadeSome, SessionOf, Stepped, Walk}}
+use Rattle.level_debuggers.{specs.Walks.{refused_after, stepped, walk}, proofs.WalkLaws.{IsStop, Made, made_all, step_over, step_refused, stepped_some}}
 use Rattle.level_debuggers.proofs.WalkLaws.{walk_stays}
 use Rattle.level_debuggers.specs.declared.advance.Advance.TheVariants as advance
 use Rattle.level_debuggers.specs.declared.session.SessionRun.TheVariants as run

@@ -8,5 +8,7 @@ pub mod AreaLaws
 pub mod LocalLaws
 pub mod FollowLaws
 pub mod ScriptLaws
+pub mod ShowLaws
 pub mod LineLaws
 pub mod RunWalkLaws
+pub mod WaitingLaws

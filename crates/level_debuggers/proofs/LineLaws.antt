@@ -1,6 +1,6 @@
 -- What a session says to a line of a script are whole lines.
 use Rattle.std.proofs.Common.{inl, inr, ℕ, zero, suc, ◌+◌, Bool, true, false, List, [], ◌∷◌, ◌++◌, Option, Some, None, refl, sym, ap, subst, ◌∙◌, append_assoc}
-use Rattle.std.{proofs.Common.append-nil, specs.Prelude.{◌-◌, ◌^◌, ◌%◌, ◌==◌, drop, length, map, min, reverse, codes, slice_get, if◌then◌else◌}}
+use Rattle.std.{proofs.Common.append-nil, specs.Prelude.{◌-◌, ◌^◌, ◌%◌, ◌==◌, drop, get_or, length, map, min, reverse, codes, slice_get, if◌then◌else◌}}
 use Rattle.std.{specs.List.flat_map, specs.Fmt.decimal}
 use Rattle.stack_text.specs.Lines.{line}
 use Rattle.fm_machine.specs.State as fm
@@ -8,24 +8,26 @@ use Rattle.fm_show.{specs.Digits.hex_digits, specs.Disassembly.register_name, sp
 use Rattle.fm_show.specs.Listing.{numbered_lines, register_line, register_lines}
 use Rattle.piton_words.specs.declared.word.Word.{Word}
 use Rattle.piton_syntax.specs.Systems.{SystemOf}
-use Rattle.piton_semantics.{specs.State.{PitonState, locals_of}, specs.Fits.system_in}
+use Rattle.piton_semantics.{specs.State.{Frame, PitonState, locals_of}, specs.Fits.system_in}
 use Rattle.piton_check.specs.NamedWords.{program_name_at, word_text, words_line}
 use Rattle.display_maps.{specs.declared.shown.Shown.Shown, specs.Report.{VariableOf, condition_line, lines_of_reading, reading_lines, shown_text, value_text}}
 use Rattle.display_maps.{specs.Report.variable_line, specs.Reading.{reading, word_in}, specs.ReadingAt.{ReadingAtOf, read_from, read_variable, reading_at}}
 use Rattle.display_maps.specs.Running.{condition_shown, run_lines, variables_shown}
-use Rattle.gypsy_semantics.{specs.Views.RunView.{depth_at, place_at, values_at}, specs.Views.Shown.{condition_at, names_at}}
+use Rattle.gypsy_semantics.{specs.Views.RunView.{depth_at, place_at, values_at}, specs.Views.Shown.{condition_at, names_at, variables_at}}
+use Rattle.gypsy_syntax.{specs.Resolved.procedure_names, specs.Sources.SourceOf}
+use Rattle.gypsy_meaning.specs.Views.Stacks.{ActivationOf, waiting_at}
 use Rattle.debug_script.{specs.declared.command.Command.Command, specs.declared.command.WatchWord.WatchWord}
 use Rattle.debug_script.specs.declared.command.Command.TheVariants as command
 use Rattle.level_debuggers.{specs.declared.session.SessionRun.SessionRun, specs.declared.watch.Rule.Rule, specs.declared.watch.Tally.Tally}
-use Rattle.level_debuggers.{specs.GypsyLevels.{GypsyLevelOf, gypsy_listing, gypsy_over, gypsy_place_line}, specs.PitonLevels.{PitonLevelOf, local_line}}
-use Rattle.level_debuggers.{specs.PitonLevels.{local_lines, names_of, piton_listing, piton_over, place_line}, specs.PitonReadings.{is_covered, piton_at}}
-use Rattle.level_debuggers.{specs.PitonReadings.{piton_end, piton_reading_of, piton_up}, specs.declared.arrival.Arrival.Arrival, specs.Arrivals.Arrived}
-use Rattle.level_debuggers.{specs.Arrivals.{arrived, arrived_at_one}, specs.FmLevels.{FmLevelOf, fm_over, fm_up, word_line, word_lines}, specs.Levels.LevelOf}
-use Rattle.level_debuggers.{specs.Levels.{Gypsy, Piton, Fm, has_all, has_places, show_text, up_text, words_text}, specs.Texts.{mark_text, no_mark}}
-use Rattle.level_debuggers.{specs.declared.script_end.ScriptEnd.ScriptEnd, specs.Transcripts.{Followed, Said, arrival_text, arrived_said, attach_with}}
-use Rattle.level_debuggers.specs.Transcripts.{detach_with, ends_with, follow_on, followed, places_said, run_text, said_by, said_to, tally_said, tally_with}
-use Rattle.level_debuggers.{specs.Transcripts.{watch_name, words_said}, specs.Walks.{SessionOf, stepped}, specs.WholeLines.{AreLines, AnswersAreLines}}
-use Rattle.level_debuggers.specs.WholeLines.{TranscriptsAreLines}
+use Rattle.level_debuggers.specs.GypsyLevels.{GypsyLevelOf, gypsy_listing, gypsy_over, gypsy_place_line, in_line, waiting_lines}
+use Rattle.level_debuggers.specs.PitonLevels.{PitonLevelOf, frame_lines, local_line, waiting_frames, local_lines, names_of, piton_listing, piton_over}
+use Rattle.level_debuggers.{specs.PitonLevels.place_line, specs.PitonReadings.{is_covered, piton_at, piton_end, piton_reading_of, piton_up}}
+use Rattle.level_debuggers.{specs.declared.arrival.Arrival.Arrival, specs.Arrivals.{Arrived, arrived, arrived_at_one}, specs.FmLevels.{FmLevelOf, fm_over}}
+use Rattle.level_debuggers.{specs.FmLevels.{fm_up, word_line, word_lines}, specs.Levels.{LevelOf, Gypsy, Piton, Fm, all_text, has_all, has_places, show_text}}
+use Rattle.level_debuggers.{specs.Levels.{up_text, words_text}, specs.Texts.{mark_text, no_mark}, specs.declared.script_end.ScriptEnd.ScriptEnd}
+use Rattle.level_debuggers.specs.Transcripts.{Followed, Said, arrival_text, arrived_said, attach_with, detach_with, ends_with, follow_on, followed, places_said}
+use Rattle.level_debuggers.{specs.Transcripts.{run_text, said_by, said_to, tally_said, tally_with, watch_name, text_said}, specs.Walks.{SessionOf, stepped}}
+use Rattle.level_debuggers.specs.WholeLines.{AreLines, AnswersAreLines, TranscriptsAreLines}
 use Rattle.level_debuggers.specs.declared.session.SessionRun.TheVariants as run
 use Rattle.level_debuggers.specs.declared.watch.Rule.TheVariants as rule
 use Rattle.level_debuggers.specs.declared.arrival.Arrival.TheVariants as arrival
@@ -121,6 +123,36 @@ show_is_lines (Gypsy level) steps = gypsy_is_lines level
 show_is_lines (Piton level) steps = piton_is_lines level.checked.system level.seen.state
 show_is_lines (Fm level) steps = machine_is_lines level.state steps
 
+activation_is_lines : (s : SourceOf) (a : ActivationOf) → AreLines (waiting_lines s a)
+activation_is_lines s a =
+    let name = get_or (procedure_names s) a.procedure [] in
+    both (in_line name) (flat_map variable_line (variables_shown (variables_at s a.procedure) a.values)) (one (codes "in " ++ name))
+    (reading_is_lines None (variables_shown (variables_at s a.procedure) a.values))
+
+frame_is_lines : (system : SystemOf) (program place : ℕ) (words : List Word) → AreLines (frame_lines system program place words)
+frame_is_lines system program place words =
+    let at = codes "in " ++ program_name_at system program ++ codes " " ++ decimal place in
+    let names = names_of (slice_get system.programs program) in
+    both (line at) (local_lines system names words) (one at) (locals_are_lines system names words)
+
+frames_are_lines : (system : SystemOf) (frames : List Frame) → AreLines (waiting_frames system frames)
+unfolding waiting_frames
+frames_are_lines system [] = inl refl
+frames_are_lines system (newest ∷ []) = inl refl
+frames_are_lines system (newer ∷ older ∷ frames) =
+    both (frame_lines system newer.program newer.place older.locals) (waiting_frames system (older ∷ frames))
+    (frame_is_lines system newer.program newer.place older.locals) (frames_are_lines system (older ∷ frames))
+
+all_is_lines : (number : ℕ) (s : SessionOf) (level : LevelOf) → AreLines (text_said number s (all_text level)).text
+all_is_lines number s (Gypsy level) =
+    both (gypsy_listing level) (flat_map (waiting_lines level.source) (waiting_at level.seen.stage)) (gypsy_is_lines level)
+    (each (waiting_lines level.source) (activation_is_lines level.source) (waiting_at level.seen.stage))
+all_is_lines number s (Piton level) =
+    let system = level.checked.system in
+    let frames = level.seen.state.frames in
+    both (piton_listing system level.seen.state) (waiting_frames system frames) (piton_is_lines system level.seen.state) (frames_are_lines system frames)
+all_is_lines number s (Fm level) = inl refl
+
 piton_up_is_lines : (level : PitonLevelOf) → AreLines (piton_up level)
 unfolding piton_up
 piton_up_is_lines level =
@@ -176,7 +208,7 @@ memory_is_lines state address (suc n) =
     both (word_lines state address n) (word_line ((address + n) % 2 ^ 32) (word_in state ((address + n) % 2 ^ 32)))
     (memory_is_lines state address n) (word_is_line ((address + n) % 2 ^ 32) (word_in state ((address + n) % 2 ^ 32)))
 
-words_are_lines : (number : ℕ) (s : SessionOf) (level : LevelOf) (address count : ℕ) → AreLines (words_said number s (words_text level address count)).text
+words_are_lines : (number : ℕ) (s : SessionOf) (level : LevelOf) (address count : ℕ) → AreLines (text_said number s (words_text level address count)).text
 words_are_lines number s (Gypsy level) address count = inl refl
 words_are_lines number s (Piton level) address count = inl refl
 words_are_lines number s (Fm level) address count = memory_is_lines level.state address count
@@ -193,6 +225,7 @@ until_is_lines number made s false = inl refl
 said_is_lines : (number : ℕ) (c : Command) (s : SessionOf) → AreLines (said_by number c s).text
 said_is_lines number (command.Step count) s = run_is_lines (stepped count s).run
 said_is_lines number command.Show s = show_is_lines s.level s.steps
+said_is_lines number command.ShowAll s = all_is_lines number s s.level
 said_is_lines number command.Up s = up_is_lines s.level
 said_is_lines number (command.Attach word) s = attach_is_lines number word s _
 said_is_lines number (command.Detach word) s = detach_is_lines number _ s _

@@ -8,7 +8,7 @@ use Rattle.piton_syntax.specs.Systems.{SystemOf}
 use Rattle.level_debuggers.specs.PitonLevels.{local_line, local_lines}
 
 -- what is left begins with the item that is found there
-drop-found : {X : Type 0} (xs : List X) (k : ℕ) (x : X) → slice_get xs k ≡ Some x → drop k xs ≡ x ∷ drop (k + 1) xs
+pub drop-found : {X : Type 0} (xs : List X) (k : ℕ) (x : X) → slice_get xs k ≡ Some x → drop k xs ≡ x ∷ drop (k + 1) xs
 drop-found xs k x at = drop-item xs k x (slice_get_within xs k x at) (sym (get_or_from_slice_get xs k x x at))
 
 -- without words there are no lines

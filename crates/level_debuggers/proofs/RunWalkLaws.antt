@@ -89,7 +89,7 @@ piton_makes : (run : PitonLevelOf) (q : PitonState) (f : Frame) (fs frames : Lis
 piton_makes run q f fs [] e step = absurd cc
 piton_makes run q f fs (g ∷ gs) e step = refl
 
-system_makes : (run : PitonLevelOf) (q : PitonState) (f : Frame) (fs : List Frame) → run.seen.state.frames ≡ f ∷ fs
+pub system_makes : (run : PitonLevelOf) (q : PitonState) (f : Frame) (fs : List Frame) → run.seen.state.frames ≡ f ∷ fs
     → piton_step (system_in run.checked) run.seen.state ≡ Ok q →
     next_of (Piton run) ≡ Makes (piton_event run) (Piton (record run { seen = seen_after (system_in run.checked) run.seen q }))
 system_makes run q f fs e step =

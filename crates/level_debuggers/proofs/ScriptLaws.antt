@@ -7,11 +7,11 @@ use Rattle.debug_script.specs.declared.command.Command.TheVariants as command
 use Rattle.level_debuggers.{specs.declared.script_end.ScriptEnd.ScriptEnd, specs.declared.session.SessionRun.SessionRun, specs.declared.watch.Rule.Rule}
 use Rattle.level_debuggers.{specs.declared.watch.Tally.Tally, specs.declared.arrival.Arrival.Arrival, specs.Arrivals.{Arrived, IsFirstArrival, IsFirstOfAny}}
 use Rattle.level_debuggers.{specs.Arrivals.{arrived, arrived_at_one, arrived_by, first_arrival, first_where}, specs.FmLevels.{FmLevelOf, word_lines}}
-use Rattle.level_debuggers.{specs.Levels.{LevelOf, Fm, has_all, has_places, next_of, stands_at, stands_at_one, up_text, words_text}, specs.Steps.{Next, Over}}
-use Rattle.level_debuggers.{specs.Steps.{Stops, Makes, is_over}, specs.Tallies.Watching, specs.Taken.{taken, attached_with, detached_with, tally_by}}
+use Rattle.level_debuggers.{specs.Levels.{LevelOf, Fm, has_all, has_places, next_of, all_text, stands_at, stands_at_one, up_text, words_text}, specs.Steps.Next}
+use Rattle.level_debuggers.{specs.Steps.{Over, Stops, Makes, is_over}, specs.Tallies.Watching, specs.Taken.{taken, attached_with, detached_with, tally_by}}
 use Rattle.level_debuggers.{specs.Walks.{SessionOf, walk, walk_on, ends_by, refused_after, stepped}, specs.Transcripts.{Said, Followed, arrival_end}}
 use Rattle.level_debuggers.specs.Transcripts.{arrival_text, arrived_said, attach_with, detach_with, ends_with, follow_on, followed, rule_of_word, run_end}
-use Rattle.level_debuggers.{specs.Transcripts.{run_text, said_by, said_to, tally_with, words_said}, specs.ScriptSteps.{AskForSteps, all_asked, steps_asked}}
+use Rattle.level_debuggers.{specs.Transcripts.{run_text, said_by, said_to, tally_with, text_said}, specs.ScriptSteps.{AskForSteps, all_asked, steps_asked}}
 use Rattle.level_debuggers.specs.ScriptSteps.{steps_led, steps_of_lines, stepped_lines, until_any_line, until_line, up_line, line_of_words, ArrivalsAreSaid}
 use Rattle.level_debuggers.specs.ScriptSteps.{ArrivalsAtAnyAreSaid, GoesOn, ScriptsWalk, UpIsSaid, WordsAreSaid, StepsAreSaid, UpSaysMoment, TextStays}
 use Rattle.level_debuggers.{proofs.ArrivalLaws.is_first, proofs.WalkLaws.walk_level}
@@ -41,9 +41,9 @@ tally_goes_on : (number : ℕ) (kept : Rule) (s : SessionOf) (o : Option Tally) 
 tally_goes_on number kept s (Some tally) e = absurd cc
 tally_goes_on number kept s None e = absurd cc
 
-words_go_on : (number : ℕ) (s : SessionOf) (o : Option (List ℕ)) → (words_said number s o).end ≡ Some end.Done → ⊥
-words_go_on number s (Some text) e = absurd cc
-words_go_on number s None e = absurd cc
+text_goes_on : (number : ℕ) (s : SessionOf) (o : Option (List ℕ)) → (text_said number s o).end ≡ Some end.Done → ⊥
+text_goes_on number s (Some text) e = absurd cc
+text_goes_on number s None e = absurd cc
 
 arrival_goes_on : (a : Arrival) → arrival_end a ≡ Some end.Done → ⊥
 arrival_goes_on (arrival.There count) e = absurd cc
@@ -54,14 +54,15 @@ until_goes_on : (number : ℕ) (b : Bool) (made : Arrived) (s : SessionOf)
 until_goes_on number true made s e = arrival_goes_on made.arrival e
 until_goes_on number false made s e = absurd cc
 
-never_done : (number : ℕ) (c : Command) (s : SessionOf) → (said_by number c s).end ≡ Some end.Done → ⊥
+pub never_done : (number : ℕ) (c : Command) (s : SessionOf) → (said_by number c s).end ≡ Some end.Done → ⊥
 never_done number (command.Step count) s e = run_goes_on (stepped count s).run e
 never_done number command.Show s e = absurd cc
+never_done number command.ShowAll s e = text_goes_on number s (all_text s.level) e
 never_done number command.Up s e = absurd cc
 never_done number (command.Attach word) s e = attach_goes_on number word s (attached_with s (taken (rule_of_word word) s.waiting)) e
 never_done number (command.Detach word) s e = detach_goes_on number word s (detached_with s (taken (rule_of_word word) s.attached)) e
 never_done number (command.Tally word) s e = tally_goes_on number (rule_of_word word) s (tally_by (rule_of_word word) s) e
-never_done number (command.Words address count) s e = words_go_on number s (words_text s.level address count) e
+never_done number (command.Words address count) s e = text_goes_on number s (words_text s.level address count) e
 never_done number (command.Until there limit) s e = until_goes_on number (has_places s.level there) (arrived there limit s) s e
 never_done number (command.UntilAny places limit) s e = until_goes_on number (has_all s.level places) (arrived_at_one places limit s) s e
 
@@ -80,9 +81,9 @@ tally_stays : (number : ℕ) (kept : Rule) (s : SessionOf) (o : Option Tally) �
 tally_stays number kept s (Some tally) = refl
 tally_stays number kept s None = refl
 
-words_stay : (number : ℕ) (s : SessionOf) (o : Option (List ℕ)) → (words_said number s o).session.level ≡ s.level
-words_stay number s (Some text) = refl
-words_stay number s None = refl
+text_stays_there : (number : ℕ) (s : SessionOf) (o : Option (List ℕ)) → (text_said number s o).session.level ≡ s.level
+text_stays_there number s (Some text) = refl
+text_stays_there number s None = refl
 
 arrives_at : (n : ℕ) (s : SessionOf) (first : Option ℕ) → (arrived_by n s first).session.level ≡ (walk (unwrap_or first n) s.level).level
 arrives_at n s (Some k) = refl
@@ -95,15 +96,16 @@ unfolding walk
 until_walks number n true first s = arrives_at n s first
 until_walks number n false first s = refl
 
-line_walks : (number : ℕ) (c : Command) (s : SessionOf) → (said_by number c s).session.level ≡ (walk (steps_led c s.level) s.level).level
+pub line_walks : (number : ℕ) (c : Command) (s : SessionOf) → (said_by number c s).session.level ≡ (walk (steps_led c s.level) s.level).level
 unfolding walk
 line_walks number (command.Step count) s = refl
 line_walks number command.Show s = refl
+line_walks number command.ShowAll s = text_stays_there number s (all_text s.level)
 line_walks number command.Up s = refl
 line_walks number (command.Attach word) s = attach_stays number word s (taken (rule_of_word word) s.waiting)
 line_walks number (command.Detach word) s = detach_stays number word s (taken (rule_of_word word) s.attached)
 line_walks number (command.Tally word) s = tally_stays number (rule_of_word word) s (tally_by (rule_of_word word) s)
-line_walks number (command.Words address count) s = words_stay number s (words_text s.level address count)
+line_walks number (command.Words address count) s = text_stays_there number s (words_text s.level address count)
 line_walks number (command.Until there limit) s =
     until_walks number limit (has_places s.level there) (first_arrival there limit s.level) s
 line_walks number (command.UntilAny places limit) s =
@@ -140,7 +142,7 @@ both_by text said None lines more goes later done = later (text ++ said.text) sa
 both_by text said (Some e) lines more goes later done = absurd (goes (ap (λ (x : ScriptEnd). Some x) done))
 
 -- a script, and another behind it
-followed_both : (text : List ℕ) (lines more : List Line) (s : SessionOf) → (followed text lines s).end ≡ end.Done →
+pub followed_both : (text : List ℕ) (lines more : List Line) (s : SessionOf) → (followed text lines s).end ≡ end.Done →
     followed text (lines ++ more) s ≡ followed (followed text lines s).text more (followed text lines s).session
 unfolding followed
 followed_both text [] more s done = refl
@@ -159,9 +161,9 @@ up_is_said text before after number s done =
     ∙ ap (λ (l : LevelOf). followed (made.text ++ up_text l) after made.session) (scripts_walk text before s done)
 
 words_are : (text : List ℕ) (after : List Line) (number address count : ℕ) (s : SessionOf) (o : Option (List ℕ)) (said : List ℕ) → o ≡ Some said →
-    follow_on text (words_said number s o) (words_said number s o).end (λ text s. followed text after s) ≡ followed (text ++ said) after s
+    follow_on text (text_said number s o) (text_said number s o).end (λ text s. followed text after s) ≡ followed (text ++ said) after s
 words_are text after number address count s o said e =
-    ap (λ (x : Option (List ℕ)). follow_on text (words_said number s x) (words_said number s x).end (λ text s. followed text after s)) e
+    ap (λ (x : Option (List ℕ)). follow_on text (text_said number s x) (text_said number s x).end (λ text s. followed text after s)) e
 
 words_there : (text : List ℕ) (after : List Line) (number address count : ℕ) (s : SessionOf) (run : FmLevelOf) → s.level ≡ Fm run →
     followed text (line_of_words number address count ∷ after) s ≡ followed (text ++ word_lines run.state address count) after s

@@ -9,9 +9,9 @@ use Rattle.gypsy_meaning.specs.{Views.Belongs.{BelongsTo}, Views.Running.{seen}}
 use Rattle.piton_semantics.specs.{Fits.{system_in}, Placed.{placed}, StateView.{IsSeen}}
 use Rattle.piton_check.specs.NamedWords.{program_name_at}
 use Rattle.level_debuggers.specs.{declared.runner.Runner.{Runner}, Steps.{Next, Over, Stops, Makes}, GypsyLevels.{GypsyLevelOf}}
-use Rattle.level_debuggers.specs.{GypsyLevels.{gypsy_listing, gypsy_next, gypsy_stands, gypsy_up, gypsy_within}, PitonLevels.{PitonLevelOf}}
-use Rattle.level_debuggers.specs.{PitonLevels.{piton_listing, piton_next, piton_stands, piton_within}, PitonReadings.{piton_up}}
-use Rattle.level_debuggers.specs.FmLevels.{FmLevelOf, fm_next, fm_stands, fm_up, word_lines}
+use Rattle.level_debuggers.specs.GypsyLevels.{gypsy_listing, gypsy_listing_all, gypsy_next, gypsy_stands, gypsy_up, gypsy_within}
+use Rattle.level_debuggers.specs.PitonLevels.{PitonLevelOf, piton_listing, piton_listing_all, piton_next, piton_stands, piton_within}
+use Rattle.level_debuggers.specs.{PitonReadings.{piton_up}, FmLevels.{FmLevelOf, fm_next, fm_stands, fm_up, word_lines}}
 use Rattle.level_debuggers.specs.declared.runner.Runner.TheVariants as runner
 
 -- a run at one of the levels
@@ -55,6 +55,12 @@ abbrev pub show_text : LevelOf → ℕ → List ℕ
 show_text (Gypsy run) steps = gypsy_listing run
 show_text (Piton run) steps = piton_listing run.checked.system run.seen.state
 show_text (Fm run) steps = machine_listing run.state steps
+
+-- that, and what is shown of all that wait for a call, of a run that keeps them
+abbrev pub all_text : LevelOf → Option (List ℕ)
+all_text (Gypsy run) = Some (gypsy_listing_all run)
+all_text (Piton run) = Some (piton_listing_all run.checked.system run.seen.state)
+all_text (Fm run) = None
 
 -- what is known of the variables of the source
 abbrev pub up_text : LevelOf → List ℕ

@@ -81,3 +81,20 @@ piton_listing system state =
     place_line system state
     ++ local_lines system (names_of (slice_get system.programs state.program)) (locals_of state.frames)
     ++ words_line system (codes "stack") (reverse state.stack)
+
+-- a frame that waits: the place at which it goes on, as in `in main 4`, and its locals
+abbrev pub frame_lines : SystemOf → ℕ → ℕ → List Word → List ℕ
+frame_lines system program place locals =
+    line (codes "in " ++ program_name_at system program ++ codes " " ++ decimal place)
+    ++ local_lines system (names_of (slice_get system.programs program)) locals
+
+-- those that wait, the newest first: each goes on at the place to which the next newer one returns
+unfoldable pub waiting_frames : SystemOf → List Frame → List ℕ
+waiting_frames system [] = []
+waiting_frames system (newest ∷ []) = []
+waiting_frames system (newer ∷ older ∷ frames) =
+    frame_lines system newer.program newer.place older.locals ++ waiting_frames system (older ∷ frames)
+
+-- the same as for the newest frame, and all that wait
+abbrev pub piton_listing_all : SystemOf → PitonState → List ℕ
+piton_listing_all system state = piton_listing system state ++ waiting_frames system state.frames

@@ -1,12 +1,13 @@
--- How far a script leads, and what is said at its lines of `up`, `words` and `until`.
-use Rattle.std.specs.Prelude.{◌≡◌, ◌≤◌, ℕ, ◌+◌, List, [], ◌∷◌, ◌++◌, length, true, false, unwrap_or, if◌then◌else◌}
+-- How far a script leads, and what is said at its lines of `show`, `up`, `words` and `until`.
+use Rattle.std.specs.Prelude.{◌≡◌, ◌≤◌, ◌<◌, ◌^◌, ℕ, ◌+◌, List, [], ◌∷◌, ◌++◌, length, true, false, unwrap_or, if◌then◌else◌}
 use Rattle.debug_script.specs.{declared.command.Command.{Command}, declared.command.Place.{Place}, declared.reading.Line.{Line}}
 use Rattle.debug_script.specs.declared.command.Command.TheVariants as command
+use Rattle.piton_semantics.specs.StateView.{saturated}
 use Rattle.level_debuggers.specs.declared.arrival.Arrival.TheVariants as arrival
 use Rattle.level_debuggers.specs.declared.script_end.ScriptEnd.TheVariants as end
 use Rattle.level_debuggers.specs.declared.session.SessionRun.TheVariants as run
 use Rattle.level_debuggers.specs.{Arrivals.{IsFirstArrival, IsFirstOfAny, first_arrival, first_where}, FmLevels.{FmLevelOf, word_lines}}
-use Rattle.level_debuggers.specs.{Levels.{LevelOf, Fm, has_all, has_places, next_of, stands_at_one, up_text}, Steps.{is_over}}
+use Rattle.level_debuggers.specs.{Levels.{LevelOf, Fm, has_all, has_places, next_of, show_text, stands_at_one, up_text}, Steps.{is_over}}
 use Rattle.level_debuggers.specs.{Walks.{SessionOf, stepped, walk}, Transcripts.{arrival_text, followed, run_text}}
 
 -- the steps to the first arrival at a place, or as many as are asked for
@@ -20,6 +21,7 @@ until_any_steps places n level = if has_all level places then unwrap_or (first_w
 abbrev pub steps_led : Command → LevelOf → ℕ
 steps_led (command.Step count) level = count
 steps_led command.Show level = 0
+steps_led command.ShowAll level = 0
 steps_led command.Up level = 0
 steps_led (command.Attach word) level = 0
 steps_led (command.Detach word) level = 0
@@ -49,6 +51,19 @@ UpIsSaid = (text : List ℕ) (before after : List Line) (number : ℕ) (s : Sess
     let made = followed text before s in
     followed text (before ++ up_line number ∷ after) s
     ≡ followed (made.text ++ up_text (walk (steps_of_lines before s.level) s.level).level) after made.session
+
+-- a line of `show`
+abbrev pub show_line : ℕ → Line
+show_line number = record { line = number; command = command.Show }
+
+-- At a line of `show` it is what the run shows there, after as many steps of its session as were made.
+abbrev pub ShowIsSaid : Type 0
+ShowIsSaid = (text : List ℕ) (before after : List Line) (number : ℕ) (s : SessionOf) → s.steps < 2 ^ 64 →
+    (followed text before s).end ≡ end.Done →
+    let made = followed text before s in
+    let there = walk (steps_of_lines before s.level) s.level in
+    followed text (before ++ show_line number ∷ after) s
+    ≡ followed (made.text ++ show_text there.level (saturated (s.steps + length there.events))) after made.session
 
 -- a line of `words`
 abbrev pub line_of_words : (number address count : ℕ) → Line

@@ -7,7 +7,7 @@ use Rattle.debug_script.specs.declared.command.Command.TheVariants as command
 use Rattle.debug_script.specs.declared.command.WatchWord.TheVariants as word
 use Rattle.level_debuggers.specs.{declared.session.SessionRun.{SessionRun}, declared.watch.Rule.{Rule}, declared.watch.Tally.{Tally}}
 use Rattle.level_debuggers.specs.{declared.arrival.Arrival.{Arrival}, Arrivals.{Arrived, arrived, arrived_at_one}, Levels.{has_all}}
-use Rattle.level_debuggers.specs.{Levels.{has_places, show_text, up_text, words_text}, Taken.{attached_by, detached_by, tally_by}}
+use Rattle.level_debuggers.specs.{Levels.{all_text, has_places, show_text, up_text, words_text}, Taken.{attached_by, detached_by, tally_by}}
 use Rattle.level_debuggers.specs.{Walks.{SessionOf, Stepped, stepped, HasMadeSome}, declared.script_end.ScriptEnd.{ScriptEnd}}
 use Rattle.level_debuggers.specs.declared.session.SessionRun.TheVariants as run
 use Rattle.level_debuggers.specs.declared.watch.Rule.TheVariants as rule
@@ -94,10 +94,10 @@ tally_with number kept s None = ends_with (end.NoneAttached number) s
 abbrev pub tally_asked : ℕ → WatchWord → SessionOf → Said
 tally_asked number word s = tally_with number (rule_of_word word) s (tally_by (rule_of_word word) s)
 
--- words of memory, where the run has them
-abbrev pub words_said : ℕ → SessionOf → Option (List ℕ) → Said
-words_said number s (Some text) = goes_on text s
-words_said number s None = ends_with (end.OtherLevel number) s
+-- a text that the run has, such as words of its memory
+abbrev pub text_said : ℕ → SessionOf → Option (List ℕ) → Said
+text_said number s (Some text) = goes_on text s
+text_said number s None = ends_with (end.OtherLevel number) s
 
 -- `arrived 146`, or what is said to as many steps
 abbrev pub arrival_text : Arrival → List ℕ
@@ -123,11 +123,12 @@ until_any_said number places n s =
 abbrev pub said_by : ℕ → Command → SessionOf → Said
 said_by number (command.Step count) s = step_said (stepped count s)
 said_by number command.Show s = goes_on (show_text s.level s.steps) s
+said_by number command.ShowAll s = text_said number s (all_text s.level)
 said_by number command.Up s = goes_on (up_text s.level) s
 said_by number (command.Attach word) s = attach_said number word s
 said_by number (command.Detach word) s = detach_said number word s
 said_by number (command.Tally word) s = tally_asked number word s
-said_by number (command.Words address count) s = words_said number s (words_text s.level address count)
+said_by number (command.Words address count) s = text_said number s (words_text s.level address count)
 said_by number (command.Until there limit) s = until_said number there limit s
 said_by number (command.UntilAny places limit) s = until_any_said number places limit s
 
@@ -160,6 +161,7 @@ followed text (line ∷ lines) s =
 abbrev pub IsLeftBy : ℕ → Command → SessionOf → SessionOf → Type 0
 IsLeftBy number (command.Step count) old new = HasMadeSome count old new
 IsLeftBy number command.Show old new = new ≡ old
+IsLeftBy number command.ShowAll old new = new ≡ old
 IsLeftBy number command.Up old new = new ≡ old
 IsLeftBy number (command.Attach word) old new = new ≡ (attach_said number word old).session
 IsLeftBy number (command.Detach word) old new = new ≡ (detach_said number word old).session

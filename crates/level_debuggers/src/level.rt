@@ -21,7 +21,7 @@ impl Level {
     ghost use Rattle.std.specs.{Prelude.{◌≡◌, IfOk, OnErr}, Option.{option_map}};
     ghost use Rattle.stack_heap.specs.Heaps.{IfOkUnless};
     ghost use Rattle.level_debuggers.specs.Levels.{IsRunner, level_of, next_of, has_all, has_places, program_named, show_text, stands_at, stands_at_one};
-    ghost use Rattle.level_debuggers.specs.{Levels.{up_text, words_text}, Views.Belonging.{IsLevel, level_seen}, Steps.{IsAdvance, is_over}};
+    ghost use Rattle.level_debuggers.specs.{Levels.{all_text, up_text, words_text}, Views.Belonging.{IsLevel, level_seen}, Steps.{IsAdvance, is_over}};
 
     /// The level of a runner. The only error is out of memory.
     pub(crate) fn new<H: Heap>(heap: H, runner: Runner) -> Result<Level, Memory>
@@ -115,6 +115,19 @@ impl Level {
             Level::Gypsy(level) => level.show(heap),
             Level::Piton(level) => level.show(heap),
             Level::Fm(level) => level.show(heap, steps),
+        }
+    }
+
+    /// That, and what is shown of all that wait for a call, of a run that keeps them.
+    pub(crate) fn show_all<H: Heap>(&self, heap: H) -> Result<Option<Vec<u8>>, Memory>
+        requires { IsLevel self.now }
+        ensures { IfOkUnless (H.may_refuse heap) result (λ text.
+            option_map (λ t. t.items) text ≡ all_text (level_seen self.now)) }
+    {
+        match self {
+            Level::Gypsy(level) => Ok(Some(level.show_all(heap)?)),
+            Level::Piton(level) => Ok(Some(level.show_all(heap)?)),
+            Level::Fm(_) => Ok(None),
         }
     }
 

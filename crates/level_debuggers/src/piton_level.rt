@@ -1,7 +1,7 @@
 //! A run of Piton's machine.
 
 use crate::advance::{Advance, Stop};
-use crate::piton_listing::piton_listing;
+use crate::piton_listing::{piton_listing, piton_listing_all};
 use crate::piton_reading::{area_words, condition, covers_all, variables};
 use crate::piton_standing::PitonAt;
 use crate::runner::Runner;
@@ -43,9 +43,9 @@ impl PitonLevel {
     ghost use Rattle.piton_semantics.specs.{Addresses.{numbers}, Fits.{Each, IsWordOf, system_in}, StateView.{IsSeen}, Placed.{address_of_place, placed}};
     ghost use Rattle.piton_semantics.specs.{Placed.{addresses_of, areas_start}, State.{locals_of}};
     ghost use Rattle.piton_check.specs.NamedWords.{program_name_at};
-    ghost use Rattle.level_debuggers.specs.{Steps.{IsAdvance}, Levels.{IsRunner, Piton, level_of}, PitonLevels.{piton_listing, piton_next, piton_over}};
-    ghost use Rattle.level_debuggers.specs.{PitonLevels.{piton_stands, piton_within}, PitonReadings.{area_words, element_numbers, is_covered, piton_at}};
-    ghost use Rattle.level_debuggers.specs.{PitonReadings.{piton_end, piton_reading_of, piton_up}, Standings.{standing_of}};
+    ghost use Rattle.level_debuggers.specs.{Steps.{IsAdvance}, Levels.{IsRunner, Piton, level_of}, PitonLevels.{piton_listing, piton_listing_all, piton_next}};
+    ghost use Rattle.level_debuggers.specs.{PitonLevels.{piton_over, piton_stands, piton_within}, PitonReadings.{area_words, element_numbers, is_covered}};
+    ghost use Rattle.level_debuggers.specs.{PitonReadings.{piton_at, piton_end, piton_reading_of, piton_up}, Standings.{standing_of}};
 
     /// The level of a run, with its system's addresses. The only error is out of memory.
     pub(crate) fn new<H: Heap>(
@@ -137,6 +137,14 @@ impl PitonLevel {
             (λ text. text.items ≡ piton_listing self.now.checked.system self.now.seen.state) }
     {
         piton_listing(heap, self.placed.checked().system(), &self.state)
+    }
+
+    /// The same, and the locals of each frame that waits, as lines.
+    pub(crate) fn show_all<H: Heap>(&self, heap: H) -> Result<Vec<u8>, Memory>
+        ensures { IfOkUnless (H.may_refuse heap) result
+            (λ text. text.items ≡ piton_listing_all self.now.checked.system self.now.seen.state) }
+    {
+        piton_listing_all(heap, self.placed.checked().system(), &self.state)
     }
 
     /// The numbers of the stack's elements, from the bottom up.

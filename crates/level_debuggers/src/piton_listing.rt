@@ -2,7 +2,8 @@
 
 ghost use Rattle.std.specs.{Prelude.{◌≡◌, ◌++◌, slice_get}, Option.{option_map}};
 ghost use Rattle.stack_heap.specs.Heaps.{IfOkUnless, OnOkUnless};
-ghost use Rattle.level_debuggers.specs.PitonLevels.{local_names, names_of, local_line, local_lines, place_line, piton_listing};
+ghost use Rattle.level_debuggers.specs.PitonLevels.{local_names, names_of, local_line, local_lines, place_line, piton_listing, frame_lines, piton_listing_all};
+ghost use Rattle.level_debuggers.specs.PitonLevels.{waiting_frames};
 
 use fm_show::push_counted;
 use piton_check::{program_name, push_word, words_line};
@@ -99,6 +100,66 @@ fn push_place<H: Heap>(
     heap.extend_from_slice(out, program_name(system, program).bytes())?;
     push_counted(heap, out, b" ", u64::from(place), b" frames ")?;
     push_counted(heap, out, b"", u64::from(frames), b"\n")
+}
+
+/// Appends the lines of a frame that waits: where it goes on, and its locals.
+fn push_waiting_frame<H: Heap>(
+    heap: H,
+    out: &mut Vec<u8>,
+    system: &System,
+    at: (u32, u32),
+    words: &[Word],
+) -> Result<(), Memory>
+    ensures { OnOkUnless (H.may_refuse heap) result
+        (out.new.items ≡ out.old.items ++ frame_lines system.now at.0 at.1 words.now) }
+{
+    let (program, place) = at;
+    heap.extend_from_slice(out, b"in ")?;
+    heap.extend_from_slice(out, program_name(system, program).bytes())?;
+    push_counted(heap, out, b" ", u64::from(place), b"\n")?;
+    push_frame(heap, out, system, program, words)
+}
+
+/// Appends the lines of each frame that waits.
+fn push_waiting_frames<H: Heap>(
+    heap: H,
+    out: &mut Vec<u8>,
+    system: &System,
+    state: &State,
+) -> Result<(), Memory>
+    ensures { OnOkUnless (H.may_refuse heap) result
+        (out.new.items ≡ out.old.items ++ waiting_frames system.now state.now.state.frames) }
+{
+    for number in 0..state.frames() {
+        let Some(newer) = state.frame(number) else {
+            return Ok(());
+        };
+        let Some(older) = state.frame(number + 1) else {
+            return Ok(());
+        };
+        push_waiting_frame(
+            heap,
+            out,
+            system,
+            (newer.program, newer.place),
+            older.locals,
+        )?;
+    }
+    Ok(())
+}
+
+/// The place, the locals of the newest frame, the stack, and the locals of each frame that waits, as lines.
+pub(crate) fn piton_listing_all<H: Heap>(
+    heap: H,
+    system: &System,
+    state: &State,
+) -> Result<Vec<u8>, Memory>
+    ensures { IfOkUnless (H.may_refuse heap) result
+        (λ text. text.items ≡ piton_listing_all system.now state.now.state) }
+{
+    let mut out = piton_listing(heap, system, state)?;
+    push_waiting_frames(heap, &mut out, system, state)?;
+    Ok(out)
 }
 
 /// The place, the locals of the newest frame, and the stack, as lines.

@@ -63,7 +63,7 @@ pub struct Session {
 impl Session {
     ghost use Rattle.std.specs.{Prelude.{◌≡◌, [], map, IfOk, OnOk, OnErr, Some, None}, Option.{option_map}};
     ghost use Rattle.stack_heap.specs.Heaps.{IfOkUnless};
-    ghost use Rattle.level_debuggers.specs.Levels.{IsRunner, has_all, has_places, level_of, program_named, show_text, up_text, words_text};
+    ghost use Rattle.level_debuggers.specs.Levels.{IsRunner, all_text, has_all, has_places, level_of, program_named, show_text, up_text, words_text};
     ghost use Rattle.level_debuggers.specs.{Arrivals.{arrived, arrived_at_one}, Tallies.{noted}, Walks.{after_event, stepped, HasMadeSome}};
     ghost use Rattle.level_debuggers.specs.{Taken.{attached_by, detached_by, tally_by}, Views.Sessions.{IsSession, session_of}};
 
@@ -296,6 +296,20 @@ impl Session {
             IfOkUnless (H.may_refuse heap) result (λ text. text.items ≡ show_text session.level session.steps) }
     {
         self.level.show(heap, self.steps)
+    }
+
+    /// What `show` has, and then what the run shows of all that wait for a call, the one that goes on first at the front. At
+    /// the level of Micro-Gypsy: the procedure and the variables of each activation that waits; an actual of its call has the
+    /// value that would come back now. At the level of Piton: the place at which each frame goes on, and its formals and
+    /// temporaries. `None` exactly at the level of the FM9001, which keeps no frames.
+    ///
+    /// The only error is out of memory.
+    pub fn show_all<H: Heap>(&self, heap: H) -> Result<Option<Vec<u8>>, Memory>
+        requires { IsSession self.now }
+        ensures { let session = session_of (λ w. watching w) self.now in
+            IfOkUnless (H.may_refuse heap) result (λ text. option_map (λ t. t.items) text ≡ all_text session.level) }
+    {
+        self.level.show_all(heap)
     }
 
     /// What the run says of the variables of its source, as lines. At the level of Micro-Gypsy: `top`. At the end of a run

@@ -4,7 +4,8 @@ ghost use Rattle.std.specs.Prelude.{◌≡◌, ◌++◌, IfOk, None, OnErr};
 ghost use Rattle.stack_heap.specs.Heaps.{IfOkUnless};
 ghost use Rattle.level_debuggers.specs.{Views.Sessions.{IsSession, session_of}, Transcripts.{IsLeftBy, IsLeftIn, IsSaid, arrival_end, arrival_text}};
 ghost use Rattle.level_debuggers.specs.Transcripts.{attach_said, attached_word, detach_said, followed, rule_of_word, run_end, run_text, said_to, step_said};
-ghost use Rattle.level_debuggers.specs.{Transcripts.{tally_asked, until_any_said, until_said, words_said}, Levels.{words_text}, Walks.{HasMadeSome, stepped}};
+ghost use Rattle.level_debuggers.specs.{Transcripts.{tally_asked, until_any_said, until_said, text_said}, Levels.{all_text, words_text}, Walks.{HasMadeSome}};
+ghost use Rattle.level_debuggers.specs.Walks.{stepped};
 
 use crate::arrival::Arrival;
 use crate::script_end::ScriptEnd;
@@ -178,6 +179,24 @@ fn push_kept<H: Heap>(
     }
 }
 
+/// Appends what the run shows of all that wait for a call too, by the command of a line.
+fn push_all<H: Heap>(
+    heap: H,
+    session: &Session,
+    line: u32,
+    text: &mut Vec<u8>,
+) -> Result<Option<ScriptEnd>, Memory>
+    requires { IsSession session.now }
+    ensures { let session = session_of (λ w. watching w) session.now in
+        IfOkUnless (H.may_refuse heap) result
+        (λ end. IsSaid (text_said line session (all_text session.level)) text.old.items text.new.items end session) }
+{
+    match session.show_all(heap)? {
+        Some(shown) => push_said(heap, text, shown),
+        None => Ok(Some(ScriptEnd::OtherLevel { line })),
+    }
+}
+
 /// Appends words of memory, by the command of a line.
 fn push_words<H: Heap>(
     heap: H,
@@ -189,7 +208,7 @@ fn push_words<H: Heap>(
 ) -> Result<Option<ScriptEnd>, Memory>
     ensures { let session = session_of (λ w. watching w) session.now in
         IfOkUnless (H.may_refuse heap) result
-        (λ end. IsSaid (words_said line session (words_text session.level address count))
+        (λ end. IsSaid (text_said line session (words_text session.level address count))
         text.old.items text.new.items end session) }
 {
     match session.words(heap, address, count)? {
@@ -283,6 +302,7 @@ pub fn push_answer<H: Heap>(
     match &line.command {
         Command::Step { count } => push_step(heap, session, *count, text),
         Command::Show => push_said(heap, text, session.show(heap)?),
+        Command::ShowAll => push_all(heap, session, line.line, text),
         Command::Up => push_said(heap, text, session.up(heap)?),
         Command::Attach { watch } => push_attach(heap, session, line.line, *watch, text),
         Command::Detach { watch } => push_detach(heap, session, line.line, *watch, text),

@@ -1,9 +1,12 @@
 use Rattle.level_debuggers.proofs.ScriptLaws.{arrivals_are_said, arrivals_at_any_are_said, scripts_walk, steps_are_said, text_stays, up_is_said, up_says_moment}
-use Rattle.level_debuggers.proofs.ScriptLaws.{words_are_said}
+use Rattle.level_debuggers.{proofs.ScriptLaws.words_are_said, proofs.ShowLaws.show_is_said}
 use Rattle.level_debuggers.proofs.laws.scripts_walk.Goals as goal
 
 pub returns-clause-walk : goal.returns-clause-walk
 returns-clause-walk c = scripts_walk
+
+pub returns-clause-show : goal.returns-clause-show
+returns-clause-show c = show_is_said
 
 pub returns-clause-up : goal.returns-clause-up
 returns-clause-up c = up_is_said
