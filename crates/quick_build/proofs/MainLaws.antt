@@ -40,13 +40,13 @@ use Rattle.fm_code.{specs.Execution.{AreParts, IsLaidOut, Holds, CodeAt, final_p
 use Rattle.fm_code.proofs.CodeLaws.{code_after}
 use Rattle.fm_loader.specs.Loaded.{loaded, with_values}
 use Rattle.display_maps.specs.Reading.{reading, word_or_zero, condition_of}
-use Rattle.gypsy_syntax.{specs.declared.literal.Decl.Decl, specs.Programs.{Proc, Program, proc_at, body_of, shapes_of, conds_of, words_of}}
-use Rattle.gypsy_syntax.{specs.ProgramFits.Each, specs.Resolved.program_of, specs.Sources.{ProcOf, SourceOf}, specs.ValuesFit.{ValueFits, VarsFit}}
+use Rattle.gypsy_syntax.{specs.declared.literal.Decl.Decl, specs.Programs.{Proc, Program, proc_at, shapes_of, words_of}, specs.ProgramFits.Each}
+use Rattle.gypsy_syntax.{specs.Resolved.program_of, specs.Sources.{ProcOf, SourceOf}, specs.ValuesFit.{ValueFits, VarsFit}}
 use Rattle.gypsy_check.specs.Accepted.{IsAccepted}
 use Rattle.gypsy_space.{specs.Costs.Tally, specs.Needs.{StackSizes, main_used}}
-use Rattle.gypsy_semantics.{specs.Calls.{CurrentCondition, main_start, main_formals, main_way}, specs.Meaning.{MeaningOutcome, Done, Unfinished, evaluate}}
-use Rattle.gypsy_semantics.{specs.Meaning.{meaning, main_end}, specs.Counted.{CountedOutcome, CountedDone, CountedUnfinished, counted_meaning, uncounted}}
-use Rattle.gypsy_semantics.{proofs.CountLaws.meaning-uncounted, proofs.Keeping.{vars_join, locals_fit}}
+use Rattle.gypsy_semantics.{specs.Calls.{CurrentCondition, main_formals, main_way}, specs.Meaning.{MeaningOutcome, Done, Unfinished, evaluate, meaning}}
+use Rattle.gypsy_semantics.{specs.Meaning.main_end, specs.Counted.{CountedOutcome, CountedDone, CountedUnfinished, counted_meaning, uncounted}}
+use Rattle.gypsy_semantics.{proofs.CountLaws.meaning-uncounted, proofs.Keeping.{vars_join, locals_fit}, proofs.LendingLaws.as_many}
 use Rattle.gypsy_codegen.specs.WordsOf.{number_of, number_of_way, zero_value}
 use Rattle.stack_build.{specs.ComesTo.ComesTo, specs.Formals.{formals_in, formal_conditions_in, shown_formals, shown_conditions, formal_conditions}}
 use Rattle.stack_build.{specs.Image.slots_from, specs.Implements.{meaning_shown, way_shown, FitsFormals}, specs.Internal.Showing.shapes_in}
@@ -56,6 +56,8 @@ use Rattle.stack_build.{proofs.Windows.all_stand, proofs.MeantLaws.first_once}
 use Rattle.quick_code.{specs.Access.{Held, Reaches}, specs.Moments.{now, Stands, Comes}, proofs.StandLaws.comes_then}
 use Rattle.quick_gypsy.{specs.Numbers.numbers_of, specs.Layout.IsLayout, specs.Quick.{size, quick, quick_cost}, specs.QuickRuns.{StandsWith, ComesWith}}
 use Rattle.quick_gypsy.{specs.QuickRuns.goal_of, proofs.NumbersLaws.numbers_length, proofs.QuickLaws.{statements_run, statements_go_on, quick_length}}
+use Rattle.quick_gypsy.{specs.InLineRuns.{CanLine, lined_outcome}, proofs.LinedLaws.{calls_are_lined, lined_calls_go_on}}
+use Rattle.quick_gypsy.proofs.PlainLaws.{lined_mains_are_plain, lined_locals_fit}
 use Rattle.quick_build.specs.QuickImage.{
   access_from,
   variable_address,
@@ -77,6 +79,8 @@ use Rattle.quick_build.specs.QuickImage.{
   quick_image_with,
   quick_image,
   quick_parts,
+  quick_main,
+  most_nested,
 }
 use Rattle.quick_build.specs.QuickImplements.{
   exit_cost,
@@ -87,6 +91,7 @@ use Rattle.quick_build.specs.QuickImplements.{
   QuickImagesGoOn,
   QuickIsMeant,
   QuickImagesEndAsMeant,
+  bound_for,
 }
 use Rattle.quick_build.{proofs.ExitLaws.{exits_length, numbers_count, exit_number, exit_there, exit_jumps}, proofs.WindowLaws.{at_end, between}}
 
@@ -290,14 +295,14 @@ counted_of (CountedDone y d t) x c e =
 counted_of CountedUnfinished x c e = absurd cc
 
 module _ (vs : List ℕ) (s : SourceOf) (base end : ℕ) (sizes : StackSizes) (values : List ValueOf) (bound : ℕ) (accepted : IsAccepted s) (can :
-    CanBeQuick vs s base end)
+    CanBeQuick vs s sizes base end)
     (fits : FitsFormals s values) where
   -- its main procedure
   abbrev q : Program
   q = program_of s
 
   abbrev p : Proc
-  p = proc_at (program_of s) (program_of s).main
+  p = quick_main s sizes
 
   formals_are : p.formals ≡ shapes_in (shown_formals s)
   formals_are =
@@ -313,10 +318,11 @@ module _ (vs : List ℕ) (s : SourceOf) (base end : ℕ) (sizes : StackSizes) (v
   abbrev begun : List ValueOf
   begun = values ++ p.locals
 
-  loaded_is : loaded (quick_image vs s base end) values ≡ machine vs can.ten p base end can.room can.words can.fits begun
+  loaded_is : loaded (quick_image vs s sizes base end) values ≡ machine vs can.ten p base end can.room can.words can.fits begun
   loaded_is =
       let here = accepted.fits.procs (program_of s).main in
-      loads vs can.ten p base end can.room can.words can.fits (shown_formals s) (shown_conditions s) values formals_are here.formals fits here.locals
+      loads vs can.ten p base end can.room can.words can.fits (shown_formals s) (shown_conditions s) values formals_are here.formals fits
+      (lined_locals_fit (program_of s) sizes most_nested accepted.fits)
 
   -- at the end
   shows : (y : List ValueOf) (way : CurrentCondition) (k x3 : ℕ) (fl : Flags)
@@ -324,7 +330,7 @@ module _ (vs : List ℕ) (s : SourceOf) (base end : ℕ) (sizes : StackSizes) (v
       → Comes (quick_parts vs p base end) (register_table vs p end) [] k (machine vs can.ten p base end can.room can.words can.fits begun) (final_of
       vs p base end)
       (now x3 fl (numbers_of y) (number_of_way way ∷ []))
-      → ComesTo (quick_image vs s base end) values k (meaning_shown s (main_formals (program_of s) y) way)
+      → ComesTo (quick_image vs s sizes base end) values k (meaning_shown s (main_formals (program_of s) y) way)
   unfolding main_formals
   shows y way k x3 fl done c =
       let finals = take (length p.formals) y in
@@ -370,7 +376,7 @@ module _ (vs : List ℕ) (s : SourceOf) (base end : ℕ) (sizes : StackSizes) (v
   by_outcome : (finals : List ValueOf) (way : CurrentCondition) (o : MeaningOutcome)
       → evaluate (program_of s) sizes bound p.body (main_used (program_of s)) begun ≡ o → main_end (program_of s) o ≡ Done finals way
       → meaning (program_of s) sizes values bound ≡ Done finals way
-      → ComesTo (quick_image vs s base end) values (cost + exit_cost o) (meaning_shown s finals way)
+      → ComesTo (quick_image vs s sizes base end) values (cost + exit_cost o) (meaning_shown s finals way)
   by_outcome finals way (Done y c) e ended done =
       let here = accepted.fits.procs (program_of s).main in
       let P = quick_parts vs p base end in
@@ -383,15 +389,15 @@ module _ (vs : List ℕ) (s : SourceOf) (base end : ℕ) (sizes : StackSizes) (v
       omega (arith, exits_length (condition_cell p end) (final_of vs p base end) (exit_numbers p.conds), numbers_count p.conds) in
       let code_there : CodeAt P (start_of p base) code = subst (λ a. CodeAt P a code) after_exits (code_after P base exits code whole) in
       let begun_fits : VarsFit (shapes_of p) (values ++ p.locals) =
-      vars_join p.formals (map (λ (v : ValueOf). v.shape) p.locals) values p.locals fits (locals_fit p.locals here.locals) in
+      vars_join p.formals (map (λ (v : ValueOf). v.shape) p.locals) values p.locals fits
+      (locals_fit p.locals (lined_locals_fit (program_of s) sizes most_nested accepted.fits)) in
       let m = machine vs can.ten p base end can.room can.words can.fits (values ++ p.locals) in
       let is = are_parts vs can.ten p base end can.room can.words can.fits in
       let st : StandsWith P (register_table vs p end) [] m (start_of p base) (values ++ p.locals) (2 ∷ []) =
       record { x3 = 0; fl = no_flags; stands = begins_with vs can.ten p base end can.room can.words can.fits (values ++ p.locals) begun_fits } in
-      let run = statements_run P (register_table vs p end) L (program_of s) sizes (conds_of p) false bound p.body (main_used (program_of s)) (values ++
-      p.locals) y c
-      (exit_place base p.conds) (start_of p base) [] (2 ∷ []) m is (is_layout vs can.ten p base end can.room can.words can.fits) here.body can.plain
-      begun_fits
+      let plain = lined_mains_are_plain (program_of s) sizes most_nested accepted.fits can.nests in
+      let run = statements_run P (register_table vs p end) L (program_of s) sizes bound p.body (main_used (program_of s)) (values ++ p.locals) y c
+      (exit_place base p.conds) (start_of p base) [] (2 ∷ []) m is (is_layout vs can.ten p base end can.room can.words can.fits) plain begun_fits
       code_there st e in
       at_goal c run exits_there is ended
     where
@@ -403,7 +409,7 @@ module _ (vs : List ℕ) (s : SourceOf) (base end : ℕ) (sizes : StackSizes) (v
           → CodeAt (quick_parts vs p base end) base (exits_code (condition_cell p end) (final_of vs p base end) (exit_numbers p.conds)) → AreParts
           (quick_parts vs p base end)
           → main_end (program_of s) (Done y c) ≡ Done finals way
-          → ComesTo (quick_image vs s base end) values (quick_cost (program_of s) sizes (layout_in vs p end) bound p.body (main_used (program_of s))
+          → ComesTo (quick_image vs s sizes base end) values (quick_cost (program_of s) sizes (layout_in vs p end) bound p.body (main_used (program_of s))
           (values ++ p.locals) + exit_cost (Done y c))
           (meaning_shown s finals way)
       at_goal None run exits is ended =
@@ -412,9 +418,9 @@ module _ (vs : List ℕ) (s : SourceOf) (base end : ℕ) (sizes : StackSizes) (v
           let ew : None ≡ way = cc in
           let none : K ≡ K + 0 = omega arith in
           let shown = shows y None K run.x3 run.fl (done ∙ sym ended) run.comes in
-          subst (λ f. ComesTo (quick_image vs s base end) values (K + 0) (meaning_shown s f way)) ef
-          (subst (λ w. ComesTo (quick_image vs s base end) values (K + 0) (meaning_shown s (main_formals (program_of s) y) w)) ew
-          (subst (λ k. ComesTo (quick_image vs s base end) values k (meaning_shown s (main_formals (program_of s) y) None)) none shown))
+          subst (λ f. ComesTo (quick_image vs s sizes base end) values (K + 0) (meaning_shown s f way)) ef
+          (subst (λ w. ComesTo (quick_image vs s sizes base end) values (K + 0) (meaning_shown s (main_formals (program_of s) y) w)) ew
+          (subst (λ k. ComesTo (quick_image vs s sizes base end) values k (meaning_shown s (main_formals (program_of s) y) None)) none shown))
       at_goal (Some d) run exits is ended =
           let K = quick_cost (program_of s) sizes (layout_in vs p end) bound p.body (main_used (program_of s)) (values ++ p.locals) in
           let P = quick_parts vs p base end in
@@ -426,17 +432,16 @@ module _ (vs : List ℕ) (s : SourceOf) (base end : ℕ) (sizes : StackSizes) (v
           let jump = (exit_jumps P (register_table vs p end) (final_of vs p base end) (number_of w) run.x3 run.fl (numbers_of y)).leads
           [] run.comes.state (exit_place base p.conds d) is run.comes.stands exit in
           let shown = shows y (Some w) (K + 3) (condition_cell p end) run.fl (done ∙ sym ended) (comes_then run.comes jump) in
-          subst (λ f. ComesTo (quick_image vs s base end) values (K + 3) (meaning_shown s f way)) ef
-          (subst (λ v. ComesTo (quick_image vs s base end) values (K + 3) (meaning_shown s (main_formals (program_of s) y) v)) ew shown)
+          subst (λ f. ComesTo (quick_image vs s sizes base end) values (K + 3) (meaning_shown s f way)) ef
+          (subst (λ v. ComesTo (quick_image vs s sizes base end) values (K + 3) (meaning_shown s (main_formals (program_of s) y) v)) ew shown)
   by_outcome finals way Unfinished e ended done = absurd cc
 
 module _ (vs : List ℕ) (s : SourceOf) (base end : ℕ) (sizes : StackSizes) (values : List ValueOf) (bound : ℕ) (accepted : IsAccepted s) (can :
-    CanBeQuick vs s base end)
+    CanBeQuick vs s sizes base end)
     (fits : FitsFormals s values) where
-  goes_on : evaluate (program_of s) sizes bound (proc_at (program_of s) (program_of s).main).body (main_used (program_of s))
-      (values ++ (proc_at (program_of s) (program_of s).main).locals) ≡ Unfinished → QuickGoesOn vs s base end values bound
+  goes_on : lined_outcome (program_of s) sizes most_nested values bound ≡ Unfinished → QuickGoesOn vs s sizes base end values bound
   goes_on e =
-      let p = proc_at (program_of s) (program_of s).main in
+      let p = quick_main s sizes in
       let here = accepted.fits.procs (program_of s).main in
       let P = quick_parts vs p base end in
       let L = layout_in vs p end in
@@ -446,16 +451,15 @@ module _ (vs : List ℕ) (s : SourceOf) (base end : ℕ) (sizes : StackSizes) (v
       omega (arith, exits_length (condition_cell p end) (final_of vs p base end) (exit_numbers p.conds), numbers_count p.conds) in
       let code_there : CodeAt P (start_of p base) code = subst (λ a. CodeAt P a code) after_exits (code_after P base exits code (code_whole P)) in
       let begun_fits : VarsFit (shapes_of p) (values ++ p.locals) =
-      vars_join p.formals (map (λ (v : ValueOf). v.shape) p.locals) values p.locals fits (locals_fit p.locals here.locals) in
+      vars_join p.formals (map (λ (v : ValueOf). v.shape) p.locals) values p.locals fits
+      (locals_fit p.locals (lined_locals_fit (program_of s) sizes most_nested accepted.fits)) in
       let m = machine vs can.ten p base end can.room can.words can.fits (values ++ p.locals) in
       let st : StandsWith P (register_table vs p end) [] m (start_of p base) (values ++ p.locals) (2 ∷ []) =
       record { x3 = 0; fl = no_flags; stands = begins_with vs can.ten p base end can.room can.words can.fits (values ++ p.locals) begun_fits } in
-      let run = statements_go_on P (register_table vs p end) L (program_of s) sizes (conds_of p) false bound p.body (main_used (program_of s)) (values
-      ++ p.locals)
-      (exit_place base p.conds) (start_of p base) [] (2 ∷ []) m (are_parts vs can.ten p base end can.room can.words can.fits) (is_layout vs can.ten p
-      base end can.room
-      can.words can.fits)
-      here.body can.plain begun_fits code_there st e in
+      let plain = lined_mains_are_plain (program_of s) sizes most_nested accepted.fits can.nests in
+      let run = statements_go_on P (register_table vs p end) L (program_of s) sizes bound p.body (main_used (program_of s)) (values ++ p.locals)
+      (exit_place base p.conds) (start_of p base) [] (2 ∷ []) m (are_parts vs can.ten p base end can.room can.words can.fits)
+      (is_layout vs can.ten p base end can.room can.words can.fits) plain begun_fits code_there st e in
       let is = loaded_is vs s base end sizes values bound accepted can fits in
       record {
         steps = run.steps;
@@ -466,41 +470,42 @@ module _ (vs : List ℕ) (s : SourceOf) (base end : ℕ) (sizes : StackSizes) (v
             (subst (λ a. Avoids m a run.steps) (ends_there vs can.ten p base end can.room can.words can.fits) run.avoids);
       }
 
-unfinished_body : (q : Program) (o : MeaningOutcome) → main_end q o ≡ Unfinished → o ≡ Unfinished
-unfinished_body q (Done y None) e = absurd cc
-unfinished_body q (Done y (Some c)) e = absurd cc
-unfinished_body q Unfinished e = refl
+-- its calls can stand in line
+can_line : (vs : List ℕ) (s : SourceOf) (sizes : StackSizes) (base end : ℕ) (values : List ValueOf) → IsAccepted s → CanBeQuick vs s sizes base end
+    → FitsFormals s values → CanLine (program_of s) sizes most_nested values
+can_line vs s sizes base end values accepted can fits =
+    record {
+      fits = accepted.fits;
+      nests = can.nests;
+      number = sym (as_many (proc_at (program_of s) (program_of s).main).formals values fits);
+    }
 
 pub images_go_on : QuickImagesGoOn
-unfolding main_start
 images_go_on vs s base end sizes values n accepted can fits e =
     goes_on vs s base end sizes values n accepted can fits
-    (unfinished_body (program_of s) (evaluate (program_of s) sizes n (body_of (program_of s) (program_of s).main) (main_used (program_of s))
-    (main_start (program_of s) values)) e)
+    (lined_calls_go_on (program_of s) sizes most_nested values n (can_line vs s sizes base end values accepted can fits) e)
 
 pub images_implement : QuickImagesImplement
-unfolding main_start
 images_implement vs s base end sizes values finals way bound accepted can fits done =
-    by_outcome vs s base end sizes values bound accepted can fits finals way
-    (evaluate (program_of s) sizes bound (body_of (program_of s) (program_of s).main) (main_used (program_of s)) (main_start (program_of s) values))
-    refl done done
+    by_outcome vs s base end sizes values bound accepted can fits finals way (lined_outcome (program_of s) sizes most_nested values bound) refl
+    (calls_are_lined (program_of s) sizes most_nested values bound finals way (can_line vs s sizes base end values accepted can fits) done) done
 
 pub images_end_as_meant : QuickImagesEndAsMeant
 images_end_as_meant vs s base end sizes values count state accepted can fits first =
-    by_meaning (meaning (program_of s) sizes values (count + 1)) refl
+    by_meaning (meaning (program_of s) sizes values (bound_for (count + 1))) refl
   where
-    by_meaning : (o : MeaningOutcome) → meaning (program_of s) sizes values (count + 1) ≡ o → QuickIsMeant vs s base end sizes values count state
+    by_meaning : (o : MeaningOutcome) → meaning (program_of s) sizes values (bound_for (count + 1)) ≡ o → QuickIsMeant vs s base end sizes values count state
     by_meaning (Done finals way) e =
-        let comes = images_implement vs s base end sizes values finals way (count + 1) accepted can fits e in
-        let same = first_once (loaded (quick_image vs s base end) values) (quick_image vs s base end).final_pc (program_cost vs (program_of s) sizes end
-        values (count + 1)) count
+        let comes = images_implement vs s base end sizes values finals way (bound_for (count + 1)) accepted can fits e in
+        let same = first_once (loaded (quick_image vs s sizes base end) values) (quick_image vs s sizes base end).final_pc (program_cost vs (program_of s)
+        sizes end values (bound_for (count + 1))) count
         comes.state state comes.first first in
         record {
           finals = finals;
           way = way;
           done = e;
           counted = same.0;
-          reads = ap (reading (quick_image vs s base end)) (sym same.1) ∙ comes.reads;
+          reads = ap (reading (quick_image vs s sizes base end)) (sym same.1) ∙ comes.reads;
         }
     by_meaning Unfinished e =
         let on = images_go_on vs s base end sizes values (count + 1) accepted can fits e in

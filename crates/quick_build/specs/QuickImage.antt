@@ -1,16 +1,17 @@
--- The quick image of a source whose main calls no procedure.
+-- The quick image of a source, with its calls in line.
 use Rattle.std.specs.Prelude.{ℕ, zero, suc, ◌+◌, ◌-◌, ◌*◌, ◌==◌, nat_lt, if◌then◌else◌, List, [], ◌∷◌, ◌++◌, map, replicate, reverse, take}
 use Rattle.std.specs.Prelude.{get_or, Some}
 use Rattle.stack_text.specs.Values.{ValueOf}
 use Rattle.fm_code.specs.{Execution.{Parts}, InstructionWords.{halt_word}, Templates.{jump_code}}
 use Rattle.fm_image.specs.{Bare.{bare_image}, Image.{ImageOf}}
 use Rattle.piton_linker.specs.Layouts.{trimmed}
-use Rattle.gypsy_syntax.specs.Programs.{ConditionOf, Leave, Routine, Space, Declared, Proc, proc_at, shapes_of, words_of}
-use Rattle.gypsy_syntax.specs.{Resolved.{program_of}, Sources.{SourceOf}, declared.literal.Decl.{Decl}}
+use Rattle.gypsy_syntax.specs.{Programs.{ConditionOf, Leave, Routine, Space, Declared, Proc, shapes_of, words_of}, Resolved.{program_of}}
+use Rattle.gypsy_syntax.specs.{Sources.{SourceOf}, declared.literal.Decl.{Decl}}
+use Rattle.gypsy_space.specs.Needs.{StackSizes}
 use Rattle.gypsy_codegen.specs.WordsOf.{zero_value}
 use Rattle.stack_build.specs.{Formals.{shown_formals, shown_conditions}, Image.{slots_from}}
 use Rattle.quick_code.specs.{Access.{Access, Held, Known}, Pieces.{set_area_code}}
-use Rattle.quick_gypsy.specs.{Numbers.{numbers_of}, Layout.{Layout}, Quick.{size, quick}}
+use Rattle.quick_gypsy.specs.{Numbers.{numbers_of}, Layout.{Layout}, Quick.{size, quick}, InLine.{lined_main}}
 
 -- 1. Variables. Those of main lie at the window's end, the first word of the first one at the last address. The addresses of the chosen
 -- ones, at most ten, are in the registers from 5 on, and stay there.
@@ -102,9 +103,16 @@ quick_image_with vs ds conditions p base end =
       slots = slots_from (end - 1) ds;
     }
 
-abbrev pub quick_image : List ℕ → SourceOf → ℕ → ℕ → ImageOf
-quick_image vs s base end =
-    quick_image_with vs (shown_formals s) (shown_conditions s) (proc_at (program_of s) (program_of s).main) base end
+-- so deep may calls nest in a quick image
+abbrev pub most_nested : ℕ
+most_nested = 16
+
+-- main with its calls in line
+abbrev pub quick_main : SourceOf → StackSizes → Proc
+quick_main s sizes = lined_main (program_of s) sizes most_nested
+
+abbrev pub quick_image : List ℕ → SourceOf → StackSizes → ℕ → ℕ → ImageOf
+quick_image vs s sizes base end = quick_image_with vs (shown_formals s) (shown_conditions s) (quick_main s sizes) base end
 
 -- its parts, in memory
 abbrev pub quick_parts : List ℕ → Proc → ℕ → ℕ → Parts

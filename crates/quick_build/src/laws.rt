@@ -1,7 +1,7 @@
 //! The laws of quick images. The functions do nothing: their clauses hold of all sources and values.
 
-ghost use Rattle.quick_build.specs.{QuickExamples.{ProductIsQuick, UptoIsQuick}, QuickImplements.{QuickImagesImplement, QuickImagesEndAsMeant, QuickImagesGoOn}};
-ghost use Rattle.quick_build.specs.QuickImplements.{QuickProgramsAreNoSlower};
+ghost use Rattle.quick_build.specs.{QuickExamples.{ProductIsQuick, SwapIsQuick, UptoIsQuick}, QuickImplements.{QuickImagesImplement, QuickImagesEndAsMeant}};
+ghost use Rattle.quick_build.specs.QuickImplements.{QuickImagesGoOn, QuickProgramsAreNoSlower};
 
 /// Quick images do what sources mean, in exactly the instructions that are counted for them.
 pub fn quick_images_implement()
@@ -28,4 +28,9 @@ pub fn upto_is_quick()
 /// The code of a product, and what it takes.
 pub fn product_is_quick()
     ensures { ProductIsQuick }
+{}
+
+/// The code of a call in line, and what it takes.
+pub fn swap_is_quick()
+    ensures { SwapIsQuick }
 {}

@@ -3,3 +3,9 @@ pub mod ItemLaws
 pub mod RowLaws
 pub mod QuickLaws
 pub mod CostLaws
+pub mod ViewLaws
+pub mod AgreeLaws
+pub mod CallLaws
+pub mod InLineLaws
+pub mod LinedLaws
+pub mod PlainLaws

@@ -1,6 +1,6 @@
 -- Quick code does what a statement means.
-use Rattle.std.proofs.Common.{◌≡◌, ℕ, zero, suc, ◌+◌, ◌-◌, ◌≤◌, Some, None, Bool, true, false, not, List, ◌++◌, length, refl, ap, ◌∙◌, subst, arith}
-use Rattle.std.{proofs.Common.length-append, specs.Prelude.{if◌then◌else◌, slice_set, slice_get}}
+use Rattle.std.proofs.Common.{◌≡◌, ℕ, zero, suc, ◌+◌, ◌-◌, ◌≤◌, Some, None, Bool, true, false, not, List, [], ◌++◌, length, Option, refl, ap, sym, ◌∙◌, subst}
+use Rattle.std.{proofs.Common.{arith, length-append}, specs.Prelude.{if◌then◌else◌, slice_set, slice_get}}
 use Rattle.stack_text.{specs.declared.shape.Kind.TheVariants.Boolean, specs.Values.ValueOf}
 use Rattle.fm_words.{specs.Word.word_of_int, specs.declared.condition.Cc.TheVariants.{Vs, Cs, Zs}, specs.declared.operation.Op.TheVariants.{Move, Neg, Add}}
 use Rattle.fm_words.{specs.declared.operation.Op.TheVariants.Sub, specs.Code.no_flags}
@@ -8,8 +8,8 @@ use Rattle.fm_machine.{specs.State.Fm, proofs.RunLaws.{run_none, avoids_none, ru
 use Rattle.fm_code.{specs.Execution.{Parts, AreParts, CodeAt, final_pc}, specs.InstructionWords.{flag_z, flag_c}, proofs.CodeLaws.{code_front, code_after}}
 use Rattle.fm_code.specs.Templates.{jump_code}
 use Rattle.gypsy_syntax.{specs.declared.predef.Predef.Predef, specs.Programs.{ConditionOf, Routine, Program, Arg, simple, Stmt, Skip, NoOp, Signal, Seq, Loop}}
-use Rattle.gypsy_syntax.{specs.Programs.{If, Begin, Call, Apply}, specs.Predefined.predef_effect, specs.ProgramFits.StmtFits, specs.ValuesFit.VarsFit}
-use Rattle.gypsy_syntax.specs.Effects.{Effect, Normal, Fault, Beyond, value_at, is_true_value, item_of_value}
+use Rattle.gypsy_syntax.{specs.Programs.{If, Begin, Call, Apply}, specs.Predefined.predef_effect, specs.ValuesFit.VarsFit, specs.Effects.{Effect, Normal}}
+use Rattle.gypsy_syntax.specs.Effects.{Fault, Beyond, value_at, is_true_value, item_of_value}
 use Rattle.gypsy_syntax.specs.declared.predef.Predef.TheVariants as row
 use Rattle.gypsy_space.specs.Needs.{StackSizes}
 use Rattle.gypsy_semantics.{specs.Calls.{CurrentCondition, has_cond, is_leave, values_of, target_of}, specs.Meaning.{MeaningOutcome, Done, Unfinished, then_do}}
@@ -19,8 +19,9 @@ use Rattle.quick_code.{specs.Pieces.{jump_when_code, flag_v, product_code}, spec
 use Rattle.quick_code.proofs.StandLaws.{jumps_then, comes_then, comes_at_once, comes_as}
 use Rattle.quick_gypsy.{specs.Numbers.numbers_of, specs.Layout.{Layout, IsLayout, first_of, count_of, last_address}, specs.RowCode.{row_code, row_cost, load}}
 use Rattle.quick_gypsy.{specs.RowCode.{item_code, arg_var, arg_access}, specs.Quick.{Targets, loop_targets, begin_targets, test_code, size, quick, quick_cost}}
-use Rattle.quick_gypsy.{specs.Quick.{after_part, after_body, IsPlain}, specs.QuickRuns.{StandsWith, ComesWith, GoesOn, goal_of, StatementsRun, StatementsGoOn}}
-use Rattle.quick_gypsy.{proofs.NumbersLaws.simple_var, proofs.ItemLaws.test_item, proofs.RowLaws.{RowDoes, row_runs}}
+use Rattle.quick_gypsy.{specs.Quick.{after_part, after_body, IsPlain, signalled, arm_size, arm_target, arm_code}, specs.QuickRuns.{StandsWith, ComesWith}}
+use Rattle.quick_gypsy.{specs.QuickRuns.{GoesOn, goal_of, StatementsRun, StatementsGoOn}, proofs.NumbersLaws.simple_var, proofs.ItemLaws.test_item}
+use Rattle.quick_gypsy.proofs.RowLaws.{RowDoes, row_runs}
 
 -- How long the code is.
 
@@ -59,6 +60,10 @@ row_length L f args r = refl
 test_length : (L : Layout) (b otherwise : ℕ) → length (test_code L b otherwise) ≡ length (test_code L b 0)
 test_length L b otherwise = longer (by_word_code Move flag_z (L.access b)) (jump_when_code Zs otherwise) (jump_when_code Zs 0) refl
 
+arm_length : (g : Option ConditionOf) (code : List ℕ) (words : ℕ) → length code ≡ 2 + words → length (arm_code g code) ≡ arm_size g words
+arm_length None code words e = e
+arm_length (Some c) code words e = refl
+
 pub quick_length : (L : Layout) (T : Targets) (pc : ℕ) (s : Stmt) → length (quick L T pc s) ≡ size L s
 quick_length L T pc Skip = refl
 quick_length L T pc (NoOp place) = refl
@@ -87,9 +92,15 @@ quick_length L T pc (If place b s w) =
     )
 quick_length L T pc (Begin place s cs w) =
     let arm = pc + size L s + 2 in
-    let ending = quick L T arm w in
-    let middle = jump_code (arm + size L w) ++ ending in
-    omega (arith, length-append (quick L (begin_targets cs arm T) pc s) middle, quick_length L (begin_targets cs arm T) pc s, quick_length L T arm w)
+    let T' = begin_targets cs (arm_target (signalled w) arm T) T in
+    let ending = jump_code (arm + size L w) ++ quick L T arm w in
+    let long : length ending ≡ 2 + size L w = omega (arith, quick_length L T arm w) in
+    omega (
+      arith,
+      length-append (quick L T' pc s) (arm_code (signalled w) ending),
+      quick_length L T' pc s,
+      arm_length (signalled w) ending (size L w) long,
+    )
 quick_length L T pc (Call place p xs cs) = refl
 quick_length L T pc (Apply place r args) = row_length L (T Routine) args r
 
@@ -164,7 +175,7 @@ module _ (P : Parts) (table : ℕ → ℕ) (L : Layout) (ctrl areas : List ℕ) 
       (k : List ValueOf → ℕ) → Lands P table L ctrl areas n j m (begin_targets cs arm T) mid o
       → ((y : List ValueOf) (m' : Fm) → VarsFit L.shapes y → StandsWith P table ctrl m' mid y areas → Landed P table L ctrl areas 1 m' behind y)
       → ((y : List ValueOf) (m' : Fm) → VarsFit L.shapes y → StandsWith P table ctrl m' arm y areas → Lands P table L ctrl areas n (k y) m' T behind (go y))
-      → Lands P table L ctrl areas n (j + after_body o cs k) m T behind (caught o cs go)
+      → Lands P table L ctrl areas n (j + after_body None o cs k) m T behind (caught o cs go)
   caught_lands n j m T mid arm behind cs (Done y None) go k h over next =
       lands_after n n j 1 m T mid behind y (Done y None) (omega arith) h.comes (λ m' st. over y m' h.fits st)
   caught_lands n j m T mid arm behind cs (Done y (Some c)) go k h over next = pick (has_cond c cs) h
@@ -174,6 +185,20 @@ module _ (P : Parts) (table : ℕ → ℕ) (L : Layout) (ctrl areas : List ℕ) 
       pick true g = lands_after n n j (k y) m T arm behind y (go y) (omega arith) g.comes (λ m' st. next y m' g.fits st)
       pick false g = landed_as j (j + 0) m (T c) (T c) y g (omega arith) refl
   caught_lands n j m T mid arm behind cs Unfinished go k h over next = h
+
+  -- a handler that only signals: the conditions go to the target of what it signals
+  passed_lands : (n j : ℕ) (m : Fm) (T : Targets) (behind : ℕ) (cs : List ConditionOf) (d : ConditionOf) (o : MeaningOutcome)
+      (go : List ValueOf → MeaningOutcome) (k : List ValueOf → ℕ) → Lands P table L ctrl areas n j m (begin_targets cs (T d) T) behind o
+      → ((y : List ValueOf) → go y ≡ Done y (Some d)) → Lands P table L ctrl areas n (j + after_body (Some d) o cs k) m T behind (caught o cs go)
+  passed_lands n j m T behind cs d (Done y None) go k h is = landed_as j (j + 0) m behind behind y h (omega arith) refl
+  passed_lands n j m T behind cs d (Done y (Some c)) go k h is = pick (has_cond c cs) h
+    where
+      pick : (b : Bool) → Landed P table L ctrl areas j m (if b then T d else T c) y
+          → Lands P table L ctrl areas n (j + 0) m T behind (either_way b (go y) (Done y (Some c)))
+      pick true g =
+          subst (λ o. Lands P table L ctrl areas n (j + 0) m T behind o) (sym (is y)) (landed_as j (j + 0) m (T d) (T d) y g (omega arith) refl)
+      pick false g = landed_as j (j + 0) m (T c) (T c) y g (omega arith) refl
+  passed_lands n j m T behind cs d Unfinished go k h is = h
 
   -- a predefined call
   row_lands : (n k : ℕ) (m : Fm) (T : Targets) (pc : ℕ) (code : List ℕ) (args : List Arg) (x : List ValueOf) (e : Effect) → AreParts P
@@ -244,12 +269,54 @@ if_lands P table L ctrl areas is lay b x m T n pc otherwise mid behind ks kw os 
     let there : ComesWith P table ctrl (find_count (L.access b) + 1 + 1) m otherwise x areas = record { x3 = a1.x3; fl = a1.fl; comes = c } in
     lands_after P table L ctrl areas n n (find_count (L.access b) + 1 + 1) kw m T otherwise behind x ow (omega arith) there second
 
-module _ (P : Parts) (table : ℕ → ℕ) (L : Layout) (q : Program) (sizes : StackSizes) (conds : ℕ) (u : StackSizes) (ctrl areas : List ℕ)
+signals : (q : Program) (sizes u : StackSizes) (w : Stmt) (d : ConditionOf) → signalled w ≡ Some d → (n : ℕ) (y : List ValueOf)
+    → evaluate q sizes (suc n) w u y ≡ Done y (Some d)
+signals q sizes u Skip d e n y = absurd cc
+signals q sizes u (NoOp place) d e n y = absurd cc
+signals q sizes u (Signal place c) d e n y = let same : c ≡ d = cc in ap (λ a. Done y (Some a)) same
+signals q sizes u (Seq a b) d e n y = absurd cc
+signals q sizes u (Loop place s) d e n y = absurd cc
+signals q sizes u (If place b s w) d e n y = absurd cc
+signals q sizes u (Begin place s cs w) d e n y = absurd cc
+signals q sizes u (Call place p xs cs) d e n y = absurd cc
+signals q sizes u (Apply place r args) d e n y = absurd cc
+
+-- a body with a handler, by what the handler signals
+begin_lands : (P : Parts) (table : ℕ → ℕ) (L : Layout) (q : Program) (sizes u : StackSizes) (ctrl areas : List ℕ) → AreParts P → (n j : ℕ) (m : Fm)
+    (T : Targets) (pc : ℕ) (s w : Stmt) (cs : List ConditionOf) (o : MeaningOutcome) (g : Option ConditionOf) → signalled w ≡ g
+    → CodeAt P pc (quick L (begin_targets cs (arm_target g (pc + size L s + 2) T) T) pc s
+    ++ arm_code g (jump_code (pc + size L s + 2 + size L w) ++ quick L T (pc + size L s + 2) w))
+    → ((T' : Targets) → CodeAt P pc (quick L T' pc s) → Lands P table L ctrl areas (suc n) j m T' (pc + size L s) o)
+    → ((y : List ValueOf) (m' : Fm) → VarsFit L.shapes y → StandsWith P table ctrl m' (pc + size L s + 2) y areas
+    → CodeAt P (pc + size L s + 2) (quick L T (pc + size L s + 2) w)
+    → Lands P table L ctrl areas (suc n) (quick_cost q sizes L (suc n) w u y) m' T (pc + size L s + 2 + size L w) (evaluate q sizes (suc n) w u y))
+    → Lands P table L ctrl areas (suc n) (j + after_body g o cs (quick_cost q sizes L (suc n) w u)) m T (pc + (size L s + arm_size g (size L w)))
+    (caught o cs (evaluate q sizes (suc n) w u))
+begin_lands P table L q sizes u ctrl areas is n j m T pc s w cs o None e code body arms =
+    let arm = pc + size L s + 2 in
+    let T' = begin_targets cs arm T in
+    let last = quick L T arm w in
+    let middle = jump_code (arm + size L w) ++ last in
+    let rest = behind P pc (size L s) (quick L T' pc s) middle (quick_length L T' pc s) code in
+    let over = code_front P (pc + size L s) (jump_code (arm + size L w)) last rest in
+    let armed = code_after P (pc + size L s) (jump_code (arm + size L w)) last rest in
+    let whole = caught_lands P table L ctrl areas (suc n) j m T (pc + size L s) arm (arm + size L w) cs o (evaluate q sizes (suc n) w u)
+    (quick_cost q sizes L (suc n) w u) (body T' (code_front P pc (quick L T' pc s) middle code))
+    (λ y m' g st'. record { comes = jumped P table L ctrl areas m' (pc + size L s) (arm + size L w) y is st' over; fits = g })
+    (λ y m' g st'. arms y m' g st' armed) in
+    lands_at P table L ctrl areas (suc n) _ _ m T (arm + size L w) (pc + (size L s + (2 + size L w))) _ refl (omega arith) whole
+begin_lands P table L q sizes u ctrl areas is n j m T pc s w cs o (Some d) e code body arms =
+    let T' = begin_targets cs (T d) T in
+    let whole = passed_lands P table L ctrl areas (suc n) j m T (pc + size L s) cs d o (evaluate q sizes (suc n) w u) (quick_cost q sizes L (suc n) w u)
+    (body T' (code_front P pc (quick L T' pc s) [] code)) (signals q sizes u w d e n) in
+    lands_at P table L ctrl areas (suc n) _ _ m T (pc + size L s) (pc + (size L s + 0)) _ refl (omega arith) whole
+
+module _ (P : Parts) (table : ℕ → ℕ) (L : Layout) (q : Program) (sizes : StackSizes) (u : StackSizes) (ctrl areas : List ℕ)
     (is : AreParts P) (lay : IsLayout P table L) where
-  run : (n : ℕ) (s : Stmt) (looping : Bool) (x : List ValueOf) (T : Targets) (pc : ℕ) (m : Fm) → StmtFits q L.shapes conds looping s → IsPlain s
+  run : (n : ℕ) (s : Stmt) (x : List ValueOf) (T : Targets) (pc : ℕ) (m : Fm) → IsPlain L.shapes s
       → VarsFit L.shapes x → CodeAt P pc (quick L T pc s) → StandsWith P table ctrl m pc x areas
       → Lands P table L ctrl areas n (quick_cost q sizes L n s u x) m T (pc + size L s) (evaluate q sizes n s u x)
-  run zero s looping x T pc m f plain fits code st = record {
+  run zero s x T pc m f fits code st = record {
     steps = 0;
     state = m;
     least = omega arith;
@@ -257,32 +324,32 @@ module _ (P : Parts) (table : ℕ → ℕ) (L : Layout) (q : Program) (sizes : S
     avoids = avoids_none m
         (final_pc P);
   }
-  run (suc n) Skip looping x T pc m f plain fits code st =
+  run (suc n) Skip x T pc m f fits code st =
       landed_as P table L ctrl areas 0 0 m pc (pc + 0) x (record {
         comes = record { x3 = st.x3; fl = st.fl; comes = comes_at_once st.stands };
         fits =
             fits;
       }) refl (omega arith)
-  run (suc n) (NoOp place) looping x T pc m f plain fits code st =
+  run (suc n) (NoOp place) x T pc m f fits code st =
       landed_as P table L ctrl areas 0 0 m pc (pc + 0) x (record {
         comes = record { x3 = st.x3; fl = st.fl; comes = comes_at_once st.stands };
         fits =
             fits;
       }) refl (omega arith)
-  run (suc n) (Signal place c) looping x T pc m f plain fits code st =
+  run (suc n) (Signal place c) x T pc m f fits code st =
       record { comes = jumped P table L ctrl areas m pc (T c) x is st code; fits = fits }
-  run (suc n) (Seq a b) looping x T pc m f plain fits code st =
-      let first = run (suc n) a looping x T pc m f.0 plain.0 fits (code_front P pc (quick L T pc a) (quick L T (pc + size L a) b) code) st in
+  run (suc n) (Seq a b) x T pc m f fits code st =
+      let first = run (suc n) a x T pc m f.0 fits (code_front P pc (quick L T pc a) (quick L T (pc + size L a) b) code) st in
       let rest = behind P pc (size L a) (quick L T pc a) (quick L T (pc + size L a) b) (quick_length L T pc a) code in
       let whole = then_lands P table L ctrl areas (suc n) (quick_cost q sizes L (suc n) a u x) m T (pc + size L a) (pc + size L a + size L b)
       (evaluate q sizes (suc n) a u x)
       (evaluate q sizes (suc n) b u) (quick_cost q sizes L (suc n) b u) first
-      (λ y m' g st'. run (suc n) b looping y T (pc + size L a) m' f.1 plain.1 g rest st') in
+      (λ y m' g st'. run (suc n) b y T (pc + size L a) m' f.1 g rest st') in
       lands_at P table L ctrl areas (suc n) _ _ m T (pc + size L a + size L b) (pc + (size L a + size L b)) _ refl (omega arith) whole
-  run (suc n) (Loop place s) looping x T pc m f plain fits code st =
+  run (suc n) (Loop place s) x T pc m f fits code st =
       let end = pc + (size L s + 2) in
       let T' = loop_targets end T in
-      let body = run (suc n) s true x T' pc m f plain fits (code_front P pc (quick L T' pc s) (jump_code pc) code) st in
+      let body = run (suc n) s x T' pc m f fits (code_front P pc (quick L T' pc s) (jump_code pc) code) st in
       let back = behind P pc (size L s) (quick L T' pc s) (jump_code pc) (quick_length L T' pc s) code in
       round_lands P table L ctrl areas (suc n) (quick_cost q sizes L (suc n) s u x) m T (pc + size L s) end (evaluate q sizes (suc n) s u x)
       (evaluate q sizes n (Loop place s) u) (λ y. 1 + quick_cost q sizes L n (Loop place s) u y) body
@@ -290,8 +357,8 @@ module _ (P : Parts) (table : ℕ → ℕ) (L : Layout) (q : Program) (sizes : S
       lands_after P table L ctrl areas n (suc n) 1 (quick_cost q sizes L n (Loop place s) u y) m' T pc end y (evaluate q sizes n (Loop place s) u y)
       (omega arith)
       (jumped P table L ctrl areas m' (pc + size L s) pc y is st' back)
-      (λ m2 st2. run n (Loop place s) looping y T pc m2 f plain g code st2))
-  run (suc n) (If place b s w) looping x T pc m f plain fits code st =
+      (λ m2 st2. run n (Loop place s) y T pc m2 f g code st2))
+  run (suc n) (If place b s w) x T pc m f fits code st =
       let at = pc + length (test_code L b 0) in
       let otherwise = at + size L s + 2 in
       let last = quick L T otherwise w in
@@ -306,28 +373,17 @@ module _ (P : Parts) (table : ℕ → ℕ) (L : Layout) (q : Program) (sizes : S
       let kw = quick_cost q sizes L (suc n) w u x in
       let whole = if_lands P table L ctrl areas is lay b x m T (suc n) pc otherwise (at + size L s) (otherwise + size L w) ks kw os ow f.0 fits
       (code_front P pc (test_code L b otherwise) (quick L T at s ++ middle) code) st
-      (λ m' st'. run (suc n) s looping x T at m' f.1 plain.0 fits (code_front P at (quick L T at s) middle c1) st')
+      (λ m' st'. run (suc n) s x T at m' f.1 fits (code_front P at (quick L T at s) middle c1) st')
       (code_front P (at + size L s) (jump_code (otherwise + size L w)) last c2)
-      (λ m' st'. run (suc n) w looping x T otherwise m' f.2 plain.1 fits c3 st') t refl in
+      (λ m' st'. run (suc n) w x T otherwise m' f.2 fits c3 st') t refl in
       lands_at P table L ctrl areas (suc n) _ _ m T (otherwise + size L w) (pc + (length (test_code L b 0) + size L s + 2 + size L w)) _ refl (omega
       arith) whole
-  run (suc n) (Begin place s cs w) looping x T pc m f plain fits code st =
-      let arm = pc + size L s + 2 in
-      let T' = begin_targets cs arm T in
-      let last = quick L T arm w in
-      let middle = jump_code (arm + size L w) ++ last in
-      let body = run (suc n) s looping x T' pc m f.1 plain.0 fits (code_front P pc (quick L T' pc s) middle code) st in
-      let rest = behind P pc (size L s) (quick L T' pc s) middle (quick_length L T' pc s) code in
-      let over = code_front P (pc + size L s) (jump_code (arm + size L w)) last rest in
-      let armed = code_after P (pc + size L s) (jump_code (arm + size L w)) last rest in
-      let whole = caught_lands P table L ctrl areas (suc n) (quick_cost q sizes L (suc n) s u x) m T (pc + size L s) arm (arm + size L w) cs
-      (evaluate q sizes (suc n) s u x)
-      (evaluate q sizes (suc n) w u) (quick_cost q sizes L (suc n) w u) body
-      (λ y m' g st'. record { comes = jumped P table L ctrl areas m' (pc + size L s) (arm + size L w) y is st' over; fits = g })
-      (λ y m' g st'. run (suc n) w looping y T arm m' f.2 plain.1 g armed st') in
-      lands_at P table L ctrl areas (suc n) _ _ m T (arm + size L w) (pc + (size L s + 2 + size L w)) _ refl (omega arith) whole
-  run (suc n) (Call place p xs cs) looping x T pc m f plain fits code st = absurd plain
-  run (suc n) (Apply place r args) looping x T pc m f plain fits code st =
+  run (suc n) (Begin place s cs w) x T pc m f fits code st =
+      begin_lands P table L q sizes u ctrl areas is n (quick_cost q sizes L (suc n) s u x) m T pc s w cs (evaluate q sizes (suc n) s u x)
+      (signalled w) refl code (λ T' there. run (suc n) s x T' pc m f.0 fits there st)
+      (λ y m' g st' there. run (suc n) w y T (pc + size L s + 2) m' f.1 g there st')
+  run (suc n) (Call place p xs cs) x T pc m f fits code st = absurd f
+  run (suc n) (Apply place r args) x T pc m f fits code st =
       let vs = values_of x args in
       let e = predef_effect r vs in
       let does = row_runs P table L lay x fits (T Routine) st.x3 st.fl areas f.0 r args f.1 in
@@ -342,11 +398,11 @@ landed_done P table L ctrl areas n k m T pc o y c e h =
     let g = subst (λ r. Lands P table L ctrl areas n k m T pc r) e h in g.comes
 
 pub statements_run : StatementsRun
-statements_run P table L q sizes conds looping n s u x y c T pc ctrl areas m is lay f plain fits code st e =
+statements_run P table L q sizes n s u x y c T pc ctrl areas m is lay f fits code st e =
     landed_done P table L ctrl areas n (quick_cost q sizes L n s u x) m T (pc + size L s) (evaluate q sizes n s u x) y c e
-    (run P table L q sizes conds u ctrl areas is lay n s looping x T pc m f plain fits code st)
+    (run P table L q sizes u ctrl areas is lay n s x T pc m f fits code st)
 
 pub statements_go_on : StatementsGoOn
-statements_go_on P table L q sizes conds looping n s u x T pc ctrl areas m is lay f plain fits code st e =
+statements_go_on P table L q sizes n s u x T pc ctrl areas m is lay f fits code st e =
     subst (λ o. Lands P table L ctrl areas n (quick_cost q sizes L n s u x) m T (pc + size L s) o) e
-    (run P table L q sizes conds u ctrl areas is lay n s looping x T pc m f plain fits code st)
+    (run P table L q sizes u ctrl areas is lay n s x T pc m f fits code st)

@@ -3,3 +3,5 @@ pub mod Layout
 pub mod RowCode
 pub mod Quick
 pub mod QuickRuns
+pub mod InLine
+pub mod InLineRuns

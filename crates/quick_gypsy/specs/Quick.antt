@@ -1,9 +1,10 @@
 -- The quick code of statements without calls, and how many instructions a run of it takes.
-use Rattle.std.specs.Prelude.{ℕ, zero, suc, ◌+◌, List, [], ◌++◌, length, if◌then◌else◌, Some, None}
+use Rattle.std.specs.Prelude.{◌≡◌, ℕ, zero, suc, ◌+◌, List, [], ◌++◌, length, slice_get, if◌then◌else◌, Option, Some, None}
+use Rattle.stack_text.specs.{declared.shape.Kind.{Kind}, declared.shape.Kind.TheVariants.{Boolean}, declared.shape.Shape.{Shape}}
 use Rattle.stack_text.specs.Values.{ValueOf}
 use Rattle.fm_words.specs.{declared.condition.Cc.TheVariants.{Zs}, declared.operation.Op.TheVariants.{Move}}
-use Rattle.gypsy_syntax.specs.Programs.{ConditionOf, Routine, Program, Stmt, Skip, NoOp, Signal, Seq, Loop, If, Begin, Call, Apply}
-use Rattle.gypsy_syntax.specs.{Predefined.{predef_effect}, Effects.{value_at, is_true_value}}
+use Rattle.gypsy_syntax.specs.Programs.{ConditionOf, Routine, Program, simple, Stmt, Skip, NoOp, Signal, Seq, Loop, If, Begin, Call, Apply}
+use Rattle.gypsy_syntax.specs.{Predefined.{slots_of, predef_effect}, Effects.{value_at, is_true_value}, ProgramFits.{ArgsFit}}
 use Rattle.gypsy_space.specs.Needs.{StackSizes}
 use Rattle.gypsy_semantics.specs.{Calls.{has_cond, is_leave, values_of}, Meaning.{MeaningOutcome, Done, Unfinished, evaluate}}
 use Rattle.fm_code.specs.{InstructionWords.{flag_z}, Templates.{jump_code}}
@@ -24,6 +25,33 @@ begin_targets cs arm T c = if has_cond c cs then arm else T c
 abbrev pub test_code : Layout → ℕ → ℕ → List ℕ
 test_code L b otherwise = by_word_code Move flag_z (L.access b) ++ jump_when_code Zs otherwise
 
+-- the condition that an arm signals, where it does nothing else: such an arm has no code, since the jump to it leads to the condition's
+-- target at once
+abbrev pub signalled : Stmt → Option ConditionOf
+signalled Skip = None
+signalled (NoOp place) = None
+signalled (Signal place c) = Some c
+signalled (Seq a b) = None
+signalled (Loop place s) = None
+signalled (If place b s w) = None
+signalled (Begin place s cs w) = None
+signalled (Call place p xs cs) = None
+signalled (Apply place r args) = None
+
+-- the words of an arm and of the jump over it
+abbrev pub arm_size : Option ConditionOf → ℕ → ℕ
+arm_size None words = 2 + words
+arm_size (Some c) words = 0
+
+-- where handled conditions go: to the arm, or to the target of what it signals
+abbrev pub arm_target : Option ConditionOf → ℕ → Targets → ℕ
+arm_target None arm T = arm
+arm_target (Some c) arm T = T c
+
+abbrev pub arm_code : Option ConditionOf → List ℕ → List ℕ
+arm_code None code = code
+arm_code (Some c) code = []
+
 -- how many words the code of a statement has
 abbrev pub size : Layout → Stmt → ℕ
 size L Skip = 0
@@ -32,7 +60,7 @@ size L (Signal place c) = 2
 size L (Seq a b) = size L a + size L b
 size L (Loop place s) = size L s + 2
 size L (If place b s w) = length (test_code L b 0) + size L s + 2 + size L w
-size L (Begin place s cs w) = size L s + 2 + size L w
+size L (Begin place s cs w) = size L s + arm_size (signalled w) (size L w)
 size L (Call place p xs cs) = 0
 size L (Apply place r args) = length (row_code L 0 args r)
 
@@ -49,21 +77,22 @@ quick L T pc (If place b s w) =
     test_code L b otherwise ++ (quick L T at s ++ (jump_code (otherwise + size L w) ++ quick L T otherwise w))
 quick L T pc (Begin place s cs w) =
     let arm = pc + size L s + 2 in
-    quick L (begin_targets cs arm T) pc s ++ (jump_code (arm + size L w) ++ quick L T arm w)
+    quick L (begin_targets cs (arm_target (signalled w) arm T) T) pc s ++
+    arm_code (signalled w) (jump_code (arm + size L w) ++ quick L T arm w)
 quick L T pc (Call place p xs cs) = []
 quick L T pc (Apply place r args) = row_code L (T Routine) args r
 
--- no calls
-abbrev pub IsPlain : Stmt → Type 0
-IsPlain Skip = Unit {0}
-IsPlain (NoOp place) = Unit {0}
-IsPlain (Signal place c) = Unit {0}
-IsPlain (Seq a b) = IsPlain a × IsPlain b
-IsPlain (Loop place s) = IsPlain s
-IsPlain (If place b s w) = IsPlain s × IsPlain w
-IsPlain (Begin place s cs w) = IsPlain s × IsPlain w
-IsPlain (Call place p xs cs) = ⊥
-IsPlain (Apply place r args) = Unit {0}
+-- no calls; each test is of a Boolean, and the arguments of each predefined call fit
+abbrev pub IsPlain : List Shape → Stmt → Type 0
+IsPlain shapes Skip = Unit {0}
+IsPlain shapes (NoOp place) = Unit {0}
+IsPlain shapes (Signal place c) = Unit {0}
+IsPlain shapes (Seq a b) = IsPlain shapes a × IsPlain shapes b
+IsPlain shapes (Loop place s) = IsPlain shapes s
+IsPlain shapes (If place b s w) = (slice_get shapes b ≡ Some (simple Boolean)) × IsPlain shapes s × IsPlain shapes w
+IsPlain shapes (Begin place s cs w) = IsPlain shapes s × IsPlain shapes w
+IsPlain shapes (Call place p xs cs) = ⊥
+IsPlain shapes (Apply place r args) = (k : Kind) × ArgsFit shapes k (slots_of r) args
 
 -- what is spent after a part that ends normally
 abbrev pub after_part : MeaningOutcome → (List ValueOf → ℕ) → ℕ
@@ -71,11 +100,12 @@ after_part (Done y None) f = f y
 after_part (Done y (Some c)) f = 0
 after_part Unfinished f = 0
 
--- and behind a body with a handler: the jump over the arm, or the arm
-abbrev pub after_body : MeaningOutcome → List ConditionOf → (List ValueOf → ℕ) → ℕ
-after_body (Done y None) cs arm = 1
-after_body (Done y (Some c)) cs arm = if has_cond c cs then arm y else 0
-after_body Unfinished cs arm = 0
+-- and behind a body with a handler: the jump over the arm, or the arm; nothing for an arm without code
+abbrev pub after_body : Option ConditionOf → MeaningOutcome → List ConditionOf → (List ValueOf → ℕ) → ℕ
+after_body (Some d) o cs arm = 0
+after_body None (Done y None) cs arm = 1
+after_body None (Done y (Some c)) cs arm = if has_cond c cs then arm y else 0
+after_body None Unfinished cs arm = 0
 
 -- how many instructions a run takes, at a bound
 abbrev pub quick_cost : Program → StackSizes → Layout → ℕ → Stmt → StackSizes → List ValueOf → ℕ
@@ -94,7 +124,8 @@ quick_cost q sizes L (suc n) (If place b s w) u x =
     then quick_cost q sizes L (suc n) s u x + after_part (evaluate q sizes (suc n) s u x) (λ y. 1)
     else quick_cost q sizes L (suc n) w u x)
 quick_cost q sizes L (suc n) (Begin place s cs w) u x =
-    quick_cost q sizes L (suc n) s u x + after_body (evaluate q sizes (suc n) s u x) cs (quick_cost q sizes L (suc n) w u)
+    quick_cost q sizes L (suc n) s u x +
+    after_body (signalled w) (evaluate q sizes (suc n) s u x) cs (quick_cost q sizes L (suc n) w u)
 quick_cost q sizes L (suc n) (Call place p xs cs) u x = 0
 quick_cost q sizes L (suc n) (Apply place r args) u x =
     let vs = values_of x args in

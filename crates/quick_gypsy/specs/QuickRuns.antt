@@ -1,12 +1,12 @@
 -- What is proved of quick code: it does what the statement means, in exactly the counted instructions.
-use Rattle.std.specs.Prelude.{◌≡◌, ℕ, ◌+◌, ◌≤◌, List, Bool, Ok, Some, None}
+use Rattle.std.specs.Prelude.{◌≡◌, ℕ, ◌+◌, ◌≤◌, List, Ok, Some, None}
 use Rattle.stack_text.specs.Values.{ValueOf}
 use Rattle.fm_words.specs.declared.condition.Flags.{Flags}
 use Rattle.fm_machine.specs.{State.{Fm}, Run.{fm_run, Avoids}}
 use Rattle.fm_code.specs.Execution.{Parts, AreParts, CodeAt, final_pc}
-use Rattle.gypsy_syntax.specs.{Programs.{Program, Stmt}, ProgramFits.{StmtFits}, ValuesFit.{VarsFit}}
-use Rattle.gypsy_space.specs.{Costs.{Tally}, Needs.{StackSizes}}
-use Rattle.gypsy_semantics.specs.{Calls.{CurrentCondition}, Counted.{CountedDone, counted_evaluate}, Meaning.{Done, Unfinished, evaluate}}
+use Rattle.gypsy_syntax.specs.{Programs.{Program, Stmt}, ValuesFit.{VarsFit}}
+use Rattle.gypsy_space.specs.Needs.{StackSizes}
+use Rattle.gypsy_semantics.specs.{Calls.{CurrentCondition}, Meaning.{Done, Unfinished, evaluate}}
 use Rattle.quick_code.specs.Moments.{now, Stands, Comes}
 use Rattle.quick_gypsy.specs.{Numbers.{numbers_of}, Layout.{Layout, IsLayout}, Quick.{Targets, size, quick, quick_cost, IsPlain}}
 
@@ -29,9 +29,9 @@ goal_of T behind None = behind
 goal_of T behind (Some c) = T c
 
 abbrev pub StatementsRun : Type 0
-StatementsRun = (P : Parts) (table : ℕ → ℕ) (L : Layout) (q : Program) (sizes : StackSizes) (conds : ℕ) (looping : Bool)
-    (n : ℕ) (s : Stmt) (u : StackSizes) (x y : List ValueOf) (c : CurrentCondition) (T : Targets) (pc : ℕ) (ctrl areas : List ℕ) (m : Fm) →
-    AreParts P → IsLayout P table L → StmtFits q L.shapes conds looping s → IsPlain s → VarsFit L.shapes x →
+StatementsRun = (P : Parts) (table : ℕ → ℕ) (L : Layout) (q : Program) (sizes : StackSizes) (n : ℕ) (s : Stmt) (u : StackSizes)
+    (x y : List ValueOf) (c : CurrentCondition) (T : Targets) (pc : ℕ) (ctrl areas : List ℕ) (m : Fm) →
+    AreParts P → IsLayout P table L → IsPlain L.shapes s → VarsFit L.shapes x →
     CodeAt P pc (quick L T pc s) → StandsWith P table ctrl m pc x areas → evaluate q sizes n s u x ≡ Done y c →
     ComesWith P table ctrl (quick_cost q sizes L n s u x) m (goal_of T (pc + size L s) c) y areas
 
@@ -45,13 +45,7 @@ pub record GoesOn (P : Parts) (n : ℕ) (m : Fm) : Type 0 where
 
 -- where the meaning isn't done at a bound, the code isn't done within so many instructions
 abbrev pub StatementsGoOn : Type 0
-StatementsGoOn = (P : Parts) (table : ℕ → ℕ) (L : Layout) (q : Program) (sizes : StackSizes) (conds : ℕ) (looping : Bool)
-    (n : ℕ) (s : Stmt) (u : StackSizes) (x : List ValueOf) (T : Targets) (pc : ℕ) (ctrl areas : List ℕ) (m : Fm) →
-    AreParts P → IsLayout P table L → StmtFits q L.shapes conds looping s → IsPlain s → VarsFit L.shapes x →
+StatementsGoOn = (P : Parts) (table : ℕ → ℕ) (L : Layout) (q : Program) (sizes : StackSizes) (n : ℕ) (s : Stmt) (u : StackSizes)
+    (x : List ValueOf) (T : Targets) (pc : ℕ) (ctrl areas : List ℕ) (m : Fm) →
+    AreParts P → IsLayout P table L → IsPlain L.shapes s → VarsFit L.shapes x →
     CodeAt P pc (quick L T pc s) → StandsWith P table ctrl m pc x areas → evaluate q sizes n s u x ≡ Unfinished → GoesOn P n m
-
--- where the plain code's run is done, quick code has taken no more instructions
-abbrev pub QuickIsNoSlower : Type 0
-QuickIsNoSlower = (L : Layout) (q : Program) (sizes : StackSizes) (n : ℕ) (s : Stmt) (u : StackSizes) (x y : List ValueOf)
-    (c : CurrentCondition) (t t' : Tally) → IsPlain s → counted_evaluate q sizes n s u x t ≡ CountedDone y c t' →
-    quick_cost q sizes L n s u x + t.count ≤ t'.count

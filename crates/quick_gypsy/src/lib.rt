@@ -3,4 +3,4 @@
 
 mod laws;
 
-pub use laws::{quick_is_no_slower, statements_go_on, statements_run};
+pub use laws::{calls_are_lined, quick_is_no_slower, statements_go_on, statements_run};

@@ -1,0 +1,9 @@
+pub mod OpenLaws
+pub mod RaiseLaws
+pub mod StepLaws
+pub mod MomentLaws
+pub mod LoadedLaws
+pub mod EndLaws
+pub mod PlainMainLaws
+pub mod ImageLaws
+pub mod StepExampleLaws
