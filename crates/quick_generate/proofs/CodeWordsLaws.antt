@@ -1,29 +1,29 @@
 -- The words of quick code are numbers of 32 bits.
-use Rattle.std.proofs.Common.{◌≡◌, ◌<◌, ◌+◌, ◌-◌, ◌*◌, ◌/◌, ◌%◌, ℕ, zero, suc, true, false, Bool, cond, List, [], ◌∷◌, ◌++◌, length, map, get_or, refl, sym, ap}
-use Rattle.std.{proofs.Common.{subst, ◌∙◌, arith}, proofs.lemmas.Int.ints, specs.Prelude.{◌^◌, ◌==◌, nat_lt, replicate, reverse, if◌then◌else◌, ℤ, pos}}
-use Rattle.std.{proofs.lemmas.Bool.{and_parts, and_from, lt-ltb}, proofs.lemmas.List.Folds.list_all-append, specs.List.list_all}
+use Rattle.std.proofs.Common.{◌≡◌, ◌<◌, ◌+◌, ◌-◌, ◌*◌, ◌/◌, ◌%◌, ℕ, zero, suc, true, false, Bool, cond, List, [], ◌∷◌, ◌++◌, length, map, get_or, Option, Some}
+use Rattle.std.{proofs.Common.{None, refl, sym, ap, subst, ◌∙◌, arith}, proofs.lemmas.Int.ints, specs.Prelude.{◌^◌, ◌==◌, nat_lt, replicate, reverse}}
+use Rattle.std.{specs.Prelude.{if◌then◌else◌, ℤ, pos}, proofs.lemmas.Bool.{and_parts, and_from, lt-ltb}, proofs.lemmas.List.Folds.list_all-append}
+use Rattle.std.specs.List.{list_all}
 use mathlib.Core.List.{reverse_aux}
 use Rattle.fm_words.{specs.declared.operation.Op.Op, specs.declared.operation.Op.TheVariants.{Move, Neg, Add, Sub, Lsr, Xor, Or, And}}
 use Rattle.fm_words.{specs.declared.condition.Cc.Cc, specs.declared.condition.Cc.TheVariants.{Al, Vc, Vs, Nc, Zs, Ge, Cs}, specs.declared.condition.Flags.Flags}
-use Rattle.fm_words.{specs.declared.instruction.Instr.Instr, specs.Code.no_flags, specs.Encoding.{encode_of, IsInstr, significant}}
-use Rattle.fm_words.{specs.Word.word_of_int, proofs.FieldLaws.{decode_encode, encode_decode}, proofs.WordLaws.word_of_int_below}
+use Rattle.fm_words.{specs.declared.instruction.Instr.Instr, specs.Code.no_flags, specs.Encoding.{encode_of, IsInstr, significant}, specs.Word.word_of_int}
+use Rattle.fm_words.{proofs.FieldLaws.{decode_encode, encode_decode}, proofs.WordLaws.word_of_int_below}
 use Rattle.fm_machine.specs.Masks.{all_flags}
 use Rattle.fm_code.{specs.InstructionWords.{reg, at, immediate, literal, literal_at, instruction, flag_z, flag_c}, specs.Templates.jump_code}
 use Rattle.fm_image.specs.Spelling.{are_words}
 use Rattle.stack_text.{specs.declared.shape.Shape.Shape, specs.declared.shape.Kind.Kind, specs.Values.ValueOf}
 use Rattle.gypsy_syntax.{specs.declared.predef.Predef.Predef, specs.declared.slot.Slot.Slot, specs.declared.slot.Form.Form}
-use Rattle.gypsy_syntax.{specs.declared.slot.Form.TheVariants.{Simple, Array, Literal}, specs.Programs.{Arg, Var, Lit, ConditionOf, Routine, Program, Stmt}}
-use Rattle.gypsy_syntax.{specs.Programs.{Skip, NoOp, Signal, Seq, Loop, If, Begin, Call, Apply, words_of}, specs.Predefined.slots_of}
-use Rattle.gypsy_syntax.{specs.Effects.item_of_value, specs.ProgramFits.{ArgFits, ArgsFit, StmtFits, slot_kind}, specs.ValuesFit.VarsFit}
-use Rattle.gypsy_syntax.specs.Ranges.{is_in_range}
+use Rattle.gypsy_syntax.{specs.declared.slot.Form.TheVariants.{Simple, Array, Literal}, specs.Programs.{Arg, Var, Lit, ConditionOf, Routine, Stmt, Skip, NoOp}}
+use Rattle.gypsy_syntax.{specs.Programs.{Signal, Seq, Loop, If, Begin, Call, Apply, words_of}, specs.Predefined.slots_of, specs.Effects.item_of_value}
+use Rattle.gypsy_syntax.{specs.ProgramFits.{ArgFits, ArgsFit, slot_kind}, specs.ValuesFit.VarsFit, specs.Ranges.is_in_range}
 use Rattle.gypsy_syntax.specs.declared.predef.Predef.TheVariants as row
 use Rattle.gypsy_semantics.specs.Calls.{has_cond, is_leave}
 use Rattle.quick_code.{specs.Access.{Access, Held, Known, register_of, find_code}, specs.Pieces.{by_word_code, by_literal_code, store_code, store_literal_code}}
 use Rattle.quick_code.specs.Pieces.{truth_code, move_code, put_code, jump_when_code, set_area_code, factors_code, flag_n, flag_v, flags_cz, product_code}
 use Rattle.quick_code.specs.Pieces.{rounds_code, signs_code}
-use Rattle.quick_gypsy.{specs.Layout.{Layout, count_of, last_address}, specs.RowCode.{arg_access, arg_number, arg_var, assign_code, item_code, load}}
-use Rattle.quick_gypsy.{specs.RowCode.row_code, specs.Quick.{Targets, begin_targets, loop_targets, quick, size, test_code}, specs.Numbers.numbers_of}
-use Rattle.quick_gypsy.{specs.Numbers.value_numbers, proofs.ItemLaws.item_is_int}
+use Rattle.quick_gypsy.{specs.Layout.{Layout, count_of, last_address}, specs.RowCode.{arg_access, arg_number, arg_var, assign_code, item_code, load, row_code}}
+use Rattle.quick_gypsy.specs.Quick.{IsPlain, Targets, arm_code, arm_size, arm_target, begin_targets, loop_targets, quick, signalled, size, test_code}
+use Rattle.quick_gypsy.{specs.Numbers.{numbers_of, value_numbers}, proofs.ItemLaws.item_is_int}
 use Rattle.quick_generate.proofs.FrameLaws.{words_with}
 
 -- 1. Lists of words.
@@ -272,32 +272,44 @@ module _ (L : Layout) (near : IsNear L) where
   pick_below true m n h k = h
   pick_below false m n h k = k
 
-  pub code_words : (q : Program) (conds : ℕ) (looping : Bool) (T : Targets) (pc : ℕ) (s : Stmt) → ((c : ConditionOf) → T c < 2 ^ 32) →
-      StmtFits q L.shapes conds looping s → pc + size L s < 2 ^ 32 → AreWords (quick L T pc s)
-  code_words q conds looping T pc Skip low fit lt = no_words
-  code_words q conds looping T pc (NoOp place) low fit lt = no_words
-  code_words q conds looping T pc (Signal place c) low fit lt = jump_words (T c) (low c)
-  code_words q conds looping T pc (Seq a b) low fit lt =
-      words-append (quick L T pc a) _ (code_words q conds looping T pc a low fit.0 (omega (arith, lt)))
-      (code_words q conds looping T (pc + size L a) b low fit.1 (omega (arith, lt)))
-  code_words q conds looping T pc (Loop place s) low fit lt =
+  -- a body with a handler, by what the handler signals
+  arm_words : (g : Option ConditionOf) (T : Targets) (pc n m : ℕ) (cs : List ConditionOf) → ((c : ConditionOf) → T c < 2 ^ 32)
+      → pc + (n + arm_size g m) < 2 ^ 32 → (body : Targets → List ℕ) (last : List ℕ)
+      → ((T' : Targets) → ((c : ConditionOf) → T' c < 2 ^ 32) → pc + n < 2 ^ 32 → AreWords (body T')) → (pc + n + 2 + m < 2 ^ 32 → AreWords last)
+      → AreWords (body (begin_targets cs (arm_target g (pc + n + 2) T) T) ++ arm_code g (jump_code (pc + n + 2 + m) ++ last))
+  arm_words None T pc n m cs low lt body last inside behind =
+      let arm : ℕ = pc + n + 2 in
+      let inner : (c : ConditionOf) → begin_targets cs arm T c < 2 ^ 32 = λ c. pick_below (has_cond c cs) arm (T c) (omega (arith, lt)) (low c) in
+      words-append (body (begin_targets cs arm T)) _ (inside (begin_targets cs arm T) inner (omega (arith, lt)))
+      (words-append (jump_code (arm + m)) _ (jump_words (arm + m) (omega (arith, lt))) (behind (omega (arith, lt))))
+  arm_words (Some d) T pc n m cs low lt body last inside behind =
+      let inner : (c : ConditionOf) → begin_targets cs (T d) T c < 2 ^ 32 = λ c. pick_below (has_cond c cs) (T d) (T c) (low d) (low c) in
+      words-append (body (begin_targets cs (T d) T)) _ (inside (begin_targets cs (T d) T) inner (omega (arith, lt))) no_words
+
+  pub code_words : (T : Targets) (pc : ℕ) (s : Stmt) → ((c : ConditionOf) → T c < 2 ^ 32) → IsPlain L.shapes s
+      → pc + size L s < 2 ^ 32 → AreWords (quick L T pc s)
+  code_words T pc Skip low fit lt = no_words
+  code_words T pc (NoOp place) low fit lt = no_words
+  code_words T pc (Signal place c) low fit lt = jump_words (T c) (low c)
+  code_words T pc (Seq a b) low fit lt =
+      words-append (quick L T pc a) _ (code_words T pc a low fit.0 (omega (arith, lt)))
+      (code_words T (pc + size L a) b low fit.1 (omega (arith, lt)))
+  code_words T pc (Loop place s) low fit lt =
       let end : ℕ = pc + (size L s + 2) in
       let inner : (c : ConditionOf) → loop_targets end T c < 2 ^ 32 = λ c. pick_below (is_leave c) end (T c) (omega (arith, lt)) (low c) in
-      words-append (quick L (loop_targets end T) pc s) _ (code_words q conds true (loop_targets end T) pc s inner fit (omega (arith, lt)))
+      words-append (quick L (loop_targets end T) pc s) _ (code_words (loop_targets end T) pc s inner fit (omega (arith, lt)))
       (jump_words pc (omega (arith, lt)))
-  code_words q conds looping T pc (If place b s w) low fit lt =
+  code_words T pc (If place b s w) low fit lt =
       let from : ℕ = pc + length (test_code L b 0) in
       let otherwise : ℕ = from + size L s + 2 in
       words-append (test_code L b otherwise) _ (test_words b otherwise (omega (arith, lt)))
-      (words-append (quick L T from s) _ (code_words q conds looping T from s low fit.1 (omega (arith, lt)))
+      (words-append (quick L T from s) _ (code_words T from s low fit.1 (omega (arith, lt)))
       (words-append (jump_code (otherwise + size L w)) _ (jump_words (otherwise + size L w) (omega (arith, lt)))
-      (code_words q conds looping T otherwise w low fit.2 (omega (arith, lt)))))
-  code_words q conds looping T pc (Begin place s cs w) low fit lt =
-      let arm : ℕ = pc + size L s + 2 in
-      let inner : (c : ConditionOf) → begin_targets cs arm T c < 2 ^ 32 = λ c. pick_below (has_cond c cs) arm (T c) (omega (arith, lt)) (low c) in
-      words-append (quick L (begin_targets cs arm T) pc s) _ (code_words q conds looping (begin_targets cs arm T) pc s inner fit.1 (omega (arith, lt)))
-      (words-append (jump_code (arm + size L w)) _ (jump_words (arm + size L w) (omega (arith, lt)))
-      (code_words q conds looping T arm w low fit.2 (omega (arith, lt))))
-  code_words q conds looping T pc (Call place p xs cs) low fit lt = no_words
-  code_words q conds looping T pc (Apply place r args) low fit lt =
+      (code_words T otherwise w low fit.2 (omega (arith, lt)))))
+  code_words T pc (Begin place s cs w) low fit lt =
+      arm_words (signalled w) T pc (size L s) (size L w) cs low lt (λ T'. quick L T' pc s) (quick L T (pc + size L s + 2) w)
+      (λ T' inner less. code_words T' pc s inner fit.0 less)
+      (λ less. code_words T (pc + size L s + 2) w low fit.1 less)
+  code_words T pc (Call place p xs cs) low fit lt = absurd fit
+  code_words T pc (Apply place r args) low fit lt =
       row_words (T Routine) (low Routine) args (λ i. arguments_below L.shapes fit.0 (slots_of r) args i fit.1) r

@@ -1,58 +1,79 @@
--- The example, computed.
-use Rattle.std.{proofs.Common.{◌≡◌, ◌+◌, ℕ, List, [], ◌∷◌, Option, Some, None, Result, Ok, Err, refl, sym, ap, subst, ◌∙◌}, specs.Prelude.{pos, nat_le}}
-use Rattle.std.specs.Prelude.{if◌then◌else◌}
+-- The examples, computed.
+use Rattle.std.{proofs.Common.{◌≡◌, ◌+◌, ℕ, List, [], ◌∷◌, Option, Some, None, refl, ap, ◌∙◌}, specs.Prelude.{pos, nat_le, if◌then◌else◌}}
 use Rattle.stack_text.specs.Values.{ValueOf}
 use Rattle.fm_image.specs.Image.{ImageOf}
-use Rattle.fm_words.specs.WindowLimit.{most_window}
-use Rattle.gypsy_syntax.{specs.Effects.integer_value, specs.Predefined.{predef_effect, effect_by}, specs.Programs.{Proc, Program, proc_at}}
-use Rattle.gypsy_syntax.{specs.Resolved.program_of, specs.Sources.SourceOf}
-use Rattle.gypsy_semantics.specs.Calls.{values_of, target_of, main_start}
-use Rattle.quick_build.{specs.QuickExamples.{hundred, upto, upto_main}, specs.QuickImage.quick_image, specs.QuickImplements.{main_proc, program_cost}}
-use Rattle.quick_generate.{specs.Choice.{chosen_of, heaviest}, specs.Example.UptoIsQuickened, specs.Hurdles.hurdle_of, specs.QuickOf.image_size}
-use Rattle.quick_generate.{specs.QuickOf.{placed_unless, quick_of, window_end}, specs.Quickened.{counted_by, image_or, quick_count, quickened}}
-use Rattle.quick_generate.specs.declared.fault.QuickFault.{QuickFault}
-use Rattle.quick_generate.specs.declared.fault.QuickFault.TheVariants as fault
+use Rattle.gypsy_syntax.{specs.Effects.integer_value, specs.Predefined.{predef_effect, effect_by}, specs.Programs.{Proc, Program}, specs.Resolved.program_of}
+use Rattle.gypsy_syntax.specs.Sources.{SourceOf}
+use Rattle.gypsy_semantics.specs.Calls.{values_of, target_of}
+use Rattle.gypsy_space.specs.Needs.{call_need, has_room, main_used, with_call}
+use Rattle.quick_gypsy.specs.InLine.{callee_context, lined_main, main_context}
+use Rattle.quick_build.{specs.QuickExamples.{hundred, swap, upto, upto_main}, specs.QuickImage.most_nested, specs.QuickImplements.program_cost}
+use Rattle.quick_generate.{specs.Choice.{chosen_of, heaviest}, specs.Example.{SwapIsQuickened, UptoIsQuickened}, specs.Lining.{main_size, most_lined}}
+use Rattle.quick_generate.{specs.QuickOf.{image_found, main_found, quick_of, small_image, whole_image, window_end}, specs.Quickened.{counted_by, image_or}}
+use Rattle.quick_generate.specs.Quickened.{quick_count, quickened}
 
--- what there is of a source, by its main
-abbrev placed_by : SourceOf → ℕ → Proc → Option QuickFault → Result ImageOf QuickFault
-placed_by s base p (Some found) = Err found
-placed_by s base p None =
-    if nat_le (image_size (chosen_of p) p) most_window then Ok (quick_image (chosen_of p) s base (window_end (chosen_of p) p base))
-    else Err fault.Words
+-- main in line, by the program
+abbrev line_of : Program → Proc
+line_of q = lined_main q hundred most_nested
 
-placed_is : (s : SourceOf) (base : ℕ) (found : Option QuickFault)
-    → placed_unless (chosen_of (main_proc s)) s base found ≡ placed_by s base (main_proc s) found
-placed_is s base (Some found) = refl
-placed_is s base None = refl
+abbrev found_of : Program → Option Proc
+found_of q = if nat_le (main_size q hundred) most_lined then Some (line_of q) else None
 
-abbrev main_of : Program → Proc
-main_of q = proc_at q q.main
+-- what is stored, and what it takes
+abbrev stored_of : SourceOf → ImageOf → Program → ImageOf
+stored_of s plain q = image_or plain (image_found s plain.base (found_of q))
 
--- from n = 5
-abbrev five : List ValueOf
-five = integer_value (pos 5) ∷ integer_value (pos 0) ∷ []
+stored_is : (s : SourceOf) (plain : ImageOf) → quickened s hundred plain ≡ stored_of s plain (program_of s)
+unfolding quickened quick_of main_found
+stored_is s plain = refl
 
--- what is stored and what it takes, by the program
-stored_is : (s : SourceOf) (plain : ImageOf) → program_of s ≡ upto
-    → image_or plain (placed_by s plain.base (main_proc s) (hurdle_of (main_proc s).body)) ≡ quick_image (chosen_of upto_main) s plain.base (plain.base + 38)
-unfolding chosen_of heaviest
-stored_is s plain is =
-    subst (λ (q : Program). image_or plain (placed_by s plain.base (main_of q) (hurdle_of (main_of q).body))
-    ≡ quick_image (chosen_of upto_main) s plain.base (plain.base + 38)) (sym is) refl
+abbrev count_of : Program → List ValueOf → ℕ → Option ℕ
+count_of q v n = Some (program_cost (chosen_of (line_of q)) q hundred (window_end (chosen_of (line_of q)) (line_of q) 0) v n)
 
-takes : (s : SourceOf) → program_of s ≡ upto
-    → counted_by s hundred 0 five 7 (placed_by s 0 (main_proc s) (hurdle_of (main_proc s).body)) ≡ Some 63
-unfolding predef_effect effect_by values_of target_of main_start chosen_of heaviest
-takes s is =
-    subst (λ (r : Result ImageOf QuickFault). counted_by s hundred 0 five 7 r ≡ Some 63)
-    (sym (ap (λ (q : Program). placed_by s 0 (main_of q) (hurdle_of (main_of q).body)) is))
-    (subst (λ (q : Program). Some (program_cost (chosen_of (main_of q)) q hundred (window_end (chosen_of (main_of q)) (main_of q) 0) five 7)
-    ≡ Some 63) (sym is) refl)
+counts : (s : SourceOf) (q : Program) (image : ImageOf) (v : List ValueOf) (n : ℕ) → program_of s ≡ q → image_found s 0 (found_of q) ≡ Some image
+    → quick_count s hundred 0 v n ≡ count_of q v n
+unfolding quick_count quick_of main_found
+counts s q image v n is there =
+    ap (counted_by s hundred 0 v n) (ap (λ (p : Program). image_found s 0 (found_of p)) is ∙ there) ∙ ap (λ (p : Program). count_of p v n) is
+
+-- counting/upto
+upto_stored : (s : SourceOf) (plain : ImageOf)
+    → stored_of s plain upto ≡ whole_image (chosen_of upto_main) s upto_main plain.base (plain.base + 38)
+unfolding chosen_of heaviest small_image main_context main_used
+upto_stored s plain = refl
+
+upto_there : (s : SourceOf) → image_found s 0 (found_of upto) ≡ Some (whole_image (chosen_of upto_main) s upto_main 0 38)
+unfolding chosen_of heaviest small_image main_context main_used
+upto_there s = refl
+
+upto_counted : count_of upto (integer_value (pos 5) ∷ integer_value (pos 0) ∷ []) 7 ≡ Some 63
+unfolding predef_effect effect_by values_of target_of main_context main_used chosen_of heaviest
+upto_counted = refl
 
 pub upto_is_quickened : UptoIsQuickened
-unfolding chosen_of heaviest quickened quick_of quick_count
+unfolding chosen_of heaviest
 upto_is_quickened = record {
   chosen = refl;
-  stored = λ s plain is. ap (image_or plain) (placed_is s plain.base (hurdle_of (main_proc s).body)) ∙ stored_is s plain is;
-  counted = λ s is. ap (counted_by s hundred 0 five 7) (placed_is s 0 (hurdle_of (main_proc s).body)) ∙ takes s is;
+  stored = λ s plain is. stored_is s plain ∙ ap (stored_of s plain) is ∙ upto_stored s plain;
+  counted = λ s is. counts s upto _ _ 7 is (upto_there s) ∙ upto_counted;
+}
+
+-- calls/swap
+swap_stored : (s : SourceOf) (plain : ImageOf)
+    → stored_of s plain swap ≡ whole_image (2 ∷ 0 ∷ 1 ∷ []) s (line_of swap) plain.base (plain.base + 22)
+unfolding chosen_of heaviest small_image main_context main_used has_room with_call call_need callee_context
+swap_stored s plain = refl
+
+swap_there : (s : SourceOf) → image_found s 0 (found_of swap) ≡ Some (whole_image (2 ∷ 0 ∷ 1 ∷ []) s (line_of swap) 0 22)
+unfolding chosen_of heaviest small_image main_context main_used has_room with_call call_need callee_context
+swap_there s = refl
+
+swap_counted : count_of swap (integer_value (pos 3) ∷ integer_value (pos 4) ∷ []) 3 ≡ Some 4
+unfolding predef_effect effect_by values_of target_of main_context main_used chosen_of heaviest has_room with_call call_need callee_context
+swap_counted = refl
+
+pub swap_is_quickened : SwapIsQuickened
+swap_is_quickened = record {
+  stored = λ s plain is. stored_is s plain ∙ ap (stored_of s plain) is ∙ swap_stored s plain;
+  counted = λ s is. counts s swap _ _ 3 is (swap_there s) ∙ swap_counted;
 }

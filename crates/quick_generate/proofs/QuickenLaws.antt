@@ -7,15 +7,16 @@ use Rattle.fm_machine.proofs.RunLaws.{outcome_is, outcome_only}
 use Rattle.fm_machine.specs.declared.processor.Run.TheVariants as run
 use Rattle.fm_image.specs.Image.{ImageOf}
 use Rattle.fm_loader.specs.Loaded.{loaded}
-use Rattle.gypsy_syntax.{specs.Resolved.program_of, specs.Sources.SourceOf}
+use Rattle.gypsy_syntax.{specs.Resolved.program_of, specs.Sources.SourceOf, specs.Programs.proc_at}
 use Rattle.gypsy_check.specs.Accepted.{IsAccepted}
 use Rattle.gypsy_space.{specs.Costs.Tally, specs.Needs.StackSizes}
 use Rattle.gypsy_semantics.{specs.Calls.CurrentCondition, specs.Counted.{CountedOutcome, CountedDone, CountedUnfinished, counted_meaning, instruction_count}}
 use Rattle.gypsy_semantics.{specs.Counted.{uncounted, tally_of}, specs.Meaning.{MeaningOutcome, Done, Unfinished, meaning}, specs.Views.Moments.NeverEnds}
-use Rattle.gypsy_semantics.proofs.CountLaws.{meaning-uncounted}
+use Rattle.gypsy_semantics.{proofs.CountLaws.meaning-uncounted, proofs.LendingLaws.as_many}
 use Rattle.stack_build.{specs.Build.{BuiltOf, Builds}, specs.Implements.FitsFormals, specs.Meant.{KeptMeansOnly, NeverOutside}, proofs.MomentLaws.run_up_to}
-use Rattle.quick_build.{specs.QuickImage.quick_image, specs.QuickImplements.{CanBeQuick, QuickImagesEndAsMeant, QuickImagesGoOn, QuickImagesImplement}}
-use Rattle.quick_build.specs.QuickImplements.{QuickProgramsAreNoSlower, program_cost}
+use Rattle.quick_build.{specs.QuickImage.{quick_image, most_nested}, specs.QuickImplements.{CanBeQuick, QuickImagesEndAsMeant, QuickImagesGoOn}}
+use Rattle.quick_build.specs.QuickImplements.{QuickImagesImplement, QuickProgramsAreNoSlower, bound_for, program_cost}
+use Rattle.quick_gypsy.specs.InLineRuns.{CanLine}
 use Rattle.quick_generate.specs.DoesQuickly.{DoesQuickly, IsMeantWithin}
 
 -- 1. Counts and outcomes.
@@ -73,19 +74,23 @@ never_done s sizes made builds v x c bound count fits never done counted =
 -- 3. A quick image.
 
 module _ (implements : QuickImagesImplement) (no_slower : QuickProgramsAreNoSlower) (end_as_meant : QuickImagesEndAsMeant) (go_on : QuickImagesGoOn)
-    (vs : List ℕ) (s : SourceOf) (base end : ℕ) (sizes : StackSizes) (accepted : IsAccepted s) (can : CanBeQuick vs s base end) where
+    (vs : List ℕ) (s : SourceOf) (base end : ℕ) (sizes : StackSizes) (accepted : IsAccepted s) (can : CanBeQuick vs s sizes base end) where
   abbrev image : ImageOf
-  image = quick_image vs s base end
+  image = quick_image vs s sizes base end
+
+  can_line : (v : List ValueOf) → FitsFormals s v → CanLine (program_of s) sizes most_nested v
+  can_line v fits =
+      record { fits = accepted.fits; nests = can.nests; number = sym (as_many (proc_at (program_of s) (program_of s).main).formals v fits) }
 
   quick_inside : NeverOutside image s
-  quick_inside v budget fits = by_meaning (meaning (program_of s) sizes v (budget + 1)) refl
+  quick_inside v budget fits = by_meaning (meaning (program_of s) sizes v (bound_for (budget + 1))) refl
     where
-      by_meaning : (o : MeaningOutcome) → meaning (program_of s) sizes v (budget + 1) ≡ o
+      by_meaning : (o : MeaningOutcome) → meaning (program_of s) sizes v (bound_for (budget + 1)) ≡ o
           → ((count : ℕ) × (count ≤ budget) × ((outcome budget image.final_pc (loaded image v)).run ≡ run.Ended count))
           ⊎ ((outcome budget image.final_pc (loaded image v)).run ≡ run.Spent)
       by_meaning (Done x c) done =
-          let steps : ℕ = program_cost vs (program_of s) sizes end v (budget + 1) in
-          let comes = implements vs s base end sizes v x c (budget + 1) accepted can fits done in
+          let steps : ℕ = program_cost vs (program_of s) sizes end v (bound_for (budget + 1)) in
+          let comes = implements vs s base end sizes v x c (bound_for (budget + 1)) accepted can fits done in
           let first : IsFirst (loaded image v) image.final_pc steps comes.state = comes.first in
           ⊎_elim (λ beyond. inr (spent image v budget steps comes.state beyond first.reached first.before))
           (λ within. inl (steps, within, ended image v budget steps comes.state within first)) (cases_lt budget steps)
@@ -98,14 +103,15 @@ module _ (implements : QuickImagesImplement) (no_slower : QuickProgramsAreNoSlow
       → IsMeantWithin s sizes image v steps state
   quick_ends v steps state fits first =
       let m = end_as_meant vs s base end sizes v steps state accepted can fits first in
-      let n = counted s sizes v m.finals m.way (steps + 1) m.done in
-      let slower : program_cost vs (program_of s) sizes end v (steps + 1) ≤ n.0 = no_slower vs (program_of s) end sizes v (steps + 1) n.0 can.plain n.1 in
-      let cost : program_cost vs (program_of s) sizes end v (steps + 1) ≡ steps = m.counted in
+      let n = counted s sizes v m.finals m.way (bound_for (steps + 1)) m.done in
+      let slower : program_cost vs (program_of s) sizes end v (bound_for (steps + 1)) ≤ n.0 =
+      no_slower vs (program_of s) end sizes v (bound_for (steps + 1)) n.0 (can_line v fits) n.1 in
+      let cost : program_cost vs (program_of s) sizes end v (bound_for (steps + 1)) ≡ steps = m.counted in
       record {
         finals = m.finals;
         way = m.way;
         count = n.0;
-        finishes = record { bound = steps + 1; done = m.done; counted = n.1 };
+        finishes = record { bound = bound_for (steps + 1); done = m.done; counted = n.1 };
         few = omega (arith, slower, cost);
         reads = m.reads;
       }
@@ -114,7 +120,7 @@ module _ (implements : QuickImagesImplement) (no_slower : QuickProgramsAreNoSlow
   quick_does made builds = record {
     comes = λ v x c count fits fin. record {
       steps = program_cost vs (program_of s) sizes end v fin.bound;
-      few = no_slower vs (program_of s) end sizes v fin.bound count can.plain fin.counted;
+      few = no_slower vs (program_of s) end sizes v fin.bound count (can_line v fits) fin.counted;
       comes = implements vs s base end sizes v x c fin.bound accepted can fits fin.done;
     };
     ends = quick_ends;

@@ -1,12 +1,13 @@
 -- How long quick code is doesn't depend on where the window ends.
 use Rattle.std.{proofs.Common.{◌≡◌, ℕ, suc, ◌+◌, List, [], ◌∷◌, length, Bool, true, false, refl, ap, sym, ◌∙◌, arith, length-append}, specs.Prelude.◌==◌}
-use Rattle.std.specs.Prelude.{if◌then◌else◌}
+use Rattle.std.{specs.Prelude.{if◌then◌else◌, None}, specs.declared.rc.Rc.Rc, specs.declared.alloc.Global.Global}
 use Rattle.fm_words.{specs.declared.condition.Cc.TheVariants.Zs, specs.declared.operation.Op.TheVariants.Move}
 use Rattle.fm_code.specs.InstructionWords.{flag_z}
 use Rattle.gypsy_syntax.{specs.declared.predef.Predef.Predef, specs.Programs.{Arg, Proc, Stmt, Skip, NoOp, Signal, Seq, Loop, If, Begin, Call, Apply}}
+use Rattle.gypsy_space.{specs.Nodes.seen_statements, specs.declared.program.Node.Node}
 use Rattle.quick_generate.{specs.Sums.{HasMoreToAdd, limited}, specs.Rows.row_size, proofs.RowSizeLaws.{by_word_size, row_size_is}}
 use Rattle.quick_code.{specs.Access.{Held, find_code}, specs.Pieces.{by_word_code, jump_when_code}}
-use Rattle.quick_gypsy.{specs.Layout.Layout, specs.RowCode.{arg_access, arg_var, row_code}, specs.Quick.{size, test_code}}
+use Rattle.quick_gypsy.{specs.Layout.Layout, specs.RowCode.{arg_access, arg_var, row_code}, specs.Quick.{arm_size, signalled, size, test_code}}
 use Rattle.quick_build.specs.QuickImage.{access_from, layout_in, variable_address}
 
 -- whether a register has the address, doesn't depend on the address
@@ -52,10 +53,16 @@ same_size L M h (Seq a b) = omega (arith, same_size L M h a, same_size L M h b)
 same_size L M h (Loop place s) = omega (arith, same_size L M h s)
 same_size L M h (If place b s w) =
     omega (arith, test_size_is L b 0, test_size_is M b 0, h b, same_size L M h s, same_size L M h w)
-same_size L M h (Begin place s cs w) = omega (arith, same_size L M h s, same_size L M h w)
+same_size L M h (Begin place s cs w) =
+    ap (λ n. n + arm_size (signalled w) (size L w)) (same_size L M h s) ∙ ap (λ n. size M s + arm_size (signalled w) n) (same_size L M h w)
 same_size L M h (Call place p xs cs) = refl
 same_size L M h (Apply place r args) = same_row L M h args r
 
 pub size_anywhere : (vs : List ℕ) (p : Proc) (e e' : ℕ) (s : Stmt) → size (layout_in vs p e) s ≡ size (layout_in vs p e') s
 size_anywhere vs p e e' s =
     same_size (layout_in vs p e) (layout_in vs p e') (λ b. same_find 5 vs b (variable_address p e b) (variable_address p e' b)) s
+
+-- a sequence doesn't signal alone
+pub parts_signal : (ns : List (Rc Node Global)) → signalled (seen_statements ns) ≡ None
+parts_signal [] = refl
+parts_signal (n ∷ ns) = refl

@@ -1,21 +1,19 @@
 -- A file spells each quick image: its words and its registers are numbers of 32 bits.
+use Rattle.quick_generate.{specs.QuickOf.{StandsForMain, whole_image, image_size, window_end}, proofs.CodeWordsLaws.{AreWords, IsNear, IsReach, code_words}}
+use Rattle.quick_generate.proofs.CodeWordsLaws.{jump_words, number_word, set_area_words, values_words, words-append, no_words, words-replicate, words-reversed}
+use Rattle.quick_generate.{proofs.ImageLaws.{main_fit, quick_fits}, proofs.PlacedLaws.conds_few, proofs.SizeLaws.size_anywhere}
 use Rattle.std.{proofs.Common.{◌≡◌, ◌<◌, ◌≤◌, ◌+◌, ◌-◌, ◌*◌, ℕ, zero, suc, true, false, Bool, List, [], ◌∷◌, ◌++◌, length, refl, arith}, specs.Prelude.◌^◌}
 use Rattle.std.{specs.Prelude.{◌==◌, nat_lt, replicate, reverse, if◌then◌else◌}, proofs.lemmas.Bool.ltb-true}
 use Rattle.fm_words.specs.WindowLimit.{most_window}
 use Rattle.fm_code.{specs.InstructionWords.halt_word, specs.Templates.jump_code}
 use Rattle.fm_image.specs.Spelling.{Spelled, spelling}
-use Rattle.gypsy_syntax.{specs.Programs.{ConditionOf, Leave, Routine, Space, Declared, Proc, conds_of, shapes_of, words_of}, specs.Resolved.program_of}
-use Rattle.gypsy_syntax.specs.Sources.{SourceOf}
+use Rattle.gypsy_syntax.{specs.Programs.{ConditionOf, Leave, Routine, Space, Declared, Proc, shapes_of, words_of}, specs.Sources.SourceOf}
 use Rattle.gypsy_check.specs.Accepted.{IsAccepted}
 use Rattle.stack_build.proofs.WordsLaws.{words-trimmed}
 use Rattle.quick_code.{specs.Access.Held, specs.Pieces.set_area_code}
 use Rattle.quick_gypsy.specs.Numbers.{numbers_of}
 use Rattle.quick_build.specs.QuickImage.{access_from, condition_cell, declared_numbers, exit_code, exit_numbers, exit_place, exits_code, final_of, first_values}
-use Rattle.quick_build.specs.QuickImage.{layout_in, quick_image, quick_registers, quick_window, quick_words, start_of, variable_address}
-use Rattle.quick_build.specs.QuickImplements.{main_proc}
-use Rattle.quick_generate.{specs.QuickOf.{image_size, window_end}, proofs.CodeWordsLaws.{AreWords, IsNear, IsReach, code_words, jump_words, number_word}}
-use Rattle.quick_generate.proofs.CodeWordsLaws.{set_area_words, values_words, words-append, no_words, words-replicate, words-reversed}
-use Rattle.quick_generate.{proofs.ImageLaws.{main_fit, quick_fits}, proofs.PlacedLaws.few_conds, proofs.SizeLaws.size_anywhere}
+use Rattle.quick_build.specs.QuickImage.{layout_in, quick_registers, quick_window, quick_words, start_of, variable_address}
 
 -- 1. Exits.
 
@@ -53,11 +51,8 @@ near_from k (v ∷ vs) b a few lt = pick (v == b) (near_from (suc k) vs b a (ome
     pick true h = omega (arith, few)
     pick false h = h
 
-module _ (vs : List ℕ) (s : SourceOf) (base : ℕ) (accepted : IsAccepted s) (low : base ≤ 2 ^ 31) (ten : length vs ≤ 10)
-    (small : image_size vs (main_proc s) ≤ most_window) where
-  abbrev p : Proc
-  p = main_proc s
-
+module _ (vs : List ℕ) (s : SourceOf) (p : Proc) (base : ℕ) (accepted : IsAccepted s) (stands : StandsForMain s p) (low : base ≤ 2 ^ 31)
+    (ten : length vs ≤ 10) (small : image_size vs p ≤ most_window) where
   abbrev end : ℕ
   end = window_end vs p base
 
@@ -76,13 +71,13 @@ module _ (vs : List ℕ) (s : SourceOf) (base : ℕ) (accepted : IsAccepted s) (
 
   code_part : AreWords (quick_words vs p base end)
   code_part =
-      let conds = few_conds s accepted in
+      let conds = conds_few s p accepted stands in
       let e = end_low in
       let f = final_low in
       words-append (exits_code (condition_cell p end) (final_of vs p base end) (exit_numbers p.conds)) _
       (exits_words (condition_cell p end) (final_of vs p base end) p.conds (omega (arith, e)) (omega (arith, e, f)) conds)
-      (code_words (layout_in vs p end) near (program_of s) (conds_of p) false (exit_place base p.conds) (start_of p base) p.body
-      (λ c. exit_below base p.conds c low conds) (accepted.fits.procs (program_of s).main).body (omega (arith, e, f)))
+      (code_words (layout_in vs p end) near (exit_place base p.conds) (start_of p base) p.body
+      (λ c. exit_below base p.conds c low conds) stands.plain (omega (arith, e, f)))
 
   window_part : AreWords (quick_window vs p base end)
   window_part =
@@ -91,7 +86,7 @@ module _ (vs : List ℕ) (s : SourceOf) (base : ℕ) (accepted : IsAccepted s) (
       words-append (quick_words vs p base end ++ (halt_word ∷ (replicate {A = ℕ} gap 0 ++ 2 ∷ []))) (reverse values)
       (words-append (quick_words vs p base end) _ code_part
       (number_word halt_word _ (omega arith) (words-append (replicate {A = ℕ} gap 0) (2 ∷ []) (words-replicate gap) (number_word 2 [] (omega arith) no_words))))
-      (words-reversed values (values_words (shapes_of p) (first_values p) (main_fit s accepted)))
+      (words-reversed values (values_words (shapes_of p) (first_values p) (main_fit s p accepted stands)))
 
   registers_part : AreWords (quick_registers vs p base end)
   registers_part =
@@ -105,9 +100,9 @@ module _ (vs : List ℕ) (s : SourceOf) (base : ℕ) (accepted : IsAccepted s) (
       (number_word _ _ (at _) (number_word _ _ (at _) (number_word _ _ (at _) (number_word _ _ (at _) (number_word _ _ (at _)
       (number_word _ [] start no_words)))))))))))))))
 
-  pub quick_spells : Spelled (spelling (quick_image vs s base end)) (quick_image vs s base end)
+  pub quick_spells : Spelled (spelling (whole_image vs s p base end)) (whole_image vs s p base end)
   quick_spells = record {
-    limits = quick_fits vs s base accepted low small;
+    limits = quick_fits vs s p base accepted stands low small;
     registers = registers_part.all;
     words = words-trimmed (quick_window vs p base end) window_part.all;
     fields = refl;

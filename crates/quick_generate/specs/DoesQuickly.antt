@@ -50,22 +50,22 @@ pub record ComesAsCounted (source : SourceOf) (sizes : StackSizes) (plain : Imag
     (read : ReadingOf) : Type 0 where
   pub count : ℕ
   pub counted : quick_count source sizes plain.base values bound ≡ Some count
-  pub comes : ComesTo (quickened source plain) values count read
+  pub comes : ComesTo (quickened source sizes plain) values count read
 
 -- What is stored of a source does what the source means, in exactly the counted instructions, which are never more than the plain image
 -- takes; and a file spells it.
 pub record Quickens (source : SourceOf) (sizes : StackSizes) (plain : ImageOf) : Type 0 where
-  pub does : DoesQuickly (quickened source plain) source sizes
+  pub does : DoesQuickly (quickened source sizes plain) source sizes
   pub exact : (values finals : List ValueOf) (way : CurrentCondition) (bound : ℕ) → FitsFormals source values →
       meaning (program_of source) sizes values bound ≡ Done finals way →
       ComesAsCounted source sizes plain values bound (meaning_shown source finals way)
-  pub spells : Spelled (spelling (quickened source plain)) (quickened source plain)
+  pub spells : Spelled (spelling (quickened source sizes plain)) (quickened source sizes plain)
 
 -- The same of the source in a text. If that has at most 2^20 bytes, the file has at most 2^25 bytes.
 pub record QuickensText (text : List ℕ) (ctrl temp : ℕ) (plain : ImageOf) : Type 0 where
   pub source : SourceOf
   pub read : accepted_source text ≡ Ok source
-  pub short : length text ≤ most_text → length (spelling (quickened source plain)) ≤ most_image_file
+  pub short : length text ≤ most_text → length (spelling (quickened source (stack_sizes ctrl temp) plain)) ≤ most_image_file
   pub quickens : Quickens source (stack_sizes ctrl temp) plain
 
 -- 3. So it is of all sources, with no premise on their form: of what is built of a source, and of a text.

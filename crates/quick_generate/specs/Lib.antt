@@ -1,7 +1,8 @@
 pub mod Sums
 pub mod Rows
 pub mod Views
-pub mod Hurdles
+pub mod Lining
+pub mod LinedViews
 pub mod Choice
 pub mod Weighing
 pub mod QuickOf

@@ -1,15 +1,16 @@
--- The quick image of a source in the smallest window that has room for it, or why there is none.
-use Rattle.std.specs.Prelude.{ℕ, ◌+◌, ◌-◌, ◌*◌, nat_le, if◌then◌else◌, List, [], ◌∷◌, ◌++◌, take, get_or, Option, Some, None, Result, Ok}
-use Rattle.std.specs.Prelude.{Err}
+-- The quick image of a source in the smallest window that has room for it, if there is one.
+use Rattle.std.specs.Prelude.{◌≡◌, ℕ, ◌+◌, ◌-◌, ◌*◌, ◌^◌, ◌<◌, nat_le, length, if◌then◌else◌, List, [], ◌∷◌, ◌++◌, take, get_or, Option}
+use Rattle.std.specs.Prelude.{Some, None}
 use Rattle.stack_text.specs.declared.shape.Shape.{Shape}
-use Rattle.stack_text.specs.Gives as common
 use Rattle.fm_words.specs.WindowLimit.{most_window}
 use Rattle.fm_image.specs.Image.{ImageOf}
-use Rattle.gypsy_syntax.specs.{Programs.{Proc, Stmt, shapes_of, words_of}, Sources.{SourceOf}}
-use Rattle.quick_gypsy.specs.{Layout.{Layout}, Quick.{size, quick}}
-use Rattle.quick_build.specs.{QuickImage.{exit_numbers, exit_place, exits_code, layout_in, quick_image}, QuickImplements.{main_proc}}
-use Rattle.quick_generate.specs.{Hurdles.{hurdle_of}, declared.fault.QuickFault.{QuickFault}}
-use Rattle.quick_generate.specs.declared.fault.QuickFault.TheVariants as fault
+use Rattle.gypsy_syntax.specs.{Programs.{Proc, Stmt, proc_at, shapes_of, words_of}, ProgramFits.{Each}, Resolved.{program_of}}
+use Rattle.gypsy_syntax.specs.{Sources.{SourceOf}, ValuesFit.{ValueFits}}
+use Rattle.gypsy_space.specs.Needs.{StackSizes}
+use Rattle.stack_build.specs.Formals.{shown_formals, shown_conditions}
+use Rattle.quick_gypsy.specs.{Layout.{Layout}, Quick.{IsPlain, size, quick}}
+use Rattle.quick_build.specs.QuickImage.{exit_numbers, exit_place, exits_code, layout_in, quick_image_with, quick_main}
+use Rattle.quick_generate.specs.{Choice.{chosen_of}, Lining.{is_lined}}
 
 -- 1. Parts, by what the code has at hand.
 
@@ -42,22 +43,37 @@ image_size vs p = 6 * (2 + p.conds) + size (layout_in vs p 0) p.body + (2 + word
 abbrev pub window_end : List ℕ → Proc → ℕ → ℕ
 window_end vs p base = base + image_size vs p
 
--- 3. What there is of a source, for each choice of variables.
+-- 3. What there is of a source.
 
-abbrev pub placed_unless : List ℕ → SourceOf → ℕ → Option QuickFault → Result ImageOf QuickFault
-placed_unless vs s base (Some found) = Err found
-placed_unless vs s base None =
-    if nat_le (image_size vs (main_proc s)) most_window then Ok (quick_image vs s base (window_end vs (main_proc s) base))
-    else Err fault.Words
+abbrev pub main_proc : SourceOf → Proc
+main_proc s = proc_at (program_of s) (program_of s).main
 
-unfoldable pub quick_of : List ℕ → SourceOf → ℕ → Result ImageOf QuickFault
-quick_of vs s base = placed_unless vs s base (hurdle_of (main_proc s).body)
+-- a procedure that can stand for main in an image: it has main's formals and conditions, and calls nothing
+pub record StandsForMain (s : SourceOf) (p : Proc) : Type 0 where
+  pub formals : p.formals ≡ (main_proc s).formals
+  pub conds : p.conds ≡ (main_proc s).conds
+  pub locals : Each ValueFits p.locals
+  pub plain : IsPlain (shapes_of p) p.body
+  pub few : length (shapes_of p) < 2 ^ 31
+  pub words : words_of (shapes_of p) < 2 ^ 31
 
--- out of memory is no fault of a source
-abbrev pub fault_of : QuickFault → Option QuickFault
-fault_of fault.Memory = None
-fault_of found = Some found
+-- its image, if registers hold the addresses of these variables
+abbrev pub whole_image : List ℕ → SourceOf → Proc → ℕ → ℕ → ImageOf
+whole_image vs s p base end = quick_image_with vs (shown_formals s) (shown_conditions s) p base end
 
--- the call returned exactly what the definition gives, seen through the view; memory runs out only if it was refused
-abbrev pub GivesQuickUnless : {X Y : Type 0} → Type 0 → (X → Y) → Result X QuickFault → Result Y QuickFault → Type 0
-GivesQuickUnless refused view result value = common.GivesUnless refused fault_of view result value
+-- in the smallest window from base on, if that has at most 2^20 words
+unfoldable pub small_image : List ℕ → SourceOf → Proc → ℕ → Option ImageOf
+small_image vs s p base =
+    if nat_le (image_size vs p) most_window then Some (whole_image vs s p base (window_end vs p base)) else None
+
+-- main with its calls in line, if that isn't too much
+unfoldable pub main_found : SourceOf → StackSizes → Option Proc
+main_found s sizes = if is_lined s sizes then Some (quick_main s sizes) else None
+
+-- the image of what is found, in which the variables have registers that are named most
+abbrev pub image_found : SourceOf → ℕ → Option Proc → Option ImageOf
+image_found s base None = None
+image_found s base (Some p) = small_image (chosen_of p) s p base
+
+unfoldable pub quick_of : SourceOf → StackSizes → ℕ → Option ImageOf
+quick_of s sizes base = image_found s base (main_found s sizes)

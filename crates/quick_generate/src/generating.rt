@@ -1,22 +1,20 @@
 //! Quick images.
 
-ghost use Rattle.std.specs.Prelude.{◌≡◌, ◌+◌, ◌-◌, ◌*◌, ◌^◌, ◌<◌, ◌≤◌, ◌∷◌, IfOk, length, map};
+ghost use Rattle.std.specs.Prelude.{◌≡◌, ◌+◌, ◌*◌, ◌^◌, ◌<◌, ◌≤◌, ◌∷◌, length, map};
 ghost use Rattle.stack_heap.specs.Heaps.{IfOkUnless};
 ghost use Rattle.fm_words.specs.WindowLimit.{most_window};
 ghost use Rattle.display_maps.specs.Reading.{space_name};
 ghost use Rattle.gypsy_check.specs.Accepted.{IsAccepted};
-ghost use Rattle.gypsy_syntax.specs.{Programs.{proc_at, shapes_of, words_of}, Resolved.{program_of}, Views.SourceView.{source_of}};
-ghost use Rattle.gypsy_space.specs.Nodes.{seen_proc, seen_program, seen_statement};
+ghost use Rattle.gypsy_syntax.specs.{Programs.{shapes_of, words_of}, Resolved.{program_of}, Views.SourceView.{source_of}};
+ghost use Rattle.gypsy_space.specs.{Nodes.{seen_proc, seen_program, seen_statement}, Needs.{stack_sizes}};
 ghost use Rattle.quick_gypsy.specs.Quick.{size};
-ghost use Rattle.quick_build.specs.{QuickImage.{quick_image}, QuickImplements.{CanBeQuick, main_proc}};
-ghost use Rattle.quick_generate.specs.{QuickOf.{final_by, GivesQuickUnless, quick_of, window_end, words_by}, Quickened.{KeepsPlain, quickened}, Sums.{limited}};
-ghost use Rattle.quick_generate.specs.Views.{frame_layout};
+ghost use Rattle.quick_generate.specs.{QuickOf.{StandsForMain, final_by, quick_of, small_image, whole_image, window_end, words_by}, Quickened.{quickened}};
+ghost use Rattle.quick_generate.specs.{Sums.{limited}, Views.{frame_layout}};
 
 use crate::choice::choose;
 use crate::exits::{EXIT_SIZE, Exits, append_exits};
-use crate::fault::QuickFault;
 use crate::frame::{Frame, shapes, words_of};
-use crate::hurdle::hurdle_of;
+use crate::lined_main::lined_main;
 use crate::scopes::Scopes;
 use crate::size::{size, small_size, sum};
 use crate::statement::statement;
@@ -35,14 +33,6 @@ const OTHER_WORDS: u32 = 2;
 
 /// Before the size of the code is known, the window ends here. The size doesn't depend on it.
 const ANY_END: u32 = u32::MAX;
-
-/// The procedure that is run.
-fn main_of(program: &Program) -> &Procedure
-    requires { program.now.main < length program.now.procedures.items }
-    ensures { seen_proc result.now ≡ proc_at (seen_program program.now) program.now.main }
-{
-    &program.procedures[program.main as usize]
-}
 
 /// How many words the image of a main procedure has, exact up to 2^60.
 fn image_size(frame: &Frame, main: &Procedure) -> u64
@@ -89,7 +79,8 @@ fn condition_names<H: Heap>(heap: H, conditions: &[Named]) -> Result<Vec<Name>, 
     Ok(names)
 }
 
-/// The image of a main procedure, whose variables stand in the frame, in the window from `base` to the frame's end.
+/// The image of a procedure that stands for main, whose variables stand in the frame, in the window from `base` to the
+/// frame's end.
 fn placed<H: Heap>(
     heap: H,
     accepted: &Accepted,
@@ -98,13 +89,13 @@ fn placed<H: Heap>(
     base: u32,
 ) -> Result<Image, Memory>
     requires accepted { IsAccepted (source_of accepted.now) }
-    requires main { seen_proc main.now ≡ main_proc (source_of accepted.now) }
-    requires shapes { frame.now.shapes.items ≡ shapes_of (main_proc (source_of accepted.now)) }
-    requires end { frame.now.end ≡ window_end frame.now.chosen.items (main_proc (source_of accepted.now)) base }
+    requires main { StandsForMain (source_of accepted.now) (seen_proc main.now) }
+    requires shapes { frame.now.shapes.items ≡ shapes_of (seen_proc main.now) }
+    requires end { frame.now.end ≡ window_end frame.now.chosen.items (seen_proc main.now) base }
     requires small { frame.now.end ≤ base + most_window }
     requires base { base ≤ 2 ^ 31 }
-    ensures { IfOkUnless (H.may_refuse heap) result
-        (λ image. image ≡ quick_image frame.now.chosen.items (source_of accepted.now) base frame.now.end) }
+    ensures { let p = seen_proc main.now in IfOkUnless (H.may_refuse heap) result
+        (λ image. image ≡ whole_image frame.now.chosen.items (source_of accepted.now) p base frame.now.end) }
 {
     let source = accepted.source();
     let conds = main.conds.len() as u32;
@@ -130,56 +121,62 @@ fn placed<H: Heap>(
     })
 }
 
-/// The quick image of an accepted source in the smallest window from `base` on, where registers hold the addresses of
-/// these variables of main, given by their positions. An image goes for all values of main's formals.
-///
-/// # Errors
-///
-/// The first call of main's body; or `Words`; or out of memory.
-pub fn quick_with<H: Heap>(
+/// The image of a procedure that stands for main, in the smallest window from `base` on, if that isn't too large. Registers
+/// hold the addresses of these variables, given by their positions.
+fn small_image<H: Heap>(
     heap: H,
     accepted: &Accepted,
-    program: &Program,
+    main: &Procedure,
     chosen: Vec<u32>,
     base: u32,
-) -> Result<Image, QuickFault>
-    requires program { seen_program program.now ≡ program_of (source_of accepted.now) }
+) -> Result<Option<Image>, Memory>
     requires accepted { IsAccepted (source_of accepted.now) }
+    requires main { StandsForMain (source_of accepted.now) (seen_proc main.now) }
     requires ten { length chosen.items ≤ 10 }
     requires base { base ≤ 2 ^ 31 }
-    ensures image { GivesQuickUnless (H.may_refuse heap) (λ image. image) result
-        (quick_of chosen.items (source_of accepted.now) base) }
-    ensures can { let s = source_of accepted.now in
-        IfOk result (λ _. CanBeQuick chosen.items s base (window_end chosen.items (main_proc s) base)) }
+    ensures { IfOkUnless (H.may_refuse heap) result
+        (λ found. found ≡ small_image chosen.items (source_of accepted.now) (seen_proc main.now) base) }
 {
-    let main = main_of(program);
-    if let Some(fault) = hurdle_of(&main.body) {
-        return Err(fault);
-    }
     let anywhere = Frame::new(ANY_END, shapes(heap, main)?, chosen);
     let words = image_size(&anywhere, main);
     if words > u64::from(MOST_WINDOW) {
-        return Err(QuickFault::Words);
+        return Ok(None);
     }
     let frame = anywhere.moved(base + words as u32);
-    Ok(placed(heap, accepted, &frame, main, base)?)
+    Ok(Some(placed(heap, accepted, &frame, main, base)?))
 }
 
-/// The plain image, where there is no quick one for this reason. Out of memory is an error.
-fn kept(fault: QuickFault, plain: Image) -> Result<Image, Memory>
-    ensures { KeepsPlain fault plain result }
+/// The quick image of an accepted source, if it has one.
+fn quick_image<H: Heap>(
+    heap: H,
+    accepted: &Accepted,
+    program: &Program,
+    ctrl: u32,
+    temp: u32,
+    base: u32,
+) -> Result<Option<Image>, Memory>
+    requires program { seen_program program.now ≡ program_of (source_of accepted.now) }
+    requires accepted { IsAccepted (source_of accepted.now) }
+    requires base { base ≤ 2 ^ 31 }
+    ensures { IfOkUnless (H.may_refuse heap) result
+        (λ found. found ≡ quick_of (source_of accepted.now) (stack_sizes ctrl temp) base) }
 {
-    match fault {
-        QuickFault::Memory => Err(Memory),
-        _ => Ok(plain),
+    match lined_main(heap, accepted, program, ctrl, temp)? {
+        Some(main) => {
+            let variables = shapes(heap, &main)?;
+            let chosen = choose(heap, &main, variables.as_slice())?;
+            small_image(heap, accepted, &main, chosen, base)
+        }
+        None => Ok(None),
     }
 }
 
-/// The quick image of an accepted source if it has one, and else `plain`, which was built of the source. The variables that
-/// main names most have registers. An image goes for all values of main's formals.
+/// The quick image of an accepted source for stacks of these sizes, if it has one, and else `plain`, which was built of the
+/// source. The calls of main go in line, and the variables that it names most have registers. An image goes for all values
+/// of main's formals.
 ///
-/// A quick image is made of main's body alone. So there is none if main calls a procedure of the source, or if the image
-/// would take more than 2^20 words.
+/// There is no quick image if calls nest more than 16 deep where they have room, if a called procedure has an array, if
+/// statements in line nest more than 200 deep or are too many, or if the image would take more than 2^20 words.
 ///
 /// # Errors
 ///
@@ -188,18 +185,18 @@ pub fn quicken<H: Heap>(
     heap: H,
     accepted: &Accepted,
     program: &Program,
+    ctrl: u32,
+    temp: u32,
     plain: Image,
 ) -> Result<Image, Memory>
     requires program { seen_program program.now ≡ program_of (source_of accepted.now) }
     requires accepted { IsAccepted (source_of accepted.now) }
     requires base { plain.base ≤ 2 ^ 31 }
-    ensures { IfOkUnless (H.may_refuse heap) result (λ image. image ≡ quickened (source_of accepted.now) plain) }
+    ensures { IfOkUnless (H.may_refuse heap) result
+        (λ image. image ≡ quickened (source_of accepted.now) (stack_sizes ctrl temp) plain) }
 {
-    let main = main_of(program);
-    let variables = shapes(heap, main)?;
-    let chosen = choose(heap, main, variables.as_slice())?;
-    match quick_with(heap, accepted, program, chosen, plain.base) {
-        Ok(image) => Ok(image),
-        Err(fault) => kept(fault, plain),
+    match quick_image(heap, accepted, program, ctrl, temp, plain.base)? {
+        Some(image) => Ok(image),
+        None => Ok(plain),
     }
 }

@@ -1,18 +1,21 @@
 //! Quick images of sources, as code.
 //!
-//! `quick_with` makes the image that `quick_build` defines, for a choice of variables that have registers. `quicken` chooses
-//! them itself, and keeps the plain image of a source that has no quick one.
+//! `quicken` puts the calls of main in line, chooses the variables that have registers, and makes the image that `quick_build`
+//! defines. If that would be too much, it keeps the plain image.
 #![tactic(auto)]
 
 mod access;
 mod argument;
+mod calls;
 mod choice;
 mod exits;
-mod fault;
 mod frame;
 mod generating;
-mod hurdle;
+mod in_main;
 mod laws;
+mod lined_main;
+mod lining;
+mod measuring;
 mod piece;
 mod product;
 mod reaching;
@@ -22,6 +25,5 @@ mod size;
 mod statement;
 mod window;
 
-pub use fault::QuickFault;
-pub use generating::{quick_with, quicken};
+pub use generating::quicken;
 pub use laws::quickened_images_mean;

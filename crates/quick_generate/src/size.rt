@@ -1,15 +1,15 @@
 //! How many words the quick code of statements has.
 
-ghost use Rattle.std.specs.Prelude.{◌≡◌, ◌+◌, ◌^◌, ◌<◌, ◌≤◌, length, map};
-ghost use Rattle.gypsy_space.specs.Nodes.{seen_arg, seen_statement, seen_statements};
+ghost use Rattle.std.specs.Prelude.{◌≡◌, ◌+◌, ◌^◌, ◌<◌, ◌≤◌, length, map, option_map};
+ghost use Rattle.gypsy_space.specs.Nodes.{seen_arg, seen_cond, seen_statement, seen_statements};
 ghost use Rattle.quick_code.specs.Access.{find_code};
-ghost use Rattle.quick_gypsy.specs.{Quick.{size, test_code}, RowCode.{arg_access, row_code}};
+ghost use Rattle.quick_gypsy.specs.{Quick.{arm_size, signalled, size, test_code}, RowCode.{arg_access, row_code}};
 ghost use Rattle.quick_generate.specs.{Rows.{row_size}, Sums.{limited}, Views.{frame_layout, seen_access}};
 
 use crate::access::Access;
 use crate::argument::reach;
 use crate::frame::Frame;
-use gypsy_space::{Argument, Node};
+use gypsy_space::{Argument, Condition, Node};
 use gypsy_syntax::Predef;
 use std::rc::Rc;
 
@@ -87,6 +87,18 @@ pub(crate) fn test_size(frame: &Frame, variable: u32) -> u64
     find_size(frame.reach(variable)) + 3
 }
 
+/// The condition that a handler signals, if it does nothing else.
+pub(crate) fn signalled(arm: &Rc<Node>) -> Option<Condition>
+    ensures { option_map seen_cond result ≡ signalled (seen_statement arm.now.value) }
+{
+    match &**arm {
+        Node::Signal(_, cond) => Some(*cond),
+        Node::Seq(_) => None,
+        Node::NoOp(_) | Node::Loop(_, _) | Node::If(_, _, _, _) => None,
+        Node::Begin(_, _, _, _) | Node::Call(_) | Node::Apply(_) => None,
+    }
+}
+
 /// How many words the code of a statement has, exact up to 2^60.
 #[cycle(sizes)]
 pub(crate) fn size(frame: &Frame, node: &Rc<Node>) -> u64
@@ -102,11 +114,20 @@ pub(crate) fn size(frame: &Frame, node: &Rc<Node>) -> u64
             let first = sum(test, size(frame, yes));
             sum(sum(first, u64::from(JUMP_SIZE)), size(frame, no))
         }
-        Node::Begin(_, body, _, arm) => {
-            let first = sum(size(frame, body), u64::from(JUMP_SIZE));
-            sum(first, size(frame, arm))
-        }
+        Node::Begin(_, body, _, arm) => sum(size(frame, body), arm_size(frame, arm)),
         Node::Apply(site) => row_size(frame, site.which, site.args.as_slice()),
+    }
+}
+
+/// How many words a handler takes, with the jump over it. One that only signals takes none.
+#[cycle(sizes)]
+fn arm_size(frame: &Frame, arm: &Rc<Node>) -> u64
+    ensures { let statement = seen_statement arm.now.value in
+        result ≡ limited (arm_size (signalled statement) (size (frame_layout frame.now) statement)) }
+{
+    match signalled(arm) {
+        Some(_) => 0,
+        None => sum(u64::from(JUMP_SIZE), size(frame, arm)),
     }
 }
 

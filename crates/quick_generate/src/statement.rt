@@ -11,7 +11,7 @@ use crate::frame::Frame;
 use crate::piece::{by_word, jump, jump_when};
 use crate::row::row;
 use crate::scopes::{Scopes, target};
-use crate::size::{JUMP_SIZE, row_size, small_size, test_size};
+use crate::size::{JUMP_SIZE, row_size, signalled, small_size, test_size};
 use fm_code::word::FLAG_Z;
 use fm_words::{Cc, Op};
 use gypsy_space::{Application, Condition, Node};
@@ -97,6 +97,30 @@ fn guarded<H: Heap>(
     Ok(())
 }
 
+/// A body whose conditions go to the target of this one, because their handler only signals it, and the address behind it.
+#[cycle(statements)]
+fn passed<H: Heap>(
+    heap: H,
+    words: &mut Vec<u32>,
+    frame: &Frame,
+    scopes: &Scopes,
+    pc: u32,
+    body: &Rc<Node>,
+    conds: &Rc<Vec<Condition>>,
+    cond: Condition,
+) -> Result<u32, Memory>
+    requires { pc + size (frame_layout frame.now) (seen_statement body.now.value) < 2 ^ 32 }
+    ensures code { let outer = targets scopes.now in
+        let inside = begin_targets (map seen_cond conds.now.value.items) (outer (seen_cond cond)) outer in
+        let code = quick (frame_layout frame.now) inside pc (seen_statement body.now.value) in
+        OnOkUnless (H.may_refuse heap) result (words.new.items ≡ words.old.items ++ code) }
+    ensures next { IfOk result (λ next. next ≡ pc + size (frame_layout frame.now) (seen_statement body.now.value)) }
+{
+    let to = target(scopes, cond);
+    guarded(heap, words, frame, scopes, pc, body, conds, to)?;
+    Ok(pc + small_size(frame, body))
+}
+
 /// The code of a statement from this address on, and the address behind it. A call has no code.
 #[cycle(statements)]
 pub(crate) fn statement<H: Heap>(
@@ -133,14 +157,17 @@ pub(crate) fn statement<H: Heap>(
             statement(heap, words, frame, scopes, otherwise, no)?;
             Ok(behind)
         }
-        Node::Begin(_, body, conds, handler) => {
-            let arm = pc + small_size(frame, body) + JUMP_SIZE;
-            let behind = arm + small_size(frame, handler);
-            guarded(heap, words, frame, scopes, pc, body, conds, arm)?;
-            jump(heap, words, behind)?;
-            statement(heap, words, frame, scopes, arm, handler)?;
-            Ok(behind)
-        }
+        Node::Begin(_, body, conds, handler) => match signalled(handler) {
+            Some(cond) => passed(heap, words, frame, scopes, pc, body, conds, cond),
+            None => {
+                let arm = pc + small_size(frame, body) + JUMP_SIZE;
+                let behind = arm + small_size(frame, handler);
+                guarded(heap, words, frame, scopes, pc, body, conds, arm)?;
+                jump(heap, words, behind)?;
+                statement(heap, words, frame, scopes, arm, handler)?;
+                Ok(behind)
+            }
+        },
         Node::Apply(site) => {
             apply(heap, words, frame, scopes, site)?;
             Ok(pc + row_size(frame, site.which, site.args.as_slice()) as u32)

@@ -1,13 +1,13 @@
+use Rattle.quick_generate.{specs.QuickOf.whole_image, proofs.ImageLaws.{quick_fits, window_few}, proofs.PlacedLaws.{IsHere, conds_few, ends, ends_low}}
+use Rattle.quick_generate.proofs.PlacedLaws.{final_is, image_made, registers_are, window_words}
 use Rattle.std.{proofs.Common.{◌≡◌, ◌≤◌, ◌+◌, ◌*◌, ◌-◌, ◌∙◌, ap, subst, sym, ℕ, List, ◌∷◌, length, arith}, specs.Prelude.IsTrue, proofs.lemmas.Bool.and_from}
 use Rattle.std.proofs.lemmas.Bool.{le-leb, lt-ltb}
 use Rattle.fm_image.{specs.Image.ImageOf, specs.Limits.is_image}
 use Rattle.display_maps.specs.Reading.{space_name}
 use Rattle.gypsy_syntax.{specs.declared.literal.Decl.Decl, specs.declared.proc.Source.Source, specs.Sources.SourceOf, specs.Views.SourceView.source_of}
+use Rattle.gypsy_space.specs.Nodes.{seen_proc}
 use Rattle.stack_build.{specs.Formals.{shown_formals, shown_conditions}, specs.Image.slots_from, specs.Internal.Showing.HaveShortArrays}
 use Rattle.stack_build.proofs.TakesLaws.{formals_short}
-use Rattle.quick_build.specs.QuickImage.{quick_image}
-use Rattle.quick_generate.{proofs.ImageLaws.{quick_fits, window_few}, proofs.PlacedLaws.{IsHere, conds_are, ends, ends_low, few_conds, final_is, image_made}}
-use Rattle.quick_generate.proofs.PlacedLaws.{registers_are, window_words}
 use Rattle.quick_generate.proofs.generating.placed.Goals as goal
 
 pub small_size-requires : goal.small_size-requires
@@ -15,7 +15,7 @@ small_size-requires g c =
     let h : IsHere c.args.frame.now c.args.main.now (source_of c.args.accepted.now) c.args.base =
     record {
       accepted = c.requires.accepted;
-      is_main = c.requires.main;
+      stands = c.requires.main;
       shapes = c.requires.shapes;
       end = c.requires.end;
       small = c.requires.small;
@@ -28,7 +28,7 @@ overflow_add-behind g c =
     let h : IsHere c.args.frame.now c.args.main.now (source_of c.args.accepted.now) c.args.base =
     record {
       accepted = c.requires.accepted;
-      is_main = c.requires.main;
+      stands = c.requires.main;
       shapes = c.requires.shapes;
       end = c.requires.end;
       small = c.requires.small;
@@ -37,24 +37,14 @@ overflow_add-behind g c =
     omega (arith, ends _ _ _ _ h, ends_low _ _ _ _ h, c.len-conds.ensures, c.small_size.ensures)
 
 pub code-requires-clause-conds : goal.code-requires-clause-conds
-code-requires-clause-conds g c =
-    let h : IsHere c.args.frame.now c.args.main.now (source_of c.args.accepted.now) c.args.base =
-    record {
-      accepted = c.requires.accepted;
-      is_main = c.requires.main;
-      shapes = c.requires.shapes;
-      end = c.requires.end;
-      small = c.requires.small;
-      low = c.requires.base;
-    } in
-    omega (arith, conds_are _ _ _ _ h, few_conds _ c.requires.accepted)
+code-requires-clause-conds g c = conds_few (source_of c.args.accepted.now) (seen_proc c.args.main.now) c.requires.accepted c.requires.main
 
 pub code-requires-clause-fits : goal.code-requires-clause-fits
 code-requires-clause-fits g c =
     let h : IsHere c.args.frame.now c.args.main.now (source_of c.args.accepted.now) c.args.base =
     record {
       accepted = c.requires.accepted;
-      is_main = c.requires.main;
+      stands = c.requires.main;
       shapes = c.requires.shapes;
       end = c.requires.end;
       small = c.requires.small;
@@ -67,7 +57,7 @@ bare_image-bare-requires-clause-inside g c =
     let h : IsHere c.args.frame.now c.args.main.now (source_of c.args.accepted.now) c.args.base =
     record {
       accepted = c.requires.accepted;
-      is_main = c.requires.main;
+      stands = c.requires.main;
       shapes = c.requires.shapes;
       end = c.requires.end;
       small = c.requires.small;
@@ -84,14 +74,15 @@ bare_image-bare-requires-clause-few g c =
     let h : IsHere c.args.frame.now c.args.main.now (source_of c.args.accepted.now) c.args.base =
     record {
       accepted = c.requires.accepted;
-      is_main = c.requires.main;
+      stands = c.requires.main;
       shapes = c.requires.shapes;
       end = c.requires.end;
       small = c.requires.small;
       low = c.requires.base;
     } in
     let words = window_words _ _ _ _ _ _ _ h c.in_ok-code.ensures c.in_ok-numbers.ensures c.in_ok-words.ensures in
-    let few = window_few c.args.frame.now.chosen.items (source_of c.args.accepted.now) c.args.base c.requires.accepted in
+    let few = window_few c.args.frame.now.chosen.items (source_of c.args.accepted.now) (seen_proc c.args.main.now) c.args.base c.requires.accepted
+    c.requires.main in
     omega (arith, ap (λ (ws : List ℕ). length ws) words, few, c.requires.end)
 
 pub overflow_add-result : goal.overflow_add-result
@@ -99,7 +90,7 @@ overflow_add-result g c =
     let h : IsHere c.args.frame.now c.args.main.now (source_of c.args.accepted.now) c.args.base =
     record {
       accepted = c.requires.accepted;
-      is_main = c.requires.main;
+      stands = c.requires.main;
       shapes = c.requires.shapes;
       end = c.requires.end;
       small = c.requires.small;
@@ -123,7 +114,7 @@ invariant_of-result g c =
     let h : IsHere frame main s base =
     record {
       accepted = c.requires.accepted;
-      is_main = c.requires.main;
+      stands = c.requires.main;
       shapes = c.requires.shapes;
       end = c.requires.end;
       small = c.requires.small;
@@ -143,7 +134,7 @@ invariant_of-result g c =
     let small = c.requires.small in
     let end = c.requires.end in
     subst (λ (image : ImageOf). IsTrue (is_image image)) (sym made)
-    (quick_fits c.args.frame.now.chosen.items s c.args.base c.requires.accepted c.requires.base (omega (arith, small, end)))
+    (quick_fits c.args.frame.now.chosen.items s (seen_proc main) c.args.base c.requires.accepted c.requires.main c.requires.base (omega (arith, small, end)))
 
 pub returns : goal.returns
 returns g c =
@@ -154,7 +145,7 @@ returns g c =
     let h : IsHere frame main s base =
     record {
       accepted = c.requires.accepted;
-      is_main = c.requires.main;
+      stands = c.requires.main;
       shapes = c.requires.shapes;
       end = c.requires.end;
       small = c.requires.small;
@@ -171,4 +162,4 @@ returns g c =
     (registers_are frame main s base c.len-conds.result _ h count c.in_ok-registers.ensures)
     (window_words frame main s base _ _ _ h c.in_ok-code.ensures c.in_ok-numbers.ensures c.in_ok-words.ensures)
     (c.bare.view_is ∙ c.bare_image-bare.ensures) names slots in
-    made ∙ ap (λ (e : ℕ). quick_image c.args.frame.now.chosen.items s c.args.base e) (sym c.requires.end)
+    made ∙ ap (λ (e : ℕ). whole_image c.args.frame.now.chosen.items s (seen_proc main) c.args.base e) (sym c.requires.end)

@@ -1,4 +1,4 @@
-use Rattle.quick_generate.{proofs.ExampleLaws.upto_is_quickened, proofs.StoredLaws.{sources_are_quickened, texts_are_quickened}}
+use Rattle.quick_generate.{proofs.ExampleLaws.{swap_is_quickened, upto_is_quickened}, proofs.StoredLaws.{sources_are_quickened, texts_are_quickened}}
 use Rattle.quick_generate.proofs.laws.quickened_images_mean.Goals as goal
 
 pub returns-clause-sources : goal.returns-clause-sources
@@ -14,3 +14,6 @@ returns-clause-texts c =
 
 pub returns-clause-example : goal.returns-clause-example
 returns-clause-example c = upto_is_quickened
+
+pub returns-clause-call : goal.returns-clause-call
+returns-clause-call c = swap_is_quickened
