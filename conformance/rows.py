@@ -29,7 +29,7 @@ STORING = {0, 3, 5, 6}
 
 ESCAPED = re.compile(r"\\(n|r|t|\\|x[0-9a-f]{2})")
 PLACE = re.compile(r"\{([A-Z]+)([-+]\d+)?\}")
-RUN = re.compile(r"(?:\[(\d+)\] )?(.*?) ?: (.*?)(?: -> (\w+)(?: is (\w+))?)?$")
+RUN = re.compile(r"(?:\[(\d+)\] )?(.*?)(?: < (\w+))? ?: (.*?)(?: -> (\w+)(?: is (\w+))?)?$")
 FILE = re.compile(r"(\w+) (=|<|hex)(?: (.*))?$")
 
 Files = dict[str, bytes]
@@ -39,7 +39,7 @@ Files = dict[str, bytes]
 class Run:
     """One run of the program: its words, what it prints or what judges that, its status, and the file that it stores. In what is printed a
     `*` between spaces stands for any number. Of the stored file `content` says whether it is as wanted, from all files of the folder; without
-    it any content is. What `change` gives of the files is put into the folder before.
+    it any content is. What `change` gives of the files is put into the folder before. Standard input is the file `given`, or nothing.
     """
 
     words: bytes
@@ -48,6 +48,7 @@ class Run:
     stored: str | None = None
     content: Callable[[Files], bool] | None = None
     change: Callable[[Files], Files] | None = None
+    given: str | None = None
 
     def __post_init__(self):
         if self.status is None and not callable(self.printed):
@@ -147,10 +148,10 @@ class Head:
         return Row(name, made, [self.run(template, texts) for template in self.runs])
 
     def run(self, template, texts):
-        status, words, printed, stored, other = RUN.match(template).groups()
+        status, words, given, printed, stored, other = RUN.match(template).groups()
         content = (lambda files: files[stored] == files[other]) if other else None
         status = int(status) if status else None
-        return Run(bytes_of(filled(words, texts)), lines_of(filled(printed, texts)), status, stored, content)
+        return Run(bytes_of(filled(words, texts)), lines_of(filled(printed, texts)), status, stored, content, given=given)
 
 
 def rows_of(path):

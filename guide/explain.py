@@ -191,7 +191,8 @@ def breach_lines(line, found, task, rules):
     kind, rule, by_line, place = found.groups()
     index = next((it for it in (line.index(name, task) for name in JUDGED[kind]) if it is not None), None)
     path = line.words[index] if index is not None else ""
-    data = None if is_replaced(line, path) else read(path)
+    is_asked = kind == "script" and path == "-"
+    data = None if is_asked or is_replaced(line, path) else read(path)
     name, place = usage.shown(path), int(place)
     said = f"{rule}: {rules.get(rule, '')}".rstrip()
     if data is None or (not by_line and place > len(data)):

@@ -70,10 +70,13 @@ find_files() {
         number=$((number + 1))
         case $role in
         stores) output=${*:number + 1:1} output_at=$number ;;
-        reads) inputs+=("${*:number + 1:1}") ;;
+        reads) [ "$((number + 1))" = $# ] && is_by_lines "$@" || inputs+=("${*:number + 1:1}") ;;
         esac
     done < <(roles_of "$@")
 }
+
+# Whether these words ask for a session line by line, over standard input.
+is_by_lines() { [[ ${1-} == *debug && ${*: -1} == - ]]; }
 
 # Whether a file begins as what the command stores.
 is_stored_by() {
@@ -150,6 +153,7 @@ find_sample() {
     local file
     unit=instructions whole=0 sample=()
     find_files "$@"
+    ! is_by_lines "$@" || return
     # What is no file can be read once, and that is the program's.
     for file in "${inputs[@]}" ${output:+"$output"}; do is_plain_file "$file" || return; done
     case ${1-}:$# in
@@ -158,11 +162,11 @@ find_sample() {
     turns:*) whole=$3 sample=(turns "$2" SHORT "${@:4}") ;;
     mean:6) unit=steps whole=$6 sample=("${@:1:5}" SHORT) ;;
     prun:3) unit=steps whole=$3 sample=(prun "$2" SHORT) ;;
-    debug:7)
+    debug:7 | pdebug:3 | idebug:4)
         # How far `until` goes isn't known before.
-        whole=$(awk '$1 == "until" { exit unknown = 1 } $1 == "step" { sum += $2 } END { printf "%.0f", unknown ? 0 : sum }' "$7" 2>/dev/null)
+        whole=$(awk '$1 == "until" { exit unknown = 1 } $1 == "step" { sum += $2 } END { printf "%.0f", unknown ? 0 : sum }' "${@: -1}" 2>/dev/null)
         unit=steps
-        sample=("${@:1:6}" /dev/stdin)
+        sample=("${@:1:$# - 1}" /dev/stdin)
         ;;
     esac
     [ "${whole:-0}" -gt 5000000 ] 2>/dev/null || sample=()
@@ -223,7 +227,8 @@ await_output() {
 # Hands on what the program prints, to standard output and to the descriptor `copy`.
 hand_on() {
     case ${1-} in
-    run | go | prun | mean | debug | big | turns) [ ! -t 2 ] || await_output "$@" ;;
+    # A session that is asked line by line waits for whoever types.
+    run | go | prun | mean | debug | pdebug | idebug | big | turns) [ ! -t 2 ] || is_by_lines "$@" || await_output "$@" ;;
     esac
     tee "/dev/fd/$copy" 2>/dev/null
 }
@@ -249,7 +254,7 @@ tell_stopped() {
     if [ "$SECONDS" -ge 2 ]; then
         find_sample "$@"
         read -r speed short < <(take_sample 3)
-        [ "${1-}" = debug ] && say "stopped after $SECONDS seconds" ||
+        [[ ${1-} == *debug ]] && say "stopped after $SECONDS seconds" ||
             say "stopped after $SECONDS seconds. The program prints at its end alone, so what memory held is not known"
         [ -z "$speed" ] || tell_stored 5 "$@"
         [ -z "$speed" ] || say "about $(grouped $((SECONDS * speed))) of $(grouped "$whole") $unit were made ($(share "$SECONDS" "$speed")), reckoned from a short run: $(grouped "$speed") a second. After $(grouped "$short") it wasn't at its end"

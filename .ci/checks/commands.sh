@@ -97,12 +97,14 @@ wants 0 "written down.piton" pit examples/calls/down.gypsy 23 10 down.piton
 wants 0 $'attached last\nstepped 8\nlast 48 134 164 183 213 134 164 183\ntop\nstepped 1\ntop' debug gypsy examples/calls/down.gypsy examples/calls/down.values 23 10 examples/sessions/last.script
 wants 0 $'finished 356\ncondition normal\nn = 0' go examples/conditions/caught.gypsy examples/calls/down.values 23 10 1000 down.image
 
-# A quick image, and a source without one: docs/program/cli.md.
+# Quick images, and a source without one: docs/program/cli.md.
 wants 0 "built 38" quick examples/counting/upto.gypsy 100 100 upto.image
 wants 0 $'finished 63\ncondition normal\nn = 5\ni = 5' run upto.image examples/counting/upto.values 63
 wants 5 "unfinished 62" run upto.image examples/counting/upto.values 62
-wants 0 "built 973" quick examples/conditions/count.gypsy 13 5 same.image
-cmp -s built.image same.image || { echo "quick stores another image than build of a main with a call"; failed=1; }
+wants 0 "built 27" quick examples/conditions/count.gypsy 13 5 lined.image
+wants 0 "built 1251" build examples/calls/down.gypsy 100 100 deep.image
+wants 0 "built 1251" quick examples/calls/down.gypsy 100 100 same.image
+cmp -s deep.image same.image || { echo "quick stores another image than build of calls that nest too deep"; failed=1; }
 
 # Piton by hand: docs/program/cli.md.
 wants 0 "ok" pcheck examples/piton/less.piton

@@ -45,6 +45,8 @@ mistake 'docs/proved/promises.md: the crate nobody is missing' crates.txt 'nobod
 echo 'pub word_bits : ℕ' >>crates/fm_machine/specs/Masks.antt
 sed -i 's/ lines of definitions in 2/ lines of definitions in 9/' README.md
 further+=('README.md: the theorem rests on [0-9,]* lines of definitions in [0-9]* files')
+sed -i 's/`decides` on [0-9]/&9/' README.md
+further+=('README.md: `decides` rests on ')
 sed -i '/^| `stack_build.Moments.KeepsMoments` |/s/ | [0-9,]* |$/ | 1 |/' docs/proved/promises.md
 further+=('docs/proved/promises.md:[0-9]*: stack_build.Moments.KeepsMoments rests on ')
 printf -- '-- %0200d\n' 0 >>crates/fm_words/specs/Word.antt

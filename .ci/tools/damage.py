@@ -57,11 +57,11 @@ READERS = {
         "cert DAMAGED CERTIFICATE 20 20",
         "turns 10 1000 20 20 DAMAGED VALUES",
     ],
-    "values": ["mean SOURCE DAMAGED 20 20 1000", "go SOURCE DAMAGED 20 20 1000 out", "run IMAGE DAMAGED 1000"],
+    "values": ["mean SOURCE DAMAGED 20 20 1000", "go SOURCE DAMAGED 20 20 1000 out", "run IMAGE DAMAGED 1000", "idebug IMAGE DAMAGED SCRIPT"],
     "script": [f"debug {level} SOURCE VALUES 20 20 DAMAGED" for level in ("gypsy", "piton", "fm9001")],
-    "piton": ["pcheck DAMAGED", "prun DAMAGED 1000", "pbuild DAMAGED out"],
-    "image": ["show DAMAGED", "run DAMAGED VALUES 1000"],
-    "small image": ["show DAMAGED", "run DAMAGED VALUES 1000", "migrate DAMAGED out"],
+    "piton": ["pcheck DAMAGED", "prun DAMAGED 1000", "pbuild DAMAGED out", "pdebug DAMAGED SCRIPT"],
+    "image": ["show DAMAGED", "run DAMAGED VALUES 1000", "idebug DAMAGED VALUES SCRIPT"],
+    "small image": ["show DAMAGED", "run DAMAGED VALUES 1000", "idebug DAMAGED VALUES SCRIPT", "migrate DAMAGED out"],
     "plain image": ["unasm DAMAGED out"],
     "assembly": ["asm DAMAGED out"],
     "infix": ["mini DAMAGED out"],
@@ -112,23 +112,23 @@ def whole_files(program, folder):
     """Puts the whole files into a folder, and tells for each its kind, its name, and the files that stand beside it."""
     files = []
     Path(folder, "main.certificate").write_text("((main 2 4))", encoding="ascii")
+    script = {"SCRIPT": "steps.script"}
+    shutil.copy(EXAMPLES / "sessions/steps.script", folder)
     for source, values in ((EXAMPLES / source, EXAMPLES / values) for source, values in SOURCES.items()):
         stem = source.stem
-        beside = {"SOURCE": source.name, "VALUES": values.name, "IMAGE": f"{stem}.image", "CERTIFICATE": "main.certificate"}
+        beside = {"SOURCE": source.name, "VALUES": values.name, "IMAGE": f"{stem}.image", "CERTIFICATE": "main.certificate", **script}
         for example in (source, values):
             shutil.copy(example, folder)
         ends(program, ["build", source.name, "20", "20", f"{stem}.image"])
         files += [("gypsy", source.name, beside), ("values", values.name, beside)]
         if stem == "seven":
-            files += [("image", f"{stem}.image", beside), ("certificate", "main.certificate", beside)]
-            shutil.copy(EXAMPLES / "sessions/steps.script", folder)
-            files.append(("script", "steps.script", beside))
+            files += [("image", f"{stem}.image", beside), ("certificate", "main.certificate", beside), ("script", "steps.script", beside)]
     Path(folder, "seven.piton").write_text(PITON, encoding="ascii")
     Path(folder, "no.values").write_text("()", encoding="ascii")
     ends(program, ["pbuild", "seven.piton", "piton.image"])
     shutil.copy(EXAMPLES / "assembly/sum.asm", folder)
     ends(program, ["asm", "sum.asm", "sum.image"])
-    files += [("piton", "seven.piton", {}), ("small image", "piton.image", {"VALUES": "no.values"})]
+    files += [("piton", "seven.piton", script), ("small image", "piton.image", {"VALUES": "no.values", **script})]
     for infix in EXAMPLES.glob("infix/*.mini"):
         shutil.copy(infix, folder)
         files.append(("infix", infix.name, {}))

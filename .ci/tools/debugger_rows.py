@@ -79,6 +79,32 @@ def of_waiting(program):
                 yield f"their variables are {shown}, wanted {wanted}"
 
 
+def of_many_stops(program):
+    """More breakpoints than a line of a script has room for are reached in the order of the run; a procedure may be called `or`."""
+    many = 40
+    with tempfile.NamedTemporaryFile("w", suffix=".gypsy") as source:
+        source.write("(program main\n(proc main () () () ()\n(seq (call or () ())\n" + "(seq (no-op)\n" * many + "(no-op)" + ")" * (many + 2))
+        source.write("\n(proc or () () () () (no-op)))\n")
+        source.flush()
+        with Debugged(program, program=source.name) as editor:
+            first, last = 4, 4 + many
+            editor.ask("setBreakpoints", source={"path": source.name}, breakpoints=[{"line": it} for it in range(last, first - 1, -1)])
+            editor.ask("configurationDone")
+            editor.stop()
+            seen = [(editor.go("continue"), editor.stack()[0]["line"]) for _ in range(first, last + 1)]
+            if seen != [("breakpoint", it) for it in range(first, last + 1)]:
+                yield f"with many breakpoints the run stops at {seen}"
+            editor.ask("setBreakpoints", source={"path": source.name}, breakpoints=[])
+            editor.go("reverseContinue")
+            piton = editor.ask("loadedSources")["sources"][1]["path"]
+            lines = Path(piton).read_text().splitlines()
+            heads = [next(number for number, it in enumerate(lines, 1) if it.startswith(f"({name} ")) for name in ("main", "or")]
+            editor.ask("setBreakpoints", source={"path": piton}, breakpoints=[{"line": it + 2} for it in heads])
+            seen = [(editor.go("continue"), editor.stack()[0]["name"].split()[:2]) for _ in range(2)]
+            if seen != [("breakpoint", ["main", "1"]), ("breakpoint", ["or", "1"])]:
+                yield f"in the Piton of main and of or the run stops at {seen}"
+
+
 def of_infix(program):
     """A step of an infix program is a statement of it, and its variables are those of the lowered source."""
     source, values = EXAMPLES / "infix/squares.mini", EXAMPLES / "infix/squares.values"

@@ -144,6 +144,27 @@ class Debugged(Client):
         return {it["name"]: it["value"] for it in self.ask("variables", variablesReference=reference)["variables"]}
 
 
+def programs_of(process):
+    """The processes that a process has started, by any of its threads."""
+    return [int(it) for thread in Path(f"/proc/{process}/task").iterdir() for it in (thread / "children").read_text().split()]
+
+
+def is_running(process):
+    """Whether a process hasn't ended. One that nobody has asked for its status has."""
+    try:
+        return Path(f"/proc/{process}/stat").read_text().rpartition(")")[2].split()[0] != "Z"
+    except OSError:
+        return False
+
+
+def have_ended(processes):
+    """Whether some processes end in time."""
+    end = time.time() + SECONDS
+    while any(map(is_running, processes)) and time.time() < end:
+        time.sleep(0.05)
+    return not any(map(is_running, processes))
+
+
 def session(program, run, level, script):
     source, values, *sizes = run
     line = [program, "debug", level, source, values, *map(str, sizes), "/dev/stdin"]
@@ -172,9 +193,17 @@ class Screen:
                     break
         return wanted in drawn
 
+    def hang_up(self):
+        """Takes the terminal away."""
+        os.close(self.terminal)
+        return self.wait()
+
     def close(self):
         """Leaves the debugger. The status is how it ended."""
         os.write(self.terminal, b"q")
+        return self.wait()
+
+    def wait(self):
         end = time.time() + SECONDS
         while time.time() < end:
             ended, status = os.waitpid(self.child, os.WNOHANG)

@@ -44,6 +44,12 @@ PAGES_OF_RULES = re.compile(r"crates/gypsy_logic/proofs/\w*Rules\.antt$")
 THEOREM = "stack_build.Implements.Implements"
 README = Path("README.md")
 README_WORDS = 1300
+# The clauses whose lines of definitions the README gives, and the statement of each.
+README_FIGURES = {
+    "implements": "cli_stack.Implements.StoresImplementation",
+    "completes": "cli_stack.Completes.CompletesCommand",
+    "decides": "cli_stack.Decides.Decides",
+}
 LIMITS = Path("docs/working/limits.md")
 LIMIT_AT = re.compile(r"`(\w+/(?:specs|src)/[\w/.]+)`: ((?:`\w+`(?:, )?)+)")
 LIMIT_AGAIN = re.compile(r"`(\w+)` \(((?:`\w+`(?:, )?)+)\)")
@@ -309,10 +315,16 @@ def check_kit():
 
 
 def check_readme():
-    """The README is read to its end."""
-    words = len(README.read_text().split())
+    """The README is read to its end, and has the figures of the table of promises."""
+    text = README.read_text()
+    words = len(text.split())
     if words > README_WORDS:
         say(README, f"it has {words:,} words; at most {README_WORDS:,}, so move what is too long to a page of docs")
+    rows = (FIGURES_ROW.match(line) for line in PROMISES.read_text().splitlines())
+    lines = {row.group(1): row.group(2) for row in rows if row}
+    for clause, statement in README_FIGURES.items():
+        if not re.search(rf"`{clause}` (?:rests )?on {lines.get(statement)}\b", text):
+            say(README, f"`{clause}` rests on {lines.get(statement)} lines; write that")
 
 
 def check_limits():

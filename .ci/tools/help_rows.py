@@ -1,7 +1,7 @@
 #!/usr/bin/env python3
 """Tries what the script `stack` tells a person, with the built program: the sentence of each rule and of each other last line, the help,
-the slips that lose a file, long runs, mistakes of beginners, what may come in an infix program, runs with few words, and the transcript of
-docs/program/errors.md. What is told changes no byte of standard output, and no status.
+the slips that lose a file, long runs, mistakes of beginners, what may come in an infix program, runs with few words, and the transcripts of
+docs/program/errors.md and wrong_inputs.txt. What is told changes no byte of standard output, and no status.
 
 Prints a line for each row that fails, and how many rows there were of each theme. The exit status is 1 where one failed.
 """
@@ -343,8 +343,9 @@ class Rows:
             self.note("few words", same and bool(first) == bool(lines), lines, again if lines else "")
 
     def transcript(self):
-        """The inputs of the page, with what a person sees."""
-        block = PAGE.split("## Ten wrong inputs")[1].split("```text\n")[1].split("```")[0]
+        """The inputs of the page, and five more, with what a person sees."""
+        block = PAGE.split("## Five wrong inputs")[1].split("```text\n")[1].split("```")[0]
+        block += (TOP / ".ci/tools/wrong_inputs.txt").read_text()
         folder, count = self.folder(), 0
         for part in re.split(r"^\$ ", block, flags=re.M)[1:]:
             command, _, shown = part.partition("\n")

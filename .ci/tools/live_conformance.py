@@ -37,8 +37,8 @@ SETS_UP = """(async () => {
     return btoa(parts.join(""));
   };
   const each = (files, change) => Object.fromEntries(Object.entries(files).map(([name, it]) => [name, change(it)]));
-  window.performRow = ({ words, files }) => {
-    const ran = perform(program, words.map(bytesOf), each(files, bytesOf));
+  window.performRow = ({ words, files, input }) => {
+    const ran = perform(program, words.map(bytesOf), each(files, bytesOf), bytesOf(input));
     return { status: ran.status, printed: packed(ran.printed), stored: each(ran.bytes, packed) };
   };
   return 1;
@@ -49,9 +49,9 @@ def packed(content):
     return base64.b64encode(content).decode()
 
 
-def perform(browser, words, files):
-    """The status, what is printed and the files afterwards of one run."""
-    asked = {"words": [packed(it) for it in words], "files": {name: packed(it) for name, it in files.items()}}
+def perform(browser, words, files, given):
+    """The status, what is printed and the files afterwards of one run, which is given this as standard input."""
+    asked = {"words": [packed(it) for it in words], "files": {name: packed(it) for name, it in files.items()}, "input": packed(given)}
     ran = browser.evaluate(f"performRow({json.dumps(asked)})")
     stored = {name: base64.b64decode(it) for name, it in ran["stored"].items()}
     return ran["status"], base64.b64decode(ran["printed"]), files | stored
@@ -64,7 +64,7 @@ def judge(browser, row):
         files |= {name: it() if callable(it) else it for name, it in (run.change(files) if run.change else {}).items()}
         before = dict(files)
         try:
-            status, printed, files = perform(browser, [it for it in run.words.split(b" ") if it], before)
+            status, printed, files = perform(browser, [it for it in run.words.split(b" ") if it], before, before[run.given] if run.given else b"")
             fault = run.fault(status, printed, before, files)
         except Fault as thrown:
             fault = str(thrown)

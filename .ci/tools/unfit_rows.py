@@ -1,9 +1,13 @@
 """What serves an editor, if an editor, the program or a text isn't as it should be: it says so in a sentence, and the next message is answered."""
 import json
+import os
+import shutil
+import signal
 import tempfile
+import time
 from pathlib import Path
 
-from editor_clients import EXAMPLES, Client, Debugged, Language, Screen
+from editor_clients import EXAMPLES, Client, Debugged, Language, Screen, have_ended, programs_of
 
 NOTHING = "(program main (proc main () () () () (no-op)))\n"
 # Bytes in place of a message, and whether a message may come behind them.
@@ -67,12 +71,22 @@ def of_requests(program):
             yield f"disassembled are {len(many)} words"
 
 
+# What a program does in place of its work: a signal ends it, or it has no memory.
+ENDED, NO_MEMORY = "kill -9 $$\n", "echo memory; exit 14\n"
+
+
 def failing(room, program):
-    """A program that is PROGRAM until the file `fails` is there; then a signal ends it."""
+    """A program that is PROGRAM until the file `fails` is there; then it does what that says."""
     path = Path(room) / "program"
-    path.write_text(f'#!/bin/sh\n[ ! -e "{room}/fails" ] || kill -9 $$\nexec "{program}" "$@"\n')
+    path.write_text(f'#!/bin/sh\n[ ! -e "{room}/fails" ] || . "{room}/fails"\nexec "{program}" "$@"\n')
     path.chmod(0o755)
     return path
+
+
+def end_sessions(editor):
+    """Ends the sessions that the adapter has open."""
+    for it in programs_of(editor.process.pid):
+        os.kill(it, signal.SIGKILL)
 
 
 def of_program(program):
@@ -83,7 +97,7 @@ def of_program(program):
         with Language(path) as editor:
             editor.open(source)
             before = editor.found(source)
-            (Path(room) / "fails").touch()
+            (Path(room) / "fails").write_text(ENDED)
             rows = []
             for prepare in (lambda: None, path.unlink):
                 prepare()
@@ -93,21 +107,69 @@ def of_program(program):
         wanted = [(3, f"This text isn't judged: {it}") for it in reasons]
         if before or rows != wanted:
             yield f"of a text that isn't judged it is told: {before}, {rows}"
-        (Path(room) / "fails").unlink()
-        with Debugged(failing(room, program), program=str(EXAMPLES / "calls/down.gypsy"), values={"n": "3"}) as editor:
+
+
+def of_sessions(program):
+    """If a session is ended, that is told, and the run goes on from where it stood by another one."""
+    with tempfile.TemporaryDirectory() as room:
+        path, fails = failing(room, program), Path(room) / "fails"
+        with Debugged(path, program=str(EXAMPLES / "calls/down.gypsy"), values={"n": "3"}) as editor:
             editor.ask("configurationDone")
             editor.stop()
             editor.go("stepIn")
-            (Path(room) / "fails").touch()
-            for command in ("continue", "stepIn", "next"):
-                if editor.go(command) != "goto":
-                    yield f"{command} without a program is told as something else"
-            if editor.told.count("the program was ended by signal 9") != 3:
-                yield f"a program that was ended is told as {editor.told!r}"
+            # The first question that fails is of the session that was open, which a signal has ended.
+            for text, wanted in ((ENDED, (3, 0)), (NO_MEMORY, (1, 2))):
+                fails.write_text(text)
+                end_sessions(editor)
+                editor.told = ""
+                for command in ("continue", "stepIn", "next"):
+                    if editor.go(command) != "goto":
+                        yield f"{command} without a program is told as something else"
+                if tuple(map(editor.told.count, ("the program was ended by signal 9", "Memory ran out"))) != wanted:
+                    yield f"a program that was ended is told as {editor.told!r}"
+                fails.unlink()
+                before = editor.variables(1)["steps, gypsy"]
+                if editor.go("stepIn") != "step" or int(editor.variables(1)["steps, gypsy"]) != int(before) + 1:
+                    yield f"behind a session that was ended the run goes on from {before} to {editor.variables(1)}"
+            end_sessions(editor)
             path.unlink()
+            editor.go("next")
             editor.go("next")
             if "No such file" not in editor.told:
                 yield f"a program that is gone is told as {editor.told!r}"
+
+
+def of_leaving(program):
+    """Whether a run stands or goes on, and however what serves an editor ends: no session stays, and no folder where it can be removed."""
+    run = {"program": str(EXAMPLES / "counting/clock.gypsy"), "values": str(EXAMPLES / "counting/odd.values")}
+    for goes_on in (False, True):
+        for is_killed in (False, True):
+            with Debugged(program, **run) as editor:
+                editor.ask("configurationDone")
+                editor.stop()
+                editor.go("stepIn")
+                editor.variables(1)
+                if goes_on:
+                    editor.ask("continue")
+                    time.sleep(0.5)
+                sessions = programs_of(editor.process.pid)
+                folder = Path(f"/proc/{sessions[0]}/cwd").readlink()
+                if is_killed:
+                    editor.process.kill()
+                editor.leave()
+                if not have_ended(sessions):
+                    yield f"sessions stay: {sessions}, goes_on={goes_on}, is_killed={is_killed}"
+                if is_killed:
+                    shutil.rmtree(folder)
+                elif folder.exists():
+                    yield f"{folder} stays, goes_on={goes_on}"
+    for leave in (Screen.close, Screen.hang_up):
+        screen = Screen(program, run["program"])
+        screen.until("[gypsy 1]", "s")
+        sessions = programs_of(screen.child)
+        leave(screen)
+        if not sessions or not have_ended(sessions):
+            yield f"of the debugger of a terminal sessions stay: {sessions}"
 
 
 def of_names(program):

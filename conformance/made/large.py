@@ -281,6 +281,12 @@ FILES = [
     ("pcheck p", {"p": 16_777_217}, 12, "size file 16777216"),
     ("debug gypsy s v 7 3 d", {"d": 1_048_576}, 0, "top"),
     ("debug gypsy s v 7 3 d", {"d": 1_048_577}, 12, "size file 1048576"),
+    ("pdebug p d", {"p": 16_777_217}, 12, "size file 16777216"),
+    ("pdebug p d", {"d": 1_048_577}, 12, "size file 1048576"),
+    ("idebug i v d", {"i": 33_554_432}, 4, "image I4 at 104"),
+    ("idebug i v d", {"i": 33_554_433}, 12, "size file 33554432"),
+    ("idebug i v d", {"v": 1_048_577}, 12, "size file 1048576"),
+    ("idebug i v d", {"d": 1_048_577}, 12, "size file 1048576"),
     ("asm a o", {"a": 33_554_432}, 2, "refused A1 at 57"),
     ("asm a o", {"a": 33_554_433}, 12, "size file 33554432"),
     ("mini m o", {"m": 1_048_576}, 0, "written o"),
@@ -331,6 +337,9 @@ def large():
     yield "fifteen arrays", "go t v 19 61455 61544 i", many_locals(1, 15), "()", 0, "finished 61544\ncondition normal"
     area = " (nat 0)" * 20_000
     yield "a long area", "prun t 1", of_programs(" (main () () (ret))", areas=f"(a{area})"), "", 0, f"halted 1\ncounted 4\na{area}\nstack"
+    linked = of_one_program(" (no-op)" * 1048565 + " (ret)")
+    yield "the most words of a Piton text's session", "pdebug t d", linked, "", 0, "stepped 5", "step 5"
+    yield "one word more", "pdebug t d", linked.replace(" (ret)", " (no-op) (ret)"), "", 12, "size words 1048577", "jump"
     words = "debug gypsy t v 7 3 d"
     yield "a long script", words, SEVEN, "((x 0))", 13, "script D6 at line 174763", "\nshow\r" * 174762
 

@@ -1,9 +1,10 @@
 "use strict";
-// Runs the program over files of the page. A file is a text or bytes; what is stored is handed back, as a text and as bytes.
-const perform = (program, words, given) => {
+// Runs the program over files of the page, and over bytes as its standard input. A file is a text or bytes; what is stored is handed back, as a text
+// and as bytes.
+const perform = (program, words, given, input = new Uint8Array()) => {
   const encoder = new TextEncoder(), decoder = new TextDecoder();
   const files = new Map(Object.entries(given).map(([name, it]) => [name, typeof it === "string" ? encoder.encode(it) : it]));
-  const open = new Map(), printed = [], written = {};
+  const open = new Map([[0, { bytes: input, at: 0 }]]), printed = [], written = {};
   let next = 3, memory;
   const part = (at, size) => new Uint8Array(memory.buffer, Number(at), Number(size));
   const name = (at) => {

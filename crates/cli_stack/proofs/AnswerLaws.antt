@@ -5,18 +5,18 @@ use Rattle.cli_stack.{specs.SessionMoments.{BuiltSaysEnds, BuiltSaysMoments}, sp
 use Rattle.cli_stack.{proofs.AssemblesLaws.assembles, proofs.ByTurnsLaws.each_task_is_told, proofs.DecidesLaws.decides, proofs.ExplainsLaws.explains}
 use Rattle.cli_stack.{proofs.ImplementsLaws.{implements, implements_of, stores, stores_of}, proofs.LinksLaws.links, proofs.LowersLaws.lowers}
 use Rattle.cli_stack.{proofs.MeansLaws.means, proofs.QuickensLaws.{stores_quick, stores_quick_of}, proofs.QuickRunsLaws.runs_quickly, proofs.RoomLaws.needs}
-use Rattle.cli_stack.{proofs.TaskCountLaws.HasFew, proofs.TellsLaws.tells}
-use Rattle.level_debuggers.{specs.RunWalks.{MachinesArrive, MachinesWalk}, specs.ScriptSteps.{ArrivalsAreSaid, StepsAreSaid, TextStays, UpIsSaid, WordsAreSaid}}
-use Rattle.level_debuggers.specs.Tallies.{Watching}
+use Rattle.cli_stack.{proofs.ShowsRunsLaws.shows_runs, proofs.TaskCountLaws.HasFew, proofs.TellsLaws.tells}
+use Rattle.level_debuggers.{specs.RunWalks.{MachinesArrive, MachinesWalk}, specs.ScriptSteps.{ArrivalsAreSaid, ShowIsSaid, StepsAreSaid, TextStays, UpIsSaid}}
+use Rattle.level_debuggers.{specs.ScriptSteps.WordsAreSaid, specs.Tallies.Watching}
 use Rattle.stack_build.{specs.Joined.{BuiltImplements, BuiltTakesValues}, specs.Meant.KeptMeansOnly, specs.PlacedWords.PlacedAreWords}
 use Rattle.quick_generate.specs.DoesQuickly.{TextsAreQuickened}
 use Rattle.command_line.specs.declared.command.Command.{Command}
 
 pub answers_mean : BuiltImplements → BuiltTakesValues → KeptMeansOnly → PlacedAreWords → TextsAreQuickened → BuiltSaysMoments → BuiltSaysEnds
-    → UpIsSaid → WordsAreSaid → ArrivalsAreSaid → StepsAreSaid → TextStays → MachinesWalk → MachinesArrive
+    → ShowIsSaid → UpIsSaid → WordsAreSaid → ArrivalsAreSaid → StepsAreSaid → TextStays → MachinesWalk → MachinesArrive
     → (o : Option Command) → IfSome o HasFew → (watches : List Watching) → IfSome o (λ command. CommandMeans command watches)
-answers_mean implement take meant placed quick moments ends up words arrivals steps stays walks arrive None few watches = tt
-answers_mean implement take meant placed quick moments ends up words arrivals steps stays walks arrive (Some c) few watches = record {
+answers_mean implement take meant placed quick moments ends show up words arrivals steps stays walks arrive None few watches = tt
+answers_mean implement take meant placed quick moments ends show up words arrivals steps stays walks arrive (Some c) few watches = record {
   answers = λ files. record {
     implements = implements c files (answer_to c watches files).output (stores implement c watches files);
     keeps = stores implement c watches files;
@@ -28,6 +28,7 @@ answers_mean implement take meant placed quick moments ends up words arrivals st
     needs = needs implement take c watches files;
     lowers = lowers implement take meant c watches files;
     explains = explains implement take moments ends up words arrivals steps stays walks arrive c watches files;
+    shows = shows_runs show words arrivals steps stays walks arrive watches files c;
     turns = each_task_is_told implement take meant c few watches files;
     quickens = stores_quick quick c watches files;
     runs_quickly = runs_quickly c watches files;

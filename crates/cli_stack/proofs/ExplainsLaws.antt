@@ -48,7 +48,7 @@ use Rattle.piton_semantics.specs.declared.error_kind.ErrorKind.{ErrorKind}
 -- 1. The run that the session has.
 
 -- what is built of a text is built of its source
-of_source : (text : List ℕ) (ctrl temp : ℕ) (source : SourceOf) (found : BuiltOf) → accepted_source text ≡ Ok source → built text ctrl temp 0 ≡ Ok found
+pub of_source : (text : List ℕ) (ctrl temp : ℕ) (source : SourceOf) (found : BuiltOf) → accepted_source text ≡ Ok source → built text ctrl temp 0 ≡ Ok found
     → source_built source (stack_sizes ctrl temp) 0 ≡ Ok found
 unfolding built
 of_source text ctrl temp source found read is =
@@ -85,7 +85,7 @@ done_ended run (end.NoneWaits line) h = absurd cc
 done_ended run (end.NoneAttached line) h = absurd cc
 done_ended run (end.OtherLevel line) h = absurd cc
 
-all_done : (run : LevelOf) (watches : List Watching) (lines : List Line) → (lines_reply run watches lines).verdict ≡ verdict.Done
+pub all_done : (run : LevelOf) (watches : List Watching) (lines : List Line) → (lines_reply run watches lines).verdict ≡ verdict.Done
     → (followed [] lines (session_on run watches)).end ≡ end.Done
 unfolding lines_reply
 all_done run watches lines done =
@@ -108,7 +108,7 @@ module _ (stays : TextStays) (run : LevelOf) (watches : List Watching) (script :
             ∙ ap (λ (f : Followed). f.text) tells ∙ rest.1 ∙ ap (λ (t : List ℕ). t ++ told ++ rest.0) says,
       )
 
-  reply_says : BeginsWith (reply_text (script_reply run watches (script_of script))) (said ++ told)
+  pub reply_says : BeginsWith (reply_text (script_reply run watches (script_of script))) (said ++ told)
   reply_says =
       let reply : ReplyOf = script_reply run watches (script_of script) in
       let begins = script_says in (
@@ -117,7 +117,7 @@ module _ (stays : TextStays) (run : LevelOf) (watches : List Watching) (script :
       )
 
 -- lines that ask for steps are carried out
-steps_said : StepsAreSaid → (run : LevelOf) (watches : List Watching) (lines : List Line) → AskForSteps lines → GoesOn (all_asked lines) run
+pub steps_said : StepsAreSaid → (run : LevelOf) (watches : List Watching) (lines : List Line) → AskForSteps lines → GoesOn (all_asked lines) run
     → ((lines_reply run watches lines).verdict ≡ verdict.Done) × ((lines_reply run watches lines).said ≡ stepped_lines lines)
 unfolding lines_reply
 steps_said steps run watches lines asks goes =
@@ -128,7 +128,7 @@ steps_said steps run watches lines asks goes =
 -- 3. Where a run stands.
 
 module _ (run : FmLevelOf) (there : pc_of run.state ≡ run.image.final_pc) where
-  is_over_there : next_of (Fm run) ≡ Over
+  pub is_over_there : next_of (Fm run) ≡ Over
   is_over_there = ap (λ (b : Bool). lifted Fm (if b then Over else fm_after run (fm_step run.state))) (eq-eqb (pc_of run.state) run.image.final_pc there)
 
   said_there : up_text (Fm run) ≡ lines_of_reading run.image (reading run.image run.state)
@@ -137,7 +137,7 @@ module _ (run : FmLevelOf) (there : pc_of run.state ≡ run.image.final_pc) wher
       (eq-eqb (pc_of run.state) run.image.final_pc there)
 
 -- a walk of so many steps stands where the processor stands after as many instructions
-walk_stands : MachinesWalk → (image : ImageOf) (values : List ValueOf) (n : ℕ) (state : fm.Fm) → StandsAfter n (loaded image values) image.final_pc state
+pub walk_stands : MachinesWalk → (image : ImageOf) (values : List ValueOf) (n : ℕ) (state : fm.Fm) → StandsAfter n (loaded image values) image.final_pc state
     → (walk n (image_run image values)).level ≡ Fm record { image = image; state = state }
 walk_stands walks image values n state stands =
     let run : FmLevelOf = record { image = image; state = loaded image values } in
@@ -203,7 +203,7 @@ top_says Fm9001 at text sizes values_text run n begins = absurd cc
 
 -- 5. The command.
 
-three_there : (files : Files) (first second third : Role × List ℕ) (text other last : List ℕ) → IsReadable files first.0 first.1 text
+pub three_there : (files : Files) (first second third : Role × List ℕ) (text other last : List ℕ) → IsReadable files first.0 first.1 text
     → IsReadable files second.0 second.1 other → IsReadable files third.0 third.1 last
     → gathered files (first ∷ second ∷ third ∷ []) ≡ Ok ((first.0, text) ∷ (second.0, other) ∷ (third.0, last) ∷ [])
 three_there files first second third text other last there there' there'' =

@@ -6,6 +6,7 @@ pub mod AnswerLaws
 pub mod AssemblesLaws
 pub mod BudgetLaws
 pub mod CompletesLaws
+pub mod DebugInTwoLaws
 pub mod DecidesLaws
 pub mod EndLaws
 pub mod ExplainsLaws
@@ -27,6 +28,7 @@ pub mod PutLaws
 pub mod RoleLaws
 pub mod RoomLaws
 pub mod SessionLaws
+pub mod ShowsRunsLaws
 pub mod SizeLaws
 pub mod StandingLaws
 pub mod TaskCountLaws
@@ -34,3 +36,7 @@ pub mod TasksReadyLaws
 pub mod TellsLaws
 pub mod QuickensLaws
 pub mod QuickRunsLaws
+pub mod ConverseLaws
+pub mod TalkRanLaws
+pub mod ServeLaws
+pub mod SoonerLaws

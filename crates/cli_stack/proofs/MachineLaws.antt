@@ -32,7 +32,8 @@ use Rattle.stack_commands.{specs.Commands.Debug.{script_reply, session_reply}, s
 use Rattle.stack_commands.{specs.Commands.Mean.mean_accepted_reply, specs.Commands.Pbuild.{is_large, linked_reply, checked_reply}, specs.Commands.Pit.pit_reply}
 use Rattle.stack_commands.{specs.Commands.Need.{bounds_reply, certified_reply, need_reply_by}, specs.Commands.Cert.{judged_reply, certificate_reply}}
 use Rattle.stack_commands.{specs.Commands.Cert.cert_reply_by, specs.Commands.SourceText.accepted_in, specs.Commands.Turns.{fault_reply, tasks_of, tasks_reply}}
-use Rattle.stack_commands.{specs.Commands.Turns.turns_by, specs.Commands.Quick.{quick_built, quick_reply}}
+use Rattle.stack_commands.{specs.Commands.Turns.turns_by, specs.Commands.Quick.{quick_built, quick_reply}, specs.Commands.Idebug.image_run_in}
+use Rattle.stack_commands.specs.Commands.Pdebug.{piton_run_in}
 use Rattle.stack_commands.specs.declared.turns.tasks.TasksFault.TheVariants as tasks_fault
 use Rattle.command_replies.{specs.declared.reply.Reply.Reply, specs.declared.reply.SizeOf.TheVariants.Words, specs.declared.reply.Verdict.Verdict}
 use Rattle.command_replies.specs.Replies.{ReplyOf, reply_of, status_of, verdict_alone, judgement_reply, built_reply, written_reply}
@@ -230,6 +231,10 @@ by_command (command.Cert source certificate control temporary) watches texts =
     inl (cert_none (accepted_in (text_of role.Source texts)) (stack_sizes control temporary) (text_of role.Certificate texts))
 by_command (command.Debug level source values control temporary script) watches texts =
     inl (debug_none (run_in level (text_of role.Source texts) (stack_sizes control temporary) (text_of role.Values texts)) watches (text_of role.Script texts))
+by_command (command.Pdebug piton script) watches texts =
+    inl (debug_none (piton_run_in (text_of role.Piton texts)) watches (text_of role.Script texts))
+by_command (command.Idebug image values script) watches texts =
+    inl (debug_none (image_run_in (text_of role.SessionImage texts) (text_of role.Values texts)) watches (text_of role.Script texts))
 by_command (command.Turns turn budget control temporary tasks) watches texts =
     inl (turns_none turn budget (tasks_of (stack_sizes control temporary) (texts_of role.TaskSource texts) (texts_of role.TaskValues texts)))
 by_command (command.Big number procedures) watches texts =

@@ -17,7 +17,7 @@ use Rattle.level_debuggers.specs.Tallies.{Watching}
 use Rattle.stack_build.{specs.declared.start_fault.StartFault.StartFault, specs.Starts.{or_values, shortage_of, unless_short, gypsy_start}}
 use Rattle.stack_build.{specs.declared.fault.BuildFault.BuildFault, specs.Build.accepted_source, specs.Image.formal_slots}
 use Rattle.command_line.{specs.declared.command.Command.Command, specs.declared.early_end.EarlyEnd.EarlyEnd, specs.declared.role.Role.Role}
-use Rattle.command_line.specs.declared.role.Role.TheVariants.{Source, Piton, Image, Values, Script, Assembly, Certificate, Infix, QuickImage}
+use Rattle.command_line.specs.declared.role.Role.TheVariants.{Source, Piton, Image, Values, Script, Assembly, Certificate, Infix, QuickImage, SessionImage}
 use Rattle.command_line.{specs.declared.command.TaskFiles.TaskFiles, specs.declared.status.Status.TheVariants.Done, specs.Gathered.Texts}
 use Rattle.command_line.specs.CommandFiles.{task_inputs, inputs_of, output_of}
 use Rattle.command_line.specs.declared.command.Command.TheVariants as command
@@ -234,6 +234,7 @@ means (command.Cert source_name certificate control temporary) watches files =
     λ source values reads writes. absurd (let e : Certificate ≡ Values = ap (λ (fs : List (Role × List ℕ)). first_role (others fs)) reads in cc)
 means (command.Debug level source_name values_name control temporary script) watches files =
     λ source values reads writes. absurd (let e : (Script, script) ∷ [] ≡ [] = ap (λ (fs : List (Role × List ℕ)). others (others fs)) reads in cc)
+means (command.Idebug image values_name script) watches files = λ source values reads writes. absurd (let e : SessionImage ≡ Source = ap first_role reads in cc)
 means (command.Turns turn budget control temporary tasks) watches files = λ source values reads writes. absurd (no_source tasks (ap first_role reads))
   where
     no_source : (tasks : List TaskFiles) → first_role (task_inputs tasks) ≡ Source → ⊥

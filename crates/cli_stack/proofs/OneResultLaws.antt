@@ -33,7 +33,7 @@ use Rattle.cli_stack.{proofs.RoomLaws.needs, proofs.TellsLaws.{is_there, go_tell
 -- 1. A report says nothing of the sizes.
 
 -- of the slots it looks at the shapes alone
-shaped_same : (a b : ℕ) (ds : List Decl) (read : List (List ℕ × List Shown)) → shaped (slots_from a ds) read ≡ shaped (slots_from b ds) read
+pub shaped_same : (a b : ℕ) (ds : List Decl) (read : List (List ℕ × List Shown)) → shaped (slots_from a ds) read ≡ shaped (slots_from b ds) read
 unfolding shaped
 shaped_same a b [] read = refl
 shaped_same a b (d ∷ ds) [] = refl

@@ -1,6 +1,5 @@
 -- A run of an image that does a source quickly tells what the source means.
-use Rattle.std.proofs.Common.{◌≡◌, ◌≤◌, ◌<◌, ◌∷◌, [], inl, inr, ⊎_elim, ℕ, List, Option, Result, Ok, refl, sym, ap, ◌∙◌, subst, arith}
-use Rattle.std.proofs.lemmas.Bool.{cases_lt}
+use Rattle.std.{proofs.Common.{◌≡◌, ◌≤◌, ◌<◌, inl, inr, ⊎_elim, ℕ, List, Option, Result, Ok, refl, sym, ap, ◌∙◌, subst, arith}, proofs.lemmas.Bool.cases_lt}
 use Rattle.stack_text.specs.Values.{ValueOf}
 use Rattle.fm_machine.{specs.Outcome.{IsOutcome, RunOutcome, outcome}, specs.declared.processor.Run.Run, proofs.RunLaws.{outcome_is, outcome_only}}
 use Rattle.fm_machine.specs.declared.processor.Run.TheVariants as run
@@ -67,7 +66,7 @@ module _ (image : ImageOf) (source : SourceOf) (sizes : StackSizes) (does : Does
       let both : run.Spent ≡ run.Ended c.steps = sym spent ∙ ended in
       absurd cc) (cases_lt budget c.steps)
 
-  reply_tells_quickly : (reply : ReplyOf) → reply ≡ run_reply image values budget → TellsQuickly source sizes image values budget (answer_with output reply)
+  pub reply_tells_quickly : (reply : ReplyOf) → reply ≡ run_reply image values budget → TellsQuickly source sizes image values budget (answer_with output reply)
   reply_tells_quickly reply is = record {
     told = λ finals way count fin.
         let c = does.comes values finals way count fits fin in

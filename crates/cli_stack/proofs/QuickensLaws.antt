@@ -1,7 +1,7 @@
 -- What `quick` stores is the quickened image of its source, which does what that means.
-use Rattle.std.{proofs.Common.{◌≡◌, ◌≤◌, ℕ, List, [], ◌∷◌, Some, None, Result, Ok, Err, length, refl, sym, ap, ◌∙◌, subst, arith}, specs.Prelude.{◌^◌, Option}}
+use Rattle.std.{proofs.Common.{◌≡◌, ◌≤◌, ℕ, List, [], ◌∷◌, Some, None, Result, Ok, Err, length, refl, sym, ap, ◌∙◌, subst, arith}, specs.Prelude.Option}
 use Rattle.stack_text.specs.Results.{◌>>=◌}
-use Rattle.stack_shelf.{specs.Files.{Files, file_at}, specs.Shelf.fetched}
+use Rattle.stack_shelf.{specs.Files.Files, specs.Shelf.fetched}
 use Rattle.fm_image.specs.Spelling.{spelling}
 use Rattle.level_debuggers.specs.Tallies.{Watching}
 use Rattle.gypsy_syntax.specs.Sources.{SourceOf}
@@ -9,8 +9,8 @@ use Rattle.gypsy_space.specs.Needs.{stack_sizes}
 use Rattle.stack_build.{specs.declared.fault.BuildFault.BuildFault, specs.Build.{BuiltOf, accepted_source, source_built, built}, proofs.BuildLaws.text_builds}
 use Rattle.quick_generate.{specs.Quickened.quickened, specs.DoesQuickly.TextsAreQuickened}
 use Rattle.command_line.{proofs.FileLaws.was_short, specs.declared.command.Command.Command, specs.declared.early_end.EarlyEnd.EarlyEnd}
-use Rattle.command_line.{specs.declared.role.Role.Role, specs.declared.role.Role.TheVariants.{Source, QuickImage}, specs.Roles.limit_of, specs.Gathered.Texts}
-use Rattle.command_line.{specs.Gathered.{text_of, text_or_end}, specs.CommandFiles.{inputs_of, output_of}}
+use Rattle.command_line.{specs.declared.role.Role.TheVariants.{Source, QuickImage}, specs.Roles.limit_of, specs.Gathered.{Texts, text_of, text_or_end}}
+use Rattle.command_line.specs.CommandFiles.{inputs_of, output_of}
 use Rattle.command_line.specs.declared.command.Command.TheVariants as command
 use Rattle.stack_commands.{specs.Prepared.stored_by, specs.Commands.Quick.{quick_built, quick_stored}}
 use Rattle.cli_stack.{specs.Answer.{set_file, answer_on, answer_to}, specs.Implements.HoldsStored, specs.RepliesTo.AreTexts, specs.Quickens.IsQuickened}
@@ -24,17 +24,17 @@ module _ (laws : TextsAreQuickened) (text : List ℕ) (control temporary : ℕ) 
   Is bytes = IsQuickened text (stack_sizes control temporary) bytes
 
   made_is : (s : SourceOf) (plain : BuiltOf) → accepted_source text ≡ Ok s → source_built s (stack_sizes control temporary) 0 ≡ Ok plain
-      → Is (spelling (quickened s plain.image))
+      → Is (spelling (quickened s (stack_sizes control temporary) plain.image))
   made_is s plain read made =
       let whole : built text control temporary 0 ≡ Ok plain = text_builds text control temporary 0 s read ∙ made in
       let q = laws text control temporary 0 plain (omega (arith, few)) (omega arith) whole in
       let both : Ok q.source ≡ Ok s = sym q.read ∙ read in
       let same : q.source ≡ s = cc in
-      subst (λ (source : SourceOf). Is (spelling (quickened source plain.image))) same (record {
+      subst (λ (source : SourceOf). Is (spelling (quickened source (stack_sizes control temporary) plain.image))) same (record {
         is = record {
           source = q.source;
           read = q.read;
-          image = quickened q.source plain.image;
+          image = quickened q.source (stack_sizes control temporary) plain.image;
           short = q.short few;
           spells = q.quickens.spells;
           does = q.quickens.does;
@@ -51,15 +51,16 @@ module _ (laws : TextsAreQuickened) (text : List ℕ) (control temporary : ℕ) 
     where
       by_plain : (s : SourceOf) → accepted_source text ≡ Ok s → (found : Result BuiltOf BuildFault)
           → source_built s (stack_sizes control temporary) 0 ≡ found
-          → quick_stored (found >>= λ plain. Ok (quickened s plain.image)) ≡ Some bytes → Is bytes
+          → quick_stored (found >>= λ plain. Ok (quickened s (stack_sizes control temporary) plain.image)) ≡ Some bytes → Is bytes
       by_plain s read (Err fault) made is = absurd (let e : None ≡ Some bytes = is in cc)
       by_plain s read (Ok plain) made is =
-          let both : Some (spelling (quickened s plain.image)) ≡ Some bytes = is in
-          let same : spelling (quickened s plain.image) ≡ bytes = cc in
+          let both : Some (spelling (quickened s (stack_sizes control temporary) plain.image)) ≡ Some bytes = is in
+          let same : spelling (quickened s (stack_sizes control temporary) plain.image) ≡ bytes = cc in
           subst Is same (made_is s plain read made)
 
       by_source : (found : Result SourceOf BuildFault) → accepted_source text ≡ found
-          → quick_stored (found >>= λ s. source_built s (stack_sizes control temporary) 0 >>= λ plain. Ok (quickened s plain.image)) ≡ Some bytes
+          → quick_stored (found >>= λ s. source_built s (stack_sizes control temporary) 0 >>= λ plain.
+          Ok (quickened s (stack_sizes control temporary) plain.image)) ≡ Some bytes
           → Is bytes
       by_source (Err fault) read is = absurd (let e : None ≡ Some bytes = is in cc)
       by_source (Ok s) read is = by_plain s read (source_built s (stack_sizes control temporary) 0) refl is

@@ -1,6 +1,6 @@
 -- What the logs of a run tell.
-use Rattle.std.proofs.Common.{◌≡◌, ◌⊎◌, inl, inr, ⊎_elim, ◌∷◌, [], ◌++◌, take, ℕ, zero, suc, ◌+◌, ◌==◌, Bool, true, false, if◌then◌else◌, List, Option, Some}
-use Rattle.std.proofs.Common.{None, IfSome, Result, Ok, Err, length, IfOk, ◌≤◌, refl, sym, ap, subst, ◌∙◌, arith, append-nil, append_assoc, length-append}
+use Rattle.std.proofs.Common.{◌≡◌, ◌⊎◌, inl, inr, ⊎_elim, ◌∷◌, [], ◌++◌, take, ℕ, zero, suc, ◌==◌, Bool, true, false, if◌then◌else◌, List, Option, Some, None}
+use Rattle.std.proofs.Common.{IfSome, Result, Ok, Err, length, IfOk, ◌≤◌, refl, sym, ap, subst, ◌∙◌, arith, append-nil, append_assoc, length-append}
 use Rattle.std.{specs.Prelude.◌≢◌, proofs.lemmas.List.Elements.All-head}
 use Rattle.stack_shelf.specs.Files.{Files}
 use Rattle.level_debuggers.specs.Tallies.{Watching}
@@ -26,7 +26,7 @@ use Rattle.cli_stack.{proofs.DecidesLaws.reply_decided, proofs.GoLaws.build_done
 -- 1. What is in a log after calls.
 
 module _ {S : Type 0} (gave got : S → List ℕ → List ℕ → S) where
-  gave_logs : (s : LoggedShelfOf S) (files : List (Role × List ℕ)) (texts : Texts)
+  pub gave_logs : (s : LoggedShelfOf S) (files : List (Role × List ℕ)) (texts : Texts)
       → ((gave_each (logged_gave gave) s files texts).fetched ≡ s.fetched ++ files_with files texts)
       × ((gave_each (logged_gave gave) s files texts).stored ≡ s.stored)
   gave_logs s [] texts = (sym (append-nil s.fetched), refl)
@@ -41,11 +41,11 @@ module _ {S : Type 0} (gave got : S → List ℕ → List ℕ → S) where
   got_logs s (Some file) = (refl, refl)
 
 -- the pieces of a text, one after another
-abbrev joined : List (List ℕ) → List ℕ
+abbrev pub joined : List (List ℕ) → List ℕ
 joined [] = []
 joined (piece ∷ pieces) = piece ++ joined pieces
 
-take_again : (n : ℕ) (xs ys : List ℕ) → take n (take n xs ++ ys) ≡ take n (xs ++ ys)
+pub take_again : (n : ℕ) (xs ys : List ℕ) → take n (take n xs ++ ys) ≡ take n (xs ++ ys)
 take_again zero xs ys = refl
 take_again (suc n) [] ys = refl
 take_again (suc n) (x ∷ xs) ys = ap (λ (l : List ℕ). x ∷ l) (take_again n xs ys)
@@ -64,11 +64,11 @@ lines_by true byte lines = refl
 lines_by false byte [] = refl
 lines_by false byte (line ∷ lines) = refl
 
-joined_lines : (text : List ℕ) → joined (lines_of text) ≡ text
+pub joined_lines : (text : List ℕ) → joined (lines_of text) ≡ text
 joined_lines [] = refl
 joined_lines (byte ∷ text) = lines_by (byte == 10) byte (lines_of text) ∙ ap (λ (xs : List ℕ). byte ∷ xs) (joined_lines text)
 
-took_text : {K : Type 0} (took : K → List ℕ → K) (s : LoggedSinkOf K) (text : List ℕ)
+pub took_text : {K : Type 0} (took : K → List ℕ → K) (s : LoggedSinkOf K) (text : List ℕ)
     → take log_limit (took_each (logged_took took) s (lines_of text)).printed ≡ take log_limit (s.printed ++ text)
 took_text took s text = took_log took s (lines_of text) ∙ ap (λ (xs : List ℕ). take log_limit (s.printed ++ xs)) (joined_lines text)
 

@@ -28,3 +28,11 @@ pub both_roles : (role other second : Role) (first next name : List ℕ) → (ot
 both_roles role other second first next name apart apart' (zero, lt, is) = apart (ap (λ (f : Role × List ℕ). f.0) is)
 both_roles role other second first next name apart apart' (suc zero, lt, is) = apart' (ap (λ (f : Role × List ℕ). f.0) is)
 both_roles role other second first next name apart apart' (suc (suc i), lt, is) = omega arith
+
+-- nor who reads three
+pub three_roles : (role other second third : Role) (first next last name : List ℕ) → (other ≡ role → ⊥) → (second ≡ role → ⊥) → (third ≡ role → ⊥)
+    → Contains {X = Role × List ℕ} ((other, first) ∷ (second, next) ∷ (third, last) ∷ []) (role, name) → ⊥
+three_roles role other second third first next last name apart apart' apart'' (zero, lt, is) = apart (ap (λ (f : Role × List ℕ). f.0) is)
+three_roles role other second third first next last name apart apart' apart'' (suc zero, lt, is) = apart' (ap (λ (f : Role × List ℕ). f.0) is)
+three_roles role other second third first next last name apart apart' apart'' (suc (suc zero), lt, is) = apart'' (ap (λ (f : Role × List ℕ). f.0) is)
+three_roles role other second third first next last name apart apart' apart'' (suc (suc (suc i)), lt, is) = omega (arith, lt)

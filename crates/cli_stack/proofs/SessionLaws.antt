@@ -37,7 +37,7 @@ made_goes run (Ok t) = refl
 made_goes run (Err fault) = refl
 
 module _ (run : FmLevelOf) (apart : pc_of run.state ≢ run.image.final_pc) where
-  machine_goes : is_over (next_of (Fm run)) ≡ false
+  pub machine_goes : is_over (next_of (Fm run)) ≡ false
   machine_goes =
       ap (λ (b : Bool). is_over (lifted Fm (cond b step.Over (fm_after run (fm_step run.state))))) (ne_eqb (pc_of run.state) run.image.final_pc apart)
       ∙ made_goes run (fm_step run.state)
@@ -77,7 +77,7 @@ not_halted : (f : piton.Frame) (rest frames : List piton.Frame) → frames ≡ f
 not_halted f rest frames e = ne_eqb (length frames) 0 (λ z. omega (arith, z, ap length e))
 
 module _ (run : PitonLevelOf) (f : piton.Frame) (rest : List piton.Frame) (there : run.seen.state.frames ≡ f ∷ rest) where
-  system_goes : is_over (next_of (Piton run)) ≡ false
+  pub system_goes : is_over (next_of (Piton run)) ≡ false
   system_goes = from_goes run f rest run.seen.state.frames there
 
   system_said : (read : ReadingAtOf) → read_from run.image (piton_at (system_in run.checked) run.seen.state) ≡ Some read

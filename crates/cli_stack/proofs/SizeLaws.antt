@@ -1,5 +1,5 @@
 -- Refused sizes are those of commands that take sizes.
-use Rattle.std.proofs.Common.{◌≡◌, inl, inr, ℕ, List, Bool, true, false, Option, Some, None, Result, Ok, Err, IfErr, refl, sym, ap, ◌∙◌}
+use Rattle.std.proofs.Common.{◌≡◌, inl, inr, ℕ, List, Bool, true, false, [], Option, Some, None, Result, Ok, Err, IfErr, refl, sym, ap, ◌∙◌}
 use Rattle.std.specs.Prelude.{if◌then◌else◌, IsSomeAnd}
 use Rattle.fm_machine.{specs.Outcome.{RunOutcome, outcome}, specs.State.Fm, specs.declared.processor.Run.Run}
 use Rattle.fm_machine.specs.declared.processor.Run.TheVariants as run
@@ -16,9 +16,14 @@ use Rattle.gypsy_syntax.specs.Sources.{SourceOf}
 use Rattle.gypsy_syntax.specs.declared.fault.GypsyFault.TheVariants as gypsy
 use Rattle.gypsy_check.specs.Rules.{violations as gypsy_violations}
 use Rattle.piton_semantics.{specs.declared.stepped.PitonRun.PitonRun, specs.Fits.system_in, specs.StateView.{Ran, state_run, opening, Seen as PitonSeen}}
+use Rattle.piton_semantics.specs.declared.error_kind.ErrorKind.{ErrorKind}
 use Rattle.piton_semantics.specs.declared.stepped.PitonRun.TheVariants as piton_run
 use Rattle.gypsy_space.specs.Needs.{StackSizes as StackWords, stack_sizes}
-use Rattle.level_debuggers.specs.Tallies.{Watching}
+use Rattle.debug_script.{specs.declared.fault.ScriptFault.ScriptFault, specs.declared.reading.Line.Line, specs.Scripts.script_of}
+use Rattle.debug_script.specs.declared.fault.ScriptFault.TheVariants as script_fault
+use Rattle.level_debuggers.{specs.declared.script_end.ScriptEnd.ScriptEnd, specs.Levels.{LevelOf, program_named}, specs.Tallies.Watching}
+use Rattle.level_debuggers.specs.Transcripts.{Followed, followed}
+use Rattle.level_debuggers.specs.declared.script_end.ScriptEnd.TheVariants as script_end
 use Rattle.stack_build.specs.Build.{accepted_source, reading_fault, accepted_unless, accepted_by}
 use Rattle.command_line.{specs.declared.command.Command.Command, specs.declared.status.Status.TheVariants.{Size, Usage}, specs.Gathered.{Texts, text_of}}
 use Rattle.command_line.specs.CommandFiles.{output_of}
@@ -33,6 +38,8 @@ use Rattle.command_replies.specs.Commands.PitonText.{checked_in}
 use Rattle.command_replies.specs.declared.reply.Verdict.TheVariants as verdict
 use Rattle.stack_commands.{specs.Prepared.reply_by, specs.Commands.Need.{bounds_reply, certified_reply, need_reply_by}, specs.Commands.Cert.judged_reply}
 use Rattle.stack_commands.{specs.Commands.Cert.{certificate_reply, cert_reply_by}, specs.Commands.SourceText.{build_verdict, unless_refused, accepted_in}}
+use Rattle.stack_commands.specs.Commands.Debug.{end_verdict, error_verdict, lines_reply, script_reply, session_on, session_reply}
+use Rattle.stack_commands.specs.Commands.Idebug.{read_run, image_run_in, loaded_run}
 use Rattle.cli_stack.{specs.Causes.HasSizes, proofs.MachineLaws.RepliesToSome}
 
 abbrev is_size : Verdict → Bool
@@ -155,6 +162,39 @@ checked_run_no_size (Ok checked) limit none =
     piton_run_no_size checked.system limit ran.run ran.seen
 checked_run_no_size (Err verdict) limit none = none
 
+error_no_size : (kind : ErrorKind) (name : Option (List ℕ)) (place after : ℕ) → is_size (error_verdict kind name place after) ≡ false
+error_no_size kind None place after = refl
+error_no_size kind (Some name) place after = refl
+
+script_end_no_size : (run : LevelOf) (e : ScriptEnd) → is_size (end_verdict run e) ≡ false
+script_end_no_size run script_end.Done = refl
+script_end_no_size run (script_end.Error kind program place after) = error_no_size kind (program_named run program) place after
+script_end_no_size run (script_end.Outside address after) = refl
+script_end_no_size run (script_end.NoneWaits line) = refl
+script_end_no_size run (script_end.NoneAttached line) = refl
+script_end_no_size run (script_end.OtherLevel line) = refl
+
+script_no_size : (run : LevelOf) (watches : List Watching) (found : Result (List Line) ScriptFault) → is_size (script_reply run watches found).verdict ≡ false
+unfolding lines_reply
+script_no_size run watches (Ok lines) =
+    let made : Followed = followed [] lines (session_on run watches) in script_end_no_size made.session.level made.end
+script_no_size run watches (Err (script_fault.Refused rule line)) = refl
+script_no_size run watches (Err script_fault.Memory) = refl
+
+-- a session refuses no size, only its start may
+session_no_size : (found : Result LevelOf Verdict) (watches : List Watching) (script : List ℕ) → IfErr found (λ v. is_size v ≡ false)
+    → is_size (session_reply found watches script).verdict ≡ false
+session_no_size (Ok run) watches script none = script_no_size run watches (script_of script)
+session_no_size (Err verdict) watches script none = none
+
+read_run_no_size : (values : List ℕ) (image : Result ImageOf (ℕ × ℕ)) → IfErr (read_run values image) (λ v. is_size v ≡ false)
+read_run_no_size values (Err fault) = refl
+read_run_no_size values (Ok image) = by_values (values_in image.slots values)
+  where
+    by_values : (found : Result (List ValueOf) (ℕ × ℕ)) → IfErr (loaded_run image found) (λ v. is_size v ≡ false)
+    by_values (Ok values) = tt
+    by_values (Err fault) = refl
+
 -- 2. All commands.
 
 abbrev Sizes : Command → ReplyOf → Type 0
@@ -174,7 +214,7 @@ sizes_by (command.Pcheck piton) watches texts = no_sizes (command.Pcheck piton) 
     (judgement_no_size (checked_in (text_of role.Piton texts)) (refused_no_size (text_of role.Piton texts)))
 sizes_by (command.Prun piton limit) watches texts = no_sizes (command.Prun piton limit) (reply_by (command.Prun piton limit) watches texts)
     (checked_run_no_size (checked_in (text_of role.Piton texts)) limit (refused_no_size (text_of role.Piton texts)))
-sizes_by (command.Pbuild piton image) watches texts = λ size. inr (image, refl)
+sizes_by (command.Pbuild piton image) watches texts = λ size. inr (inl (image, refl))
 sizes_by (command.Run image values budget) watches texts =
     no_sizes (command.Run image values budget) (reply_by (command.Run image values budget) watches texts)
     (image_no_size (text_of role.Values texts) budget (read_of (text_of role.Image texts)))
@@ -196,6 +236,11 @@ sizes_by (command.Cert source certificate control temporary) watches texts =
     (cert_no_size (accepted_in (text_of role.Source texts)) (stack_sizes control temporary) (text_of role.Certificate texts)
     (source_no_size (text_of role.Source texts)))
 sizes_by (command.Debug level source values control temporary script) watches texts = λ size. inl refl
+sizes_by (command.Pdebug piton script) watches texts = λ size. inr (inr (piton, script, refl))
+sizes_by (command.Idebug image values script) watches texts =
+    no_sizes (command.Idebug image values script) (reply_by (command.Idebug image values script) watches texts)
+    (session_no_size (image_run_in (text_of role.SessionImage texts) (text_of role.Values texts)) watches (text_of role.Script texts)
+    (read_run_no_size (text_of role.Values texts) (read_of (text_of role.SessionImage texts))))
 sizes_by (command.Turns turn budget control temporary tasks) watches texts = λ size. inl refl
 sizes_by (command.Big number procedures) watches texts = λ size. inl refl
 sizes_by (command.Mini program source) watches texts =

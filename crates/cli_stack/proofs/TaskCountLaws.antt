@@ -4,9 +4,9 @@ use Rattle.std.specs.Str.{bytes_eq}
 use Rattle.stack_text.specs.Options.{◌>>=◌}
 use Rattle.command_line.{specs.declared.command.Command.Command, specs.declared.command.TaskFiles.TaskFiles, specs.CommandRows.{command_of, row_of, row_with}}
 use Rattle.command_line.specs.CommandRows.{rows, whole_of, at_end, read_on, check_row, mean_row, pit_row, build_row, pcheck_row, prun_row, pbuild_row, run_row}
-use Rattle.command_line.specs.CommandRows.{go_row, show_row, migrate_row, asm_row, unasm_row, need_row, cert_row, debug_row, turns_row, big_row, mini_row}
-use Rattle.command_line.{specs.CommandRows.quick_row, specs.CommandWords.{CommandWords, Reader, task, tasks, tasks_within, unless_ended, file, size, limit}}
-use Rattle.command_line.specs.CommandWords.{seed, procedures, debug_level, turn_length, end}
+use Rattle.command_line.specs.CommandRows.{go_row, show_row, migrate_row, asm_row, unasm_row, need_row, cert_row, debug_row, pdebug_row, idebug_row, turns_row}
+use Rattle.command_line.{specs.CommandRows.{big_row, mini_row, quick_row}, specs.CommandWords.{CommandWords, Reader, task, tasks, tasks_within, unless_ended}}
+use Rattle.command_line.specs.CommandWords.{file, size, limit, seed, procedures, debug_level, turn_length, end}
 use Rattle.command_line.specs.declared.command.Command.TheVariants as command
 
 -- there are one to eight tasks where there are any
@@ -139,6 +139,14 @@ debug_few = then_few debug_level _ (λ level. then_few file _
     (λ control. then_few size _ (λ temporary. then_few file _
     (λ script. last (command.Debug level source values control temporary script) tt))))))
 
+pdebug_few : Few pdebug_row
+unfolding pdebug_row
+pdebug_few = two (λ a b. command.Pdebug a b) (λ a b. tt)
+
+idebug_few : Few idebug_row
+unfolding idebug_row
+idebug_few = then_few file _ (λ image. two (λ a b. command.Idebug image a b) (λ a b. tt))
+
 big_few : Few big_row
 unfolding big_row
 big_few = then_few seed _ (λ number. then_few procedures _ (λ count. last (command.Big number count) tt))
@@ -187,8 +195,8 @@ unfolding rows
 each_few =
     check_few beside mean_few beside pit_few beside build_few beside pcheck_few beside prun_few beside
     pbuild_few beside run_few beside go_few beside show_few beside migrate_few beside asm_few beside
-    unasm_few beside need_few beside cert_few beside debug_few beside turns_few beside big_few beside
-    mini_few beside quick_few beside tt
+    unasm_few beside need_few beside cert_few beside debug_few beside pdebug_few beside idebug_few beside
+    turns_few beside big_few beside mini_few beside quick_few beside tt
 
 named_few : (word : List ℕ) (table : List (List ℕ × (CommandWords → Option Command))) (words : CommandWords) → EachFew table
     → IfSome (row_with word table words) HasFew

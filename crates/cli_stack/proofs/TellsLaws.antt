@@ -15,14 +15,14 @@ use Rattle.stack_build.{specs.Build.{built, BuildsText}, specs.ComesTo.ComesTo, 
 use Rattle.stack_build.specs.Joined.{BuiltImplements, BuiltTakesValues}
 use Rattle.command_line.{specs.declared.command.Command.Command, specs.declared.early_end.EarlyEnd.EarlyEnd, specs.declared.role.Role.Role}
 use Rattle.command_line.specs.declared.role.Role.TheVariants.{Source, Piton, Image, Values, Script, Assembly, Certificate, Infix, TaskSource, TaskValues}
-use Rattle.command_line.{specs.declared.command.TaskFiles.TaskFiles, specs.declared.words.reader.Level.Level, specs.Roles.limit_of, specs.Gathered.Texts}
-use Rattle.command_line.{specs.Gathered.{text_or_end, gathered}, specs.CommandFiles.{task_inputs, inputs_of, output_of}}
+use Rattle.command_line.{specs.declared.role.Role.TheVariants.SessionImage, specs.declared.command.TaskFiles.TaskFiles, specs.declared.words.reader.Level.Level}
+use Rattle.command_line.{specs.Roles.limit_of, specs.Gathered.{Texts, text_or_end, gathered}, specs.CommandFiles.{task_inputs, inputs_of, output_of}}
 use Rattle.command_line.specs.declared.command.Command.TheVariants as command
 use Rattle.command_replies.{specs.declared.reply.Verdict.Verdict, specs.declared.reply.Verdict.TheVariants.Done, specs.Replies.{ReplyOf, status_of}}
 use Rattle.command_replies.{specs.Replies.verdict_line, specs.Commands.Run.{outcome_reply, run_reply, image_file_reply}}
 use Rattle.stack_commands.{specs.Commands.Go.go_reply, specs.Prepared.reply_by}
 use Rattle.cli_stack.{specs.Answer.{answer_with, answer_on, answer_to}, specs.Tells.{IsBuilt, IsRead, TellsReport, HasImage, TellsMeanings}}
-use Rattle.cli_stack.{specs.FilesAndSizes.IsReadable, proofs.RoleLaws.{only_role, both_roles}}
+use Rattle.cli_stack.{specs.FilesAndSizes.IsReadable, proofs.RoleLaws.{only_role, both_roles, three_roles}}
 
 -- 1. A run that is long enough tells the meaning.
 
@@ -146,14 +146,16 @@ mean_has_none source_name values_file control temporary limit (inr (name, is)) =
 debug_has_none : (level : Level) (source_name values_file : List ℕ) (control temporary : ℕ) (script : List ℕ)
     → HasImage (command.Debug level source_name values_file control temporary script) → ⊥
 unfolding inputs_of output_of
-debug_has_none level source_name values_file control temporary script (inl (name, (zero, lt, is))) =
-    let e : Source ≡ Image = ap (λ (f : Role × List ℕ). f.0) is in cc
-debug_has_none level source_name values_file control temporary script (inl (name, (suc zero, lt, is))) =
-    let e : Values ≡ Image = ap (λ (f : Role × List ℕ). f.0) is in cc
-debug_has_none level source_name values_file control temporary script (inl (name, (suc (suc zero), lt, is))) =
-    let e : Script ≡ Image = ap (λ (f : Role × List ℕ). f.0) is in cc
-debug_has_none level source_name values_file control temporary script (inl (name, (suc (suc (suc i)), lt, is))) = omega (arith, lt)
+debug_has_none level source_name values_file control temporary script (inl (name, reads)) =
+    three_roles Image Source Values Script source_name values_file script name (λ e. cc) (λ e. cc) (λ e. cc) reads
 debug_has_none level source_name values_file control temporary script (inr (name, is)) = let e : None ≡ Some (Image, name) = is in cc
+
+-- nor `idebug`, whose image has a role of its own
+idebug_has_none : (image_name values_file script : List ℕ) → HasImage (command.Idebug image_name values_file script) → ⊥
+unfolding inputs_of output_of
+idebug_has_none image_name values_file script (inl (name, reads)) =
+    three_roles Image SessionImage Values Script image_name values_file script name (λ e. cc) (λ e. cc) (λ e. cc) reads
+idebug_has_none image_name values_file script (inr (name, is)) = let e : None ≡ Some (Image, name) = is in cc
 
 pub tells : BuiltImplements → BuiltTakesValues → (c : Command) (watches : List Watching) (files : Files) → TellsMeanings c files (answer_to c watches files)
 unfolding inputs_of
@@ -187,6 +189,10 @@ tells implement take (command.Cert source_name certificate control temporary) wa
     λ name reads has. absurd (both_roles Values Source Certificate source_name certificate name (λ e. cc) (λ e. cc) reads)
 tells implement take (command.Debug level source_name values_file control temporary script) watches files =
     λ name reads has. absurd (debug_has_none level source_name values_file control temporary script has)
+tells implement take (command.Pdebug piton_name script) watches files =
+    λ name reads has. absurd (both_roles Values Piton Script piton_name script name (λ e. cc) (λ e. cc) reads)
+tells implement take (command.Idebug image_name values_file script) watches files =
+    λ name reads has. absurd (idebug_has_none image_name values_file script has)
 tells implement take (command.Turns turn budget control temporary tasks) watches files = λ name reads has. absurd (tasks_no_values tasks name reads)
 tells implement take (command.Mini program stored) watches files = λ name reads has. absurd (only_role Values Infix program name (λ e. cc) reads)
 tells implement take (command.Quick source_name control temporary image_name) watches files =

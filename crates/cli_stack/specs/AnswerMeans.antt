@@ -6,7 +6,8 @@ use Rattle.command_line.specs.{declared.command.Command.{Command}, CommandRows.{
 use Rattle.cli_stack.specs.{Answer.{Answer, answer_to}, Implements.{StoresImplementation, StoresImplementationOf, StoresMoments}}
 use Rattle.cli_stack.specs.{Implements.{StoresMomentsOf}, RepliesTo.{AreTexts}, Tells.{TellsMeanings}, Decides.{Decides}}
 use Rattle.cli_stack.specs.{Means.{FollowsMeanings}, Links.{StoresLinked}, Assembles.{Assembles}, Needs.{Needs}, Lowers.{LowersPrograms}}
-use Rattle.cli_stack.specs.{Explains.{Explains}, Turns.{TellsEach}, Quickens.{StoresQuickened, StoresQuickenedOf}, QuickRuns.{RunsQuickly}}
+use Rattle.cli_stack.specs.{Explains.{Explains}, ShowsRuns.{ShowsRuns}, Turns.{TellsEach}, Quickens.{StoresQuickened, StoresQuickenedOf}}
+use Rattle.cli_stack.specs.QuickRuns.{RunsQuickly}
 
 pub record AnswerMeans (command : Command) (watches : List Watching) (files : Files) (answer : Answer) : Type 0 where
   -- the image that is stored for a source implements it
@@ -29,6 +30,8 @@ pub record AnswerMeans (command : Command) (watches : List Watching) (files : Fi
   pub lowers : LowersPrograms command files answer
   -- where the source's step machine comes to a state, `debug` says it, and at the end the meaning
   pub explains : Explains command watches files answer
+  -- `pdebug` and `idebug` show the run of the Piton text, or of the image: where it stands after the steps, its memory, and arrivals
+  pub shows : ShowsRuns command watches files answer
   -- sources whose images take turns are told each as it is alone
   pub turns : TellsEach command files answer
   -- the image that `quick` stores is the quickened one, and does what its source means in no more instructions than are counted

@@ -2,9 +2,10 @@
 use Rattle.std.specs.Prelude.{◌≡◌, ◌≢◌, ◌≤◌, ℕ, List}
 use Rattle.stack_shelf.specs.Files.{Files}
 use Rattle.level_debuggers.specs.Tallies.{Watching}
-use Rattle.command_line.specs.{declared.command.Command.{Command}, declared.command.Command.TheVariants.{Mean, Build, Prun, Run, Go, Turns}}
-use Rattle.command_line.specs.{declared.command.TaskFiles.{TaskFiles}, declared.role.Role.TheVariants.{Values}}
-use Rattle.command_line.specs.declared.status.Status.TheVariants.{Done, Unfinished}
+use Rattle.command_line.specs.{declared.command.Command.{Command}, declared.command.Command.TheVariants.{Mean, Build, Prun, Run, Go, Debug}}
+use Rattle.command_line.specs.{declared.command.Command.TheVariants.{Idebug, Turns}, declared.command.TaskFiles.{TaskFiles}}
+use Rattle.command_line.specs.{declared.role.Role.TheVariants.{Values}, declared.status.Status.TheVariants.{Done, Unfinished}}
+use Rattle.command_line.specs.declared.words.reader.Level.TheVariants.{Fm9001}
 use Rattle.cli_stack.specs.{Answer.{Answer, answer_to, files_after}, FilesAndSizes.{IsReadable}}
 
 -- the answer to the second command, over the files that the first one leaves
@@ -35,7 +36,19 @@ GoIsBuildAndRun =
     (answer_to (Build source control temporary image) watches files)
     (answer_after (Build source control temporary image) (Run image values budget) watches files)
 
--- 2. A larger budget changes no answer of a run that came to an end.
+-- 2. `debug fm9001` is `build`, and then `idebug`.
+
+-- where `build` ends well, a session of the source at the level of the processor is one of the image that it stored, under another name
+-- than the values and the script have
+abbrev pub DebugIsBuildAndIdebug : Type 0
+DebugIsBuildAndIdebug =
+    (source values script image : List ℕ) (control temporary : ℕ) (watches : List Watching) (files : Files) → image ≢ values →
+    image ≢ script → (answer_to (Build source control temporary image) watches files).status ≡ Done →
+    EndsAlike
+    (answer_to (Debug Fm9001 source values control temporary script) watches files)
+    (answer_after (Build source control temporary image) (Idebug image values script) watches files)
+
+-- 3. A larger budget changes no answer of a run that came to an end.
 
 -- a command by its budget, or by the most steps that it makes
 abbrev pub IsSettled : (ℕ → Command) → Type 0

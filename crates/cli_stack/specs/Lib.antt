@@ -20,16 +20,20 @@ pub mod Lowers
 pub mod Decides
 pub mod Explains
 pub mod SessionMoments
+pub mod ShowsRuns
 pub mod Turns
 pub mod Quickens
 pub mod QuickRuns
 pub mod Answer
 pub mod World
+pub mod Driver
+pub mod Converses
+pub mod TalkRan
+pub mod Late
 -- what it promises where there is memory enough
 -- laws of commands in a row
 pub mod InARow
+pub mod Sooner
 pub mod Again
 pub mod OneResult
 pub mod PitAndPbuild
--- Internal: what only private functions and lemmas say.
-pub mod Driver

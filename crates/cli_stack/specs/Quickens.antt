@@ -28,7 +28,7 @@ pub record IsQuickened (text : List ℕ) (sizes : StackSizes) (bytes : List ℕ)
   pub is : ImplementsQuickly text sizes bytes
   pub plain : BuiltOf
   pub made : built text sizes.ctrl sizes.temp 0 ≡ Ok plain
-  pub same : is.image ≡ quickened is.source plain.image
+  pub same : is.image ≡ quickened is.source sizes plain.image
   pub exact : (values finals : List ValueOf) (way : CurrentCondition) (bound : ℕ) → FitsFormals is.source values →
       meaning (program_of is.source) sizes values bound ≡ Done finals way →
       ComesAsCounted is.source sizes plain.image values bound (meaning_shown is.source finals way)

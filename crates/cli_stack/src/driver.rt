@@ -4,5 +4,5 @@
 mod conclude;
 mod perform;
 
-pub use conclude::conclude;
+pub use conclude::{conclude, conclude_reply};
 pub use perform::run_words;

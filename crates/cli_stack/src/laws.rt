@@ -1,19 +1,37 @@
 //! Laws of commands in a row, and one answer of `go` that is computed. The functions do nothing: their clauses hold of all files.
 
 ghost use Rattle.cli_stack.specs.{Again.{AssembledIsTheSame, CheckIsOfBuild, MigratedRunsTheSame, NeedIsCertified}, First.{FirstGoes}, InARow.{BudgetsSettle}};
-ghost use Rattle.cli_stack.specs.{InARow.{GoIsBuildAndRun}, OneResult.{LargerStacksTellTheSame}, PitAndPbuild.{BuildIsPitAndPbuild, PitCarriesMeanings}};
+ghost use Rattle.cli_stack.specs.{InARow.{DebugIsBuildAndIdebug, GoIsBuildAndRun}, OneResult.{LargerStacksTellTheSame}, PitAndPbuild.{BuildIsPitAndPbuild}};
+ghost use Rattle.cli_stack.specs.{PitAndPbuild.{PitCarriesMeanings}, Sooner.{QuickIsGoSooner}};
 ghost use Rattle.std.specs.Prelude.{List};
 ghost use Rattle.level_debuggers.specs.Tallies.{Watching};
 
 use gypsy_codegen::{generated_is_acceptable, moments_are_reached, source_runs};
 use piton_check::places_change_nothing;
-use stack_build::builds_implement;
+use quick_generate::quickened_images_mean;
+use stack_build::{builds_implement, runs_are_meant};
 
 /// `go` is `build`, and then `run` on the file that it stored.
 pub fn go_is_build_and_run()
     ensures { GoIsBuildAndRun }
 {
     builds_implement();
+}
+
+/// `debug fm9001` is `build`, and then `idebug` on the file that it stored.
+pub fn debug_is_build_and_idebug()
+    ensures { DebugIsBuildAndIdebug }
+{
+    builds_implement();
+}
+
+/// `quick` refuses what `build` refuses, and else `run` of the file that it stored prints what `go` prints, after no more instructions.
+pub fn quick_is_go_sooner()
+    ensures { QuickIsGoSooner }
+{
+    builds_implement();
+    runs_are_meant();
+    quickened_images_mean();
 }
 
 /// A larger budget changes no answer of a run that came to an end.

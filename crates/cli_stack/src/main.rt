@@ -1,17 +1,21 @@
 //! The short stack as one program: runs the words of its command line over the files of the current folder.
 #![tactic(auto)]
 
+mod conversing;
 mod driver;
 mod in_memory;
+mod late_lines;
 mod laws;
 mod moments;
 mod program;
 mod ran;
+mod serving;
 
 use command_line::exit_code;
-use device_logs::{LoggedShelf, LoggedSink};
+use device_logs::{LoggedLines, LoggedShelf, LoggedSink};
+use late_lines::LateLines;
 use level_debuggers::{CostWatch, CountWatch, LastWatch, PeakWatch, Watch};
-use ran::run_logged;
+use serving::serve;
 use stack_shelf::{FolderShelf, StdoutSink};
 use std::alloc::Global;
 use std::path::PathBuf;
@@ -28,7 +32,7 @@ fn arguments(alloc: Global, rt: &(impl Env + AllocGlobal)) -> io::Result<Vec<Str
     Ok(words)
 }
 
-/// Runs the words of the command line over the current folder and standard output, with a watch of each rule.
+/// Serves the words of the command line over the current folder, the lines of standard input and standard output, with a watch of each rule.
 fn run(rt: HostRuntime) -> io::Result<u8> {
     let alloc = rt.alloc();
     let words = arguments(alloc, &rt)?;
@@ -40,9 +44,12 @@ fn run(rt: HostRuntime) -> io::Result<u8> {
     let watches = Vec::from_array(alloc, watches)?;
     let folder = FolderShelf::new(alloc, rt, PathBuf::new(alloc));
     let mut shelf = LoggedShelf::new(alloc, folder);
+    let mut lines = LoggedLines::new(alloc, LateLines::new(rt.stdin()));
     let mut out = LoggedSink::new(alloc, StdoutSink::new(rt));
     let mut kept = None;
-    Ok(run_logged(alloc, &words, &mut shelf, &mut out, &mut kept, watches))
+    Ok(serve(
+        alloc, &words, &mut shelf, &mut lines, &mut out, &mut kept, watches,
+    ))
 }
 
 fn main(rt: HostRuntime) -> ExitCode {

@@ -4,8 +4,8 @@ use Rattle.stack_text.specs.Results.{◌>>=◌}
 use Rattle.stack_shelf.{specs.Files.Files, specs.Shelf.fetched}
 use Rattle.command_line.{specs.declared.command.TaskFiles.TaskFiles, specs.declared.early_end.EarlyEnd.EarlyEnd, specs.declared.role.Role.Role}
 use Rattle.command_line.specs.declared.role.Role.TheVariants.{Source, Piton, Image, Values, Script, Assembly, Certificate, Infix, TaskSource, TaskValues}
-use Rattle.command_line.{specs.declared.role.Role.TheVariants.QuickImage, specs.Roles.{limit_of, is_role}, specs.Gathered.{Texts, texts_of, AreRead}}
-use Rattle.command_line.{specs.Gathered.{text_or_end, gathered}, specs.CommandFiles.{task_inputs, names_in}, proofs.FileLaws.was_short}
+use Rattle.command_line.{specs.declared.role.Role.TheVariants.{QuickImage, SessionImage}, specs.Roles.{limit_of, is_role}, specs.Gathered.{Texts, texts_of}}
+use Rattle.command_line.{specs.Gathered.{AreRead, text_or_end, gathered}, specs.CommandFiles.{task_inputs, names_in}, proofs.FileLaws.was_short}
 
 pub same_role : (a b : Role) → is_role a b ≡ true → a ≡ b
 same_role Source Source h = refl
@@ -19,6 +19,7 @@ same_role Infix Infix h = refl
 same_role TaskSource TaskSource h = refl
 same_role TaskValues TaskValues h = refl
 same_role QuickImage QuickImage h = refl
+same_role SessionImage SessionImage h = refl
 same_role a b h = absurd cc
 
 -- one more file, which is of the role or not

@@ -2,8 +2,8 @@
 use Rattle.std.specs.{Prelude.{ℕ, List, [], ◌∷◌, ◌++◌, Option, Some, None, map, if◌then◌else◌}, Option.{option_to_list}}
 use Rattle.command_line.specs.{declared.command.Command.{Command}, declared.command.Command.TheVariants.{Check, Mean, Pit, Build, Pcheck}}
 use Rattle.command_line.specs.declared.command.Command.TheVariants.{Prun, Pbuild, Run, Go, Show, Migrate, Asm, Unasm, Need, Cert, Debug}
-use Rattle.command_line.specs.{declared.command.Command.TheVariants.{Turns, Big, Mini, Quick}, declared.command.TaskFiles.{TaskFiles}}
-use Rattle.command_line.specs.{declared.role.Role.{Role}, Roles.{is_role}}
+use Rattle.command_line.specs.declared.command.Command.TheVariants.{Pdebug, Idebug, Turns, Big, Mini, Quick}
+use Rattle.command_line.specs.{declared.command.TaskFiles.{TaskFiles}, declared.role.Role.{Role}, Roles.{is_role}}
 use Rattle.command_line.specs.declared.role.Role.TheVariants as role
 
 -- the files that tasks read, task by task
@@ -29,6 +29,8 @@ inputs_of (Need source certificate) = (role.Source, source) ∷ []
 inputs_of (Cert source certificate control temporary) = (role.Source, source) ∷ (role.Certificate, certificate) ∷ []
 inputs_of (Debug level source values control temporary script) =
     (role.Source, source) ∷ (role.Values, values) ∷ (role.Script, script) ∷ []
+inputs_of (Pdebug piton script) = (role.Piton, piton) ∷ (role.Script, script) ∷ []
+inputs_of (Idebug image values script) = (role.SessionImage, image) ∷ (role.Values, values) ∷ (role.Script, script) ∷ []
 inputs_of (Turns turn budget control temporary tasks) = task_inputs tasks
 inputs_of (Big number procedures) = []
 inputs_of (Mini program source) = (role.Infix, program) ∷ []

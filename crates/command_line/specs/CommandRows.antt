@@ -2,8 +2,8 @@
 use Rattle.std.specs.{Prelude.{ℕ, List, [], ◌∷◌, Option, Some, None, codes, if◌then◌else◌}, Str.{bytes_eq}}
 use Rattle.command_line.specs.{declared.command.Command.{Command}, declared.command.Command.TheVariants.{Check, Mean, Pit, Build, Pcheck}}
 use Rattle.command_line.specs.declared.command.Command.TheVariants.{Prun, Pbuild, Run, Go, Show, Migrate, Asm, Unasm, Need, Cert, Debug}
-use Rattle.command_line.specs.{declared.command.Command.TheVariants.{Turns, Big, Mini, Quick}, CommandWords.{CommandWords, Reader, file}}
-use Rattle.command_line.specs.CommandWords.{size, limit, seed, procedures, debug_level, turn_length, tasks, end}
+use Rattle.command_line.specs.{declared.command.Command.TheVariants.{Pdebug, Idebug, Turns, Big, Mini, Quick}, CommandWords.{CommandWords}}
+use Rattle.command_line.specs.CommandWords.{Reader, file, size, limit, seed, procedures, debug_level, turn_length, tasks, end}
 
 -- what is read goes on to what reads the words after it
 abbrev pub read_on : {A B : Type 0} → Option (A × CommandWords) → (A → CommandWords → Option B) → Option B
@@ -149,6 +149,21 @@ debug_row = do
   script ← file
   at_end (Debug level source values control temporary script)
 
+-- `pdebug PIT SCRIPT`
+unfoldable pub pdebug_row : CommandWords → Option Command
+pdebug_row = do
+  piton ← file
+  script ← file
+  at_end (Pdebug piton script)
+
+-- `idebug IMG VALS SCRIPT`
+unfoldable pub idebug_row : CommandWords → Option Command
+idebug_row = do
+  image ← file
+  values ← file
+  script ← file
+  at_end (Idebug image values script)
+
 -- `turns Q BUDGET CTRL TEMP SRC VALS ..`
 unfoldable pub turns_row : CommandWords → Option Command
 turns_row = do
@@ -201,6 +216,8 @@ rows =
     ∷ (codes "need", need_row)
     ∷ (codes "cert", cert_row)
     ∷ (codes "debug", debug_row)
+    ∷ (codes "pdebug", pdebug_row)
+    ∷ (codes "idebug", idebug_row)
     ∷ (codes "turns", turns_row)
     ∷ (codes "big", big_row)
     ∷ (codes "mini", mini_row)

@@ -2,7 +2,7 @@
 use Rattle.std.specs.Prelude.{ℕ, Bool, true, false}
 use Rattle.stack_text.specs.SharedLimits.{most_text, most_image_file}
 use Rattle.command_line.specs.{declared.role.Role.{Role}, declared.role.Role.TheVariants.{Source, Piton, Image, Values, Script, Assembly}}
-use Rattle.command_line.specs.declared.role.Role.TheVariants.{Certificate, Infix, TaskSource, TaskValues, QuickImage}
+use Rattle.command_line.specs.declared.role.Role.TheVariants.{Certificate, Infix, TaskSource, TaskValues, QuickImage, SessionImage}
 
 -- the bytes of a text of Piton
 abbrev pub most_piton_text : ℕ
@@ -21,6 +21,7 @@ limit_of Infix = most_text
 limit_of TaskSource = most_text
 limit_of TaskValues = most_text
 limit_of QuickImage = most_image_file
+limit_of SessionImage = most_image_file
 
 -- the two are one role
 abbrev pub is_role : Role → Role → Bool
@@ -35,4 +36,5 @@ is_role Infix Infix = true
 is_role TaskSource TaskSource = true
 is_role TaskValues TaskValues = true
 is_role QuickImage QuickImage = true
+is_role SessionImage SessionImage = true
 is_role role other = false

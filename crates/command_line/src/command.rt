@@ -138,6 +138,20 @@ pub enum Command {
         /// The script that is followed.
         script: FileName,
     },
+    /// Follows a script of a debugger in a session of a Piton text's run.
+    Pdebug {
+        piton: FileName,
+        script: FileName,
+    },
+    /// Follows a script of a debugger in a session of an image's run on values.
+    Idebug {
+        /// The image that is run.
+        image: FileName,
+        /// The values of the image's slots.
+        values: FileName,
+        /// The script that is followed.
+        script: FileName,
+    },
     /// Builds sources, and runs their images by turns in one memory.
     Turns {
         /// How many instructions a turn has at most.
@@ -229,6 +243,19 @@ impl Command {
                 ..
             } => Ok(heap.copied(&[
                 Role::Source.file(source),
+                Role::Values.file(values),
+                Role::Script.file(script),
+            ])?),
+            Command::Pdebug { piton, script } => Ok(heap.copied(&[
+                Role::Piton.file(piton),
+                Role::Script.file(script),
+            ])?),
+            Command::Idebug {
+                image,
+                values,
+                script,
+            } => Ok(heap.copied(&[
+                Role::SessionImage.file(image),
                 Role::Values.file(values),
                 Role::Script.file(script),
             ])?),

@@ -30,6 +30,8 @@ pub enum Role {
     TaskValues,
     /// A quick image, or a plain one in its place.
     QuickImage,
+    /// An image that a session runs.
+    SessionImage,
 }
 
 impl Role {
@@ -65,7 +67,9 @@ impl Role {
             | Role::TaskSource
             | Role::TaskValues => u64::from(MOST_TEXT),
             Role::Piton => MOST_PITON_TEXT,
-            Role::Image | Role::Assembly | Role::QuickImage => u64::from(MOST_IMAGE_FILE),
+            Role::Image | Role::Assembly | Role::QuickImage | Role::SessionImage => {
+                u64::from(MOST_IMAGE_FILE)
+            }
         }
     }
 }

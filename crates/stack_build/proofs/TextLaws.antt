@@ -1,18 +1,19 @@
 -- A text of so many bytes has no place past them, and no more names and statements than they allow: so the image file of its source has
 -- room for the places of all marks, and stays short.
-use Rattle.std.proofs.Common.{◌≡◌, ◌<◌, ◌≤◌, ◌+◌, ◌*◌, ◌&&◌, ℕ, suc, true, List, [], ◌∷◌, ◌++◌, length, map, Option, Some, None, Ok, Err, refl, sym, ap, subst}
-use Rattle.std.{proofs.Common.{◌∙◌, arith, append_assoc}, specs.Prelude.{codes, nat_le}, proofs.lemmas.List.append-nil}
+use Rattle.std.proofs.Common.{◌≡◌, ◌<◌, ◌≤◌, ◌+◌, ◌*◌, ◌&&◌, ℕ, suc, Bool, true, false, cond, List, [], ◌∷◌, ◌++◌, length, map}
+use Rattle.std.proofs.Common.{Option, Some, None, Ok, Err, refl, sym, ap, subst, ◌∙◌, arith, append_assoc}
+use Rattle.std.{specs.Prelude.{codes, nat_le}, proofs.lemmas.List.append-nil}
 use Rattle.stack_text.{specs.declared.class.Class.Class, specs.declared.class.Class.TheVariants.{LineEnd, Space, Semicolon, Opening, Closing, AtomByte}}
 use Rattle.stack_text.{specs.declared.class.Class.TheVariants.Invalid, specs.declared.name.Named.Named, specs.Names.is_name, specs.Tokens.{class_of, Token}}
 use Rattle.stack_text.specs.Tokens.{opens_at, closes_at, atom_at, invalid_at, Mode, between, in_atom, in_comment, next, if_atom_byte, atom_run, begins, tokens}
 use Rattle.stack_text.{specs.Trees.{Node, Nodes, atom, list, none, more, place_of, tokens_of, tokens_of_all, as_kept, TreeOf}, specs.Grammar.Judged.Judged}
-use Rattle.stack_text.{specs.Grammar.Judged.{◌⊛◌, front, each_of}, specs.Grammar.Parts.{count_of, list_or}, proofs.KeepsLaws.{Holds, holds_judged, holds_one}}
-use Rattle.stack_text.proofs.KeepsLaws.{holds_two, holds_three, holds_six, holds_at, holds_more}
+use Rattle.stack_text.specs.Grammar.{Judged.{◌⊛◌, fault, front, each_of}, Parts.{count_of, list_or}}
+use Rattle.stack_text.proofs.KeepsLaws.{Holds, holds_judged, holds_one, holds_two, holds_three, holds_six, holds_at, holds_more}
 use Rattle.gypsy_syntax.{specs.declared.keyword.Keyword.Keyword, specs.declared.literal.Decl.Decl, specs.Grammar.{named_in, names_in, is_word, type_in}}
 use Rattle.gypsy_syntax.specs.Grammar.{literal_in, decl_in, local_in, arg_in, is_empty_list, statement_in, form_in, statements_in, are_few, procedure_in}
 use Rattle.gypsy_syntax.{specs.Grammar.source_in, specs.Keywords.keyword_named, specs.Made.{statements, new_decl, new_local, new_seq, new_branch, new_begin}}
 use Rattle.gypsy_syntax.{specs.Made.{new_call, new_predef, new_proc, new_source}, specs.Sources.{StmtOf, StmtsOf, no_op, signal, seq, loop, branch, begin}}
-use Rattle.gypsy_syntax.{specs.Sources.{call, predef, no_parts, part, LocalOf, ProcOf, SourceOf}, proofs.KeepsLaws.by_empty}
+use Rattle.gypsy_syntax.specs.Sources.{call, predef, no_parts, part, LocalOf, ProcOf, SourceOf}
 use Rattle.gypsy_syntax.specs.declared.keyword.Keyword.TheVariants as word
 
 -- ---- tokens
@@ -243,6 +244,11 @@ holds_any : {X : Type 0} (r : Judged X) → Holds Any r
 holds_any (Ok x) = record { of_value = tt }
 holds_any (Err fs) = record { of_value = tt }
 
+-- of a `begin`, whose list of conditions has to have one
+holds_unless : (P : StmtOf → Type 0) (p : ℕ) (b : Bool) (r : Judged StmtOf) → Holds P r → Holds P (cond b (fault p 10) r)
+holds_unless P p true r h = record { of_value = tt }
+holds_unless P p false r h = h
+
 module _ (high : ℕ) where
   mutual
     light_statement : (t : Node) → PlacedBelow high t → Holds (Light high t) (statement_in t)
@@ -270,8 +276,8 @@ module _ (high : ℕ) where
         (λ n g x k y l. record { places = (lt, k.places, l.places); few = omega (arith, g.some, g.few, k.few, l.few) }) (light_name b)
         (light_statement s h.1.0) (light_statement t h.1.1.0)
     light_form (Some word.Begin) p q w (more s (more cs (more t none))) lt h =
-        by_empty (Light high (list p (more (atom q w) (more s (more cs (more t none)))))) p (is_empty_list cs) _
-        (λ some_. holds_three (Light high s) Any (Light high t) (Light high (list p (more (atom q w) (more s (more cs (more t none)))))) (new_begin p)
+        holds_unless (Light high (list p (more (atom q w) (more s (more cs (more t none)))))) p (is_empty_list cs) _
+        (holds_three (Light high s) Any (Light high t) (Light high (list p (more (atom q w) (more s (more cs (more t none)))))) (new_begin p)
         (statement_in s) (names_in cs) (statement_in t)
         (λ x g ns k y l. record { places = (lt, g.places, l.places); few = omega (arith, g.few, l.few) }) (light_statement s h.0)
         (holds_any (names_in cs)) (light_statement t h.1.1.0))

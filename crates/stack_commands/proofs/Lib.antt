@@ -4,3 +4,6 @@ pub mod NeedLaws
 pub mod TaskLoops
 pub mod TurnsLaws
 pub mod TranscriptLaws
+pub mod TalkLaws
+pub mod ScriptTalkLaws
+pub mod TalkEndLaws

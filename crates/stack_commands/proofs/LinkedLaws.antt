@@ -1,14 +1,16 @@
--- The image of a linked system keeps the limits of images, and its file those of files; where the words are too many, there is none.
-use Rattle.std.{proofs.Common.{◌≡◌, ◌≤◌, ℕ, length, Some, None, true, false, refl, arith}, specs.Prelude.{◌^◌, IsTrue}, proofs.lemmas.Bool.{and_from, le-leb}}
-use Rattle.std.proofs.lemmas.Bool.{le-ltb, lt-ltb}
-use Rattle.fm_image.{specs.Limits.{all_after, is_image}, specs.Spelling.{spelling, Spelled}, proofs.LimitLaws.from_limits}
+-- The image of a linked system keeps the limits of images, and its file those of files; where the words are too many, there is none, and
+-- no session of the system.
+use Rattle.std.{proofs.Common.{◌≡◌, ◌≤◌, ℕ, length, Some, None, Ok, true, false, refl, arith}, specs.Prelude.{◌^◌, IsTrue}, proofs.lemmas.Bool.and_from}
+use Rattle.std.proofs.lemmas.Bool.{le-leb, le-ltb, lt-ltb}
+use Rattle.fm_image.{specs.Image.ImageOf, specs.Limits.{all_after, is_image}, specs.Spelling.{spelling, Spelled}, proofs.LimitLaws.from_limits}
 use Rattle.piton_check.{specs.PitonChecking.{CheckedOf, IsChecked}, specs.Instruction.SystemView}
-use Rattle.piton_semantics.{specs.Fits.system_in, specs.Placed.placed}
+use Rattle.piton_semantics.{specs.Fits.system_in, specs.Placed.placed, specs.StateView.{Seen, opening}}
 use Rattle.piton_linker.{specs.declared.fault.LinkFault.TheVariants.Large, specs.Layouts.{trimmed, IsFault}}
 use Rattle.stack_build.{specs.Image.linked_image, specs.PlacedWords.PlacedAreWords, proofs.ImageBytes.file_few, proofs.ImageLimits.placed_fits}
 use Rattle.command_line.{specs.declared.role.Role.TheVariants.Image, specs.Roles.limit_of}
 use Rattle.command_replies.{specs.declared.reply.SizeOf.TheVariants.Words, specs.declared.reply.Verdict.TheVariants.Size, specs.Replies.verdict_alone}
-use Rattle.stack_commands.specs.Commands.Pbuild.{is_large, linked_stored, linked_reply}
+use Rattle.level_debuggers.specs.Levels.{Piton}
+use Rattle.stack_commands.{specs.Commands.Pbuild.{is_large, linked_stored, linked_reply}, specs.Commands.Pdebug.opened_within}
 
 -- the image keeps the limits of images
 pub image_fits : (c : CheckedOf) → IsChecked c → (placed (system_in c)).size ≤ 2 ^ 20 → IsTrue (is_image (linked_image (system_in c)))
@@ -57,3 +59,10 @@ pub large_reply : (s : SystemView) (need : ℕ) → IsFault s (Large need) → l
 large_reply s need fault =
     let large : is_large s ≡ true = lt-ltb (2 ^ 20) (placed s).size fault.1 in
     rw (large, fault.0) refl
+
+-- where the words are few enough, a session begins with the image and the opening state
+pub small_opened : (c : CheckedOf) (image : ImageOf) (seen : Seen) → (placed (system_in c)).size ≤ 2 ^ 20 → image ≡ linked_image (system_in c)
+    → seen ≡ opening (system_in c) (system_in c).stack → Ok (Piton record { checked = c; image = image; seen = seen }) ≡ opened_within c
+small_opened c image seen small linked opens =
+    let few : is_large (system_in c) ≡ false = le-ltb (2 ^ 20) (placed (system_in c)).size small in
+    rw (few, linked, opens) refl

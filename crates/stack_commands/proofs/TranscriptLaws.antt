@@ -20,7 +20,7 @@ pub record SoFar {K : Type 0} (put : K → List ℕ → K) (before now : K) (tak
   pub text : taken_now ≡ appended taken_before said
   pub took : now ≡ took_each put before (lines_of said)
 
-nothing_more : (taken : Option (List ℕ)) → taken ≡ appended taken []
+pub nothing_more : (taken : Option (List ℕ)) → taken ≡ appended taken []
 nothing_more None = refl
 nothing_more (Some t) = ap (λ (l : List ℕ). Some l) (sym (append-nil t))
 

@@ -9,6 +9,9 @@ pub mod Go
 pub mod Need
 pub mod Cert
 pub mod Debug
+pub mod Talk
+pub mod Pdebug
+pub mod Idebug
 pub mod Turns
 pub mod Big
 pub mod Quick

@@ -3,3 +3,4 @@ pub mod Planned
 pub mod Tasks
 pub mod Told
 pub mod Transcript
+pub mod Talking

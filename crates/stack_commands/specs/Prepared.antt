@@ -1,11 +1,12 @@
--- What a command makes of its texts: what it stores, and what it replies. Watches are handed in, for `debug`.
+-- What a command makes of its texts: what it stores, and what it replies. Watches are handed in, for sessions.
 use Rattle.std.specs.Prelude.{ℕ, List, Option, None}
 use Rattle.gypsy_space.specs.Needs.{stack_sizes}
 use Rattle.stack_build.specs.Build.{built, compiled}
 use Rattle.level_debuggers.specs.Tallies.{Watching}
 use Rattle.command_line.specs.{declared.command.Command.{Command}, declared.command.Command.TheVariants.{Check, Mean, Pit, Build, Pcheck}}
 use Rattle.command_line.specs.declared.command.Command.TheVariants.{Prun, Pbuild, Run, Go, Show, Migrate, Asm, Unasm, Need, Cert, Debug}
-use Rattle.command_line.specs.{declared.command.Command.TheVariants.{Turns, Big, Mini, Quick}, Gathered.{Texts, text_of, texts_of}}
+use Rattle.command_line.specs.{declared.command.Command.TheVariants.{Pdebug, Idebug, Turns, Big, Mini, Quick}, Gathered.{Texts, text_of}}
+use Rattle.command_line.specs.Gathered.{texts_of}
 use Rattle.command_line.specs.declared.role.Role.TheVariants as role
 use Rattle.command_replies.specs.{Replies.{ReplyOf}, Commands.Pcheck.{pcheck_reply}, Commands.Prun.{prun_reply}}
 use Rattle.command_replies.specs.{Commands.Run.{image_file_reply}, Commands.Show.{show_reply}, Commands.Migrate.{migrate_stored}}
@@ -15,7 +16,8 @@ use Rattle.stack_commands.specs.{Commands.Check.{check_reply}, Commands.Mean.{me
 use Rattle.stack_commands.specs.{Commands.Build.{image_stored, build_reply}, Commands.Pbuild.{pbuild_stored, pbuild_reply}}
 use Rattle.stack_commands.specs.{Commands.Go.{go_reply}, Commands.Need.{need_stored, need_reply}, Commands.Cert.{cert_reply}}
 use Rattle.stack_commands.specs.{Commands.Debug.{debug_reply}, Commands.Turns.{turns_reply}, Commands.Big.{big_reply}}
-use Rattle.stack_commands.specs.Commands.Quick.{quick_built, quick_stored, quick_reply}
+use Rattle.stack_commands.specs.{Commands.Pdebug.{pdebug_reply}, Commands.Idebug.{idebug_reply}, Commands.Quick.{quick_built, quick_stored}}
+use Rattle.stack_commands.specs.Commands.Quick.{quick_reply}
 
 unfoldable pub stored_by : Command → Texts → Option (List ℕ)
 stored_by (Pit source control temporary piton) texts = pit_stored (compiled (text_of role.Source texts) control temporary 0)
@@ -52,6 +54,9 @@ reply_by (Cert source certificate control temporary) watches texts =
     cert_reply (text_of role.Source texts) (text_of role.Certificate texts) control temporary
 reply_by (Debug level source values control temporary script) watches texts =
     debug_reply level (text_of role.Source texts) (text_of role.Values texts) control temporary (text_of role.Script texts) watches
+reply_by (Pdebug piton script) watches texts = pdebug_reply (text_of role.Piton texts) (text_of role.Script texts) watches
+reply_by (Idebug image values script) watches texts =
+    idebug_reply (text_of role.SessionImage texts) (text_of role.Values texts) (text_of role.Script texts) watches
 reply_by (Turns turn budget control temporary tasks) watches texts =
     turns_reply turn budget (stack_sizes control temporary) (texts_of role.TaskSource texts) (texts_of role.TaskValues texts)
 reply_by (Big number procedures) watches texts = big_reply number procedures

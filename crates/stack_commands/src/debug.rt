@@ -10,8 +10,8 @@ ghost use Rattle.command_line.specs.declared.role.Role.TheVariants as Role;
 ghost use Rattle.command_line.specs.declared.words.reader.Level.TheVariants as Level;
 ghost use Rattle.command_line.specs.Gathered.{text_of};
 ghost use Rattle.command_replies.specs.Replies.{verdict_alone};
-ghost use Rattle.stack_commands.specs.{Commands.Debug.{run_at, run_in, found_run, end_verdict, script_verdict, script_reply, debug_reply}, Works.{IsLeft}};
-ghost use Rattle.stack_commands.specs.Works.{left_reply};
+ghost use Rattle.stack_commands.specs.Commands.Debug.{run_at, run_in, found_run, end_verdict, script_verdict, script_reply, session_reply, debug_reply};
+ghost use Rattle.stack_commands.specs.Works.{IsLeft, left_reply};
 
 use crate::script_run::ScriptRun;
 use crate::source_text::{read_accepted, start_verdict};
@@ -41,18 +41,34 @@ pub fn prepare<H: Heap>(
         (text_of Role.Script texts.now) watches) }
     ensures is { IfOk result (λ work. IsLeft work.left) }
 {
+    match session_run(heap, level, texts, control, temporary)? {
+        Ok(runner) => script_work(heap, runner, texts.of(Role::Script)),
+        Err(verdict) => Ok(planned(Plan::verdict_alone(heap.handle(), verdict))),
+    }
+}
+
+/// The run that a session begins with, of the source and the values among such texts, or the verdict if there is none.
+pub fn session_run<H: Heap>(
+    heap: H,
+    level: Level,
+    texts: &Texts,
+    control: &StackSize,
+    temporary: &StackSize,
+) -> Result<Result<Runner, Verdict>, Memory>
+    ensures run { IfOkUnless (H.may_refuse heap) result (λ found. found_run found
+        ≡ run_in level (text_of Role.Source texts.now) (stack_sizes control.now temporary.now)
+        (text_of Role.Values texts.now)) }
+    ensures is { IfOk result (λ found. IfOk found IsRunner) }
+{
     let (source, values) = (texts.of(Role::Source), texts.of(Role::Values));
-    match run_in(
+    run_in(
         heap,
         level,
         source,
         values,
         control.words(),
         temporary.words(),
-    )? {
-        Ok(runner) => script_work(heap, runner, texts.of(Role::Script)),
-        Err(verdict) => Ok(planned(Plan::verdict_alone(heap.handle(), verdict))),
-    }
+    )
 }
 
 /// A runner of an accepted source's own steps.
@@ -235,5 +251,24 @@ fn script_work<H: Heap>(heap: H, runner: Runner, script: &[u8]) -> Result<Work, 
             drop(runner);
             refused_script(heap.handle(), fault)
         }
+    }
+}
+
+/// What is left of a script once the run of its session was sought: the session, or the verdict alone where there is no run.
+pub(crate) fn session_work<H: Heap>(
+    heap: H,
+    found: Result<Runner, Verdict>,
+    script: &[u8],
+) -> Result<Work, Memory>
+    requires script { length script.now ≤ 2 ^ 31 }
+    requires runner { IfOk found IsRunner }
+    ensures stored { IfOkUnless (H.may_refuse heap) result (λ work. work.stored ≡ None) }
+    ensures reply { IfOk result (λ work. (watches : List Watching) → left_reply watches work.left
+        ≡ session_reply (found_run found) watches script.now) }
+    ensures is { IfOk result (λ work. IsLeft work.left) }
+{
+    match found {
+        Ok(runner) => script_work(heap, runner, script),
+        Err(verdict) => Ok(planned(Plan::verdict_alone(heap.handle(), verdict))),
     }
 }

@@ -13,14 +13,17 @@ mod cert;
 mod check;
 mod debug;
 mod go;
+mod idebug;
 mod lines;
 mod mean;
 mod need;
 mod pbuild;
+mod pdebug;
 mod pit;
 mod quick;
 mod script_run;
 mod source_text;
+mod talking;
 mod telling;
 mod turns;
 mod work;
@@ -28,15 +31,19 @@ mod work;
 use command_line::{Command, Role, Texts};
 use command_replies::{asm, complete, migrate, mini, pcheck, prun, run, show, unasm};
 pub use command_replies::{ImageRun, Pending, Plan, Reply, RuleLetter, SizeOf, Verdict};
+pub use debug::session_run;
+pub use idebug::image_session_run;
+pub use pdebug::piton_session_run;
 pub use script_run::ScriptRun;
 use stack_heap::Heap;
 use stack_text::Memory;
+pub use talking::{TalkEnd, TalkFault, talk_session, talks_are_scripts};
 pub use telling::tell_session;
 pub use turns::TasksFault;
 use work::planned;
 pub use work::{Ending, Left, Work};
 
-/// The plan of a command: each has one, but `debug`, which leaves a session.
+/// The plan of a command: each has one, but those that leave a session.
 #[tactic(auto, unfolding(crate::specs::Prepared::stored_by, crate::specs::Prepared::reply_by))]
 fn plan_of<H: Heap>(heap: H, command: &Command, texts: &Texts) -> Result<Plan, Memory>
     requires { IsPlanned command.now }
@@ -91,7 +98,9 @@ fn plan_of<H: Heap>(heap: H, command: &Command, texts: &Texts) -> Result<Plan, M
             control,
             temporary,
         ),
-        Command::Debug { .. } => unreachable!(),
+        Command::Debug { .. } | Command::Pdebug { .. } | Command::Idebug { .. } => {
+            unreachable!()
+        }
         Command::Turns {
             turn,
             budget,
@@ -124,6 +133,8 @@ pub fn prepare<H: Heap>(heap: H, command: &Command, texts: &Texts) -> Result<Wor
             temporary,
             ..
         } => debug::prepare(heap, *level, texts, control, temporary),
+        Command::Pdebug { .. } => pdebug::prepare(heap, texts),
+        Command::Idebug { .. } => idebug::prepare(heap, texts),
         _ => Ok(planned(plan_of(heap, command, texts)?)),
     }
 }

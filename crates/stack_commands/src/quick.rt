@@ -44,5 +44,5 @@ fn build_quick<H: Heap>(heap: H, text: &[u8], ctrl: u32, temp: u32) -> Result<Im
     let built = build_accepted(heap, &accepted, ctrl, temp, 0)?;
     let plain = built.into_image();
     let program = resolve(heap, &accepted)?;
-    Ok(quicken(heap, &accepted, &program, plain)?)
+    Ok(quicken(heap, &accepted, &program, ctrl, temp, plain)?)
 }

@@ -9,6 +9,7 @@ ghost use Rattle.command_replies.specs.Replies.{reply_text, status_of, verdict_l
 use crate::debug::end_verdict;
 use crate::script_run::ScriptRun;
 use command_line::{Status, print};
+use command_replies::Verdict;
 use debug_script::Line;
 use level_debuggers::{ScriptEnd, Session, Watch, answers_are_lines, push_answer};
 use stack_heap::Heap;
@@ -16,7 +17,7 @@ use stack_shelf::{PutFault, Sink};
 use stack_text::Memory;
 
 /// Follows a script in a session: what is said to a line is printed before the next one is carried out.
-fn print_answers<H: Heap, K: Sink>(
+pub(crate) fn print_answers<H: Heap, K: Sink>(
     heap: H,
     session: &mut Session,
     lines: &[Line],
@@ -31,6 +32,7 @@ fn print_answers<H: Heap, K: Sink>(
     ensures failed { IsErrOf result PutFault.Failed → Rose (K.faults out.old) (K.faults out.new) }
     ensures refused { IsErrOf result PutFault.Memory → H.may_refuse heap ⊎ K.may_refuse }
     ensures faults { K.faults out.old ≤ K.faults out.new }
+    ensures is { IsSession session.new }
 {
     answers_are_lines();
     let mut text = Vec::new(heap.handle());
@@ -47,8 +49,29 @@ fn print_answers<H: Heap, K: Sink>(
     Ok(ScriptEnd::Done)
 }
 
+/// Prints the last line of a verdict, and ends with its status.
+pub(crate) fn print_verdict<H: Heap, K: Sink>(
+    heap: H,
+    verdict: &Verdict,
+    out: &mut K,
+) -> Result<Status, PutFault>
+    ensures ends { IfOk result (λ status. status ≡ status_of verdict.now) }
+    ensures ok { OnOk result (K.taken out.new ≡ appended (K.taken out.old) (verdict_line verdict.now)) }
+    ensures lines { OnOk result (out.new ≡ took_each K.took out.old (lines_of (verdict_line verdict.now))) }
+    ensures prefix { OnErr result (PrefixAppended (K.taken out.old) (K.taken out.new) (verdict_line verdict.now)) }
+    ensures failed { IsErrOf result PutFault.Failed → Rose (K.faults out.old) (K.faults out.new) }
+    ensures refused { IsErrOf result PutFault.Memory → H.may_refuse heap ⊎ K.may_refuse }
+    ensures faults { K.faults out.old ≤ K.faults out.new }
+{
+    let Ok(line) = verdict.line(heap) else {
+        return Err(PutFault::Memory);
+    };
+    print(out, line.as_slice())?;
+    Ok(verdict.status())
+}
+
 /// Prints the last line of a session whose script came to an end, and ends with its status.
-fn print_end<H: Heap, K: Sink>(
+pub(crate) fn print_end<H: Heap, K: Sink>(
     heap: H,
     session: &Session,
     end: ScriptEnd,
@@ -70,11 +93,7 @@ fn print_end<H: Heap, K: Sink>(
     let Ok(verdict) = end_verdict(heap, session, end) else {
         return Err(PutFault::Memory);
     };
-    let Ok(line) = verdict.line(heap) else {
-        return Err(PutFault::Memory);
-    };
-    print(out, line.as_slice())?;
-    Ok(verdict.status())
+    print_verdict(heap, &verdict, out)
 }
 
 /// Follows a script in a session, and prints all that it replies.

@@ -90,7 +90,7 @@ fn print_conclusion<H: Heap, K: Sink>(
 }
 
 /// Prints how a command ended of which all that it says is there, and ends with its status.
-fn conclude_reply<H: Heap, K: Sink>(
+pub fn conclude_reply<H: Heap, K: Sink>(
     heap: H,
     ran: Result<Reply, EarlyEnd>,
     out: &mut K,

@@ -1,7 +1,7 @@
 //! The words of each command.
 ghost use Rattle.command_line.specs.{CommandWords.{ReadsWordsUnless, ReadsExactly, spelled}, CommandRows.{check_row, mean_row, pit_row, build_row, pcheck_row}};
 ghost use Rattle.command_line.specs.CommandRows.{prun_row, pbuild_row, run_row, go_row, show_row, migrate_row, asm_row, unasm_row, need_row, cert_row};
-ghost use Rattle.command_line.specs.CommandRows.{debug_row, turns_row, big_row, mini_row, quick_row, row_of, command_of};
+ghost use Rattle.command_line.specs.CommandRows.{debug_row, pdebug_row, idebug_row, turns_row, big_row, mini_row, quick_row, row_of, command_of};
 
 use crate::command::Command;
 use crate::words::reader::{
@@ -242,6 +242,33 @@ fn debug_row<H: Heap>(heap: H, words: &[String]) -> Result<Command, WordsFault>
     })
 }
 
+/// `pdebug PIT SCRIPT`
+#[tactic(auto, unfolding(crate::specs::CommandRows::pdebug_row))]
+fn pdebug_row<H: Heap>(heap: H, words: &[String]) -> Result<Command, WordsFault>
+    ensures { ReadsWordsUnless (H.may_refuse heap) (λ command. command) result (pdebug_row (spelled words.now)) }
+{
+    let (piton, words) = file(heap, words)?;
+    let (script, words) = file(heap, words)?;
+    end(words)?;
+    Ok(Command::Pdebug { piton, script })
+}
+
+/// `idebug IMG VALS SCRIPT`
+#[tactic(auto, unfolding(crate::specs::CommandRows::idebug_row))]
+fn idebug_row<H: Heap>(heap: H, words: &[String]) -> Result<Command, WordsFault>
+    ensures { ReadsWordsUnless (H.may_refuse heap) (λ command. command) result (idebug_row (spelled words.now)) }
+{
+    let (image, words) = file(heap, words)?;
+    let (values, words) = file(heap, words)?;
+    let (script, words) = file(heap, words)?;
+    end(words)?;
+    Ok(Command::Idebug {
+        image,
+        values,
+        script,
+    })
+}
+
 /// `turns Q BUDGET CTRL TEMP SRC VALS`, with up to seven further pairs `SRC VALS`
 #[tactic(auto, unfolding(crate::specs::CommandRows::turns_row))]
 fn turns_row<H: Heap>(heap: H, words: &[String]) -> Result<Command, WordsFault>
@@ -324,6 +351,8 @@ fn row_of<H: Heap>(heap: H, word: &str, words: &[String]) -> Result<Command, Wor
         "need" => need_row(heap, words),
         "cert" => cert_row(heap, words),
         "debug" => debug_row(heap, words),
+        "pdebug" => pdebug_row(heap, words),
+        "idebug" => idebug_row(heap, words),
         "turns" => turns_row(heap, words),
         "big" => big_row(words),
         "mini" => mini_row(heap, words),

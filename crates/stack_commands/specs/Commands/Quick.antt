@@ -13,7 +13,7 @@ unfoldable pub quick_built : List ℕ → ℕ → ℕ → Result ImageOf BuildFa
 quick_built text control temporary = do
   source ← accepted_source text
   plain ← source_built source (stack_sizes control temporary) 0
-  Ok (quickened source plain.image)
+  Ok (quickened source (stack_sizes control temporary) plain.image)
 
 -- what is stored
 abbrev pub quick_stored : Result ImageOf BuildFault → Option (List ℕ)

@@ -22,6 +22,7 @@ returns-clause-means g c =
     let built = c.builds_implement.ensures in
     answers_mean built.implements built.values c.runs_are_meant.ensures c.placed_are_words.ensures c.quickened_images_mean.ensures.texts
     c.moments_are_said.ensures.built c.moments_are_said.ensures.ends
-    c.scripts_walk.ensures.up c.scripts_walk.ensures.words c.scripts_walk.ensures.arrivals c.scripts_walk.ensures.steps c.scripts_walk.ensures.text
+    c.scripts_walk.ensures.show c.scripts_walk.ensures.up c.scripts_walk.ensures.words c.scripts_walk.ensures.arrivals
+    c.scripts_walk.ensures.steps c.scripts_walk.ensures.text
     c.runs_walk.ensures.machines c.runs_walk.ensures.arrivals
     (command_of (spelled c.args.words.now)) (words_few (spelled c.args.words.now)) watches
