@@ -14,9 +14,10 @@ import beside
 import explain
 from breakpoints import FILTERS, Breakpoints, Wrong
 from ends import end, shown, tell
-from moments import Interrupted, Run
+from moments import Run
 from program import Refused
 from seen import THREAD, Seen
+from sessions import Interrupted
 from views import View
 from wire import Lost, Unreadable, Wire
 

@@ -2,8 +2,8 @@
 import re
 from pathlib import Path
 
-from talks import Target
 from positions import Text
+from seeking import Target
 
 # The reference of the variables of the newest activation, behind which those of the others are.
 ACTIVATION = 100

@@ -1,10 +1,9 @@
-"""The activations of a run and their variables, read from the words that the program prints of memory: docs/languages/piton.md, "On the processor"."""
+"""The activations of a run: their variables by `show all`, and the places of calls by the words of memory: docs/languages/piton.md, "On the processor"."""
+import re
 from collections import namedtuple
 
-from moments import LINE
-
-# An activation: its procedure, the place of the statement that is being done in it, the address of its frame, and its variables, newest activation first.
-Activation = namedtuple("Activation", "procedure place frame variables")
+# An activation: its procedure, the place of the statement that is being done in it, and its variables.
+Activation = namedtuple("Activation", "procedure place variables")
 
 
 class Memory:
@@ -18,44 +17,32 @@ class Memory:
 
     def read(self, first, size):
         """So many words from an address on; None for one outside the window."""
-        return self.run.keep(("words", self.count, first, size), lambda: self.ask(first, size))
-
-    def ask(self, first, size):
-        parts = [(it, min(LINE, first + size - it)) for it in range(first, first + size, LINE)]
-        script = f"step {self.count}\n" + "".join(f"words {at} {many}\n" for at, many in parts)
-        said = [it.split() for it in self.run.session("fm9001", script).splitlines()[1:]]
-        return [None if word == "outside" else int(word, 16) for _, word in said]
+        return self.run.words(self.count, first, size)
 
 
-def activations(run, count):
-    """The activations at a count at which the run is at a mark, and so each frame is one."""
-    memory, image, code = Memory(run, count), run.image, run.code
-    top, address = memory.registers[2], memory.registers[0]
-    control = image.condition + 1
-    words = memory.read(control, run.program.sizes[0])
-    stack = memory.read(top, image.end - top) if top < image.end else []
-    name, place, found = code.program_at(memory.registers[15]), None, []
+def waiting(lines):
+    """The procedures that wait for a call, each with its variables, by the lines of `show all`; the newest first."""
+    found = []
+    for it in lines:
+        head = re.fullmatch(r"in (\S+)", it)
+        if head:
+            found.append((head[1], []))
+        elif found:
+            found[-1][1].append(tuple(it.split(" = ", 1)))
+    return found
+
+
+def calls(run, count):
+    """The places of the calls that procedures wait for, at a count at which the run is at a mark, and so each frame is one; the newest first."""
+    memory, code, found = Memory(run, count), run.code, []
+    address, top = memory.registers[:2]
+    words = memory.read(top, run.image.condition + 1 + run.program.sizes[0] - top)
+    name = code.program_at(memory.registers[15])
     while True:
-        rows = [(it.name, value_of(it, words[address - control + it.offset], stack)) for it in image.variables.get(name, [])]
-        found.append(Activation(name, place, address, rows))
-        links = address - control + code.frames[name]
-        older, back = words[links], words[links + 1]
-        if not older:
+        links = address - top + code.frames[name]
+        address, back = words[links], words[links + 1]
+        if not address:
             return found
         # It is the call before the address that the run comes back to.
-        name, place, address = code.program_at(back - 1), code.place_at(back - 1), older
-
-
-def value_of(variable, index, stack):
-    """A variable's value, as the program's reports print values: the stack's words stand from its top on."""
-    items = [shown(variable.kind, stack[-1 - index - it]) for it in range(max(variable.length, 1))]
-    return f"({' '.join(items)})" if variable.length else items[0]
-
-
-def shown(kind, word):
-    """A word as a value."""
-    if kind == "integer":
-        return str(word - 2 ** 32 if word >= 2 ** 31 else word)
-    if kind == "boolean" and word < 2:
-        return ("false", "true")[word]
-    return f"#{word}" if kind == "character" and word < 128 else f"?{word}"
+        name = code.program_at(back - 1)
+        found.append(code.place_at(back - 1))

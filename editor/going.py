@@ -1,18 +1,20 @@
 """Going on and back in a run: steps, breakpoints, calls and returns, at each of the three levels."""
-import select
-from collections import namedtuple
+import time
+from collections import defaultdict, namedtuple
 
-from moments import Interrupted
-from talks import DEPTH, MOVED, Stream, Talk, Target
-from watching import Watching, reached
+from seeking import DEPTH, Target, hit
+from sessions import Interrupted
+from tracks import Track
+from watching import Watching, reached, traced
 
 # Where a run came to: a moment, why it stopped there, and the target that it is at, if it is at one.
 Stop = namedtuple("Stop", "moment reason target", defaults=(None,))
 
-# So many moments of the source are looked through before the end of a call is waited for. They are asked for in portions, which grow from few to many.
-SCAN, FEW, MANY, MORE = 2000, 32, 20_000, 8
-# So many steps are looked through at first if a run goes back, and the most bytes of a script that looks.
-WINDOW, LONGEST = 256, 1_000_000
+# So many steps are made by one question at first, and twice as many by the next one if it takes less time than this, in seconds; then somebody who asks to
+# stop is heard soon, and the session stays. Where targets of several levels are looked for, each goes on by so many instructions at a time.
+PACE, QUICK, ROUND = 1000, 0.1, 500_000
+# So many steps are looked through at first if a run goes back, by what was told and for a target, and how many times as many next.
+FEW, WINDOW, MORE = 16, 256, 8
 
 
 class Walk(Watching):
@@ -39,9 +41,7 @@ class Walk(Watching):
 
     def steps(self, level):
         """How many steps of a level lead here."""
-        if level == self.level:
-            return self.moment.steps
-        return self.run.keep(("steps", level, self.moment.count), lambda: self.run.steps_at(level, self.moment.count))
+        return self.moment.steps if level == self.level else self.run.steps_at(level, self.moment.count)
 
     # ---- Steps ----
 
@@ -49,167 +49,142 @@ class Walk(Watching):
         """So many steps of the level, back if the number is less than 0."""
         return self.at(self.level, self.moment.steps + many)
 
-    def ahead(self, steps, most=None):
-        """The moments of the source behind so many steps, at most so many moments, each with its number of steps. They are asked for in portions."""
-        many = FEW
-        end = None if most is None else steps + most
-        while end is None or steps < end:
-            for it in self.run.moments(steps, many if end is None else min(many, end - steps)):
-                steps += 1
-                yield steps, it
-                if it.place is None:
-                    return
-            many = min(many * MORE, MANY)
-            if self.run.stop.is_set():
-                raise Interrupted
-
     def step_line(self, line_of):
         """To where another line of the source, or another activation, comes next."""
-        before = self.run.trace_moment(self.moment.steps)
+        here = self.line_at(self.run.trace_moment(self.moment.steps), line_of)
         for steps, it in self.ahead(self.moment.steps):
-            if it.place is None or it.depth != before.depth or line_of(it.place) != line_of(before.place):
+            if self.line_at(it, line_of) != here:
                 return self.at("gypsy", steps)
         return self.at("gypsy", self.moment.steps)
 
     def back_line(self, line_of):
         """Back to where what stands before began to be done."""
-        steps, before = self.moment.steps, self.run.trace_moment(self.moment.steps)
-        low, seen = steps, None
-        while low > 0:
-            high, low = low, max(0, low - SCAN)
-            moments = [self.run.trace_moment(low), *self.run.moments(low, high - low)][:high - low]
-            for number, it in reversed(list(enumerate(moments, low))):
-                here = it.depth, line_of(it.place)
-                if seen is not None and here != seen:
-                    return self.at("gypsy", number + 1)
-                if seen is None and (before.place is None or here != (before.depth, line_of(before.place))):
-                    seen = here
+        high, window, before = self.moment.steps, FEW, None
+        while high > 0:
+            low = max(0, high - window)
+            for it in reversed(self.run.tracks["gypsy"].between(low, high)):
+                line = self.line_at(traced(it), line_of)
+                if before not in (None, line):
+                    return self.at("gypsy", it.steps + 1)
+                before = line
+            high, window = low, window * MORE
         return self.at("gypsy", 0)
+
+    @staticmethod
+    def line_at(moment, line_of):
+        """The line of a moment of the source, with its activation; None at the end."""
+        return None if moment.place is None else (moment.depth, line_of(moment.place))
 
     def over(self, stops=(), out=False, line_of=None):
         """To where the activation goes on behind the calls of what comes next; with `out`, to where the one goes on that called it. `stops` are targets
         on the way. With `line_of` to another line."""
         before = self.run.trace_moment(self.moment.steps)
-        depth = before.depth - out
-        for steps, it in self.ahead(self.moment.steps, SCAN):
-            stays = line_of and it.place is not None and it.depth == before.depth and line_of(it.place) == line_of(before.place)
-            if it.depth <= depth and not stays or it.place is None:
-                return self.at("gypsy", steps)
-            target = reached(stops, it)
-            if target:
-                return self.at("gypsy", steps, "breakpoint", target)
-        return self.return_to(depth, stops)
-
-    def return_to(self, depth, stops):
-        """To where the activation of this depth goes on, which waits for a call now or at the next steps; if there is none, to the end."""
+        depth, here = before.depth - out, line_of and self.line_at(before, line_of)
+        if depth == 0:
+            return self.go(stops)
         behind = Target("gypsy", f"{DEPTH}{depth}")
-        return stepped(self.go([behind, *stops] if depth > 0 else stops), behind)
+        while True:
+            stop = self.go([behind, *stops])
+            if stop.target is not behind:
+                return stop
+            made = self.run.trace_moment(stop.moment.steps)
+            if not here or self.line_at(made, line_of) != here:
+                return stepped(stop)
+            target = reached(stops, made)
+            if target:
+                return stop._replace(target=target)
 
     # ---- Going on until something ----
 
     def go(self, targets):
         """On to the first target after here, or to the end."""
-        streams = []
+        of_level = defaultdict(list, {self.level: []})
+        for it in targets:
+            of_level[it.level].append(it)
         try:
-            for it in list(targets) or [Target(self.level, None)]:
-                streams.append(Stream(self.run, it, self.steps(it.level)))
-            (steps, why), first = self.first_of(streams)
+            found = self.go_alone(targets) if len(of_level) == 1 else self.go_beside(of_level)
         except Interrupted:
-            # The one that tells how far it is at this level, or else any.
-            known = next((it for it in streams if it.target.level == self.level), next(iter(streams), None))
-            if known:
-                self.run.stop.clear()
-                self.at(known.target.level, known.made)
+            self.run.stop.clear()
+            self.at(self.level, max(self.moment.steps, self.run.tracks[self.level].steps))
             raise
-        finally:
-            for it in streams:
-                it.close()
-        best = self.run.moment(first.target.level, steps), why, first.target
-        for it in streams:
-            if it is not first and it.target.place is not None:
-                best = self.nearer(it.target, best)
-        self.moment, why, target = best
-        return Stop(self.moment, "breakpoint", target) if why == "target" else Stop(self.moment, why)
+        self.moment, target = found
+        return Stop(self.moment, "breakpoint", target) if target else Stop(self.moment, "ended")
 
-    def first_of(self, streams):
-        """Which stream comes first to its target or to the end, behind where it has come to."""
+    def go_alone(self, targets):
+        """The first moment at one of some targets of the level, with that, or the last one."""
+        moment, target, many = self.moment, None, PACE
+        while not target and not moment.ended:
+            began = time.monotonic()
+            moment, target = self.run.tracks[self.level].seek(moment.steps, targets, many)
+            if self.run.stop.is_set() and not target:
+                raise Interrupted
+            many = 2 * many if time.monotonic() - began < QUICK else max(many // 2, 1)
+        return moment, target
+
+    def go_beside(self, of_level):
+        """The same of targets of several levels, each of which is searched up to the same count of instructions, over and over."""
+        come, count = {level: self.run.moment(level, self.steps(level)) for level in of_level}, self.moment.count
         while True:
-            for it in select.select(streams, [], [], 0.2)[0]:
-                come = it.read()
-                if come:
-                    return come, it
+            count += ROUND
+            found = []
+            for level, targets in of_level.items():
+                moment, target = self.run.tracks[level].search(come[level].steps, targets, count)
+                come[level] = moment
+                if target:
+                    found.append((moment.count, moment, target))
+                    count = min(count, moment.count)
+            if found:
+                return min(found, key=lambda it: it[0])[1:]
+            if come[self.level].ended:
+                return come[self.level], None
             if self.run.stop.is_set():
                 raise Interrupted
-
-    def nearer(self, target, best):
-        """The better of what was found and where another target is reached before it."""
-        steps, moment = self.steps(target.level), best[0]
-        low, high = steps + 1, steps + max(moment.count - self.moment.count, 1)
-        for it in self.hits(target, low, high + 1, once=True):
-            found = self.run.moment(target.level, it)
-            if found.count < moment.count or (found.count == moment.count and best[1] == "ended" and not found.ended):
-                return found, "target", target
-        return best
-
-    def hits(self, target, low, high, once=False):
-        """The numbers of steps from one up to below another after which a run stands at a target."""
-        rounds = 1 if once and not target.holds else FEW
-        while low < high:
-            line = f"until {target.place} {high - low}\n" + ("show\n" if target.holds else "") + "step 1\n"
-            many, rounds = min(high - low, rounds, LONGEST // len(line)), rounds * MORE
-            talk, at, asked, came, shown = Talk(self.run, target.level, f"step {low}\n" + line * many), 0, 0, None, []
-            try:
-                for it in talk.lines():
-                    moved = MOVED.fullmatch(it)
-                    if not moved:
-                        shown.append(it)
-                        continue
-                    if came is not None and (not target.holds or target.holds(shown)):
-                        yield came
-                        if once:
-                            return
-                    at, asked, shown = at + int(moved[2]), asked + 1, []
-                    came = at if moved[1] == "arrived" else None
-                    if at >= high or moved[3]:
-                        return
-            finally:
-                talk.close()
-            if asked <= 2 * many:
-                return
-            # All was asked, and the run goes on.
-            low = at
 
     # ---- Going back ----
 
     def back(self, targets):
         """Back to the last target before here, or to the beginning."""
-        best = None
+        best, of_level = None, defaultdict(list)
         for it in targets:
-            steps = self.steps(it.level)
-            if it.level != self.level and self.run.count_of(it.level, steps) < self.moment.count:
+            of_level[it.level].append(it)
+        for level, some in of_level.items():
+            steps = self.steps(level)
+            if level != self.level and self.run.count_of(level, steps) < self.moment.count:
                 steps += 1
-            found = self.last_hit(it, steps)
-            if found is not None:
-                moment = self.run.moment(it.level, found)
-                if best is None or moment.count > best[0].count:
-                    best = moment, it
+            found = self.last_hit(level, some, steps)
+            if found and (best is None or found[0].count > best[0].count):
+                best = found
         if best is None:
             return self.at(self.level, 0, "start")
         self.moment = best[0]
         return Stop(best[0], "breakpoint", best[1])
 
-    def last_hit(self, target, steps):
-        """The most steps, fewer than these, after which a run stands at a target; None if there are none."""
+    def last_hit(self, level, targets, steps):
+        """The last moment, of fewer steps than these, at one of some targets of a level, with that; None if there is none."""
         high, window = steps, WINDOW
         while high > 0:
             low = max(0, high - window)
-            found = list(self.hits(target, low, high))
+            found = self.last_within(level, targets, low, high)
             if found:
-                return found[-1]
-            high, window = low, window * 8
+                return found
+            high, window = low, window * MORE
         return None
 
+    def last_within(self, level, targets, low, high):
+        """The same of the moments from so many steps on and of fewer than others. They are those of a session aside."""
+        aside, found = Track(self.run, level), None
+        try:
+            moment = aside.moment(low)
+            target = hit(targets, level, moment.shown)
+            while True:
+                found = (moment, target) if target else found
+                if moment.steps + 1 >= high or moment.ended:
+                    return found
+                moment, target = aside.seek(moment.steps, targets, high - 1 - moment.steps)
+        finally:
+            aside.close()
 
-def stepped(stop, target):
-    """A stop, which was a step if it is at its own target."""
-    return stop._replace(reason="step", target=None) if stop.target is target else stop
+
+def stepped(stop):
+    """A stop that is the end of a step."""
+    return stop._replace(reason="step", target=None)

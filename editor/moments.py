@@ -1,43 +1,32 @@
-"""A run of a source at three levels, as the program's own sessions show it: docs/program/debug.md.
-
-A session reads its script whole, so a moment is asked for by the number of steps that lead to it, and each question begins the run anew. The run is the same
-each time, so it goes back as well as on.
-"""
-import re
-import subprocess
-import tempfile
+"""A run of a source at three levels, as the program's own sessions show it: docs/program/debug.md."""
 import threading
-from collections import OrderedDict, namedtuple
+from collections import OrderedDict
 from pathlib import Path
 
-import beside
+import beside  # noqa: F401
 import trying
+from frames import waiting
 from generated import Code
 from infix_sources import InfixSource, own
 from places import Source
 from positions import Text
-from printed import moment_of, shows_of
+from printed import moment_of
 from program import Program, Refused, is_infix
+from sessions import Session, Standing
+from tracks import Track
 from trees import tree_of
 
 LEVELS = ("gypsy", "piton", "fm9001")
 KEPT = 5000
-# The most words that one line of a script asks for, and the size of a stack if `need` tells none.
-LINE, SIZE = 4096, 1000
-
-# A moment of a run: how many steps of its level led to it and how many instructions they cost, whether the run is over, and what `show` and `up` say of it.
-Moment = namedtuple("Moment", "level steps count ended shown said")
-
-
-class Interrupted(Exception):
-    """Somebody asked to stop in the middle of a question."""
+# The size of a stack if `need` tells none.
+SIZE = 1000
 
 
 class Run:
     """A source with its values and sizes, over the program. What is wrong with one of them is raised as what the program refuses."""
 
     def __init__(self, program, source, values=None, given=(), control=None, temporary=None):
-        self.source, self.room, self.stop, self.kept = Path(source), tempfile.TemporaryDirectory(), threading.Event(), OrderedDict()
+        self.source, self.stop, self.kept = Path(source), threading.Event(), OrderedDict()
         content = self.source.read_bytes()
         self.infix = content if is_infix(content) else None
         self.program = Program(program, source, None, control, temporary).__enter__()
@@ -59,13 +48,18 @@ class Run:
         # Of an infix program its own text is shown, with its statements in place of those that they were lowered to.
         self.tied = InfixSource(self.infix.decode("latin-1"), self.data) if self.infix else None
         self.shown_text = Text(self.infix or self.data)
+        self.tracks = {level: Track(self, level) for level in LEVELS}
+        # It stands where somebody looks, and the session of the level may be ahead of that.
+        self.looking = Standing(self, "gypsy")
         # The values are judged by the first session.
         self.start = self.moment("gypsy", 0)
 
     def close(self):
         self.stop.set()
+        for it in self.tracks.values():
+            it.close()
+        self.looking.leave()
         self.program.__exit__()
-        self.room.cleanup()
 
     def sizes(self):
         """The sizes that are enough for any values, or some."""
@@ -78,29 +72,6 @@ class Run:
 
     # ---- Questions ----
 
-    def session(self, level, script):
-        """What a session says, unless somebody asks to stop."""
-        self.program.asked += 1
-        with tempfile.TemporaryFile(dir=self.room.name) as given:
-            given.write(script.encode())
-            given.seek(0)
-            with subprocess.Popen(self.words(level), cwd=self.folder, stdin=given, stdout=subprocess.PIPE) as asked:
-                while True:
-                    try:
-                        said = asked.communicate(timeout=0.2)[0].decode(errors="replace")
-                        break
-                    except subprocess.TimeoutExpired:
-                        if self.stop.is_set():
-                            asked.kill()
-                            raise Interrupted from None
-        if asked.returncode:
-            last = said.strip().split("\n")[-1]
-            raise Refused(asked.returncode, last if asked.returncode > 0 and last else beside.ended(asked.returncode))
-        return said
-
-    def words(self, level):
-        return [self.path, "debug", level, "s", "v", *map(str, self.program.sizes), "/dev/stdin"]
-
     def keep(self, key, make):
         """What was asked once isn't asked again."""
         if key not in self.kept:
@@ -112,41 +83,29 @@ class Run:
 
     def moment(self, level, steps):
         """The moment after so many steps, or at the end."""
-        return self.keep((level, steps), lambda: self.ask_moment(level, steps))
+        return self.tracks[level].moment(steps)
 
-    def ask_moment(self, level, steps):
-        watched = level != "fm9001"
-        script = f"attach cost\nstep {steps}\ndetach cost\nshow\nup\n" if watched else f"step {steps}\nshow\nup\n"
-        lines = self.session(level, script).splitlines()
-        made = re.fullmatch(r"stepped (\d+)( ended)?", lines[watched])
-        rest = lines[3:] if watched else lines[1:]
-        cut = self.length_of_show(level, rest)
-        count = int(lines[2].split()[1]) if watched else int(made[1])
-        return Moment(level, int(made[1]), count, bool(made[2]) or self.is_over(level, rest), tuple(rest[:cut]), tuple(rest[cut:]))
+    def trace_moment(self, steps):
+        """What `show` says of the source after so many steps."""
+        return moment_of("\n".join(self.moment("gypsy", steps).shown))
 
-    def is_over(self, level, shown):
-        """Whether a run stands at its end, if it was asked for no step."""
-        if level == "fm9001":
-            return int(shown[16].split()[1], 16) == self.image.final
-        return shown[0] in ("ended", "halted")
+    def words(self, count, first, size):
+        """So many words of memory from an address on, after a count of instructions; None for one outside the window."""
+        return self.keep(("words", count, first, size), lambda: self.tracks["fm9001"].words(count, first, size))
 
-    @staticmethod
-    def length_of_show(level, lines):
-        """How many lines `show` has, of which `up` stands behind."""
-        if level == "fm9001":
-            return 18
-        if level == "gypsy":
-            return len(lines) - 1
-        return next(number for number, it in enumerate(lines) if re.match(r"stack( \(|$)", it)) + 1
+    def waiting(self, steps):
+        """The procedures that wait for a call after so many steps of the source, each with its variables; the newest first."""
+        return self.keep(("waiting", steps), lambda: self.ask_waiting(steps))
 
-    def moments(self, steps, many):
-        """The moments of the source after each further step behind so many, with what `show` says: their place, depth, condition and variables."""
-        said = self.session("gypsy", f"step {steps}\nshow\n" + "step 1\nshow\n" * many)
-        for block in shows_of(said)[2:]:
-            made = moment_of(block)
-            yield made
-            if made.place is None:
-                return
+    def ask_waiting(self, steps):
+        self.looking.stand(steps)
+        return waiting(self.looking.ask("show all"))
+
+    def said(self, level, steps, text):
+        """What is answered to lines of a script after so many steps, which lead nowhere for anybody else."""
+        with Session(self, level) as aside:
+            aside.ask(f"step {steps}")
+            return "\n".join(aside.ask(*text.split("\n")))
 
     # ---- Places ----
 
@@ -181,29 +140,6 @@ class Run:
         """How many instructions so many steps cost."""
         return steps if level == "fm9001" else self.moment(level, steps).count
 
-    def steps_at(self, level, count, low=0):
-        """The most steps of a level that cost no more than a count of instructions; `low` are so many that are known not to."""
-        if level == "fm9001":
-            return count
-        low = self.moment(level, low)
-        if low.count > count:
-            low = self.moment(level, 0)
-        # What is guessed from what the steps so far cost comes near at once; if it doesn't, the middle is taken.
-        high, before, rounds = None, None, 0
-        while low.count < count and not low.ended and (high is None or high - low.steps > 1):
-            near = before if before and before.steps != low.steps else self.start if low.steps == 0 else self.moment(level, 0)
-            pace = max(1, abs(low.count - near.count) / max(1, abs(low.steps - near.steps)))
-            guess = low.steps + max(1, int((count - low.count) / pace))
-            if high is not None:
-                rounds += 1
-                guess = (low.steps + high) // 2 if rounds % 4 == 0 else min(guess, high - 1)
-            before, made = low, self.moment(level, guess)
-            if made.count > count:
-                high, before = guess, made
-            else:
-                low = made
-        return low.steps
-
-    def trace_moment(self, steps):
-        """What `show` says of the source after so many steps."""
-        return moment_of("\n".join(self.moment("gypsy", steps).shown))
+    def steps_at(self, level, count):
+        """The most steps of a level that cost no more than a count of instructions."""
+        return self.tracks[level].steps_at(count)

@@ -103,8 +103,7 @@ class Seen:
         if word in ("show", "up", "words", "until", "step"):
             # Words are those of the processor's memory, wherever the run is looked at.
             level, steps = ("fm9001", self.walk.moment.count) if word == "words" else (self.walk.level, self.walk.moment.steps)
-            said = self.run.session(level, f"step {steps}\n{text}\n").split("\n", 1)[1]
-            return {"result": said.rstrip("\n"), "variablesReference": 0}
+            return {"result": self.run.said(level, steps, text), "variablesReference": 0}
         raise Wrong(f"{text} is no variable here, and none of: level LEVEL, goto STEPS, show, up, words ADDRESS N, until PLACE N, step N")
 
     # ---- Words ----

@@ -14,11 +14,12 @@ import threading
 import beside
 from ends import FAILED, end, tell
 from explain import lines_of
-from moments import LEVELS, Interrupted, Run
+from moments import LEVELS, Run
 from panes import NEXT, Pane
 from positions import Text
 from program import Refused
-from talks import Target
+from seeking import Target
+from sessions import Interrupted
 from trying import Ended
 from views import View
 

@@ -1,12 +1,12 @@
 """What is seen where somebody stands in a run: places, activations, Piton's frame, registers and counts, for the adapter and for the terminal."""
 import re
 
-from frames import Activation, Memory, activations
+from frames import Activation, Memory, calls
 from going import Walk, stepped
-from talks import DEPTH, Target
+from seeking import DEPTH, Target
 
-# So many instructions are made in no time. Farther on it takes a while to find out where a run stands at another level, or what the processor has there.
-NEAR, NEAR_MACHINE = 1_000_000, 10_000_000
+# So many instructions are made in no time. If a level is farther behind than that, it takes a while to find out where the run stands at it.
+NEAR = {"gypsy": 1_000_000, "piton": 1_000_000, "fm9001": 10_000_000}
 
 
 class View(Walk):
@@ -14,11 +14,13 @@ class View(Walk):
 
     def is_near(self, level):
         """Whether it takes no time to look at the run at a level."""
-        return level == self.level or self.moment.count <= (NEAR_MACHINE if level == "fm9001" else NEAR)
+        return level == self.level or self.run.tracks[level].distance(self.moment.count) <= NEAR[level]
 
     def counted(self, level):
         """How many steps of a level lead here, as far as that takes no time."""
-        return str(self.steps(level)) if level == "fm9001" or self.is_near(level) else "?"
+        if level == "fm9001":
+            return str(self.moment.count)
+        return str(self.steps(level)) if self.is_near(level) else "?"
 
     def memory(self):
         return Memory(self.run, self.moment.count)
@@ -57,15 +59,17 @@ class View(Walk):
         made, moment = self.run.trace_moment(steps), self.run.moment("gypsy", steps)
         if made.place is None:
             main = self.run.main_place()
-            return [Activation(f"{self.run.text.heads[main]}, ended", main, None, self.run.variables_of(made))]
-        first = Activation(self.run.text.procedure(made.place), made.place, None, self.run.variables_of(made))
-        return [first] + (activations(self.run, moment.count)[1:] if made.depth > 1 and self.is_near("fm9001") else [])
+            return [Activation(f"{self.run.text.heads[main]}, ended", main, self.run.variables_of(made))]
+        first = Activation(self.run.text.procedure(made.place), made.place, self.run.variables_of(made))
+        waiting = self.run.waiting(steps) if self.is_near("fm9001") else []
+        places = calls(self.run, moment.count) if waiting else []
+        return [first, *(Activation(name, place, variables) for (name, variables), place in zip(waiting, places, strict=True))]
 
     def statement_alone(self):
         """Far into a run that is looked at below the source: the statement whose code it stands in, and what `up` says of its variables."""
         place = self.run.code.place_at(self.address()) if self.is_near("fm9001") else None
         said = [tuple(it.split(" = ", 1)) for it in self.moment.said if " = " in it]
-        return [] if place is None else [Activation(self.run.text.procedure(place), place, None, said)]
+        return [] if place is None else [Activation(self.run.text.procedure(place), place, said)]
 
     # ---- Steps below the source ----
 
@@ -74,16 +78,22 @@ class View(Walk):
         here = self.instruction() if self.level == "piton" else None
         if here is None or not here.text.startswith(("(call ", "(pop-call")):
             return self.step()
-        behind = Target("piton", f"{DEPTH}{self.moment.shown[0].split()[-1]}")
-        return stepped(self.go([behind, *targets]), behind)
+        return self.leave_frames(self.frames(), targets)
 
     def out_of_program(self, targets):
-        """Out of a program at a lower level: to the address that its frame has, which is whole where an instruction of Piton begins."""
-        memory = Memory(self.run, self.run.count_of("piton", self.steps("piton"))) if self.is_near("piton") else self.memory()
-        name = self.run.code.program_at(memory.registers[15])
-        older, back = memory.read(memory.registers[0] + self.run.code.frames[name], 2)
-        wanted = f"r0 {older or 0:08x}"
-        level, behind = self.level, Target("fm9001", back, lambda shown: shown[1] == wanted or not older)
-        stop = stepped(self.go([behind, *targets]), behind)
+        """Out of a program at a lower level."""
+        return self.leave_frames(self.frames() - 1, targets)
+
+    def frames(self):
+        """How many frames Piton has."""
+        found = re.search(r" frames (\d+)$", self.run.moment("piton", self.steps("piton")).shown[0])
+        return int(found[1]) if found else 0
+
+    def leave_frames(self, many, targets):
+        """On to where at most so many frames are left, at the level that is looked at."""
+        level, behind = self.level, Target("piton", f"{DEPTH}{many}")
+        stop = self.go([behind, *targets] if many > 0 else targets)
+        if stop.target is not behind:
+            return stop
         self.look_at(level)
-        return stop
+        return stepped(stop)._replace(moment=self.moment)

@@ -1,6 +1,11 @@
 """Going on and back to where a variable has another value than before."""
-from frames import activations
-from moments import Interrupted
+from printed import moment_of
+from sessions import Interrupted
+
+
+def traced(moment):
+    """A moment of the source, read."""
+    return moment_of("\n".join(moment.shown))
 
 
 def shown_of(moment):
@@ -17,14 +22,16 @@ def reached(targets, moment):
 class Watching:
     """A part of `Walk`, for variables that are watched. Each is named by its procedure and itself."""
 
+    def ahead(self, steps):
+        """The moments of the source behind so many steps, each with its number of steps, as far as somebody goes through them."""
+        return ((it.steps, traced(it)) for it in self.run.tracks["gypsy"].behind(steps))
+
     def changes(self, watches, first, stops=()):
         """After which steps, from a number on, a variable has another value than when its activation was active last, and after which a run stands at a
         stop; each with the reason, and the stop."""
         seen, begin = {}, self.run.trace_moment(first)
-        # What an activation that waits has now is known from memory.
-        waiting = activations(self.run, self.run.count_of("gypsy", first))[1:] if begin.depth > 1 else []
-        for depth, it in zip(range(begin.depth - 1, 0, -1), waiting):
-            seen |= {(depth, name): value for name, value in it.variables if (it.procedure, name) in watches}
+        for depth, (procedure, variables) in zip(range(begin.depth - 1, 0, -1), self.run.waiting(first)):
+            seen |= {(depth, name): value for name, value in variables if (procedure, name) in watches}
         self.note(begin, watches, seen)
         steps = first
         try:

@@ -29,13 +29,14 @@ START = "rt: must-fail "
 AUTHOR = ["-c", "user.name=edits", "-c", "user.email=edits@localhost"]
 
 
-# the trait, if there is one, and the type of the methods after such a line
-OWNER = re.compile(r"^impl(?:<[^{]*?>)? (?:(\w+)(?:<[^{\n]*?>)? for )?(\w+)[^{\n]*\{", re.M)
+# the parameters, the trait with its first argument, if there are any, and the type of the methods after such a line
+OWNER = re.compile(r"^impl(?:<([^{]*?)>)? (?:(\w+)(?:<(\w+)[^{\n]*?)? for )?(\w+)[^{\n]*\{", re.M)
 
 
 def owner_at(text, place):
-    """What the prover puts before the name of a method round a place of a file: its type, and the trait behind it; in a list, if there is any."""
-    return [kind + trait for trait, kind in OWNER.findall(text, 0, place)[-1:]]
+    """What the prover puts before the name of a method round a place of a file, in a list: its type, the trait, and another type as its argument."""
+    found = OWNER.findall(text, 0, place)[-1:]
+    return [kind + trait + ("" if of == kind or re.search(rf"(^|, ){of}\b", own) else of) for own, trait, of, kind in found]
 
 
 def crates_with_edits():
@@ -78,12 +79,18 @@ def find_edit(crate, name):
 
 
 def changes_of(edit):
-    """The file that an edit changes, and its pairs of an old and a new text."""
-    lines = edit.read_text().splitlines()
-    path = next(line.removeprefix("file:").strip() for line in lines if line.startswith("file:"))
-    old = [line.removeprefix("old:").removeprefix(" ") for line in lines if line.startswith("old:")]
-    new = [line.removeprefix("new:").removeprefix(" ") for line in lines if line.startswith("new:")]
-    return path, list(zip(old, new))
+    """The files that an edit changes, each with its pairs of an old and a new text."""
+    changes = {}
+    for line in edit.read_text().splitlines():
+        word, _, text = line.partition(":")
+        text = text.removeprefix(" ")
+        if word == "file":
+            pairs = changes.setdefault(text.strip(), [])
+        elif word == "old":
+            old = text
+        elif word == "new":
+            pairs.append((old, text))
+    return changes
 
 
 def function_at(text, place, path):
@@ -110,16 +117,17 @@ def crates_below(crate):
 
 
 def make_edit(crate_folder, edit):
-    """Makes an edit in a copy of its crate, and returns the path of the function that it changes."""
-    path, changes = changes_of(edit)
-    file = crate_folder / path
-    text = file.read_text()
-    only = function_at(text, text.index(changes[0][0]), path)
-    for old, new in changes:
-        if text.count(old) != 1:
-            sys.exit(f"{edit.name}: this stands {text.count(old)} times in {path}: {old}")
-        text = text.replace(old, new)
-    file.write_text(text)
+    """Makes an edit in a copy of its crate, and returns the path of the first function that it changes."""
+    only = None
+    for path, changes in changes_of(edit).items():
+        file = crate_folder / path
+        text = file.read_text()
+        for old, new in changes:
+            if text.count(old) != 1:
+                sys.exit(f"{edit.name}: this stands {text.count(old)} times in {path}: {old}")
+            only = function_at(text, text.index(old), path) if only is None else only
+            text = text.replace(old, new)
+        file.write_text(text)
     return only
 
 
